@@ -1,0 +1,107 @@
+//! A growable list that contracts see as the list of its elements, and copies that may want memory.
+//!
+//! Trees and values hold their children in a [`Sequence`], so that one list type with one set of
+//! laws serves every list of the workspace, also where an element leads back to the list.
+#![tactic(auto)]
+
+ghost use Rattle.std.specs.Prelude.{◌≡◌, [], ◌∷◌, ◌++◌, ◌<◌, ◌↔◌, length, slice_get, slice_set, IsTrue, IfOk, OnOk, OnErr, OnSome};
+ghost use Rattle.std.specs.Option.{option_copied};
+ghost use Rattle.sf_list.specs.Copies.{AreCopies};
+
+use std::alloc::{AllocError, Global};
+use std::marker::Model;
+
+/// A value that can be copied where there is memory for it.
+pub trait TryClone: Sized {
+    /// The second is a copy of the first.
+    ghost is_copy: { Self → Self → Type 0 };
+
+    /// A copy of this value. Without memory nothing was made.
+    fn try_clone(&self, alloc: Global) -> Result<Self, AllocError>
+        ensures { IfOk result (λ made. is_copy self.now made) };
+}
+
+/// A list. It grows by the allocator that it was made with.
+#[derive(Debug, Drop)]
+pub struct Sequence<T> {
+    items: Vec<T>,
+}
+
+impl<T> Model for Sequence<T> {
+    ghost use Rattle.std.specs.Prelude.{List};
+    ghost use Rattle.std.specs.Coded.{coded_list};
+
+    ghost Value = { List T };
+
+    ghost coded = { coded_list T.code };
+
+    ghost view = { λ list. list.items.items };
+}
+
+impl<T> Sequence<T> {
+    /// The empty list, which takes no memory.
+    pub fn new(alloc: Global) -> Sequence<T>
+        ensures { result ≡ [] }
+    {
+        Sequence {
+            items: Vec::new(alloc),
+        }
+    }
+
+    pub fn as_slice(&self) -> &[T]
+        ensures { result.now ≡ self.now }
+    {
+        self.items.as_slice()
+    }
+
+    pub fn len(&self) -> usize
+        ensures { result ≡ length self.now }
+    {
+        self.items.len()
+    }
+
+    pub fn is_empty(&self) -> bool
+        ensures { IsTrue result ↔ (self.now ≡ []) }
+    {
+        self.items.is_empty()
+    }
+
+    /// The element at a place counted from 0.
+    pub fn get(&self, i: usize) -> Option<&T>
+        ensures value { option_copied result ≡ slice_get self.now i }
+        ensures within { OnSome result (i < length self.now) }
+    {
+        self.items.get(i)
+    }
+}
+
+impl<T: Drop> Sequence<T> {
+    /// Adds an element at the end. The list keeps its own allocator, so `alloc` is unused.
+    pub fn push(&mut self, _alloc: Global, item: T) -> Result<(), AllocError>
+        ensures ok { OnOk result (self.new ≡ self.old ++ item ∷ []) }
+        ensures err { OnErr result (self.new ≡ self.old) }
+    {
+        self.items.push(item)?;
+        Ok(())
+    }
+
+    /// Replaces the element at a place counted from 0.
+    pub fn set(&mut self, at: usize, item: T)
+        requires { at < length self.old }
+        ensures { self.new ≡ slice_set self.old at item }
+    {
+        self.items[at] = item;
+    }
+}
+
+impl<T: TryClone + Drop> TryClone for Sequence<T> {
+    ghost is_copy = { AreCopies T.is_copy };
+
+    fn try_clone(&self, alloc: Global) -> Result<Sequence<T>, AllocError> {
+        let mut made = Sequence::new(alloc);
+        for item in self.as_slice() {
+            made.push(alloc, item.try_clone(alloc)?)?;
+        }
+        Ok(made)
+    }
+}
