@@ -1,0 +1,71 @@
+//! A text that contracts see as its code points.
+
+ghost use Rattle.std.specs.Prelude.{◌≡◌, ◌↔◌, ◌==◌, IfOk, IsTrue};
+ghost use Rattle.std.specs.Str.{chars, encode_utf8_all};
+ghost use Rattle.std.specs.Cmp.Rules.{comparing};
+ghost use Rattle.std.specs.Cmp.Lexicographic.{pointwise};
+ghost use Rattle.std.specs.Ordering.{on};
+ghost use Rattle.std.proofs.Common.{rules};
+
+use sf_list::TryClone;
+use std::alloc::{AllocError, Global};
+use std::marker::Model;
+
+/// A text in Unicode, kept as UTF-8.
+#[derive(Drop)]
+pub struct Text {
+    inner: String,
+}
+
+impl Model for Text {
+    ghost use Rattle.std.specs.Prelude.{List, ℕ, string_bytes};
+    ghost use Rattle.std.specs.Coded.{coded_list, coded_ℕ};
+    ghost use Rattle.std.specs.Str.{chars};
+
+    ghost Value = { List ℕ };
+
+    ghost coded = { coded_list coded_ℕ };
+
+    ghost view = { λ text. chars (string_bytes text.inner) };
+}
+
+impl Text {
+    pub fn of(alloc: Global, text: &str) -> Result<Text, AllocError>
+        ensures { IfOk result (λ made. made ≡ chars text.now) }
+    {
+        Ok(Text {
+            inner: String::from_str(alloc, text)?,
+        })
+    }
+
+    pub fn as_str(&self) -> &str
+        ensures points { chars result.now ≡ self.now }
+        ensures bytes { result.now ≡ encode_utf8_all self.now }
+    {
+        self.inner.as_str()
+    }
+}
+
+impl TryClone for Text {
+    ghost is_copy = { λ old made. made ≡ old };
+
+    fn try_clone(&self, alloc: Global) -> Result<Text, AllocError> {
+        Ok(Text {
+            inner: String::from_str(alloc, self.inner.as_str())?,
+        })
+    }
+}
+
+impl PartialEq for Text {
+    ghost eq = { on encode_utf8_all (pointwise ◌==◌) };
+
+    ghost laws = { Prim.search (comparing, rules) };
+
+    fn eq(&self, other: &Text) -> bool {
+        self.as_str() == other.as_str()
+    }
+}
+
+impl Eq for Text {
+    ghost laws = { Prim.search (comparing, rules) };
+}
