@@ -1,13 +1,17 @@
-// A library with one function.
+//! Trees of programs: what the parser makes, and what the checker, the compiler and the meaning read.
+//!
+//! Contracts see each tree as a plain tree, without pointers, by the views of `specs/`. Two trees
+//! with the same plain tree are the same program.
 #![tactic(auto)]
 
-ghost use Rattle.std.specs.Prelude.{◌≡◌};
-ghost use Rattle.py_tree.specs.Echo.{echo_of};
+mod expr;
+mod names;
+mod program;
+mod stmt;
+mod ty;
 
-// The `ensures` clause is the contract: what `echo` returns is `echo_of` of its argument, a definition
-// in `specs/Echo.antt`, which a caller's clause can cite too.
-pub fn echo(x: usize) -> usize
-    ensures { result ≡ echo_of x }
-{
-    x
-}
+pub use expr::{BinOp, Cmp, Expr, ExprKind, Exprs, Link, Links};
+pub use names::{Name, Place, PlacedName};
+pub use program::{Class, Classes, Method, Methods, Param, Params, Program};
+pub use stmt::{Arm, Arms, Over, Stmt, StmtKind, Stmts, Target};
+pub use ty::{Ty, WrittenKind, WrittenTy};

@@ -1,0 +1,4 @@
+pub mod PlainTypes
+pub mod PlainExpressions
+pub mod PlainStatements
+pub mod PlainProgram
