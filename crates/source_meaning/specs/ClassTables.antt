@@ -1,0 +1,109 @@
+-- What a program says of its classes: their methods, their fields in order, and where a key comes from.
+use Rattle.std.specs.Prelude.{ℕ, Bool, true, false, not, ◌||◌, nat_eq, bytes_eq, List, [], ◌∷◌, Some, None, codes, find, filter, position, slice_get, option_and_then}
+use Rattle.std.specs.declared.option.Option.{Option}
+use Rattle.py_tree.specs.declared.stmt.Target.{Target}
+use Rattle.py_tree.specs.declared.stmt.Target.TheVariants as target
+use Rattle.py_tree.specs.PlainExpressions.{PlainExpr, PVar, PAttr}
+use Rattle.py_tree.specs.PlainStatements.{PlainStmt, PAssign, PReturn}
+use Rattle.py_tree.specs.PlainProgram.{PlainParam, PlainMethod, PlainClass, PlainProgram}
+
+-- a program, and the texts of its names by their numbers
+pub record Source : Type 0 where
+  pub program : PlainProgram
+  pub names : List (List ℕ)
+
+-- a name has this number, where there is one
+abbrev pub is_number : Option ℕ → ℕ → Bool
+is_number None name = false
+is_number (Some n) name = nat_eq name n
+
+-- the numbers of `__init__` and `__key__`
+abbrev pub init_number : Source → Option ℕ
+init_number src = position (bytes_eq (codes "__init__")) src.names
+
+abbrev pub key_number : Source → Option ℕ
+key_number src = position (bytes_eq (codes "__key__")) src.names
+
+-- what the class of a number defines
+abbrev pub members_of : Option PlainClass → List PlainMethod
+members_of None = []
+members_of (Some c) = c.members
+
+abbrev pub members_at : Source → ℕ → List PlainMethod
+members_at src class = members_of (slice_get src.program class)
+
+abbrev pub member_named : Option ℕ → List PlainMethod → Option PlainMethod
+member_named number members = find (λ m. is_number number m.name) members
+
+abbrev pub init_of : Source → ℕ → Option PlainMethod
+init_of src class = member_named (init_number src) (members_at src class)
+
+abbrev pub key_method_of : Source → ℕ → Option PlainMethod
+key_method_of src class = member_named (key_number src) (members_at src class)
+
+-- `__init__` and `__key__` aren't called as methods
+abbrev pub is_method : Source → PlainMethod → Bool
+is_method src m = not (is_number (init_number src) m.name || is_number (key_number src) m.name)
+
+-- the methods of a class, numbered from 0 in text order
+abbrev pub methods_of : Source → ℕ → List PlainMethod
+methods_of src class = filter (is_method src) (members_at src class)
+
+abbrev pub body_of : Option PlainMethod → List PlainStmt
+body_of None = []
+body_of (Some m) = m.body
+
+abbrev pub params_of : Option PlainMethod → List PlainParam
+params_of None = []
+params_of (Some m) = m.params
+
+-- the field that a statement of `__init__` declares
+abbrev pub field_of : Target → Option ℕ
+field_of (target.Local x) = None
+field_of (target.Field x) = Some x.name.0
+
+abbrev pub declared_field : PlainStmt → Option ℕ
+declared_field (PAssign at x ty e) = field_of x
+declared_field _ = None
+
+abbrev pub behind : Option ℕ → List ℕ → List ℕ
+behind None fields = fields
+behind (Some f) fields = f ∷ fields
+
+-- the fields that these statements declare, in order
+unfoldable pub declared_fields : List PlainStmt → List ℕ
+declared_fields [] = []
+declared_fields (s ∷ ss) = behind (declared_field s) (declared_fields ss)
+
+-- the fields of a class, in the order of its records
+abbrev pub fields_of : Source → ℕ → List ℕ
+fields_of src class = declared_fields (body_of (init_of src class))
+
+-- the field that `__key__` returns
+abbrev pub returned_field : PlainStmt → Option ℕ
+returned_field (PReturn at (Some (PAttr e_at on name name_at))) = Some name
+returned_field _ = None
+
+abbrev pub first_returned : List PlainStmt → Option ℕ
+first_returned [] = None
+first_returned (s ∷ ss) = returned_field s
+
+abbrev pub key_field_of : Source → ℕ → Option ℕ
+key_field_of src class = first_returned (body_of (key_method_of src class))
+
+-- the name that a field is declared from
+abbrev pub named_value : PlainStmt → Option ℕ
+named_value (PAssign at x ty (PVar e_at name)) = Some name
+named_value _ = None
+
+abbrev pub declares : ℕ → PlainStmt → Bool
+declares field s = is_number (declared_field s) field
+
+abbrev pub declared_from : List PlainStmt → ℕ → Option ℕ
+declared_from ss field = option_and_then named_value (find (declares field) ss)
+
+-- the place of the parameter of `__init__` that gives the key
+abbrev pub key_param_of : Source → ℕ → Option ℕ
+key_param_of src class =
+    let init = init_of src class in
+    option_and_then (λ name. position (λ p. nat_eq p.name name) (params_of init)) (option_and_then (declared_from (body_of init)) (key_field_of src class))
