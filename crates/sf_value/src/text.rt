@@ -44,6 +44,13 @@ impl Text {
     {
         self.inner.as_str()
     }
+
+    /// Whether two texts are equal. It takes no memory.
+    pub fn same(&self, other: &Text) -> bool
+        ensures { IsTrue result ↔ (self.now ≡ other.now) }
+    {
+        self.as_str() == other.as_str()
+    }
 }
 
 impl TryClone for Text {
