@@ -23,7 +23,7 @@ pub enum Value {
 pub type Values = Sequence<Value>;
 
 /// An entity: its class's number, and its key.
-#[derive(Drop)]
+#[derive(PartialEq, Eq, Hash, Drop)]
 pub struct Ref {
     pub class: u32,
     pub key: Text,
@@ -73,7 +73,7 @@ impl Value {
 }
 
 #[cycle(same)]
-fn same_all(xs: &[Value], ys: &[Value]) -> bool
+pub(crate) fn same_all(xs: &[Value], ys: &[Value]) -> bool
     ensures { IsTrue result ↔ (xs.now ≡ ys.now) }
 {
     if xs.len() != ys.len() {
