@@ -29,3 +29,7 @@ same-AreCopies R same [] [] h = refl
 same-AreCopies R same [] (y ∷ ys) h = absurd h
 same-AreCopies R same (x ∷ xs) [] h = absurd h
 same-AreCopies R same (x ∷ xs) (y ∷ ys) h = λ i. same x y h.0 i ∷ same-AreCopies R same xs ys h.1 i
+
+-- a copy of a list whose elements are copied as they stand is that list
+pub equal_copies : {T : Type 0} (xs ys : List T) → AreCopies (λ old made. made ≡ old) xs ys → ys ≡ xs
+equal_copies xs ys h = same-AreCopies (λ old made. made ≡ old) (λ x y e. e) xs ys h

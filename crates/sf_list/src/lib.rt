@@ -105,3 +105,19 @@ impl<T: TryClone + Drop> TryClone for Sequence<T> {
         Ok(made)
     }
 }
+
+impl TryClone for u8 {
+    ghost is_copy = { λ old made. made ≡ old };
+
+    fn try_clone(&self, _alloc: Global) -> Result<u8, AllocError> {
+        Ok(*self)
+    }
+}
+
+impl TryClone for u32 {
+    ghost is_copy = { λ old made. made ≡ old };
+
+    fn try_clone(&self, _alloc: Global) -> Result<u32, AllocError> {
+        Ok(*self)
+    }
+}

@@ -5,13 +5,16 @@
 //! original.
 #![tactic(auto)]
 
+ghost use Rattle.std.specs.Prelude.{◌≡◌, ◌↔◌, IfOk, IsTrue};
+
 mod text;
 mod value;
 
+use sf_list::{Sequence, TryClone};
+use std::alloc::{AllocError, Global};
 pub use text::Text;
+use value::same_all as same_values;
 pub use value::{Record, Ref, Value, Values};
-
-use sf_list::Sequence;
 
 /// Bytes, as a list that grows.
 pub type Bytes = Sequence<u8>;
@@ -104,4 +107,164 @@ pub struct Snapshot {
     pub history: Entries,
     pub records: Records,
     pub pending: Requests,
+}
+
+impl TryClone for Failure {
+    ghost is_copy = { λ old made. made ≡ old };
+
+    fn try_clone(&self, alloc: Global) -> Result<Failure, AllocError> {
+        Ok(Failure {
+            kind: self.kind,
+            message: self.message.try_clone(alloc)?,
+        })
+    }
+}
+
+impl TryClone for Outcome {
+    ghost is_copy = { λ old made. made ≡ old };
+
+    fn try_clone(&self, alloc: Global) -> Result<Outcome, AllocError> {
+        match self {
+            Outcome::Value(value) => Ok(Outcome::Value(value.try_clone(alloc)?)),
+            Outcome::Failed(failure) => Ok(Outcome::Failed(failure.try_clone(alloc)?)),
+        }
+    }
+}
+
+impl Act {
+    /// Whether two acts ask for the same. It takes no memory.
+    pub fn same(&self, other: &Act) -> bool
+        ensures { IsTrue result ↔ (self.now ≡ other.now) }
+    {
+        match (self, other) {
+            (
+                Act::Call {
+                    class,
+                    key,
+                    method,
+                    args,
+                },
+                Act::Call {
+                    class: other_class,
+                    key: other_key,
+                    method: other_method,
+                    args: other_args,
+                },
+            ) => {
+                class == other_class
+                    && key.same(other_key)
+                    && method == other_method
+                    && same_values(args.as_slice(), other_args.as_slice())
+            }
+            (
+                Act::New { class, args },
+                Act::New {
+                    class: other_class,
+                    args: other_args,
+                },
+            ) => { class == other_class && same_values(args.as_slice(), other_args.as_slice()) }
+            _ => false,
+        }
+    }
+}
+
+impl TryClone for Act {
+    ghost is_copy = { λ old made. made ≡ old };
+
+    fn try_clone(&self, alloc: Global) -> Result<Act, AllocError> {
+        match self {
+            Act::Call {
+                class,
+                key,
+                method,
+                args,
+            } => Ok(Act::Call {
+                class: *class,
+                key: key.try_clone(alloc)?,
+                method: *method,
+                args: args.try_clone(alloc)?,
+            }),
+            Act::New { class, args } => Ok(Act::New {
+                class: *class,
+                args: args.try_clone(alloc)?,
+            }),
+        }
+    }
+}
+
+impl Request {
+    /// Whether two requests are one: the same id, and the same act. It takes no memory.
+    pub fn same(&self, other: &Request) -> bool
+        ensures { IsTrue result ↔ (self.now ≡ other.now) }
+    {
+        self.id.same(&other.id) && self.act.same(&other.act)
+    }
+}
+
+impl TryClone for Request {
+    ghost is_copy = { λ old made. made ≡ old };
+
+    fn try_clone(&self, alloc: Global) -> Result<Request, AllocError> {
+        Ok(Request {
+            id: self.id.try_clone(alloc)?,
+            act: self.act.try_clone(alloc)?,
+        })
+    }
+}
+
+impl TryClone for Reply {
+    ghost is_copy = { λ old made. made ≡ old };
+
+    fn try_clone(&self, alloc: Global) -> Result<Reply, AllocError> {
+        Ok(Reply {
+            seq: self.seq,
+            outcome: self.outcome.try_clone(alloc)?,
+        })
+    }
+}
+
+impl TryClone for Entry {
+    ghost is_copy = { λ old made. made ≡ old };
+
+    fn try_clone(&self, alloc: Global) -> Result<Entry, AllocError> {
+        Ok(Entry {
+            request: self.request.try_clone(alloc)?,
+            outcome: self.outcome.try_clone(alloc)?,
+        })
+    }
+}
+
+impl TryClone for Held {
+    ghost is_copy = { λ old made. made ≡ old };
+
+    fn try_clone(&self, alloc: Global) -> Result<Held, AllocError> {
+        Ok(Held {
+            at: self.at.try_clone(alloc)?,
+            fields: self.fields.try_clone(alloc)?,
+        })
+    }
+}
+
+impl TryClone for BatchRecord {
+    ghost is_copy = { λ old made. made ≡ old };
+
+    fn try_clone(&self, alloc: Global) -> Result<BatchRecord, AllocError> {
+        Ok(BatchRecord {
+            news: self.news.try_clone(alloc)?,
+            committed: self.committed.try_clone(alloc)?,
+        })
+    }
+}
+
+impl TryClone for Snapshot {
+    ghost is_copy = { λ old made. made ≡ old };
+
+    fn try_clone(&self, alloc: Global) -> Result<Snapshot, AllocError> {
+        Ok(Snapshot {
+            program: self.program.try_clone(alloc)?,
+            history: self.history.try_clone(alloc)?,
+            records: self.records.try_clone(alloc)?,
+            pending: self.pending.try_clone(alloc)?,
+        })
+    }
 }

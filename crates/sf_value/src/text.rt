@@ -2,13 +2,15 @@
 
 ghost use Rattle.std.specs.Prelude.{◌≡◌, ◌↔◌, ◌==◌, IfOk, IsTrue};
 ghost use Rattle.std.specs.Str.{chars, encode_utf8_all};
-ghost use Rattle.std.specs.Cmp.Rules.{comparing};
+ghost use Rattle.std.specs.Cmp.Rules.{comparing, hashing};
 ghost use Rattle.std.specs.Cmp.Lexicographic.{pointwise};
 ghost use Rattle.std.specs.Ordering.{on};
+ghost use Rattle.std.specs.Hash as fed;
 ghost use Rattle.std.proofs.Common.{rules};
 
 use sf_list::TryClone;
 use std::alloc::{AllocError, Global};
+use std::hash::{Hash, Hasher};
 use std::marker::Model;
 
 /// A text in Unicode, kept as UTF-8.
@@ -44,6 +46,13 @@ impl Text {
     {
         self.inner.as_str()
     }
+
+    /// Whether two texts are equal. It takes no memory.
+    pub fn same(&self, other: &Text) -> bool
+        ensures { IsTrue result ↔ (self.now ≡ other.now) }
+    {
+        self.as_str() == other.as_str()
+    }
 }
 
 impl TryClone for Text {
@@ -68,4 +77,14 @@ impl PartialEq for Text {
 
 impl Eq for Text {
     ghost laws = { Prim.search (comparing, rules) };
+}
+
+impl Hash for Text {
+    ghost hash_input = { λ text. fed.str (encode_utf8_all text) };
+
+    ghost respects_eq = { Prim.search (hashing, rules) };
+
+    fn hash<H: Hasher>(&self, state: &mut H) {
+        self.as_str().hash(state);
+    }
 }
