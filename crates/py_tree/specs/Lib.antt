@@ -1,3 +1,4 @@
+pub mod NameTable
 pub mod PlainTypes
 pub mod PlainExpressions
 pub mod PlainStatements

@@ -11,7 +11,7 @@ mod stmt;
 mod ty;
 
 pub use expr::{BinOp, Cmp, Expr, ExprKind, Exprs, Link, Links};
-pub use names::{Name, Place, PlacedName};
+pub use names::{Name, Names, Place, PlacedName};
 pub use program::{Class, Classes, Method, Methods, Param, Params, Program};
 pub use stmt::{Arm, Arms, Over, Stmt, StmtKind, Stmts, Target};
 pub use ty::{Ty, WrittenKind, WrittenTy};
