@@ -9,7 +9,7 @@ use Rattle.sf_value.specs.Keys.{Key}
 use Rattle.sf_value.specs.declared.value.Value.{Value}
 use Rattle.sf_value.specs.declared.value.Value.TheVariants as value
 use Rattle.sf_value.specs.declared.Failure.{Failure}
-use Rattle.source_meaning.specs.declared.Var.{Var}
+use Rattle.source_meaning.specs.declared.vars.Var.{Var}
 use Rattle.source_meaning.specs.ClassTables.{Source, fields_of, methods_of, init_of, body_of, params_of, key_param_of}
 use Rattle.source_meaning.specs.World.{World, Calls, Gives, Got, Fell, step, step_limit, recursion_error, no_entity, already_exists, with_value, result_of, reading, writing, value_at}
 use Rattle.source_meaning.specs.Evaluation.{value_of}

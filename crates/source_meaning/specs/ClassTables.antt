@@ -1,6 +1,7 @@
 -- What a program says of its classes: their methods, their fields in order, and where a key comes from.
-use Rattle.std.specs.Prelude.{ℕ, Bool, true, false, not, ◌||◌, nat_eq, bytes_eq, List, [], ◌∷◌, Some, None, codes, find, filter, position, slice_get, option_and_then}
+use Rattle.std.specs.Prelude.{ℕ, Bool, true, false, not, ◌||◌, nat_eq, List, [], ◌∷◌, Some, None, codes, find, filter, position, slice_get, option_and_then}
 use Rattle.std.specs.declared.option.Option.{Option}
+use Rattle.py_tree.specs.NameTable.{place_of}
 use Rattle.py_tree.specs.declared.stmt.Target.{Target}
 use Rattle.py_tree.specs.declared.stmt.Target.TheVariants as target
 use Rattle.py_tree.specs.PlainExpressions.{PlainExpr, PVar, PAttr}
@@ -19,10 +20,10 @@ is_number (Some n) name = nat_eq name n
 
 -- the numbers of `__init__` and `__key__`
 abbrev pub init_number : Source → Option ℕ
-init_number src = position (bytes_eq (codes "__init__")) src.names
+init_number src = place_of src.names (codes "__init__")
 
 abbrev pub key_number : Source → Option ℕ
-key_number src = position (bytes_eq (codes "__key__")) src.names
+key_number src = place_of src.names (codes "__key__")
 
 -- what the class of a number defines
 abbrev pub members_of : Option PlainClass → List PlainMethod
@@ -107,3 +108,11 @@ abbrev pub key_param_of : Source → ℕ → Option ℕ
 key_param_of src class =
     let init = init_of src class in
     option_and_then (λ name. position (λ p. nat_eq p.name name) (params_of init)) (option_and_then (declared_from (body_of init)) (key_field_of src class))
+
+-- the number of the class with this name
+abbrev pub class_named : Source → List ℕ → Option ℕ
+class_named src text = option_and_then (λ n. position (λ c. nat_eq c.name n) src.program) (place_of src.names text)
+
+-- the number of the method with this name in a class
+abbrev pub method_named : Source → ℕ → List ℕ → Option ℕ
+method_named src class text = option_and_then (λ n. position (λ m. nat_eq m.name n) (methods_of src class)) (place_of src.names text)

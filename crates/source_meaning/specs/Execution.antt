@@ -6,7 +6,7 @@ use Rattle.py_tree.specs.PlainExpressions.{PlainExpr}
 use Rattle.py_tree.specs.PlainStatements.{PlainStmt, PlainStmts, PAssign, PReturn, PNoStmt, PStmt}
 use Rattle.sf_value.specs.Keys.{Key}
 use Rattle.sf_value.specs.declared.value.Value.{Value}
-use Rattle.source_meaning.specs.declared.Var.{Var}
+use Rattle.source_meaning.specs.declared.vars.Var.{Var}
 use Rattle.source_meaning.specs.ClassTables.{Source, fields_of}
 use Rattle.source_meaning.specs.World.{World, Calls, Ends, Goes, Returns, Fails, step, step_limit, with_value, next, assigned, record_at, with_field, writing}
 use Rattle.source_meaning.specs.Evaluation.{value_of}

@@ -2,6 +2,8 @@ pub mod ClassTables
 pub mod World
 pub mod Evaluation
 pub mod Execution
+pub mod Here
 pub mod Calls
 pub mod RequestRun
 pub mod Serial
+pub mod Agrees

@@ -1,5 +1,5 @@
 -- The world that a program acts on, and what its parts come to.
-use Rattle.std.specs.Prelude.{ℕ, zero, suc, ℤ, Bool, List, [], ◌∷◌, ◌++◌, Some, None, Ok, Err, nat_eq, slice_get, slice_set, position, unwrap_or, if◌then◌else◌}
+use Rattle.std.specs.Prelude.{ℕ, zero, suc, ℤ, Bool, List, [], ◌∷◌, ◌++◌, Some, None, Ok, Err, nat_eq, slice_get, slice_set, position, unwrap_or}
 use Rattle.std.specs.declared.option.Option.{Option}
 use Rattle.std.specs.declared.result.Result.{Result}
 use Rattle.std.specs.FinMap as map
@@ -8,7 +8,7 @@ use Rattle.sf_value.specs.Keys.{Key, key_cmp}
 use Rattle.sf_value.specs.declared.value.Value.{Value}
 use Rattle.sf_value.specs.declared.value.Value.TheVariants as value
 use Rattle.sf_value.specs.declared.Failure.{Failure}
-use Rattle.source_meaning.specs.declared.Var.{Var}
+use Rattle.source_meaning.specs.declared.vars.Var.{Var}
 
 -- the values of the fields of each entity that there is
 abbrev pub State : Type 0
@@ -82,15 +82,28 @@ result_of (Goes vars w n) = Got value.Nil w n
 result_of (Returns v w n) = Got v w n
 result_of (Fails e vars w n) = Fell e w n
 
+abbrev pub is_named : ℕ → Var → Bool
+is_named x v = nat_eq v.name.0 x
+
+abbrev pub value_of_var : Option Var → Value
+value_of_var None = value.Nil
+value_of_var (Some v) = v.value
+
+abbrev pub var_at : List Var → Option ℕ → Value
+var_at vars None = value.Nil
+var_at vars (Some i) = value_of_var (slice_get vars i)
+
 -- the value of a local; the rules refuse a name without one
 unfoldable pub local_value : List Var → ℕ → Value
-local_value [] x = value.Nil
-local_value (v ∷ vars) x = if nat_eq v.name.0 x then v.value else local_value vars x
+local_value vars x = var_at vars (position (is_named x) vars)
 
--- the locals after an assignment
+abbrev pub placed : List Var → Option ℕ → Var → List Var
+placed vars None v = vars ++ v ∷ []
+placed vars (Some i) v = slice_set vars i v
+
+-- the locals after an assignment: a new name stands behind the others
 unfoldable pub assigned : List Var → ℕ → Value → List Var
-assigned [] x v = record { name = record { 0 = x }; value = v } ∷ []
-assigned (y ∷ vars) x v = if nat_eq y.name.0 x then record { name = y.name; value = v } ∷ vars else y ∷ assigned vars x v
+assigned vars x v = placed vars (position (is_named x) vars) (record { name = record { 0 = x }; value = v })
 
 -- the record of an entity; there is one where it is called
 abbrev pub record_at : World → Key → List Value
@@ -102,7 +115,7 @@ value_at fields None = value.Nil
 value_at fields (Some i) = unwrap_or (slice_get fields i) value.Nil
 
 unfoldable pub field_value : List ℕ → List Value → ℕ → Value
-field_value names fields x = value_at fields (position (nat_eq x) names)
+field_value names fields x = value_at fields (position (λ y. nat_eq y x) names)
 
 -- the record after a field is assigned
 abbrev pub set_at : List Value → Option ℕ → Value → List Value
@@ -110,7 +123,7 @@ set_at fields None v = fields
 set_at fields (Some i) v = slice_set fields i v
 
 unfoldable pub with_field : List ℕ → List Value → ℕ → Value → List Value
-with_field names fields x v = set_at fields (position (nat_eq x) names) v
+with_field names fields x v = set_at fields (position (λ y. nat_eq y x) names) v
 
 -- the world after the own record has changed
 abbrev pub writing : World → Key → List Value → World

@@ -1,18 +1,41 @@
 //! What a program means: its requests run on the state of its entities, one after another.
 //!
-//! The definitions stand in `specs/`, from expressions up to serial runs. [`Local`] is the direct
-//! interpreter, which does exactly what they say.
+//! The definitions stand in `specs/`, from expressions up to serial runs. The direct interpreter does
+//! exactly what they say.
 #![tactic(auto)]
 
-use py_tree::Name;
-use sf_list::Sequence;
-use sf_value::Value;
+mod vars;
 
-/// A local with its value.
+pub use vars::{Var, Vars};
+
+use sf_value::Failure;
+use std::alloc::{AllocError, AllocFailed};
+
+/// Why a part of a run stops without a value.
 #[derive(Drop)]
-pub struct Var {
-    pub name: Name,
-    pub value: Value,
+pub(crate) enum Stop {
+    NoMemory,
+    Failed(Failure),
 }
 
-pub type Vars = Sequence<Var>;
+impl From<AllocError> for Stop {
+    ghost use Rattle.std.specs.Prelude.{◌≡◌};
+    ghost use Rattle.source_meaning.specs.declared.Stop.TheVariants.{NoMemory};
+
+    ghost from_gives = { λ _ stop. stop ≡ NoMemory };
+
+    fn from(_error: AllocError) -> Stop {
+        Stop::NoMemory
+    }
+}
+
+impl<T: Drop> From<AllocFailed<T>> for Stop {
+    ghost use Rattle.std.specs.Prelude.{◌≡◌};
+    ghost use Rattle.source_meaning.specs.declared.Stop.TheVariants.{NoMemory};
+
+    ghost from_gives = { λ _ stop. stop ≡ NoMemory };
+
+    fn from(_error: AllocFailed<T>) -> Stop {
+        Stop::NoMemory
+    }
+}

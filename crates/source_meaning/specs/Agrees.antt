@@ -1,0 +1,15 @@
+-- What the interpreter returns is what the meaning says, unless memory ran out.
+use Rattle.std.specs.Prelude.{◌≡◌, Ok, Err}
+use Rattle.std.specs.declared.result.Result.{Result}
+use Rattle.sf_value.specs.declared.value.Value.{Value}
+use Rattle.sf_value.specs.declared.Failure.{Failure}
+use Rattle.source_meaning.specs.declared.Stop.{Stop}
+use Rattle.source_meaning.specs.declared.Stop.TheVariants as stop
+
+abbrev pub FailsAs : Stop → Result Value Failure → Type 0
+FailsAs stop.NoMemory r = Unit {0}
+FailsAs (stop.Failed f) r = r ≡ Err f
+
+abbrev pub Agrees : Result Value Stop → Result Value Failure → Type 0
+Agrees (Ok v) r = r ≡ Ok v
+Agrees (Err e) r = FailsAs e r

@@ -1,0 +1,95 @@
+//! The locals of a running method, and the fields of its own record.
+#![tactic(auto, unfolding(crate::specs::World::local_value, crate::specs::World::assigned, crate::specs::World::field_value, crate::specs::World::with_field))]
+
+ghost use Rattle.std.specs.Prelude.{◌≡◌, ◌<◌, IfOk, IfSome, OnOk, map, position, length, nat_eq};
+ghost use Rattle.source_meaning.specs.World.{local_value, assigned, field_value, with_field, is_named};
+
+use py_tree::Name;
+use sf_list::{Sequence, TryClone};
+use sf_value::{Value, Values};
+use std::alloc::{AllocError, Global};
+
+/// A local with its value.
+#[derive(Drop)]
+pub struct Var {
+    pub name: Name,
+    pub value: Value,
+}
+
+pub type Vars = Sequence<Var>;
+
+/// A copy of a local's value.
+pub(crate) fn read_local(alloc: Global, vars: &Vars, name: Name) -> Result<Value, AllocError>
+    ensures { IfOk result (λ value. value ≡ local_value vars.now name.0) }
+{
+    let Some(at) = place_of_local(vars.as_slice(), name) else {
+        return Ok(Value::Nil);
+    };
+    match vars.get(at) {
+        Some(var) => var.value.try_clone(alloc),
+        None => Ok(Value::Nil),
+    }
+}
+
+fn place_of_local(vars: &[Var], name: Name) -> Option<usize>
+    ensures place { result ≡ position (is_named name.0) vars.now }
+    ensures within { IfSome result (λ at. at < length vars.now) }
+{
+    vars.iter().position(|var| var.name.0 == name.0)
+}
+
+/// Assigns a local, which joins the others where it is new.
+pub(crate) fn assign_local(
+    alloc: Global,
+    vars: &mut Vars,
+    name: Name,
+    value: Value,
+) -> Result<(), AllocError>
+    ensures { OnOk result (vars.new ≡ assigned vars.old name.0 value) }
+{
+    match place_of_local(vars.as_slice(), name) {
+        Some(at) => {
+            vars.set(at, Var { name, value });
+            Ok(())
+        }
+        None => vars.push(alloc, Var { name, value }),
+    }
+}
+
+fn place_of_field(names: &[Name], name: Name) -> Option<usize>
+    ensures { result ≡ position (λ x. nat_eq x.0 name.0) names.now }
+{
+    names.iter().position(|field| field.0 == name.0)
+}
+
+/// A copy of a field's value.
+#[tactic(auto, using(crate::proofs::VarLaws::position_names), unfolding(crate::specs::World::field_value))]
+pub(crate) fn read_field(
+    alloc: Global,
+    names: &[Name],
+    fields: &Values,
+    name: Name,
+) -> Result<Value, AllocError>
+    ensures { IfOk result (λ value. value ≡ field_value (map (λ x. x.0) names.now) fields.now name.0) }
+{
+    let Some(at) = place_of_field(names, name) else {
+        return Ok(Value::Nil);
+    };
+    match fields.get(at) {
+        Some(value) => value.try_clone(alloc),
+        None => Ok(Value::Nil),
+    }
+}
+
+/// Sets a field of a record.
+#[tactic(auto, using(crate::proofs::VarLaws::position_names, crate::proofs::VarLaws::set_past), unfolding(crate::specs::World::with_field))]
+pub(crate) fn set_field(names: &[Name], fields: &mut Values, name: Name, value: Value)
+    ensures { fields.new ≡ with_field (map (λ x. x.0) names.now) fields.old name.0 value }
+{
+    let Some(at) = place_of_field(names, name) else {
+        return;
+    };
+    if at < fields.len() {
+        fields.set(at, value);
+    }
+}
