@@ -1,12 +1,12 @@
 -- Equations of weights, one for each case.
-use Rattle.std.proofs.Common.{◌≡◌, ℕ, ℤ, Bool as Truth, ◌+◌, ◌≤◌, ◌<◌, List as Items, [], ◌∷◌, length, drop, min, refl, sym, ap, ◌∙◌, arith}
+use Rattle.std.proofs.Common.{◌≡◌, ℕ, ℤ, Bool as Truth, ◌+◌, ◌≤◌, List as Items, [], length, drop, min, refl, sym, ap, ◌∙◌, arith}
 use Rattle.std.specs.List.{sum_by}
 use Rattle.std.proofs.lemmas.List.{drop_all}
 use Rattle.std.proofs.lemmas.List.Sums.{sum_by-cons}
 use Rattle.std.specs.Str.{encode_utf8_all}
 use Rattle.sf_value.specs.declared.text.Text.{Text}
 use Rattle.sf_value.specs.declared.value.Ref.{Ref}
-use Rattle.sf_value.specs.declared.value.Value.{Value, Int, Bool, Str, Nil, List, List', Entity, Row_of-Value, end_of-Value, more_of-Value, items-the_row-Value, items_hidden-the_row-Value-0}
+use Rattle.sf_value.specs.declared.value.Value.{Value, Int, Bool, Str, Nil, List, Entity, Row_of-Value, end_of-Value, more_of-Value, items-the_row-Value, items_hidden-the_row-Value-0}
 use Rattle.sf_value.specs.declared.value.Value.TheBlock.{hidden-the_row-Value-0}
 use Rattle.sf_value.specs.Weight.{weight_of, row_weight}
 
