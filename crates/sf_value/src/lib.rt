@@ -9,12 +9,14 @@ ghost use Rattle.std.specs.Prelude.{◌≡◌, ◌↔◌, IfOk, IsTrue};
 
 mod text;
 mod value;
+mod weighing;
 
 use sf_list::{Sequence, TryClone};
 use std::alloc::{AllocError, Global};
 pub use text::Text;
 use value::same_all as same_values;
 pub use value::{Record, Ref, Value, Values};
+pub use weighing::{TOO_HEAVY, WEIGHT_LIMIT, text_weight, weight};
 
 /// Bytes, as a list that grows.
 pub type Bytes = Sequence<u8>;

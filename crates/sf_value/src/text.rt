@@ -4,7 +4,6 @@ ghost use Rattle.std.specs.Prelude.{◌≡◌, ◌↔◌, ◌==◌, IfOk, IsTrue
 ghost use Rattle.std.specs.Str.{chars, encode_utf8_all};
 ghost use Rattle.std.specs.Cmp.Rules.{comparing, hashing};
 ghost use Rattle.std.specs.Cmp.Lexicographic.{pointwise};
-ghost use Rattle.std.specs.Ordering.{on};
 ghost use Rattle.std.specs.Hash as fed;
 ghost use Rattle.std.proofs.Common.{rules};
 
@@ -66,12 +65,12 @@ impl TryClone for Text {
 }
 
 impl PartialEq for Text {
-    ghost eq = { on encode_utf8_all (pointwise ◌==◌) };
+    ghost eq = { pointwise ◌==◌ };
 
     ghost laws = { Prim.search (comparing, rules) };
 
     fn eq(&self, other: &Text) -> bool {
-        self.as_str() == other.as_str()
+        self.same(other)
     }
 }
 
