@@ -7,6 +7,7 @@ use Rattle.py_tree.specs.declared.stmt.Target.{Target}
 use Rattle.py_tree.specs.declared.stmt.Over.{Over}
 use Rattle.py_tree.specs.declared.stmt.Over.TheVariants as over
 use Rattle.py_tree.specs.declared.stmt.Stmt.{Stmt}
+use Rattle.py_tree.specs.declared.stmt.Arm.{Arm, out-Arm}
 use Rattle.py_tree.specs.declared.stmt.StmtKind.{StmtKind, Row_of-Arm, end_of-Arm, more_of-Arm, Row_of-Stmt, end_of-Stmt, more_of-Stmt}
 use Rattle.py_tree.specs.declared.stmt.StmtKind as s
 use Rattle.py_tree.specs.declared.stmt.StmtKind.TheBlock.{struct-Arm}
@@ -90,3 +91,9 @@ stmts_of (x ∷ xs) = PStmt x (stmts_of xs)
 abbrev pub arms_of : List PlainArm → PlainArms
 arms_of [] = PNoArm
 arms_of (a ∷ more) = PMoreArms a (arms_of more)
+
+abbrev pub plain_arm : Arm → PlainArm
+plain_arm a = PArm (plain_expr (out-Arm a).test) (stmts_of (plain_stmts (out-Arm a).body))
+
+abbrev pub plain_arms : List Arm → List PlainArm
+plain_arms = map plain_arm

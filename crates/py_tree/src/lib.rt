@@ -4,6 +4,7 @@
 //! with the same plain tree are the same program.
 #![tactic(auto)]
 
+mod copy;
 mod expr;
 mod names;
 mod program;
