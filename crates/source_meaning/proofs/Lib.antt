@@ -1,1 +1,2 @@
 pub mod VarLaws
+pub mod EvalLaws

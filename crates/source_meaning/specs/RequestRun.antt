@@ -1,10 +1,11 @@
 -- The run of one request.
-use Rattle.std.specs.Prelude.{ℕ, ◌+◌, Bool, true, false, ◌||◌, nat_lt, List, [], ◌∷◌, if◌then◌else◌}
+use Rattle.std.specs.Prelude.{ℕ, ◌+◌, Bool, true, false, ◌||◌, nat_lt, List, [], ◌∷◌, length, if◌then◌else◌}
 use Rattle.std.specs.FinMap as map
 use Rattle.std.specs.FinSet as set
 use Rattle.std.specs.List.{list_any}
+use Rattle.std.specs.Str.{encode_utf8_all}
 use Rattle.sf_value.specs.Keys.{key_cmp}
-use Rattle.sf_value.specs.Weight.{weight_of, text_weight}
+use Rattle.sf_value.specs.Weight.{weight_of}
 use Rattle.sf_value.specs.declared.value.Value.{Value}
 use Rattle.sf_value.specs.declared.Act.{Act}
 use Rattle.sf_value.specs.declared.Act.TheVariants as act
@@ -37,7 +38,7 @@ abbrev pub is_heavy : Value → Bool
 is_heavy v = nat_lt 65536 (weight_of v)
 
 unfoldable pub is_too_heavy : Act → Bool
-is_too_heavy (act.Call class key method args) = nat_lt 65536 (text_weight key) || list_any is_heavy args
+is_too_heavy (act.Call class key method args) = nat_lt 65536 (1 + length (encode_utf8_all key)) || list_any is_heavy args
 is_too_heavy (act.New class args) = list_any is_heavy args
 
 -- the call or the creation at depth 1

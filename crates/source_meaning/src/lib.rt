@@ -4,6 +4,8 @@
 //! exactly what they say.
 #![tactic(auto)]
 
+mod evaluate;
+mod failures;
 mod vars;
 
 pub use vars::{Var, Vars};

@@ -1,0 +1,34 @@
+//! Failures by their kinds' numbers.
+
+ghost use Rattle.std.specs.Prelude.{◌≡◌, Err};
+ghost use Rattle.source_meaning.specs.World.{failure};
+ghost use Rattle.source_meaning.specs.Agrees.{FailsAs};
+
+use crate::Stop;
+use sf_value::{Failure, Text};
+use std::alloc::Global;
+
+/// `OverflowError`.
+pub(crate) const OVERFLOW_ERROR: u8 = 5;
+
+/// `NoEntity`.
+pub(crate) const NO_ENTITY: u8 = 9;
+
+/// `AlreadyExists`.
+pub(crate) const ALREADY_EXISTS: u8 = 10;
+
+/// `SizeLimit`.
+pub(crate) const SIZE_LIMIT: u8 = 11;
+
+/// `StepLimit`.
+pub(crate) const STEP_LIMIT: u8 = 12;
+
+/// A failure of a kind, without a message.
+pub(crate) fn fail(alloc: Global, kind: u8) -> Stop
+    ensures { FailsAs result (failure kind) }
+{
+    match Text::of(alloc, "") {
+        Ok(message) => Stop::Failed(Failure { kind, message }),
+        Err(_) => Stop::NoMemory,
+    }
+}
