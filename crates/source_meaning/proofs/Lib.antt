@@ -1,2 +1,3 @@
 pub mod VarLaws
 pub mod EvalLaws
+pub mod ActLaws

@@ -5,6 +5,7 @@
 #![tactic(auto)]
 
 mod evaluate;
+mod execute;
 mod failures;
 mod vars;
 
