@@ -1,3 +1,4 @@
 pub mod VarLaws
 pub mod EvalLaws
 pub mod ActLaws
+pub mod TableLaws

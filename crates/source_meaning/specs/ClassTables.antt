@@ -1,5 +1,5 @@
 -- What a program says of its classes: their methods, their fields in order, and where a key comes from.
-use Rattle.std.specs.Prelude.{ℕ, Bool, true, false, not, ◌||◌, nat_eq, List, [], ◌∷◌, Some, None, codes, find, filter, position, slice_get, option_and_then}
+use Rattle.std.specs.Prelude.{ℕ, Bool, true, false, not, ◌&&◌, nat_eq, List, [], ◌∷◌, Some, None, codes, filter, position, slice_get, option_and_then, if◌then◌else◌}
 use Rattle.std.specs.declared.option.Option.{Option}
 use Rattle.py_tree.specs.NameTable.{place_of}
 use Rattle.py_tree.specs.declared.stmt.Target.{Target}
@@ -33,8 +33,13 @@ members_of (Some c) = c.members
 abbrev pub members_at : Source → ℕ → List PlainMethod
 members_at src class = members_of (slice_get src.program class)
 
+-- the first element that passes a test
+abbrev pub first : {A : Type 0} → (A → Bool) → List A → Option A
+first p [] = None
+first p (x ∷ xs) = if p x then Some x else first p xs
+
 abbrev pub member_named : Option ℕ → List PlainMethod → Option PlainMethod
-member_named number members = find (λ m. is_number number m.name) members
+member_named number members = first (λ m. is_number number m.name) members
 
 abbrev pub init_of : Source → ℕ → Option PlainMethod
 init_of src class = member_named (init_number src) (members_at src class)
@@ -42,13 +47,13 @@ init_of src class = member_named (init_number src) (members_at src class)
 abbrev pub key_method_of : Source → ℕ → Option PlainMethod
 key_method_of src class = member_named (key_number src) (members_at src class)
 
--- `__init__` and `__key__` aren't called as methods
-abbrev pub is_method : Source → PlainMethod → Bool
-is_method src m = not (is_number (init_number src) m.name || is_number (key_number src) m.name)
+-- `__init__` and `__key__`, of these numbers, aren't called as methods
+abbrev pub is_callable : Option ℕ → Option ℕ → PlainMethod → Bool
+is_callable init key m = not (is_number init m.name) && not (is_number key m.name)
 
 -- the methods of a class, numbered from 0 in text order
 abbrev pub methods_of : Source → ℕ → List PlainMethod
-methods_of src class = filter (is_method src) (members_at src class)
+methods_of src class = filter (is_callable (init_number src) (key_number src)) (members_at src class)
 
 abbrev pub body_of : Option PlainMethod → List PlainStmt
 body_of None = []
@@ -101,7 +106,7 @@ abbrev pub declares : ℕ → PlainStmt → Bool
 declares field s = is_number (declared_field s) field
 
 abbrev pub declared_from : List PlainStmt → ℕ → Option ℕ
-declared_from ss field = option_and_then named_value (find (declares field) ss)
+declared_from ss field = option_and_then named_value (first (declares field) ss)
 
 -- the place of the parameter of `__init__` that gives the key
 abbrev pub key_param_of : Source → ℕ → Option ℕ

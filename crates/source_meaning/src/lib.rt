@@ -7,6 +7,7 @@
 mod evaluate;
 mod execute;
 mod failures;
+mod tables;
 mod vars;
 
 pub use vars::{Var, Vars};

@@ -1,0 +1,115 @@
+//! Look-ups in a program: members, methods, fields and the parameter that gives a key.
+//!
+//! A scan goes over the members of one class, the declarations of its `__init__` or the parameters of
+//! one method, of each of which a program has at most some 256.
+#![tactic(auto, using(crate::proofs::TableLaws::table_laws))]
+
+ghost use Rattle.std.specs.Prelude.{◌≡◌, ◌++◌, ℕ, List, map, slice_get, filter, IfOk, OnOk};
+ghost use Rattle.std.specs.Option.{option_map};
+ghost use Rattle.py_tree.specs.PlainStatements.{plain_stmts, plain_stmt};
+ghost use Rattle.py_tree.specs.PlainProgram.{plain_program, plain_method, plain_methods, plain_params};
+ghost use Rattle.source_meaning.specs.ClassTables.{is_number, members_of, member_named, declared_field, declared_fields, behind, is_callable};
+
+use py_tree::{Method, Name, Program, Stmt, StmtKind, Target};
+use std::alloc::{AllocError, Global};
+
+fn is_named(number: Option<Name>, name: Name) -> bool
+    ensures { result ≡ is_number (option_map (λ x. x.0) number) name.0 }
+{
+    match number {
+        Some(x) => name.0 == x.0,
+        None => false,
+    }
+}
+
+/// What the class of a number defines.
+pub(crate) fn members(program: &Program, class: u32) -> &[Method]
+    ensures { plain_methods result.now ≡ members_of (slice_get (plain_program program.now) class) }
+{
+    match program.classes.get(class as usize) {
+        Some(class) => class.members.as_slice(),
+        None => &[],
+    }
+}
+
+/// The first member of this name.
+pub(crate) fn member(members: &[Method], number: Option<Name>) -> Option<&Method>
+    ensures { option_map (λ m. plain_method m.now) result ≡ member_named (option_map (λ x. x.0) number) (plain_methods members.now) }
+{
+    for member in members {
+        if is_named(number, member.name) {
+            return Some(member);
+        }
+    }
+    None
+}
+
+fn is_method(method: &Method, init: Option<Name>, key: Option<Name>) -> bool
+    ensures { result ≡ is_callable (option_map (λ x. x.0) init) (option_map (λ x. x.0) key) (plain_method method.now) }
+{
+    !is_named(init, method.name) && !is_named(key, method.name)
+}
+
+/// The method of this number, counted without `__init__` and `__key__`.
+pub(crate) fn method(
+    members: &[Method],
+    init: Option<Name>,
+    key: Option<Name>,
+    number: u32,
+) -> Option<&Method>
+    ensures { option_map (λ m. plain_method m.now) result ≡ slice_get (filter (is_callable (option_map (λ x. x.0) init) (option_map (λ x. x.0) key)) (plain_methods members.now)) number }
+{
+    let mut left = number;
+    for method in members {
+        if is_method(method, init, key) {
+            if left == 0 {
+                return Some(method);
+            }
+            left -= 1;
+        }
+    }
+    None
+}
+
+#[tactic(auto, using(py_tree::proofs::Views::stmt_views))]
+fn declared(stmt: &Stmt) -> Option<Name>
+    ensures { option_map (λ x. x.0) result ≡ declared_field (plain_stmt stmt.now) }
+{
+    match &stmt.kind {
+        StmtKind::Assign { target, .. } => match target {
+            Target::Field(x) => Some(x.name),
+            Target::Local(_) => None,
+        },
+        StmtKind::Pass
+        | StmtKind::Break
+        | StmtKind::Continue
+        | StmtKind::Expr(_)
+        | StmtKind::Return(_)
+        | StmtKind::Raise(..)
+        | StmtKind::Assert(..)
+        | StmtKind::Augment { .. }
+        | StmtKind::If { .. }
+        | StmtKind::While { .. }
+        | StmtKind::For { .. } => None,
+    }
+}
+
+fn add_name(names: &mut Vec<Name>, name: Option<Name>) -> Result<(), AllocError>
+    ensures { (others : List ℕ) → OnOk result (map (λ x. x.0) names.new.items ++ others ≡ map (λ x. x.0) names.old.items ++ behind (option_map (λ x. x.0) name) others) }
+{
+    if let Some(name) = name {
+        names.push(name)?;
+    }
+    Ok(())
+}
+
+/// The fields that these statements declare, in order.
+pub(crate) fn field_names(alloc: Global, body: &[Stmt]) -> Result<Vec<Name>, AllocError>
+    ensures { IfOk result (λ names. map (λ x. x.0) names.items ≡ declared_fields (plain_stmts body.now)) }
+{
+    let mut names = Vec::new(alloc);
+    for stmt in body {
+        add_name(&mut names, declared(stmt))?;
+    }
+    Ok(names)
+}
