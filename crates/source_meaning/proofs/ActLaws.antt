@@ -22,7 +22,7 @@ use Rattle.source_meaning.specs.Evaluation.{value_of}
 use Rattle.source_meaning.specs.Here.{Ended, On, Gave, Broke, next_here, assign_here, act_here, act_all_here}
 
 -- a step that there is
-step_more : {A : Type 0} (n m : ℕ) (a : A) (f : ℕ → A) → n ≡ m + 1 → step n a f ≡ f m
+pub step_more : {A : Type 0} (n m : ℕ) (a : A) (f : ℕ → A) → n ≡ m + 1 → step n a f ≡ f m
 step_more n m a f h = ap (λ k. step k a f) (h ∙ add-one m)
 
 -- with no step left every statement fails

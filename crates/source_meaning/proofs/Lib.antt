@@ -2,3 +2,5 @@ pub mod VarLaws
 pub mod EvalLaws
 pub mod ActLaws
 pub mod TableLaws
+pub mod CallLaws
+pub mod DeclareLaws

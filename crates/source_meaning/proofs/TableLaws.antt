@@ -1,13 +1,16 @@
 -- Laws of look-ups in a program.
-use Rattle.std.proofs.Common.{◌≡◌, ◌<◌, ◌≤◌, ◌+◌, ℕ, Bool, true, false, cond, List, [], ◌∷◌, ◌++◌, map, drop, get_or, length, filter, position, slice_get, Option, Some, None, refl, sym, ap, ◌∙◌, add-one, drop-cons}
+use Rattle.std.proofs.Common.{◌≡◌, ◌<◌, ◌≤◌, ◌+◌, ℕ, Bool, true, false, cond, List, [], ◌∷◌, ◌++◌, map, drop, get_or, length, filter, position, nat_eq, slice_get, Option, Some, None, refl, sym, ap, ◌∙◌, add-one, drop-cons}
 use Rattle.std.proofs.lemmas.List.{drop_all}
 use Rattle.std.specs.Option.{option_map}
+use Rattle.std.specs.Prelude.{option_and_then}
+use Rattle.py_tree.proofs.NameLaws.{position-map}
+use Rattle.py_tree.specs.declared.program.Param.{Param}
 use Rattle.py_tree.specs.declared.program.Method.{Method}
 use Rattle.py_tree.specs.declared.names.Name.{Name}
 use Rattle.py_tree.specs.declared.stmt.Stmt.{Stmt}
-use Rattle.py_tree.specs.PlainStatements.{plain_stmt, plain_stmts}
-use Rattle.py_tree.specs.PlainProgram.{plain_method, plain_methods, PlainMethod}
-use Rattle.source_meaning.specs.ClassTables.{is_number, member_named, first, declared_field, declared_fields, behind}
+use Rattle.py_tree.specs.PlainStatements.{PlainStmt, plain_stmt, plain_stmts}
+use Rattle.py_tree.specs.PlainProgram.{plain_method, plain_methods, PlainMethod, PlainParam, plain_param, plain_params}
+use Rattle.source_meaning.specs.ClassTables.{is_number, member_named, first, declared_field, declared_fields, behind, declares, declared_from, named_value, param_named}
 
 methods_from : (ms : List Method) (i : ℕ) (m : Method) → i < length ms → m ≡ get_or ms i m → plain_methods (drop i ms) ≡ plain_method m ∷ plain_methods (drop (i + 1) ms)
 methods_from ms i m lt is =
@@ -47,3 +50,28 @@ declared_more ss i x names lt is =
 pub declared_end : (ss : List Stmt) (i : ℕ) → length ss ≤ i → declared_fields (plain_stmts (drop i ss)) ≡ []
 unfolding declared_fields
 declared_end ss i le = let cut : drop i ss ≡ [] = drop_all i ss le in ap (λ l. declared_fields (plain_stmts l)) cut
+
+stmts_from : (ss : List Stmt) (i : ℕ) (x : Stmt) → i < length ss → x ≡ get_or ss i x → plain_stmts (drop i ss) ≡ plain_stmt x ∷ plain_stmts (drop (i + 1) ss)
+stmts_from ss i x lt is =
+    let cut : drop i ss ≡ get_or ss i x ∷ drop (i + 1) ss = rw (add-one, drop-cons ss i x) in
+    ap plain_stmts cut ∙ ap (λ y. plain_stmt y ∷ plain_stmts (drop (i + 1) ss)) (sym is)
+
+-- what a field is declared from, from a statement on
+chosen : ℕ → PlainStmt → List PlainStmt → Bool → Option ℕ
+chosen field x xs b = option_and_then named_value (cond b (Some x) (first (declares field) xs))
+
+pub from_here : (ss : List Stmt) (i : ℕ) (x : Stmt) (field : ℕ) → i < length ss → x ≡ get_or ss i x → is_number (declared_field (plain_stmt x)) field ≡ true → declared_from (plain_stmts (drop i ss)) field ≡ named_value (plain_stmt x)
+unfolding chosen
+from_here ss i x field lt is h = ap (λ l. declared_from l field) (stmts_from ss i x lt is) ∙ ap (chosen field (plain_stmt x) (plain_stmts (drop (i + 1) ss))) h
+
+pub from_past : (ss : List Stmt) (i : ℕ) (x : Stmt) (field : ℕ) → i < length ss → x ≡ get_or ss i x → is_number (declared_field (plain_stmt x)) field ≡ false → declared_from (plain_stmts (drop i ss)) field ≡ declared_from (plain_stmts (drop (i + 1) ss)) field
+unfolding chosen
+from_past ss i x field lt is h = ap (λ l. declared_from l field) (stmts_from ss i x lt is) ∙ ap (chosen field (plain_stmt x) (plain_stmts (drop (i + 1) ss))) h
+
+pub from_end : (ss : List Stmt) (i : ℕ) (field : ℕ) → length ss ≤ i → declared_from (plain_stmts (drop i ss)) field ≡ None
+from_end ss i field le = let cut : drop i ss ≡ [] = drop_all i ss le in ap (λ l. declared_from (plain_stmts l) field) cut
+
+pub ruleset from_laws = (from_here, from_past, from_end)
+
+pub param_place : (params : List Param) (name : ℕ) → param_named (plain_params params) name ≡ position (λ (p : Param). nat_eq p.name.0 name) params
+param_place params name = position-map (λ (p : PlainParam). nat_eq p.name name) plain_param params

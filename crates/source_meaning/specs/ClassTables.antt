@@ -85,21 +85,31 @@ declared_fields (s ∷ ss) = behind (declared_field s) (declared_fields ss)
 abbrev pub fields_of : Source → ℕ → List ℕ
 fields_of src class = declared_fields (body_of (init_of src class))
 
+-- the field that an expression reads
+abbrev pub field_read : PlainExpr → Option ℕ
+field_read (PAttr at on name name_at) = Some name
+field_read _ = None
+
 -- the field that `__key__` returns
+abbrev pub field_returned : Option PlainExpr → Option ℕ
+field_returned None = None
+field_returned (Some e) = field_read e
+
 abbrev pub returned_field : PlainStmt → Option ℕ
-returned_field (PReturn at (Some (PAttr e_at on name name_at))) = Some name
+returned_field (PReturn at e) = field_returned e
 returned_field _ = None
 
 abbrev pub first_returned : List PlainStmt → Option ℕ
 first_returned [] = None
 first_returned (s ∷ ss) = returned_field s
 
-abbrev pub key_field_of : Source → ℕ → Option ℕ
-key_field_of src class = first_returned (body_of (key_method_of src class))
-
 -- the name that a field is declared from
+abbrev pub name_read : PlainExpr → Option ℕ
+name_read (PVar at name) = Some name
+name_read _ = None
+
 abbrev pub named_value : PlainStmt → Option ℕ
-named_value (PAssign at x ty (PVar e_at name)) = Some name
+named_value (PAssign at x ty e) = name_read e
 named_value _ = None
 
 abbrev pub declares : ℕ → PlainStmt → Bool
@@ -108,11 +118,16 @@ declares field s = is_number (declared_field s) field
 abbrev pub declared_from : List PlainStmt → ℕ → Option ℕ
 declared_from ss field = option_and_then named_value (first (declares field) ss)
 
--- the place of the parameter of `__init__` that gives the key
+-- the place of the parameter with a name
+abbrev pub param_named : List PlainParam → ℕ → Option ℕ
+param_named params name = position (λ p. nat_eq p.name name) params
+
+-- the place of the parameter of `__init__` from which the field that `__key__` returns is declared
+abbrev pub key_param : Option PlainMethod → Option PlainMethod → Option ℕ
+key_param init key = option_and_then (param_named (params_of init)) (option_and_then (declared_from (body_of init)) (first_returned (body_of key)))
+
 abbrev pub key_param_of : Source → ℕ → Option ℕ
-key_param_of src class =
-    let init = init_of src class in
-    option_and_then (λ name. position (λ p. nat_eq p.name name) (params_of init)) (option_and_then (declared_from (body_of init)) (key_field_of src class))
+key_param_of src class = key_param (init_of src class) (key_method_of src class)
 
 -- the number of the class with this name
 abbrev pub class_named : Source → List ℕ → Option ℕ

@@ -6,4 +6,5 @@ pub mod Here
 pub mod Calls
 pub mod RequestRun
 pub mod Serial
+pub mod StateView
 pub mod Agrees

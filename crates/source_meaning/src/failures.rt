@@ -1,12 +1,12 @@
 //! Failures by their kinds' numbers.
 
-ghost use Rattle.std.specs.Prelude.{◌≡◌, Err};
+ghost use Rattle.std.specs.Prelude.{◌≡◌, [], IfOk};
 ghost use Rattle.source_meaning.specs.World.{failure};
 ghost use Rattle.source_meaning.specs.Agrees.{FailsAs};
 
 use crate::Stop;
 use sf_value::{Failure, Text};
-use std::alloc::Global;
+use std::alloc::{AllocError, Global};
 
 /// `OverflowError`.
 pub(crate) const OVERFLOW_ERROR: u8 = 5;
@@ -23,11 +23,18 @@ pub(crate) const SIZE_LIMIT: u8 = 11;
 /// `StepLimit`.
 pub(crate) const STEP_LIMIT: u8 = 12;
 
+/// The text without a character.
+pub(crate) fn empty_text(alloc: Global) -> Result<Text, AllocError>
+    ensures { IfOk result (λ text. text ≡ []) }
+{
+    Text::of(alloc, "")
+}
+
 /// A failure of a kind, without a message.
 pub(crate) fn fail(alloc: Global, kind: u8) -> Stop
     ensures { FailsAs result (failure kind) }
 {
-    match Text::of(alloc, "") {
+    match empty_text(alloc) {
         Ok(message) => Stop::Failed(Failure { kind, message }),
         Err(_) => Stop::NoMemory,
     }

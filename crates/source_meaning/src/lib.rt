@@ -4,12 +4,15 @@
 //! exactly what they say.
 #![tactic(auto)]
 
+mod calls;
 mod evaluate;
 mod execute;
 mod failures;
+mod local;
 mod tables;
 mod vars;
 
+pub use local::Local;
 pub use vars::{Var, Vars};
 
 use sf_value::Failure;

@@ -4,13 +4,14 @@
 //! one method, of each of which a program has at most some 256.
 #![tactic(auto, using(crate::proofs::TableLaws::table_laws))]
 
-ghost use Rattle.std.specs.Prelude.{◌≡◌, ◌++◌, ℕ, List, map, slice_get, filter, IfOk, OnOk};
+ghost use Rattle.std.specs.Prelude.{◌≡◌, ◌++◌, ℕ, List, map, nat_eq, position, slice_get, filter, IfOk, OnOk};
 ghost use Rattle.std.specs.Option.{option_map};
+ghost use Rattle.py_tree.specs.PlainExpressions.{plain_expr};
 ghost use Rattle.py_tree.specs.PlainStatements.{plain_stmts, plain_stmt};
 ghost use Rattle.py_tree.specs.PlainProgram.{plain_program, plain_method, plain_methods, plain_params};
-ghost use Rattle.source_meaning.specs.ClassTables.{is_number, members_of, member_named, declared_field, declared_fields, behind, is_callable};
+ghost use Rattle.source_meaning.specs.ClassTables.{is_number, members_of, member_named, declared_field, declared_fields, behind, is_callable, field_read, name_read, returned_field, named_value, first_returned, declared_from, key_param, params_of, body_of};
 
-use py_tree::{Method, Name, Program, Stmt, StmtKind, Target};
+use py_tree::{Expr, ExprKind, Method, Name, Param, Program, Stmt, StmtKind, Target};
 use std::alloc::{AllocError, Global};
 
 fn is_named(number: Option<Name>, name: Name) -> bool
@@ -42,6 +43,26 @@ pub(crate) fn member(members: &[Method], number: Option<Name>) -> Option<&Method
         }
     }
     None
+}
+
+/// The parameters of a method, where there is one.
+pub(crate) fn params(method: Option<&Method>) -> &[Param]
+    ensures { plain_params result.now ≡ params_of (option_map (λ m. plain_method m.now) method.entry) }
+{
+    match method {
+        Some(method) => method.params.as_slice(),
+        None => &[],
+    }
+}
+
+/// The body of a method, where there is one.
+pub(crate) fn body(method: Option<&Method>) -> &[Stmt]
+    ensures { plain_stmts result.now ≡ body_of (option_map (λ m. plain_method m.now) method.entry) }
+{
+    match method {
+        Some(method) => method.body.as_slice(),
+        None => &[],
+    }
 }
 
 fn is_method(method: &Method, init: Option<Name>, key: Option<Name>) -> bool
@@ -112,4 +133,145 @@ pub(crate) fn field_names(alloc: Global, body: &[Stmt]) -> Result<Vec<Name>, All
         add_name(&mut names, declared(stmt))?;
     }
     Ok(names)
+}
+
+#[tactic(auto, using(py_tree::proofs::Views::expr_views))]
+fn field_in(expr: &Expr) -> Option<Name>
+    ensures { option_map (λ x. x.0) result ≡ field_read (plain_expr expr.now) }
+{
+    match &expr.kind {
+        ExprKind::Attr(_, x) => Some(x.name),
+        ExprKind::Int(_)
+        | ExprKind::Bool(_)
+        | ExprKind::Str(_)
+        | ExprKind::Nil
+        | ExprKind::Var(_)
+        | ExprKind::SelfRef
+        | ExprKind::Call(..)
+        | ExprKind::Apply(..)
+        | ExprKind::Index(..)
+        | ExprKind::List(_)
+        | ExprKind::Neg(_)
+        | ExprKind::Pos(_)
+        | ExprKind::Not(_)
+        | ExprKind::Chain(..)
+        | ExprKind::And(_)
+        | ExprKind::Or(_)
+        | ExprKind::Compare(..)
+        | ExprKind::IsNone(..)
+        | ExprKind::Cond { .. } => None,
+    }
+}
+
+#[tactic(auto, using(py_tree::proofs::Views::expr_views))]
+fn name_in(expr: &Expr) -> Option<Name>
+    ensures { option_map (λ x. x.0) result ≡ name_read (plain_expr expr.now) }
+{
+    match &expr.kind {
+        ExprKind::Var(name) => Some(*name),
+        ExprKind::Int(_)
+        | ExprKind::Bool(_)
+        | ExprKind::Str(_)
+        | ExprKind::Nil
+        | ExprKind::SelfRef
+        | ExprKind::Attr(..)
+        | ExprKind::Call(..)
+        | ExprKind::Apply(..)
+        | ExprKind::Index(..)
+        | ExprKind::List(_)
+        | ExprKind::Neg(_)
+        | ExprKind::Pos(_)
+        | ExprKind::Not(_)
+        | ExprKind::Chain(..)
+        | ExprKind::And(_)
+        | ExprKind::Or(_)
+        | ExprKind::Compare(..)
+        | ExprKind::IsNone(..)
+        | ExprKind::Cond { .. } => None,
+    }
+}
+
+#[tactic(auto, using(py_tree::proofs::Views::stmt_views))]
+fn returned(stmt: &Stmt) -> Option<Name>
+    ensures { option_map (λ x. x.0) result ≡ returned_field (plain_stmt stmt.now) }
+{
+    match &stmt.kind {
+        StmtKind::Return(given) => match given {
+            Some(expr) => field_in(expr),
+            None => None,
+        },
+        StmtKind::Pass
+        | StmtKind::Break
+        | StmtKind::Continue
+        | StmtKind::Expr(_)
+        | StmtKind::Assign { .. }
+        | StmtKind::Raise(..)
+        | StmtKind::Assert(..)
+        | StmtKind::Augment { .. }
+        | StmtKind::If { .. }
+        | StmtKind::While { .. }
+        | StmtKind::For { .. } => None,
+    }
+}
+
+#[tactic(auto, using(py_tree::proofs::Views::stmt_views))]
+fn named(stmt: &Stmt) -> Option<Name>
+    ensures { option_map (λ x. x.0) result ≡ named_value (plain_stmt stmt.now) }
+{
+    match &stmt.kind {
+        StmtKind::Assign { value, .. } => name_in(value),
+        StmtKind::Pass
+        | StmtKind::Break
+        | StmtKind::Continue
+        | StmtKind::Expr(_)
+        | StmtKind::Return(_)
+        | StmtKind::Raise(..)
+        | StmtKind::Assert(..)
+        | StmtKind::Augment { .. }
+        | StmtKind::If { .. }
+        | StmtKind::While { .. }
+        | StmtKind::For { .. } => None,
+    }
+}
+
+fn key_field(body: &[Stmt]) -> Option<Name>
+    ensures { option_map (λ x. x.0) result ≡ first_returned (plain_stmts body.now) }
+{
+    if body.is_empty() {
+        return None;
+    }
+    returned(&body[0])
+}
+
+/// The name from which a field is declared.
+#[tactic(auto, using(crate::proofs::TableLaws::from_laws))]
+fn source_of_field(body: &[Stmt], field: Name) -> Option<Name>
+    ensures { option_map (λ x. x.0) result ≡ declared_from (plain_stmts body.now) field.0 }
+{
+    for stmt in body {
+        if is_named(declared(stmt), field) {
+            return named(stmt);
+        }
+    }
+    None
+}
+
+fn place_of_param(params: &[Param], name: Name) -> Option<usize>
+    ensures { result ≡ position (λ p. nat_eq p.name.0 name.0) params.now }
+{
+    params.iter().position(|param| param.name.0 == name.0)
+}
+
+/// The place of the parameter of `__init__` that gives the key.
+#[tactic(auto, using(crate::proofs::TableLaws::param_place))]
+pub(crate) fn key_place(init: Option<&Method>, key: Option<&Method>) -> Option<usize>
+    ensures { result ≡ key_param (option_map (λ m. plain_method m.now) init.entry) (option_map (λ m. plain_method m.now) key.entry) }
+{
+    let Some(field) = key_field(body(key)) else {
+        return None;
+    };
+    let Some(name) = source_of_field(body(init), field) else {
+        return None;
+    };
+    place_of_param(params(init), name)
 }
