@@ -1,13 +1,8 @@
-// A library with one function.
+//! The bytes of values, requests, outcomes, batches and snapshots, as a store keeps them.
+//!
+//! Each thing has one spelling, and no spelling begins another, so that what was written is read
+//! again whatever follows it.
 #![tactic(auto)]
 
-ghost use Rattle.std.specs.Prelude.{◌≡◌};
-ghost use Rattle.sf_bytes.specs.Echo.{echo_of};
-
-// The `ensures` clause is the contract: what `echo` returns is `echo_of` of its argument, a definition
-// in `specs/Echo.antt`, which a caller's clause can cite too.
-pub fn echo(x: usize) -> usize
-    ensures { result ≡ echo_of x }
-{
-    x
-}
+mod fault;
+mod reading;
