@@ -94,6 +94,16 @@ impl<T: Drop> Sequence<T> {
     }
 }
 
+impl<T: Copy> Sequence<T> {
+    /// Adds copies of the elements at the end. The list keeps its own allocator, so `alloc` is unused.
+    pub fn extend_from_slice(&mut self, _alloc: Global, items: &[T]) -> Result<(), AllocError>
+        ensures ok { OnOk result (self.new ≡ self.old ++ items.now) }
+        ensures err { OnErr result (self.new ≡ self.old) }
+    {
+        self.items.extend_from_slice(items)
+    }
+}
+
 impl<T: TryClone + Drop> TryClone for Sequence<T> {
     ghost is_copy = { AreCopies T.is_copy };
 

@@ -1,7 +1,7 @@
 //! A text that contracts see as its code points.
 
-ghost use Rattle.std.specs.Prelude.{◌≡◌, ◌↔◌, ◌==◌, IfOk, IsTrue};
-ghost use Rattle.std.specs.Str.{chars, encode_utf8_all};
+ghost use Rattle.std.specs.Prelude.{◌≡◌, ◌↔◌, ◌==◌, true, IfOk, IsTrue};
+ghost use Rattle.std.specs.Str.{all_scalars, chars, encode_utf8_all};
 ghost use Rattle.std.specs.Cmp.Rules.{comparing, hashing};
 ghost use Rattle.std.specs.Cmp.Lexicographic.{pointwise};
 ghost use Rattle.std.specs.Hash as fed;
@@ -42,6 +42,7 @@ impl Text {
     pub fn as_str(&self) -> &str
         ensures points { chars result.now ≡ self.now }
         ensures bytes { result.now ≡ encode_utf8_all self.now }
+        ensures unicode { all_scalars self.now ≡ true }
     {
         self.inner.as_str()
     }

@@ -29,7 +29,9 @@ fn add_bytes(so_far: u64, text: &str) -> u64
     requires { so_far ≤ 65537 }
     ensures { result ≡ min (so_far + (1 + length text.now)) 65537 }
 {
-    (so_far + 1).saturating_add(text.len() as u64).min(TOO_HEAVY)
+    (so_far + 1)
+        .saturating_add(text.len() as u64)
+        .min(TOO_HEAVY)
 }
 
 #[tactic(auto, using(crate::proofs::Weights::weights))]

@@ -1,0 +1,50 @@
+-- The bytes of each thing. A number has four bytes, the greatest first, unless said otherwise.
+use Rattle.std.specs.Prelude.{ℕ, ℤ, ◌+◌, true, false, List as Items, [], ◌∷◌, ◌++◌, length}
+use Rattle.std.specs.Int.{w32, w64, w128, to_be_bytes, cast_unsigned}
+use Rattle.std.specs.List.{flat_map}
+use Rattle.std.specs.Str.{encode_utf8_all}
+use Rattle.sf_value.specs.declared.value.Ref.{Ref}
+use Rattle.sf_value.specs.declared.value.Value.{Value, Int, Bool as Truth, Str, Nil, List', Entity, Row_of-Value, end_of-Value, more_of-Value}
+
+unfoldable pub number_bytes : ℕ → Items ℕ
+number_bytes n = to_be_bytes w32 n
+
+-- a count in eight bytes
+unfoldable pub long_bytes : ℕ → Items ℕ
+long_bytes n = to_be_bytes w64 n
+
+-- sixteen bytes, in two's complement
+unfoldable pub int_bytes : ℤ → Items ℕ
+int_bytes n = to_be_bytes w128 (cast_unsigned w128 n)
+
+-- the length of the UTF-8 bytes, and these
+unfoldable pub text_bytes : Items ℕ → Items ℕ
+text_bytes text = number_bytes (length (encode_utf8_all text)) ++ encode_utf8_all text
+
+-- how many items there are, and these
+abbrev pub list_bytes : {A : Type 0} → (A → Items ℕ) → Items A → Items ℕ
+list_bytes item_bytes items = number_bytes (length items) ++ flat_map item_bytes items
+
+unfoldable pub ref_bytes : Ref → Items ℕ
+ref_bytes at = number_bytes at.class ++ text_bytes at.key
+
+unfoldable mutual
+  pub value_bytes : Value → Items ℕ
+  value_bytes Nil = 0 ∷ []
+  value_bytes (Truth false) = 1 ∷ []
+  value_bytes (Truth true) = 2 ∷ []
+  value_bytes (Int n) = 3 ∷ int_bytes n
+  value_bytes (Str text) = 4 ∷ text_bytes text
+  value_bytes (List' shape row) = 5 ∷ number_bytes (row_len row) ++ row_bytes row
+  value_bytes (Entity at) = 6 ∷ ref_bytes at
+
+  pub row_bytes : {n : _} → Row_of-Value n → Items ℕ
+  row_bytes end_of-Value = []
+  row_bytes (more_of-Value value row) = value_bytes value ++ row_bytes row
+
+  pub row_len : {n : _} → Row_of-Value n → ℕ
+  row_len end_of-Value = 0
+  row_len (more_of-Value value row) = 1 + row_len row
+
+abbrev pub values_bytes : Items Value → Items ℕ
+values_bytes values = list_bytes value_bytes values

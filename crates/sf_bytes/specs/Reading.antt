@@ -1,0 +1,91 @@
+-- Reading from left to right: what is read, and the bytes after it.
+use Rattle.std.specs.Prelude.{◌≡◌, ℕ, zero, suc, ℤ, true, false, List as Items, [], ◌∷◌, length, take, drop, Option, Some, None, Result, Ok, Err, nat_lt, if◌then◌else◌}
+use Rattle.std.specs.Int.{w32, w64, w128, from_be_bytes, cast_signed}
+use Rattle.std.specs.Str.{chars, is_utf8}
+use Rattle.sf_bytes.specs.declared.fault.Unread.{Unread}
+use Rattle.sf_bytes.specs.declared.fault.Unread.TheVariants.{NoMemory, NoSpelling}
+use Rattle.sf_value.specs.declared.value.Ref.{Ref}
+use Rattle.sf_value.specs.declared.value.Value.{Value, Int, Bool as Truth, Str, Nil, List, Entity}
+
+abbrev pub Reader : Type 0 → Type 0
+Reader A = Items ℕ → Option (A × Items ℕ)
+
+infixl 10 ◌>>=◌
+abbrev pub ◌>>=◌ : {A B : Type 0} → Option A → (A → Option B) → Option B
+None >>= f = None
+(Some x) >>= f = f x
+
+-- what a function returned, seen by view, is what reading gives, unless memory ran out
+abbrev pub FallsShort : {A : Type 0} → Unread → Option A → Type 0
+FallsShort NoMemory read = Unit {0}
+FallsShort NoSpelling read = read ≡ None
+
+abbrev pub Gives : {X A : Type 0} → (X → A) → Result X Unread → Option A → Type 0
+Gives view (Ok x) read = read ≡ Some (view x)
+Gives view (Err e) read = FallsShort e read
+
+unfoldable pub number_at : Reader ℕ
+number_at bytes = if nat_lt (length bytes) 4 then None else Some (from_be_bytes w32 (take 4 bytes), drop 4 bytes)
+
+unfoldable pub long_at : Reader ℕ
+long_at bytes = if nat_lt (length bytes) 8 then None else Some (from_be_bytes w64 (take 8 bytes), drop 8 bytes)
+
+unfoldable pub int_at : Reader ℤ
+int_at bytes = if nat_lt (length bytes) 16 then None else Some (cast_signed w128 (from_be_bytes w128 (take 16 bytes)), drop 16 bytes)
+
+unfoldable pub text_at : Reader (Items ℕ)
+text_at bytes = do
+  count ← number_at bytes
+  if nat_lt (length count.1) count.0 then None else if is_utf8 (take count.0 count.1) then Some (chars (take count.0 count.1), drop count.0 count.1) else None
+
+unfoldable pub ref_at : Reader Ref
+ref_at bytes = do
+  class ← number_at bytes
+  key ← text_at class.1
+  Some (record { class = class.0; key = key.0 }, key.1)
+
+-- so many items, one after the other
+unfoldable pub items_at : {A : Type 0} → Reader A → ℕ → Reader (Items A)
+items_at item_at zero bytes = Some ([], bytes)
+items_at item_at (suc count) bytes = do
+  first ← item_at bytes
+  others ← items_at item_at count first.1
+  Some (first.0 ∷ others.0, others.1)
+
+-- a count, and so many items
+unfoldable pub list_at : {A : Type 0} → Reader A → Reader (Items A)
+list_at item_at bytes = do
+  count ← number_at bytes
+  items_at item_at count.0 count.1
+
+-- what follows a value's first byte, where lists are read so
+unfoldable pub tagged_at : Reader (Items Value) → ℕ → Reader Value
+tagged_at values_at zero rest = Some (Nil, rest)
+tagged_at values_at (suc zero) rest = Some (Truth false, rest)
+tagged_at values_at (suc (suc zero)) rest = Some (Truth true, rest)
+tagged_at values_at (suc (suc (suc zero))) rest = do
+  number ← int_at rest
+  Some (Int number.0, number.1)
+tagged_at values_at (suc (suc (suc (suc zero)))) rest = do
+  text ← text_at rest
+  Some (Str text.0, text.1)
+tagged_at values_at (suc (suc (suc (suc (suc zero))))) rest = do
+  values ← values_at rest
+  Some (List values.0, values.1)
+tagged_at values_at (suc (suc (suc (suc (suc (suc zero)))))) rest = do
+  entity ← ref_at rest
+  Some (Entity entity.0, entity.1)
+tagged_at values_at _ rest = None
+
+unfoldable pub value_by : Reader (Items Value) → Reader Value
+value_by values_at [] = None
+value_by values_at (tag ∷ rest) = tagged_at values_at tag rest
+
+-- a list of values, itself a level
+unfoldable pub values_within : ℕ → Reader (Items Value)
+values_within zero bytes = None
+values_within (suc level) bytes = list_at (value_by (values_within level)) bytes
+
+-- a value with lists at most so deep
+abbrev pub value_within : ℕ → Reader Value
+value_within level bytes = value_by (values_within level) bytes
