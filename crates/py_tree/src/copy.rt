@@ -37,7 +37,7 @@ impl TryClone for Ty {
 }
 
 #[cycle(copy_written)]
-fn copy_written(alloc: Global, ty: &WrittenTy) -> Result<WrittenTy, AllocError>
+pub(crate) fn copy_written(alloc: Global, ty: &WrittenTy) -> Result<WrittenTy, AllocError>
     ensures { IfOk result (λ made. plain_written made ≡ plain_written ty.now) }
 {
     let kind = copy_written_kind(alloc, &ty.kind)?;
@@ -81,7 +81,7 @@ impl TryClone for WrittenTy {
 }
 
 #[cycle(copy_expr)]
-fn copy_expr(alloc: Global, expr: &Expr) -> Result<Expr, AllocError>
+pub(crate) fn copy_expr(alloc: Global, expr: &Expr) -> Result<Expr, AllocError>
     ensures { IfOk result (λ made. plain_expr made ≡ plain_expr expr.now) }
 {
     let kind = copy_kind(alloc, &expr.kind)?;

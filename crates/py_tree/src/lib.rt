@@ -5,6 +5,7 @@
 #![tactic(auto)]
 
 mod copy;
+mod copy_stmt;
 mod expr;
 mod names;
 mod program;
