@@ -1,4 +1,4 @@
-//! Copies of statements, methods, classes and programs. Each has the plain tree of its original.
+//! Copies of statements. Each has the plain tree of its original.
 
 ghost use Rattle.std.specs.Prelude.{◌≡◌, IfOk};
 ghost use Rattle.py_tree.specs.declared.names.Place.{Place as APlace};
@@ -22,7 +22,7 @@ fn copy_maybe_expr(alloc: Global, expr: &Option<Expr>) -> Result<Option<Expr>, A
     }
 }
 
-fn copy_maybe_written(
+pub(crate) fn copy_maybe_written(
     alloc: Global,
     ty: &Option<WrittenTy>,
 ) -> Result<Option<WrittenTy>, AllocError>

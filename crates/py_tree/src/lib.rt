@@ -5,9 +5,11 @@
 #![tactic(auto)]
 
 mod copy;
+mod copy_program;
 mod copy_stmt;
 mod expr;
 mod names;
+pub mod nodes;
 mod program;
 mod stmt;
 mod ty;
