@@ -12,6 +12,8 @@ mod names;
 pub mod nodes;
 mod program;
 mod stmt;
+#[cfg(test)]
+mod tests;
 mod ty;
 
 pub use expr::{BinOp, Cmp, Expr, ExprKind, Exprs, Link, Links};

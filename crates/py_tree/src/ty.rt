@@ -55,13 +55,34 @@ impl Ty {
             (Ty::List(a), Ty::List(b)) => a.same(b),
             (Ty::Optional(a), Ty::Optional(b)) => a.same(b),
             (Ty::Entity(a), Ty::Entity(b)) => a.0 == b.0,
-            (Ty::Int, Ty::Bool | Ty::Str | Ty::Nil | Ty::List(_) | Ty::Optional(_) | Ty::Entity(_)) => false,
-            (Ty::Bool, Ty::Int | Ty::Str | Ty::Nil | Ty::List(_) | Ty::Optional(_) | Ty::Entity(_)) => false,
-            (Ty::Str, Ty::Int | Ty::Bool | Ty::Nil | Ty::List(_) | Ty::Optional(_) | Ty::Entity(_)) => false,
-            (Ty::Nil, Ty::Int | Ty::Bool | Ty::Str | Ty::List(_) | Ty::Optional(_) | Ty::Entity(_)) => false,
-            (Ty::List(_), Ty::Int | Ty::Bool | Ty::Str | Ty::Nil | Ty::Optional(_) | Ty::Entity(_)) => false,
-            (Ty::Optional(_), Ty::Int | Ty::Bool | Ty::Str | Ty::Nil | Ty::List(_) | Ty::Entity(_)) => false,
-            (Ty::Entity(_), Ty::Int | Ty::Bool | Ty::Str | Ty::Nil | Ty::List(_) | Ty::Optional(_)) => false,
+            (
+                Ty::Int,
+                Ty::Bool | Ty::Str | Ty::Nil | Ty::List(_) | Ty::Optional(_) | Ty::Entity(_),
+            ) => false,
+            (
+                Ty::Bool,
+                Ty::Int | Ty::Str | Ty::Nil | Ty::List(_) | Ty::Optional(_) | Ty::Entity(_),
+            ) => false,
+            (
+                Ty::Str,
+                Ty::Int | Ty::Bool | Ty::Nil | Ty::List(_) | Ty::Optional(_) | Ty::Entity(_),
+            ) => false,
+            (
+                Ty::Nil,
+                Ty::Int | Ty::Bool | Ty::Str | Ty::List(_) | Ty::Optional(_) | Ty::Entity(_),
+            ) => false,
+            (
+                Ty::List(_),
+                Ty::Int | Ty::Bool | Ty::Str | Ty::Nil | Ty::Optional(_) | Ty::Entity(_),
+            ) => false,
+            (
+                Ty::Optional(_),
+                Ty::Int | Ty::Bool | Ty::Str | Ty::Nil | Ty::List(_) | Ty::Entity(_),
+            ) => false,
+            (
+                Ty::Entity(_),
+                Ty::Int | Ty::Bool | Ty::Str | Ty::Nil | Ty::List(_) | Ty::Optional(_),
+            ) => false,
         }
     }
 }
