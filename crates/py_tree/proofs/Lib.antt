@@ -1,2 +1,4 @@
+pub mod CopyLaws
 pub mod NameLaws
+pub mod ProgramCopies
 pub mod Views

@@ -5,10 +5,15 @@
 #![tactic(auto)]
 
 mod copy;
+mod copy_program;
+mod copy_stmt;
 mod expr;
 mod names;
+pub mod nodes;
 mod program;
 mod stmt;
+#[cfg(test)]
+mod tests;
 mod ty;
 
 pub use expr::{BinOp, Cmp, Expr, ExprKind, Exprs, Link, Links};

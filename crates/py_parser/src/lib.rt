@@ -1,0 +1,11 @@
+//! The parser of small programs: one class of whole numbers, with a text as its key.
+//!
+//! A text is cut into lines of tokens, the lines are read as a class by the grammar, the class is
+//! tested by the rules, and its tree is built. Each stage is exactly its definition in `specs/`.
+#![tactic(auto)]
+
+mod fault;
+mod small;
+mod token;
+
+pub use fault::SmallError;
