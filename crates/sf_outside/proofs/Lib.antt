@@ -1,0 +1,2 @@
+pub mod GainLaws
+pub mod Moves

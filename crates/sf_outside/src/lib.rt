@@ -1,0 +1,17 @@
+//! The devices that the product reads from and writes to, and forms of them in memory.
+//!
+//! A device is a trait. What it holds is optional in its meaning: a form in memory tells it, and
+//! contracts that read it ask nothing where a device doesn't. Each device counts its faults, and
+//! answers [`Failed`] only in a call that was counted. So a caller that met a fault can say whose it was.
+#![tactic(auto)]
+
+mod calls;
+mod devices;
+mod gains;
+mod memory_sink;
+mod memory_source;
+
+pub use devices::{Failed, Files, Sink, Source};
+pub use gains::{WriteStop, write_line};
+pub use memory_sink::MemSink;
+pub use memory_source::MemSource;
