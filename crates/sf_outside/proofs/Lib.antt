@@ -1,2 +1,3 @@
 pub mod GainLaws
 pub mod Moves
+pub mod NamedFiles

@@ -3,3 +3,4 @@ pub mod Calls
 pub mod Causes
 pub mod Gains
 pub mod Memory
+pub mod Named

@@ -8,10 +8,12 @@
 mod calls;
 mod devices;
 mod gains;
+mod memory_files;
 mod memory_sink;
 mod memory_source;
 
 pub use devices::{Failed, Files, Sink, Source};
 pub use gains::{WriteStop, write_line};
+pub use memory_files::MemFiles;
 pub use memory_sink::MemSink;
 pub use memory_source::MemSource;
