@@ -78,7 +78,7 @@ fault_at others files name place d new found is counted later =
     record {
       kept = λ q. content-recount files place d new q first.within held;
       later = λ q. faults-recount others files place d new q first.within held;
-      counted = faults-first-recount others files name place d new first held ∙ ap (λ file. file.faults) counted ∙ ap (λ file. next_count file.faults) is ∙ ap next_count (sym (faults-first others files name place d first))
+      counted = faults-first-recount others files name place d new first held ∙ ap (λ file. file.faults) counted ∙ ap (λ file. next_count file.faults) is ∙ ap next_count (sym (faults-first others files name place d first));
     }
 
 -- no file has this name

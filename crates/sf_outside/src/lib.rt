@@ -17,3 +17,6 @@ pub use gains::{WriteStop, write_line};
 pub use memory_files::MemFiles;
 pub use memory_sink::MemSink;
 pub use memory_source::MemSource;
+
+#[cfg(test)]
+mod tests;

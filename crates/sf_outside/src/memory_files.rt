@@ -89,7 +89,12 @@ impl Model for MemFiles {
 impl MemFiles {
     /// Files of these names, each with the bytes at the same place of `contents`. `fail_at` lists the
     /// numbers, from 1, of the calls that are to fail.
-    pub fn new(alloc: Global, names: &[&str], contents: &[&[u8]], fail_at: &[u64]) -> Result<MemFiles, AllocError>
+    pub fn new(
+        alloc: Global,
+        names: &[&str],
+        contents: &[&[u8]],
+        fail_at: &[u64],
+    ) -> Result<MemFiles, AllocError>
         requires { length names.now ≡ length contents.now }
         ensures { IfOk result (λ made. made ≡ record { files = listed (map (λ name. name.now) names.now) (map (λ bytes. bytes.now) contents.now); other_faults = 0; fail_at = fail_at.now; calls = 0 }) }
     {

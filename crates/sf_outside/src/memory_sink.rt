@@ -1,6 +1,6 @@
 //! A sink that holds what it was given.
 
-ghost use Rattle.std.specs.Prelude.{◌≡◌, ◌+◌, ◌≤◌, ◌||◌, [], Some, IfOk, OnOk, OnErr, length, vec_len, vec_capacity, is_err, nat_lt, nat_le};
+ghost use Rattle.std.specs.Prelude.{◌≡◌, ◌+◌, ◌≤◌, ◌||◌, [], Some, IfOk, OnOk, OnErr, length, vec_len, vec_capacity, is_err, nat_lt, nat_le, if◌then◌else◌};
 ghost use Rattle.std.specs.Io.KnownBytes.{Keeps, Appends};
 ghost use Rattle.sf_outside.specs.Bytes.{AppendsPrefix};
 ghost use Rattle.sf_outside.specs.Calls.{is_due};
@@ -77,7 +77,9 @@ impl Sink for MemSink {
     fn write(&mut self, bytes: &[u8]) -> Result<(), Failed>
         ensures whole { OnOk result (Appends (Some self.old.held) (Some self.new.held) bytes.now) }
         ensures part { OnErr result (AppendsPrefix (Some self.old.held) (Some self.new.held) bytes.now) }
+        ensures err { OnErr result (self.new.held ≡ self.old.held) }
         ensures cause { HasCause self.old.faults self.new.faults result }
+        ensures faults { self.new.faults ≡ (if is_err result then next_count self.old.faults else self.old.faults) }
         ensures fails { is_err result ≡ (is_due self.old.fail_at self.new.calls || nat_lt self.old.room (length self.old.held + length bytes.now)) }
         ensures calls { self.new.calls ≡ next_count self.old.calls }
         ensures fail_at { self.new.fail_at ≡ self.old.fail_at }
@@ -95,6 +97,7 @@ impl Sink for MemSink {
     fn flush(&mut self) -> Result<(), Failed>
         ensures kept { Keeps (Some self.old.held) (Some self.new.held) }
         ensures cause { HasCause self.old.faults self.new.faults result }
+        ensures faults { self.new.faults ≡ (if is_err result then next_count self.old.faults else self.old.faults) }
         ensures fails { is_err result ≡ is_due self.old.fail_at self.new.calls }
         ensures calls { self.new.calls ≡ next_count self.old.calls }
         ensures fail_at { self.new.fail_at ≡ self.old.fail_at }

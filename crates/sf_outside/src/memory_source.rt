@@ -1,6 +1,6 @@
 //! A source of given bytes.
 
-ghost use Rattle.std.specs.Prelude.{◌≡◌, ◌≤◌, Some, IfOk, drop, vec_len, min, is_err};
+ghost use Rattle.std.specs.Prelude.{◌≡◌, ◌≤◌, Some, IfOk, drop, vec_len, min, is_err, if◌then◌else◌};
 ghost use Rattle.std.specs.Io.{ReadsAtMost};
 ghost use Rattle.std.specs.Io.KnownBytes.{ReadConsumes};
 ghost use Rattle.sf_outside.specs.Calls.{is_due};
@@ -54,6 +54,7 @@ impl Source for MemSource {
         ensures bound { ReadsAtMost result buf.new }
         ensures bytes { ReadConsumes (Some self.old.left) (Some self.new.left) result buf.new }
         ensures cause { HasCause self.old.faults self.new.faults result }
+        ensures faults { self.new.faults ≡ (if is_err result then next_count self.old.faults else self.old.faults) }
         ensures fails { is_err result ≡ is_due self.old.fail_at self.new.calls }
         ensures calls { self.new.calls ≡ next_count self.old.calls }
         ensures fail_at { self.new.fail_at ≡ self.old.fail_at }

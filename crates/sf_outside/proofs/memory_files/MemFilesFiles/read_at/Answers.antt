@@ -1,8 +1,7 @@
-use Rattle.std.proofs.Common.{ap, ◌∙◌, sym, refl, subst, arith, is_none, None, Some}
-use Rattle.std.proofs.lemmas.Grind.{common_steps}
+use Rattle.std.proofs.Common.{ap, ◌∙◌, sym, arith}
 use Rattle.sf_outside.proofs.NamedFiles.{content_at, fault_at, missing_at, others_later, fails_missing, fails_held}
 use Rattle.sf_outside.specs.Calls.{is_due}
-use Rattle.sf_outside.specs.Named.{content_of, faults_of}
+use Rattle.sf_outside.specs.Named.{content_of}
 use Rattle.sf_outside.proofs.memory_files.MemFilesFiles.read_at.Goals as goal
 
 pub returns-in_default-clause-cause : goal.returns-in_default-clause-cause
@@ -40,5 +39,5 @@ returns-clause-bytes c =
 pub returns-clause-fails : goal.returns-clause-fails
 returns-clause-fails c =
     fails_held _ _ c.index_mut-file.result.now.bytes
-      (ap (λ files. is_due files.fail_at c.next_fails-is_due.new.self.made) (sym c.self.view_is) ∙ sym c.next_fails-is_due.ensures.answer ∙ c.if-is_due.false)
-      (ap (λ files. content_of files.files c.args.name.now) (sym c.self.view_is) ∙ content_at c.self.inside.files.items c.args.name.now c.in-Some.place c.index_mut-file.result.now c.in-Some.ensures c.index_mut-file.ensures.value)
+    (ap (λ files. is_due files.fail_at c.next_fails-is_due.new.self.made) (sym c.self.view_is) ∙ sym c.next_fails-is_due.ensures.answer ∙ c.if-is_due.false)
+    (ap (λ files. content_of files.files c.args.name.now) (sym c.self.view_is) ∙ content_at c.self.inside.files.items c.args.name.now c.in-Some.place c.index_mut-file.result.now c.in-Some.ensures c.index_mut-file.ensures.value)
