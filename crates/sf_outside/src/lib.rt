@@ -11,12 +11,14 @@ mod gains;
 mod memory_files;
 mod memory_sink;
 mod memory_source;
+mod store_disk;
 
 pub use devices::{Failed, Files, Sink, Source};
 pub use gains::{WriteStop, write_line};
 pub use memory_files::MemFiles;
 pub use memory_sink::MemSink;
 pub use memory_source::MemSource;
+pub use store_disk::{Disk, MountFault, StoreFile};
 
 #[cfg(test)]
 mod tests;
