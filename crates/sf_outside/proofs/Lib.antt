@@ -1,3 +1,5 @@
+pub mod DiskLaws
+pub mod DiskSteps
 pub mod GainLaws
 pub mod Moves
 pub mod NamedFiles

@@ -75,6 +75,13 @@ pub record Elapses (old new : DiskFacts) : Type 0 where
   pub nothing_else : (since : ℕ) (image : Image) → since ≤ old.moment → new.left_since since image → old.left_since since image ⊎ new.may_leave image
   pub keeps : (since : ℕ) (image : Image) → since ≤ old.moment → old.left_since since image → new.left_since since image
 
+-- A crash at any moment from an earlier state of the disk on leaves an image that has P.
+pub record LeavesOnly (old new : DiskFacts) (P : Image → Type 0) : Type 0 where
+  pub later : old.moment ≤ new.moment
+  pub each : (image : Image) → new.left_since old.moment image → P image
+  -- for a run that began earlier
+  pub before : (since : ℕ) (image : Image) → since ≤ old.moment → new.left_since since image → old.left_since since image ⊎ P image
+
 -- a call changed nothing, and a crash leaves nothing that it might not have left before
 pub record Stays (old new : DiskFacts) : Type 0 where
   pub seen : new.seen ≡ old.seen

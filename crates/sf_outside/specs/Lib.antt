@@ -1,7 +1,9 @@
 pub mod Bytes
 pub mod Calls
 pub mod Causes
+pub mod DiskCalls
 pub mod DiskModel
 pub mod Gains
 pub mod Memory
 pub mod Named
+pub mod SinceMoments
