@@ -32,10 +32,10 @@ changed_each P Snap1 x four here there Snap1 = here
 -- ---- a whole write is one that tears nothing
 
 -- the file up to the place, with zeros where it ends before
-abbrev front : List ℕ → ℕ → List ℕ
+abbrev pub front : List ℕ → ℕ → List ℕ
 front file at = take at (file ++ replicate (at - length file) 0)
 
-length-front : (file : List ℕ) (at : ℕ) → length (front file at) ≡ at
+pub length-front : (file : List ℕ) (at : ℕ) → length (front file at) ≡ at
 length-front file at = length-take-le at (file ++ replicate (at - length file) 0) (omega (arith, length-append file (replicate (at - length file) 0), length-replicate {A = ℕ} (at - length file) 0))
 
 front-same : (file : List ℕ) (at m : ℕ) → m ≤ at → m ≤ length file → take m (front file at) ≡ take m file

@@ -1,5 +1,6 @@
 pub mod DiskLaws
 pub mod DiskSteps
+pub mod FileRooms
 pub mod GainLaws
 pub mod Moves
 pub mod NamedFiles

@@ -2,6 +2,7 @@ pub mod Bytes
 pub mod Calls
 pub mod Causes
 pub mod DiskCalls
+pub mod DiskFiles
 pub mod DiskModel
 pub mod Gains
 pub mod Memory

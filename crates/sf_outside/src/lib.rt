@@ -6,7 +6,9 @@
 #![tactic(auto)]
 
 mod calls;
+mod copies;
 mod devices;
+mod disk_files;
 mod gains;
 mod memory_files;
 mod memory_sink;

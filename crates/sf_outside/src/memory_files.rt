@@ -9,6 +9,7 @@ ghost use Rattle.sf_outside.specs.Causes.{HasCause, next_count};
 ghost use Rattle.sf_outside.specs.Named.{content_of, faults_of, listed};
 
 use crate::calls::Calls;
+use crate::copies::copy_at;
 use crate::devices::{Failed, Files};
 use std::alloc::{AllocError, Global};
 use std::marker::Model;
@@ -52,12 +53,7 @@ impl MemFile {
         ensures within { result ≤ length buf.new }
         ensures copied { Copied self.now.bytes at result buf.new }
     {
-        let bytes = self.bytes.as_slice();
-        let start = bytes.len().min(at as usize);
-        let rest = &bytes[start..];
-        let count = rest.len().min(buf.len());
-        buf[..count].copy_from_slice(&rest[..count]);
-        count
+        copy_at(self.bytes.as_slice(), at, buf)
     }
 
     /// Counts a fault.
