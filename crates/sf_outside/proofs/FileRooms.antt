@@ -26,7 +26,7 @@ take_padded : (file : List ℕ) (at zeros : ℕ) → at - length file ≤ zeros 
 take_padded file at zeros enough =
     let gap = at - length file in
     let whole : zeros ≡ gap + (zeros - gap) = omega (arith, enough) in
-    let more : replicate zeros 0 ≡ replicate gap 0 ++ replicate (zeros - gap) 0 = ap (λ n. replicate n 0) whole ∙ sym (replicate-append-replicate gap (zeros - gap) 0) in
+    let more : replicate {A = ℕ} zeros 0 ≡ replicate gap 0 ++ replicate (zeros - gap) 0 = ap (λ n. replicate n 0) whole ∙ sym (replicate-append-replicate gap (zeros - gap) 0) in
     ap (λ l. take at (file ++ l)) more ∙ ap (take at) (sym (append_assoc file (replicate gap 0) (replicate (zeros - gap) 0)))
     ∙ take-append-le at (file ++ replicate gap 0) (replicate (zeros - gap) 0) (omega (arith, length-append file (replicate gap 0), length-replicate {A = ℕ} gap 0))
 

@@ -5,6 +5,7 @@
 //! answers [`Failed`] only in a call that was counted. So a caller that met a fault can say whose it was.
 #![tactic(auto)]
 
+mod call_log;
 mod calls;
 mod copies;
 mod devices;
