@@ -1,0 +1,113 @@
+-- What holds of every disk: the files of an image, moments that accumulate, and what a sync makes durable.
+use Rattle.std.proofs.Common.{◌≡◌, ◌≢◌, ◌⊎◌, inl, inr, ⊎_elim, ℕ, ◌≤◌, List, Some, None, refl, sym, ap, ◌∙◌, subst, arith, IfSome, IsSome, IsSomeAnd}
+use Rattle.std.specs.declared.option.Option.{Option}
+use Rattle.sf_outside.specs.declared.store_disk.StoreFile.{StoreFile}
+use Rattle.sf_outside.specs.declared.store_disk.StoreFile.TheVariants.{Log0, Log1, Snap0, Snap1}
+use Rattle.sf_outside.specs.DiskModel.{Four, Image, DiskFacts, of_file, with_file, written, Torn, TornFile, Elapses, LeavesOnly, Stays, SeenWritten, ImagesTorn, IsDurable, IsClean}
+
+-- the file that was put is there
+pub of_file-same : {A : Type 0} (file : StoreFile) (x : A) (four : Four A) → of_file file (with_file file x four) ≡ x
+of_file-same Log0 x four = refl
+of_file-same Log1 x four = refl
+of_file-same Snap0 x four = refl
+of_file-same Snap1 x four = refl
+
+-- and every other is as before
+pub of_file-other : {A : Type 0} (file other : StoreFile) (x : A) (four : Four A) → other ≢ file → of_file other (with_file file x four) ≡ of_file other four
+of_file-other Log0 Log0 x four differs = absurd (differs refl)
+of_file-other Log0 Log1 x four differs = refl
+of_file-other Log0 Snap0 x four differs = refl
+of_file-other Log0 Snap1 x four differs = refl
+of_file-other Log1 Log0 x four differs = refl
+of_file-other Log1 Log1 x four differs = absurd (differs refl)
+of_file-other Log1 Snap0 x four differs = refl
+of_file-other Log1 Snap1 x four differs = refl
+of_file-other Snap0 Log0 x four differs = refl
+of_file-other Snap0 Log1 x four differs = refl
+of_file-other Snap0 Snap0 x four differs = absurd (differs refl)
+of_file-other Snap0 Snap1 x four differs = refl
+of_file-other Snap1 Log0 x four differs = refl
+of_file-other Snap1 Log1 x four differs = refl
+of_file-other Snap1 Snap0 x four differs = refl
+of_file-other Snap1 Snap1 x four differs = absurd (differs refl)
+
+-- to put what is there changes nothing
+pub with_file-same : {A : Type 0} (file : StoreFile) (four : Four A) → with_file file (of_file file four) four ≡ four
+with_file-same Log0 four = refl
+with_file-same Log1 four = refl
+with_file-same Snap0 four = refl
+with_file-same Snap1 four = refl
+
+-- the last that was put counts
+pub with_file-again : {A : Type 0} (file : StoreFile) (x y : A) (four : Four A) → with_file file y (with_file file x four) ≡ with_file file y four
+with_file-again Log0 x y four = refl
+with_file-again Log1 x y four = refl
+with_file-again Snap0 x y four = refl
+with_file-again Snap1 x y four = refl
+
+-- fours whose files are the same are one
+pub same_files : {A : Type 0} (a b : Four A) → ((file : StoreFile) → of_file file a ≡ of_file file b) → a ≡ b
+same_files a b same =
+    ap (λ x. record { log0 = x; log1 = a.log1; snap0 = a.snap0; snap1 = a.snap1 }) (same Log0)
+    ∙ ap (λ x. record { log0 = b.log0; log1 = x; snap0 = a.snap0; snap1 = a.snap1 }) (same Log1)
+    ∙ ap (λ x. record { log0 = b.log0; log1 = b.log1; snap0 = x; snap1 = a.snap1 }) (same Snap0)
+    ∙ ap (λ x. record { log0 = b.log0; log1 = b.log1; snap0 = b.snap0; snap1 = x }) (same Snap1)
+
+-- a torn file is torn in its own bytes
+pub TornFile-torn : (file : StoreFile) (at n : ℕ) (old new : Image) → TornFile file at n old new → Torn at n (of_file file old) (of_file file new)
+TornFile-torn file at n old new t = subst (Torn at n (of_file file old)) (sym (ap (of_file file) t.image ∙ of_file-same file t.bytes old)) t.torn
+
+-- and every other file is as before
+pub TornFile-other : (file other : StoreFile) (at n : ℕ) (old new : Image) → TornFile file at n old new → other ≢ file → of_file other new ≡ of_file other old
+TornFile-other file other at n old new t differs = ap (of_file other) t.image ∙ of_file-other file other t.bytes old differs
+
+-- no call yet
+pub LeavesOnly-start : (facts : DiskFacts) (P : Image → Type 0) → ((image : Image) → facts.may_leave image → P image) → LeavesOnly facts facts P
+LeavesOnly-start facts P here = record {
+  later = omega arith;
+  each = λ image left. here image (facts.only_now image left);
+  before = λ since image le left. inl left
+}
+
+-- one call more, after which a crash leaves what has P
+pub LeavesOnly-next : (old between new : DiskFacts) (P : Image → Type 0) → LeavesOnly old between P → Elapses between new → ((image : Image) → new.may_leave image → P image) → LeavesOnly old new P
+LeavesOnly-next old between new P so_far time here = record {
+  later = omega (arith, so_far.later, time.later);
+  each = λ image left. ⊎_elim (so_far.each image) (here image) (time.nothing_else old.moment image so_far.later left);
+  before = λ since image le left. ⊎_elim (so_far.before since image le) (λ now. inr (here image now)) (time.nothing_else since image (omega (arith, le, so_far.later)) left)
+}
+
+-- a whole run more
+pub LeavesOnly-then : (old between new : DiskFacts) (P : Image → Type 0) → LeavesOnly old between P → LeavesOnly between new P → LeavesOnly old new P
+LeavesOnly-then old between new P first rest = record {
+  later = omega (arith, first.later, rest.later);
+  each = λ image left. ⊎_elim (first.each image) (λ has. has) (rest.before old.moment image first.later left);
+  before = λ since image le left. ⊎_elim (first.before since image le) (λ has. inr has) (rest.before since image (omega (arith, le, first.later)) left)
+}
+
+-- a weaker fact of each image
+pub LeavesOnly-weaker : (old new : DiskFacts) (P Q : Image → Type 0) → LeavesOnly old new P → ((image : Image) → P image → Q image) → LeavesOnly old new Q
+LeavesOnly-weaker old new P Q leaves weaker = record {
+  later = leaves.later;
+  each = λ image left. weaker image (leaves.each image left);
+  before = λ since image le left. ⊎_elim (λ was. inl was) (λ has. inr (weaker image has)) (leaves.before since image le left)
+}
+
+-- after calls that change nothing a file is as durable as before
+pub IsDurable-stays : (file : StoreFile) (old new : DiskFacts) → IsDurable file old → Stays old new → IsDurable file new
+IsDurable-stays file old new durable stays image leaves = subst (λ seen. IsSomeAnd seen (λ now. of_file file image ≡ of_file file now)) (sym stays.seen) (durable image (stays.images image leaves))
+
+pub IsClean-stays : (old new : DiskFacts) → IsClean old → Stays old new → IsClean new
+IsClean-stays old new clean stays image leaves = stays.seen ∙ clean image (stays.images image leaves)
+
+-- a disk is clean where each file is durable
+pub IsClean-each : (facts : DiskFacts) → ((file : StoreFile) → IsDurable file facts) → IsClean facts
+IsClean-each facts durable image leaves = clean_at facts.seen (λ file. durable file image leaves)
+  where
+    clean_at : (seen : Option Image) → ((file : StoreFile) → IsSomeAnd seen (λ now. of_file file image ≡ of_file file now)) → seen ≡ Some image
+    clean_at None each = absurd (each Log0)
+    clean_at (Some now) each = ap Some (sym (same_files image now each))
+
+-- and then each of its files is
+pub IsDurable-clean : (file : StoreFile) (facts : DiskFacts) → IsClean facts → IsDurable file facts
+IsDurable-clean file facts clean image leaves = subst (λ seen. IsSomeAnd seen (λ now. of_file file image ≡ of_file file now)) (sym (clean image leaves)) refl

@@ -1,0 +1,12 @@
+pub mod Bytes
+pub mod CallLog
+pub mod Calls
+pub mod Causes
+pub mod DiskCalls
+pub mod DiskFiles
+pub mod DiskModel
+pub mod Gains
+pub mod LogState
+pub mod Memory
+pub mod Named
+pub mod SinceMoments

@@ -1,0 +1,35 @@
+//! Which calls of a device in memory are to fail.
+
+ghost use Rattle.std.specs.Prelude.{◌≡◌, IfOk};
+ghost use Rattle.sf_outside.specs.Calls.{is_due};
+ghost use Rattle.sf_outside.specs.Causes.{next_count};
+
+use std::alloc::{AllocError, Global};
+
+/// The numbers, from 1, of the calls that are to fail, and how many calls were made.
+#[derive(Drop)]
+pub struct Calls {
+    fail_at: Vec<u64>,
+    made: u64,
+}
+
+impl Calls {
+    pub fn new(alloc: Global, fail_at: &[u64]) -> Result<Calls, AllocError>
+        ensures fail_at { IfOk result (λ calls. calls.fail_at.items ≡ fail_at.now) }
+        ensures made { IfOk result (λ calls. calls.made ≡ 0) }
+    {
+        Ok(Calls {
+            fail_at: Vec::from_slice(alloc, fail_at)?,
+            made: 0,
+        })
+    }
+
+    /// Counts a call, and says whether it is to fail.
+    pub fn next_fails(&mut self) -> bool
+        ensures answer { result ≡ is_due self.old.fail_at.items self.new.made }
+        ensures counted { self.new ≡ record self.old { made = next_count self.old.made } }
+    {
+        self.made = self.made.saturating_add(1);
+        self.fail_at.as_slice().contains(&self.made)
+    }
+}

@@ -1,0 +1,59 @@
+//! Writing lines to a sink, and what it gained where the writing stops early.
+
+ghost use Rattle.std.specs.Prelude.{[], ◌∷◌};
+ghost use Rattle.sf_outside.specs.Gains.{Wrote, Counts};
+
+use crate::devices::{Failed, Sink};
+use std::alloc::{AllocError, AllocFailed};
+
+/// Why a call that writes lines stops before the last.
+#[derive(Clone, Copy, PartialEq, Eq, Debug)]
+pub enum WriteStop {
+    NoMemory,
+    WriteFault,
+}
+
+impl From<AllocError> for WriteStop {
+    ghost use Rattle.std.specs.Prelude.{◌≡◌};
+    ghost use Rattle.sf_outside.specs.declared.gains.WriteStop.TheVariants.{NoMemory};
+
+    ghost from_gives = { λ _ stop. stop ≡ NoMemory };
+
+    fn from(_error: AllocError) -> WriteStop {
+        WriteStop::NoMemory
+    }
+}
+
+impl<T: Drop> From<AllocFailed<T>> for WriteStop {
+    ghost use Rattle.std.specs.Prelude.{◌≡◌};
+    ghost use Rattle.sf_outside.specs.declared.gains.WriteStop.TheVariants.{NoMemory};
+
+    ghost from_gives = { λ _ stop. stop ≡ NoMemory };
+
+    fn from(_error: AllocFailed<T>) -> WriteStop {
+        WriteStop::NoMemory
+    }
+}
+
+impl From<Failed> for WriteStop {
+    ghost use Rattle.std.specs.Prelude.{◌≡◌};
+    ghost use Rattle.sf_outside.specs.declared.gains.WriteStop.TheVariants.{WriteFault};
+
+    ghost from_gives = { λ _ stop. stop ≡ WriteFault };
+
+    fn from(_fault: Failed) -> WriteStop {
+        WriteStop::WriteFault
+    }
+}
+
+/// Writes one line, or a part of it.
+#[tactic(auto, using(crate::proofs::GainLaws::joined_one))]
+pub fn write_line<K: Sink>(out: &mut K, line: &[u8]) -> Result<(), WriteStop>
+    ensures wrote { Wrote result (K.held out.old) (K.held out.new) (line.now ∷ []) }
+    ensures counts { Counts (K.faults out.old) (K.faults out.new) result }
+{
+    match out.write(line) {
+        Ok(()) => Ok(()),
+        Err(Failed) => Err(WriteStop::WriteFault),
+    }
+}

@@ -1,0 +1,27 @@
+//! The devices that the product reads from and writes to, and forms of them in memory.
+//!
+//! A device is a trait. What it holds is optional in its meaning: a form in memory tells it, and
+//! contracts that read it ask nothing where a device doesn't. Each device counts its faults, and
+//! answers [`Failed`] only in a call that was counted. So a caller that met a fault can say whose it was.
+#![tactic(auto)]
+
+mod call_log;
+mod calls;
+mod copies;
+mod devices;
+mod disk_files;
+mod gains;
+mod memory_files;
+mod memory_sink;
+mod memory_source;
+mod store_disk;
+
+pub use devices::{Failed, Files, Sink, Source};
+pub use gains::{WriteStop, write_line};
+pub use memory_files::MemFiles;
+pub use memory_sink::MemSink;
+pub use memory_source::MemSource;
+pub use store_disk::{Disk, MountFault, StoreFile};
+
+#[cfg(test)]
+mod tests;

@@ -1,0 +1,56 @@
+//! What the forms in memory do, call by call.
+
+use crate::{Failed, Files, MemFiles, MemSink, MemSource, Sink, Source, WriteStop, write_line};
+use std::test::Fail;
+
+#[test]
+fn source_gives_its_bytes_in_pieces(rt: HostRuntime) -> Result<(), Fail> {
+    let mut source = MemSource::new(rt.alloc(), b"hello", &[2])?;
+    let mut buf = [0; 3];
+    assert_eq!(rt; source.read(&mut buf), Ok(3));
+    assert_eq!(rt; buf, *b"hel");
+    assert_eq!(rt; source.read(&mut buf), Err(Failed));
+    assert_eq!(rt; source.read(&mut buf), Ok(2));
+    assert_eq!(rt; buf, *b"lol");
+    assert_eq!(rt; source.read(&mut buf), Ok(0));
+    Ok(())
+}
+
+#[test]
+fn sink_holds_pieces_up_to_its_room(rt: HostRuntime) -> Result<(), Fail> {
+    let mut sink = MemSink::new(rt.alloc(), 5, &[3])?;
+    assert_eq!(rt; sink.write(b"abc"), Ok(()));
+    assert_eq!(rt; sink.flush(), Ok(()));
+    assert_eq!(rt; sink.write(b"x"), Err(Failed));
+    assert_eq!(rt; sink.write(b"def"), Err(Failed));
+    assert_eq!(rt; sink.write(b"de"), Ok(()));
+    assert_eq!(rt; sink.bytes(), b"abcde".as_slice());
+    Ok(())
+}
+
+#[test]
+fn files_are_read_by_name(rt: HostRuntime) -> Result<(), Fail> {
+    let mut files = MemFiles::new(
+        rt.alloc(),
+        &["a", "b", "a"],
+        &[b"first", b"", b"second"],
+        &[3],
+    )?;
+    let mut buf = [0; 4];
+    assert_eq!(rt; files.read_at("a", 2, &mut buf), Ok(3));
+    assert_eq!(rt; &buf[..3], b"rst".as_slice());
+    assert_eq!(rt; files.read_at("b", 0, &mut buf), Ok(0));
+    assert_eq!(rt; files.read_at("a", 0, &mut buf), Err(Failed));
+    assert_eq!(rt; files.read_at("c", 0, &mut buf), Err(Failed));
+    assert_eq!(rt; files.read_at("a", 9, &mut buf), Ok(0));
+    Ok(())
+}
+
+#[test]
+fn a_line_is_written_or_stops(rt: HostRuntime) -> Result<(), Fail> {
+    let mut sink = MemSink::new(rt.alloc(), 9, &[2])?;
+    assert_eq!(rt; write_line(&mut sink, b"one\n"), Ok(()));
+    assert_eq!(rt; write_line(&mut sink, b"two\n"), Err(WriteStop::WriteFault));
+    assert_eq!(rt; sink.bytes(), b"one\n".as_slice());
+    Ok(())
+}
