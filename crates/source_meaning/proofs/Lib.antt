@@ -4,3 +4,4 @@ pub mod ActLaws
 pub mod TableLaws
 pub mod CallLaws
 pub mod DeclareLaws
+pub mod HereLaws

@@ -1,5 +1,5 @@
 -- Calls and creations.
-use Rattle.std.specs.Prelude.{ℕ, zero, suc, List, [], ◌∷◌, ◌++◌, Some, None, Ok, Err, slice_get, if◌then◌else◌}
+use Rattle.std.specs.Prelude.{ℕ, zero, suc, List, [], ◌∷◌, ◌++◌, Some, None, Ok, Err, slice_get}
 use Rattle.std.specs.declared.option.Option.{Option}
 use Rattle.std.specs.declared.result.Result.{Result}
 use Rattle.std.specs.FinMap as map
@@ -25,9 +25,14 @@ bound (p ∷ ps) (v ∷ args) = record { name = record { 0 = p.name }; value = v
 unfoldable pub run_body : Source → Calls → Key → List Value → Option PlainMethod → World → ℕ → Gives
 run_body src call me args method w n = result_of (act_all src call me (stmts_of (body_of method)) (bound (params_of method) args) w n)
 
+-- the first where there is no such entity, else the second
+abbrev pub if_there : {A : Type 0} → Option (List Value) → A → A → A
+if_there None absent present = absent
+if_there (Some fields) absent present = present
+
 -- the entity is read; it has to be there
 unfoldable pub enter : Source → Calls → Key → ℕ → List Value → World → ℕ → Gives
-enter src call at method args w n = if map.contains_key w.state at then run_body src call at args (slice_get (methods_of src at.0) method) (reading w at) n else Fell no_entity (reading w at) n
+enter src call at method args w n = if_there (map.get w.state at) (Fell no_entity (reading w at) n) (run_body src call at args (slice_get (methods_of src at.0) method) (reading w at) n)
 
 -- a call: a step, then the depth, then the entity; this many more may be open
 unfoldable pub call_at : Source → ℕ → Calls
@@ -70,7 +75,7 @@ made at w (Broke e n) = Fell e w n
 
 -- the entity is read; it must not be there
 unfoldable pub create : Source → Key → List Value → World → ℕ → Gives
-create src at args w n = if map.contains_key w.state at then Fell already_exists (reading w at) n else made at (reading w at) (declare_all (fields_of src at.0) (body_of (init_of src at.0)) (bound (params_of (init_of src at.0)) args) [] n)
+create src at args w n = if_there (map.get w.state at) (made at (reading w at) (declare_all (fields_of src at.0) (body_of (init_of src at.0)) (bound (params_of (init_of src at.0)) args) [] n)) (Fell already_exists (reading w at) n)
 
 -- a creation: a step, then the depth, then the entity
 unfoldable pub make_at : Source → ℕ → ℕ → List Value → World → ℕ → Gives
