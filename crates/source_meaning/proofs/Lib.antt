@@ -5,3 +5,4 @@ pub mod TableLaws
 pub mod CallLaws
 pub mod DeclareLaws
 pub mod HereLaws
+pub mod RunLaws
