@@ -9,9 +9,10 @@ ghost use Rattle.std.specs.Option.{option_map};
 ghost use Rattle.py_tree.specs.PlainExpressions.{plain_expr};
 ghost use Rattle.py_tree.specs.PlainStatements.{plain_stmts, plain_stmt};
 ghost use Rattle.py_tree.specs.PlainProgram.{plain_program, plain_method, plain_methods, plain_params};
-ghost use Rattle.source_meaning.specs.ClassTables.{is_number, members_of, member_named, declared_field, declared_fields, behind, is_callable, field_read, name_read, returned_field, named_value, first_returned, declared_from, key_param, params_of, body_of};
+ghost use Rattle.source_meaning.specs.Agrees.{source_of};
+ghost use Rattle.source_meaning.specs.ClassTables.{is_number, members_of, member_named, declared_field, declared_fields, behind, is_callable, field_read, name_read, returned_field, named_value, first_returned, declared_from, key_param, params_of, body_of, init_of, key_method_of, methods_of, fields_of, key_param_of};
 
-use py_tree::{Expr, ExprKind, Method, Name, Param, Program, Stmt, StmtKind, Target};
+use py_tree::{Expr, ExprKind, Method, Name, Names, Param, Program, Stmt, StmtKind, Target};
 use std::alloc::{AllocError, Global};
 
 fn is_named(number: Option<Name>, name: Name) -> bool
@@ -24,7 +25,7 @@ fn is_named(number: Option<Name>, name: Name) -> bool
 }
 
 /// What the class of a number defines.
-pub(crate) fn members(program: &Program, class: u32) -> &[Method]
+fn members(program: &Program, class: u32) -> &[Method]
     ensures { plain_methods result.now ≡ members_of (slice_get (plain_program program.now) class) }
 {
     match program.classes.get(class as usize) {
@@ -34,7 +35,7 @@ pub(crate) fn members(program: &Program, class: u32) -> &[Method]
 }
 
 /// The first member of this name.
-pub(crate) fn member(members: &[Method], number: Option<Name>) -> Option<&Method>
+fn member(members: &[Method], number: Option<Name>) -> Option<&Method>
     ensures { option_map (λ m. plain_method m.now) result ≡ member_named (option_map (λ x. x.0) number) (plain_methods members.now) }
 {
     for member in members {
@@ -72,7 +73,7 @@ fn is_method(method: &Method, init: Option<Name>, key: Option<Name>) -> bool
 }
 
 /// The method of this number, counted without `__init__` and `__key__`.
-pub(crate) fn method(
+fn method(
     members: &[Method],
     init: Option<Name>,
     key: Option<Name>,
@@ -125,7 +126,7 @@ fn add_name(names: &mut Vec<Name>, name: Option<Name>) -> Result<(), AllocError>
 }
 
 /// The fields that these statements declare, in order.
-pub(crate) fn field_names(alloc: Global, body: &[Stmt]) -> Result<Vec<Name>, AllocError>
+fn field_names(alloc: Global, body: &[Stmt]) -> Result<Vec<Name>, AllocError>
     ensures { IfOk result (λ names. map (λ x. x.0) names.items ≡ declared_fields (plain_stmts body.now)) }
 {
     let mut names = Vec::new(alloc);
@@ -264,7 +265,7 @@ fn place_of_param(params: &[Param], name: Name) -> Option<usize>
 
 /// The place of the parameter of `__init__` that gives the key.
 #[tactic(auto, using(crate::proofs::TableLaws::param_place))]
-pub(crate) fn key_place(init: Option<&Method>, key: Option<&Method>) -> Option<usize>
+fn key_place(init: Option<&Method>, key: Option<&Method>) -> Option<usize>
     ensures { result ≡ key_param (option_map (λ m. plain_method m.now) init.entry) (option_map (λ m. plain_method m.now) key.entry) }
 {
     let Some(field) = key_field(body(key)) else {
@@ -274,4 +275,49 @@ pub(crate) fn key_place(init: Option<&Method>, key: Option<&Method>) -> Option<u
         return None;
     };
     place_of_param(params(init), name)
+}
+
+/// The `__init__` of a class.
+pub(crate) fn init<'a>(program: &'a Program, names: &Names, class: u32) -> Option<&'a Method>
+    ensures { option_map (λ m. plain_method m.now) result ≡ init_of (source_of (plain_program program.now) names.now) class }
+{
+    member(members(program, class), names.find("__init__"))
+}
+
+fn key_method<'a>(program: &'a Program, names: &Names, class: u32) -> Option<&'a Method>
+    ensures { option_map (λ m. plain_method m.now) result ≡ key_method_of (source_of (plain_program program.now) names.now) class }
+{
+    member(members(program, class), names.find("__key__"))
+}
+
+/// The method of a class with this number.
+pub(crate) fn called<'a>(
+    program: &'a Program,
+    names: &Names,
+    class: u32,
+    number: u32,
+) -> Option<&'a Method>
+    ensures { option_map (λ m. plain_method m.now) result ≡ slice_get (methods_of (source_of (plain_program program.now) names.now) class) number }
+{
+    let (init, key) = (names.find("__init__"), names.find("__key__"));
+    method(members(program, class), init, key, number)
+}
+
+/// The names of the fields of a class, in the order of its records.
+pub(crate) fn class_fields(
+    alloc: Global,
+    program: &Program,
+    names: &Names,
+    class: u32,
+) -> Result<Vec<Name>, AllocError>
+    ensures { IfOk result (λ fields. map (λ x. x.0) fields.items ≡ fields_of (source_of (plain_program program.now) names.now) class) }
+{
+    field_names(alloc, body(init(program, names, class)))
+}
+
+/// The place of the parameter of `__init__` that gives the key of a class.
+pub(crate) fn class_key(program: &Program, names: &Names, class: u32) -> Option<usize>
+    ensures { result ≡ key_param_of (source_of (plain_program program.now) names.now) class }
+{
+    key_place(init(program, names, class), key_method(program, names, class))
 }
