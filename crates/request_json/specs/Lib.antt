@@ -1,0 +1,3 @@
+pub mod RequestLines
+pub mod ReplyLines
+pub mod Actions

@@ -1,0 +1,8 @@
+//! Lines of JSON: a request that is read, a reply that is written.
+#![tactic(auto)]
+
+mod read;
+mod write;
+
+
+

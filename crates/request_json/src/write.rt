@@ -1,0 +1,1 @@
+//! Reply lines, written as JSON.
