@@ -77,20 +77,24 @@ args_of [] (item d ds) = None
 args_of (p ∷ ps) no_items = None
 args_of (p ∷ ps) (item d ds) = arg_of p.ty d >>? λ v. args_of ps ds >>? λ vs. Some (v ∷ vs)
 
+-- the number of the class that is named
+abbrev pub class_of : Source → Data → Option ℕ
+class_of src d = text_at (codes "class") d >>? class_named src
+
 abbrev pub call_of : Source → Data → Option Act
-call_of src d = text_at (codes "class") d >>? λ c. class_named src c >>? λ class.
+call_of src d = class_of src d >>? λ class.
     text_at (codes "key") d >>? λ key. text_at (codes "method") d >>? λ m. method_named src class m >>? λ method.
     array_at (codes "args") d >>? λ ds. args_of (params_of (slice_get (methods_of src class) method)) ds >>? λ args. Some (act.Call class (chars key) method args)
 
 abbrev pub creation_of : Source → Data → Option Act
-creation_of src d = text_at (codes "class") d >>? λ c. class_named src c >>? λ class.
+creation_of src d = class_of src d >>? λ class.
     array_at (codes "new") d >>? λ ds. args_of (params_of (init_of src class)) ds >>? λ args. Some (act.New class args)
 
 abbrev pub act_of : Source → Data → Option Act
 act_of src d = if has_keys call_keys d then call_of src d else (if has_keys creation_keys d then creation_of src d else None)
 
 abbrev pub with_id : Data → Act → Option Request
-with_id d a = text_at (codes "id") d >>? λ text. id_of text >>? λ id. Some (record { id = id; act = a })
+with_id d a = text_at (codes "id") d >>? id_of >>? λ id. Some (record { id = id; act = a })
 
 abbrev pub of_data : Source → Data → Option Request
 of_data src d = act_of src d >>? with_id d

@@ -2,7 +2,10 @@
 #![tactic(auto)]
 
 mod read;
+
 mod write;
+
+pub use read::read_request;
 
 
 

@@ -1,18 +1,20 @@
 //! Requests, read from lines.
 
-ghost use Rattle.std.specs.Prelude.{◌≡◌, is_some, IfOk};
+ghost use Rattle.std.specs.Prelude.{◌≡◌, is_some, codes, IfOk};
 ghost use Rattle.std.specs.Option.{option_map};
 ghost use Rattle.std.specs.List.{list_all};
 ghost use Rattle.serde_json.specs.Find.{get};
 ghost use Rattle.serde_json.specs.View.{view, items_view};
 ghost use Rattle.py_tree.specs.PlainTypes.{plain_written};
-ghost use Rattle.py_tree.specs.PlainProgram.{plain_param, plain_params};
-ghost use Rattle.request_json.specs.RequestLines.{data_of, has_members, has_keys, call_keys, creation_keys, text_at, array_at, id_of, int_arg as int_arg_of, text_arg as text_arg_of, typed_arg as typed_arg_of, arg_of, args_of};
+ghost use Rattle.py_tree.specs.PlainProgram.{plain_param, plain_params, plain_program};
+ghost use Rattle.source_meaning.specs.Agrees.{source_of};
+ghost use Rattle.request_json.specs.RequestLines.{data_of, has_members, has_keys, call_keys, creation_keys, text_at, array_at, id_of, int_arg as int_arg_of, text_arg as text_arg_of, typed_arg as typed_arg_of, arg_of, args_of, ◌>>?◌, class_of, call_of, creation_of, act_of, of_data, request_of};
 
-use py_tree::{Param, WrittenKind, WrittenTy};
+use py_tree::{Names, Param, Program, WrittenKind, WrittenTy};
 use serde_json::Value;
 use sf_list::Sequence;
-use sf_value::{Text, Value as Arg, Values};
+use sf_value::{Act, Request, Text, Value as Arg, Values};
+use source_meaning::{class_named, init_params, method_named, method_params};
 use std::alloc::{AllocError, Global};
 use std::str;
 
@@ -149,4 +151,128 @@ fn args(
         return Ok(None);
     }
     Ok(Some(made))
+}
+
+fn call(
+    alloc: Global,
+    program: &Program,
+    names: &Names,
+    value: &Value,
+) -> Result<Option<Act>, AllocError>
+    ensures { IfOk result (λ act. act ≡ call_of (source_of (plain_program program.now) names.now) (view value.now)) }
+{
+    let Some(class) = class_in(program, names, value) else {
+        return Ok(None);
+    };
+    let Some(key) = text(value, "key") else {
+        return Ok(None);
+    };
+    let Some(name) = text(value, "method") else {
+        return Ok(None);
+    };
+    let Some(method) = method_named(program, names, class, name) else {
+        return Ok(None);
+    };
+    let Some(items) = array(value, "args") else {
+        return Ok(None);
+    };
+    let params = method_params(program, names, class, method);
+    let Some(args) = args(alloc, params, items.as_slice())? else {
+        return Ok(None);
+    };
+    let key = Text::of(alloc, key)?;
+    Ok(Some(Act::Call {
+        class,
+        key,
+        method,
+        args,
+    }))
+}
+
+fn class_in(program: &Program, names: &Names, value: &Value) -> Option<u32>
+    ensures { result ≡ class_of (source_of (plain_program program.now) names.now) (view value.now) }
+{
+    match text(value, "class") {
+        Some(name) => class_named(program, names, name),
+        None => None,
+    }
+}
+
+fn creation(
+    alloc: Global,
+    program: &Program,
+    names: &Names,
+    value: &Value,
+) -> Result<Option<Act>, AllocError>
+    ensures { IfOk result (λ act. act ≡ creation_of (source_of (plain_program program.now) names.now) (view value.now)) }
+{
+    let Some(class) = class_in(program, names, value) else {
+        return Ok(None);
+    };
+    let Some(items) = array(value, "new") else {
+        return Ok(None);
+    };
+    let params = init_params(program, names, class);
+    let Some(args) = args(alloc, params, items.as_slice())? else {
+        return Ok(None);
+    };
+    Ok(Some(Act::New { class, args }))
+}
+
+fn act(
+    alloc: Global,
+    program: &Program,
+    names: &Names,
+    value: &Value,
+) -> Result<Option<Act>, AllocError>
+    ensures { IfOk result (λ act. act ≡ act_of (source_of (plain_program program.now) names.now) (view value.now)) }
+{
+    if is_call(value) {
+        return call(alloc, program, names, value);
+    }
+    if is_creation(value) {
+        return creation(alloc, program, names, value);
+    }
+    Ok(None)
+}
+
+fn id_in(alloc: Global, value: &Value) -> Result<Option<Text>, AllocError>
+    ensures { IfOk result (λ id. id ≡ (text_at (codes "id") (view value.now) >>? id_of)) }
+{
+    match text(value, "id") {
+        Some(text) => id(alloc, text),
+        None => Ok(None),
+    }
+}
+
+fn request(
+    alloc: Global,
+    program: &Program,
+    names: &Names,
+    value: &Value,
+) -> Result<Option<Request>, AllocError>
+    ensures { IfOk result (λ r. r ≡ of_data (source_of (plain_program program.now) names.now) (view value.now)) }
+{
+    let Some(act) = act(alloc, program, names, value)? else {
+        return Ok(None);
+    };
+    let Some(id) = id_in(alloc, value)? else {
+        return Ok(None);
+    };
+    Ok(Some(Request { id, act }))
+}
+
+/// The request that a line is, where it is one. The line is given without its line end.
+pub fn read_request(
+    alloc: Global,
+    program: &Program,
+    names: &Names,
+    line: &[u8],
+) -> Result<Option<Request>, AllocError>
+    ensures { IfOk result (λ r. r ≡ request_of (source_of (plain_program program.now) names.now) line.now) }
+{
+    match parse(alloc, line)? {
+        Some(value) => request(alloc, program, names, &value),
+        None => Ok(None),
+    }
 }

@@ -5,11 +5,12 @@ use Rattle.std.specs.Option.{option_map}
 use Rattle.std.specs.Prelude.{option_and_then}
 use Rattle.py_tree.proofs.NameLaws.{position-map}
 use Rattle.py_tree.specs.declared.program.Param.{Param}
+use Rattle.py_tree.specs.declared.program.Class.{Class}
 use Rattle.py_tree.specs.declared.program.Method.{Method}
 use Rattle.py_tree.specs.declared.names.Name.{Name}
 use Rattle.py_tree.specs.declared.stmt.Stmt.{Stmt}
 use Rattle.py_tree.specs.PlainStatements.{PlainStmt, plain_stmt, plain_stmts}
-use Rattle.py_tree.specs.PlainProgram.{plain_method, plain_methods, PlainMethod, PlainParam, plain_param, plain_params}
+use Rattle.py_tree.specs.PlainProgram.{plain_method, plain_methods, PlainMethod, PlainParam, plain_param, plain_params, PlainClass, plain_class}
 use Rattle.source_meaning.specs.ClassTables.{is_number, member_named, first, declared_field, declared_fields, behind, declares, declared_from, named_value, param_named}
 
 methods_from : (ms : List Method) (i : ℕ) (m : Method) → i < length ms → m ≡ get_or ms i m → plain_methods (drop i ms) ≡ plain_method m ∷ plain_methods (drop (i + 1) ms)
@@ -75,3 +76,6 @@ pub ruleset from_laws = (from_here, from_past, from_end)
 
 pub param_place : (params : List Param) (name : ℕ) → param_named (plain_params params) name ≡ position (λ (p : Param). nat_eq p.name.0 name) params
 param_place params name = position-map (λ (p : PlainParam). nat_eq p.name name) plain_param params
+
+pub class_place : (classes : List Class) (name : ℕ) → position (λ (c : PlainClass). nat_eq c.name name) (map plain_class classes) ≡ position (λ (c : Class). nat_eq c.name.0 name) classes
+class_place classes name = position-map (λ (c : PlainClass). nat_eq c.name name) plain_class classes

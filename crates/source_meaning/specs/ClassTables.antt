@@ -1,6 +1,7 @@
 -- What a program says of its classes: their methods, their fields in order, and where a key comes from.
-use Rattle.std.specs.Prelude.{ℕ, Bool, true, false, not, ◌&&◌, nat_eq, List, [], ◌∷◌, Some, None, codes, filter, position, slice_get, option_and_then, if◌then◌else◌}
+use Rattle.std.specs.Prelude.{ℕ, Bool, true, false, not, ◌&&◌, nat_eq, nat_lt, ◌^◌, List, [], ◌∷◌, Some, None, codes, filter, position, slice_get, option_and_then, if◌then◌else◌}
 use Rattle.std.specs.declared.option.Option.{Option}
+use Rattle.std.specs.List.{position_from}
 use Rattle.py_tree.specs.NameTable.{place_of}
 use Rattle.py_tree.specs.declared.stmt.Target.{Target}
 use Rattle.py_tree.specs.declared.stmt.Target.TheVariants as target
@@ -129,10 +130,15 @@ key_param init key = option_and_then (param_named (params_of init)) (option_and_
 abbrev pub key_param_of : Source → ℕ → Option ℕ
 key_param_of src class = key_param (init_of src class) (key_method_of src class)
 
+-- classes and methods have numbers of 32 bits; a program that keeps the rules has far fewer
+abbrev pub numbered : Option ℕ → Option ℕ
+numbered None = None
+numbered (Some at) = if nat_lt at (2 ^ 32) then Some at else None
+
 -- the number of the class with this name
 abbrev pub class_named : Source → List ℕ → Option ℕ
-class_named src text = option_and_then (λ n. position (λ c. nat_eq c.name n) src.program) (place_of src.names text)
+class_named src text = option_and_then (λ n. numbered (position (λ c. nat_eq c.name n) src.program)) (place_of src.names text)
 
 -- the number of the method with this name in a class
 abbrev pub method_named : Source → ℕ → List ℕ → Option ℕ
-method_named src class text = option_and_then (λ n. position (λ m. nat_eq m.name n) (methods_of src class)) (place_of src.names text)
+method_named src class text = option_and_then (λ n. numbered (position_from (λ m. nat_eq m.name n) 0 (methods_of src class))) (place_of src.names text)

@@ -13,6 +13,7 @@ mod tables;
 mod vars;
 
 pub use local::Local;
+pub use tables::{class_named, init_params, method_named, method_params};
 pub use vars::{Var, Vars};
 
 use sf_value::Failure;

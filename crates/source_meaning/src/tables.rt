@@ -6,11 +6,12 @@
 
 ghost use Rattle.std.specs.Prelude.{◌≡◌, ◌++◌, ℕ, List, map, nat_eq, position, slice_get, filter, IfOk, OnOk};
 ghost use Rattle.std.specs.Option.{option_map};
+ghost use Rattle.std.specs.List.{position_from};
 ghost use Rattle.py_tree.specs.PlainExpressions.{plain_expr};
 ghost use Rattle.py_tree.specs.PlainStatements.{plain_stmts, plain_stmt};
 ghost use Rattle.py_tree.specs.PlainProgram.{plain_program, plain_method, plain_methods, plain_params};
 ghost use Rattle.source_meaning.specs.Agrees.{source_of};
-ghost use Rattle.source_meaning.specs.ClassTables.{is_number, members_of, member_named, declared_field, declared_fields, behind, is_callable, field_read, name_read, returned_field, named_value, first_returned, declared_from, key_param, params_of, body_of, init_of, key_method_of, methods_of, fields_of, key_param_of};
+ghost use Rattle.source_meaning.specs.ClassTables.{is_number, members_of, member_named, declared_field, declared_fields, behind, is_callable, field_read, name_read, returned_field, named_value, first_returned, declared_from, key_param, params_of, body_of, init_of, key_method_of, methods_of, fields_of, key_param_of, numbered, class_named as class_number, method_named as method_number};
 
 use py_tree::{Expr, ExprKind, Method, Name, Names, Param, Program, Stmt, StmtKind, Target};
 use std::alloc::{AllocError, Global};
@@ -320,4 +321,84 @@ pub(crate) fn class_key(program: &Program, names: &Names, class: u32) -> Option<
     ensures { result ≡ key_param_of (source_of (plain_program program.now) names.now) class }
 {
     key_place(init(program, names, class), key_method(program, names, class))
+}
+
+fn place_of_class(program: &Program, name: Name) -> Option<usize>
+    ensures { result ≡ position (λ c. nat_eq c.name.0 name.0) program.now.classes }
+{
+    program
+        .classes
+        .as_slice()
+        .iter()
+        .position(|class| class.name.0 == name.0)
+}
+
+fn number(at: Option<usize>) -> Option<u32>
+    ensures { result ≡ numbered at }
+{
+    match at {
+        Some(at) => u32::try_from(at).ok(),
+        None => None,
+    }
+}
+
+/// The number of the class with this name.
+#[tactic(auto, using(crate::proofs::TableLaws::class_place))]
+pub fn class_named(program: &Program, names: &Names, text: &str) -> Option<u32>
+    ensures { result ≡ class_number (source_of (plain_program program.now) names.now) text.now }
+{
+    match names.find(text) {
+        Some(name) => number(place_of_class(program, name)),
+        None => None,
+    }
+}
+
+fn place_of_method(
+    members: &[Method],
+    init: Option<Name>,
+    key: Option<Name>,
+    name: Name,
+) -> Option<usize>
+    ensures { result ≡ position_from (λ m. nat_eq m.name name.0) 0 (filter (is_callable (option_map (λ x. x.0) init) (option_map (λ x. x.0) key)) (plain_methods members.now)) }
+{
+    let mut at = 0;
+    for member in members {
+        if is_method(member, init, key) {
+            if member.name.0 == name.0 {
+                return Some(at);
+            }
+            at += 1;
+        }
+    }
+    None
+}
+
+/// The number of the method with this name in a class.
+pub fn method_named(program: &Program, names: &Names, class: u32, text: &str) -> Option<u32>
+    ensures { result ≡ method_number (source_of (plain_program program.now) names.now) class text.now }
+{
+    let (init, key) = (names.find("__init__"), names.find("__key__"));
+    match names.find(text) {
+        Some(name) => number(place_of_method(members(program, class), init, key, name)),
+        None => None,
+    }
+}
+
+/// The parameters of a method.
+pub fn method_params<'a>(
+    program: &'a Program,
+    names: &Names,
+    class: u32,
+    number: u32,
+) -> &'a [Param]
+    ensures { plain_params result.now ≡ params_of (slice_get (methods_of (source_of (plain_program program.now) names.now) class) number) }
+{
+    params(called(program, names, class, number))
+}
+
+/// The parameters of a creation, which are those of `__init__`.
+pub fn init_params<'a>(program: &'a Program, names: &Names, class: u32) -> &'a [Param]
+    ensures { plain_params result.now ≡ params_of (init_of (source_of (plain_program program.now) names.now) class) }
+{
+    params(init(program, names, class))
 }
