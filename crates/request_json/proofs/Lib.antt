@@ -1,2 +1,3 @@
 pub mod DataLaws
 pub mod ArgLaws
+pub mod FloatLaws

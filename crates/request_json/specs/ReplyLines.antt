@@ -1,5 +1,5 @@
 -- The lines of replies: compact JSON with its keys in order, and LF.
-use Rattle.std.specs.Prelude.{ℕ, ℤ, pos, negsuc, ◌^◌, Bool, nat_lt, nat_le, List, [], ◌∷◌, ◌++◌, codes, if◌then◌else◌}
+use Rattle.std.specs.Prelude.{ℕ, ℤ, pos, negsuc, ◌^◌, Bool, ◌==◌, nat_lt, List, [], ◌∷◌, ◌++◌, codes, if◌then◌else◌}
 use Rattle.std.specs.Str.{encode_utf8_all}
 use Rattle.std.specs.Fmt.{signed_decimal}
 use Rattle.serde_json.specs.Data.{Data}
@@ -30,11 +30,8 @@ value_data (value.Entity at) = json.string (encode_utf8_all at.key)
 value_data _ = json.null
 
 -- a kind of failure by its number
-abbrev pub kind_name : ℕ → List ℕ
-kind_name kind =
-    if nat_le kind 1 then codes "ZeroDivisionError" else (if nat_le kind 2 then codes "IndexError" else (if nat_le kind 3 then codes "AssertionError" else (if nat_le kind 4 then codes "RecursionError"
-    else (if nat_le kind 5 then codes "OverflowError" else (if nat_le kind 6 then codes "Exception" else (if nat_le kind 7 then codes "ValueError" else (if nat_le kind 8 then codes "RuntimeError"
-    else (if nat_le kind 9 then codes "NoEntity" else (if nat_le kind 10 then codes "AlreadyExists" else (if nat_le kind 11 then codes "SizeLimit" else codes "StepLimit"))))))))))
+unfoldable pub kind_name : ℕ → List ℕ
+kind_name kind = if kind == 1 then codes "ZeroDivisionError" else (if kind == 2 then codes "IndexError" else (if kind == 3 then codes "AssertionError" else (if kind == 4 then codes "RecursionError" else (if kind == 5 then codes "OverflowError" else (if kind == 6 then codes "Exception" else (if kind == 7 then codes "ValueError" else (if kind == 8 then codes "RuntimeError" else (if kind == 9 then codes "NoEntity" else (if kind == 10 then codes "AlreadyExists" else (if kind == 11 then codes "SizeLimit" else codes "StepLimit"))))))))))
 
 abbrev pub value_reply : List ℕ → Value → ℕ → Data
 value_reply id v seq = json.object (json.member (codes "id") (json.string (encode_utf8_all id)) (json.member (codes "ok") (value_data v) (json.member (codes "seq") (json.number (json.unsigned seq)) json.no_members)))

@@ -6,6 +6,4 @@ mod read;
 mod write;
 
 pub use read::read_request;
-
-
-
+pub use write::{write_bad, write_reply};
