@@ -1,0 +1,3 @@
+pub mod OutputText
+pub mod HistoryView
+pub mod Standings

@@ -1,0 +1,64 @@
+-- The output text of a session: what each line of its input is answered, and the history and the state that follow.
+use Rattle.std.specs.Prelude.{ℕ, ◌+◌, Bool, bytes_eq, List, [], ◌∷◌, ◌++◌, length, codes, if◌then◌else◌}
+use Rattle.std.specs.List.{list_any}
+use Rattle.sf_value.specs.declared.Entry.{Entry}
+use Rattle.sf_value.specs.declared.Request.{Request}
+use Rattle.source_meaning.specs.ClassTables.{Source}
+use Rattle.source_meaning.specs.RequestRun.{run}
+use Rattle.source_meaning.specs.Serial.{Core, no_state}
+use Rattle.request_json.specs.Actions.{Line, Action, Skip, Refuse, Ask, action_of}
+use Rattle.request_json.specs.ReplyLines.{reply_line, bad_line}
+
+-- a request with this id stands in the history
+abbrev pub is_committed : List Entry → List ℕ → Bool
+is_committed history id = list_any (λ e. bytes_eq id e.request.id) history
+
+-- a request with what it comes to in this state
+abbrev pub entry_of : Source → Core → Request → Entry
+entry_of src core r = record { request = r; outcome = (run src core.state r.act).outcome }
+
+-- a request joins the history, and the state is the one after its run
+abbrev pub commit : Source → Core → Request → Core
+commit src core r = record { history = core.history ++ entry_of src core r ∷ []; state = (run src core.state r.act).state }
+
+unfoldable pub after_action : Source → Core → Action → Core
+after_action src core Skip = core
+after_action src core Refuse = core
+after_action src core (Ask r) = if is_committed core.history r.id then core else commit src core r
+
+abbrev pub refusal : ℕ → List ℕ
+refusal number = bad_line (codes "unsupported") number
+
+-- an empty line is answered nothing, a line that can't be used its refusal, a new request the line of its entry
+unfoldable pub reply_to : Source → Core → ℕ → Action → List ℕ
+reply_to src core number Skip = []
+reply_to src core number Refuse = refusal number
+reply_to src core number (Ask r) = if is_committed core.history r.id then refusal number else reply_line r.id (entry_of src core r).outcome (length core.history + 1)
+
+-- a session between two lines: its history and state, and how many lines came
+pub record Standing : Type 0 where
+  pub core : Core
+  pub lines : ℕ
+
+-- before the first line nothing is in the history and no entity is there
+abbrev pub empty_core : Core
+empty_core = record { history = []; state = no_state }
+
+abbrev pub start : Standing
+start = record { core = empty_core; lines = 0 }
+
+abbrev pub step : Source → Standing → Line → Standing
+step src s line = record { core = after_action src s.core (action_of src line); lines = s.lines + 1 }
+
+abbrev pub reply : Source → Standing → Line → List ℕ
+reply src s line = reply_to src s.core (s.lines + 1) (action_of src line)
+
+-- the replies to these lines, one for each, where an empty line's is empty
+unfoldable pub replies : Source → Standing → List Line → List (List ℕ)
+replies src s [] = []
+replies src s (line ∷ lines) = reply src s line ∷ replies src (step src s line) lines
+
+-- the session after these lines
+unfoldable pub after : Source → Standing → List Line → Standing
+after src s [] = s
+after src s (line ∷ lines) = after src (step src s line) lines

@@ -1,0 +1,153 @@
+//! One line at a time: what it asks, what it comes to, and its reply line.
+
+ghost use Rattle.std.specs.Prelude.{◌≡◌, ◌+◌, ◌<◌, ◌≤◌, ◌^◌, [], ◌∷◌, ◌++◌, length, false, take, IfOk, OnOk};
+ghost use Rattle.py_tree.specs.PlainProgram.{plain_program};
+ghost use Rattle.source_meaning.specs.Agrees.{source_of};
+ghost use Rattle.request_json.specs.ReplyLines.{reply_line};
+ghost use Rattle.request_json.specs.Actions.{without_cr, used};
+ghost use Rattle.session.specs.OutputText.{after_action, reply_to, refusal, reply, step, is_committed, entry_of, commit};
+ghost use Rattle.session.specs.Standings.{core_of, standing_of, line_of, asking};
+
+use crate::history::History;
+use py_tree::{Names, Program};
+use request_json::{read_request, write_bad, write_reply};
+use sf_list::{Sequence, TryClone};
+use sf_value::{Bytes, Reply, Request};
+use source_meaning::Local;
+use std::alloc::{AllocError, Global};
+
+/// A line has at most this many bytes, its line end not counted.
+pub const LONGEST: usize = 1_048_576;
+
+/// What stands between two lines: the state, the history, and how many lines came.
+#[derive(Drop)]
+pub struct Standing {
+    pub local: Local,
+    pub history: History,
+    pub lines: u64,
+}
+
+/// A line without a CR at its end.
+fn trimmed(line: &[u8]) -> &[u8]
+    ensures { result.now ≡ without_cr line.now }
+{
+    if !line.is_empty() && line[line.len() - 1] == b'\r' {
+        &line[..line.len() - 1]
+    } else {
+        line
+    }
+}
+
+/// The line that says that a line can't be used.
+fn refuse(alloc: Global, number: u64) -> Result<Bytes, AllocError>
+    ensures { IfOk result (λ line. line ≡ refusal number) }
+{
+    write_bad(alloc, "unsupported", number)
+}
+
+impl Standing {
+    /// Runs a new request, and commits it.
+    fn commit(
+        &mut self,
+        alloc: Global,
+        program: &Program,
+        names: &Names,
+        request: Request,
+    ) -> Result<Bytes, AllocError>
+        requires fresh { is_committed self.old.history request.id ≡ false }
+        requires room { length self.old.history + 1 < 2 ^ 32 }
+        ensures lines { self.new.lines ≡ self.old.lines }
+        ensures length { length self.new.history ≤ length self.old.history + 1 }
+        ensures text { IfOk result (λ line. line ≡ reply_line request.id (entry_of (source_of (plain_program program.now) names.now) (core_of self.old) request).outcome (length self.old.history + 1)) }
+        ensures core { OnOk result (core_of self.new ≡ commit (source_of (plain_program program.now) names.now) (core_of self.old) request) }
+    {
+        let outcome = self.local.run(alloc, program, names, &request)?;
+        let reply = Reply {
+            seq: (self.history.len() + 1) as u32,
+            outcome: outcome.try_clone(alloc)?,
+        };
+        let line = write_reply(alloc, &request.id, &reply)?;
+        self.history.commit(request, outcome)?;
+        Ok(line)
+    }
+
+    /// Answers what a line asks, or refuses it.
+    #[tactic(auto, unfolding(crate::specs::OutputText::reply_to, crate::specs::OutputText::after_action))]
+    fn ask(
+        &mut self,
+        alloc: Global,
+        program: &Program,
+        names: &Names,
+        asked: Option<Request>,
+        number: u64,
+    ) -> Result<Bytes, AllocError>
+        requires { length self.old.history + 1 < 2 ^ 32 }
+        ensures lines { self.new.lines ≡ self.old.lines }
+        ensures length { length self.new.history ≤ length self.old.history + 1 }
+        ensures text { IfOk result (λ line. line ≡ reply_to (source_of (plain_program program.now) names.now) (core_of self.old) number (asking asked)) }
+        ensures core { OnOk result (core_of self.new ≡ after_action (source_of (plain_program program.now) names.now) (core_of self.old) (asking asked)) }
+    {
+        match asked {
+            Some(request) => {
+                if self.history.contains(&request.id) {
+                    return refuse(alloc, number);
+                }
+                self.commit(alloc, program, names, request)
+            }
+            None => refuse(alloc, number),
+        }
+    }
+
+    /// Answers the content of a line.
+    #[tactic(auto, unfolding(crate::specs::OutputText::reply_to, crate::specs::OutputText::after_action))]
+    fn answer_content(
+        &mut self,
+        alloc: Global,
+        program: &Program,
+        names: &Names,
+        content: &[u8],
+        number: u64,
+    ) -> Result<Bytes, AllocError>
+        requires { length self.old.history + 1 < 2 ^ 32 }
+        ensures lines { self.new.lines ≡ self.old.lines }
+        ensures length { length self.new.history ≤ length self.old.history + 1 }
+        ensures text { IfOk result (λ line. line ≡ reply_to (source_of (plain_program program.now) names.now) (core_of self.old) number (used (source_of (plain_program program.now) names.now) content.now)) }
+        ensures core { OnOk result (core_of self.new ≡ after_action (source_of (plain_program program.now) names.now) (core_of self.old) (used (source_of (plain_program program.now) names.now) content.now)) }
+    {
+        if content.is_empty() {
+            return Ok(Sequence::new(alloc));
+        }
+        let asked = read_request(alloc, program, names, content)?;
+        self.ask(alloc, program, names, asked, number)
+    }
+
+    /// Answers a line, given without its LF. Of a line that is too long, its first bytes up to one
+    /// more than it may have are enough.
+    #[tactic(auto, unfolding(crate::specs::OutputText::reply_to, crate::specs::OutputText::after_action, request_json::specs::Actions::action_of))]
+    pub(crate) fn answer(
+        &mut self,
+        alloc: Global,
+        program: &Program,
+        names: &Names,
+        line: &[u8],
+        ended: bool,
+    ) -> Result<Bytes, AllocError>
+        requires history { length self.old.history + 1 < 2 ^ 32 }
+        requires lines { self.old.lines + 1 < 2 ^ 64 }
+        ensures lines { self.new.lines ≤ self.old.lines + 1 }
+        ensures length { length self.new.history ≤ length self.old.history + 1 }
+        ensures text { IfOk result (λ made. made ≡ reply (source_of (plain_program program.now) names.now) (standing_of self.old) (line_of ended line.now)) }
+        ensures standing { OnOk result (standing_of self.new ≡ step (source_of (plain_program program.now) names.now) (standing_of self.old) (line_of ended line.now)) }
+    {
+        let number = self.lines + 1;
+        let made = if line.len() > LONGEST {
+            refuse(alloc, number)?
+        } else {
+            let content = if ended { trimmed(line) } else { line };
+            self.answer_content(alloc, program, names, content, number)?
+        };
+        self.lines = number;
+        Ok(made)
+    }
+}
+
