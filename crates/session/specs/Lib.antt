@@ -1,3 +1,5 @@
 pub mod OutputText
 pub mod HistoryView
 pub mod Standings
+pub mod Feeds
+pub mod Takes

@@ -3,7 +3,9 @@
 #![tactic(auto)]
 
 mod answering;
+mod feeding;
 mod history;
 
+pub use answering::Standing;
+pub use feeding::{InputEnd, Session};
 pub use history::{Committed, History};
-

@@ -1,0 +1,34 @@
+-- What a session does with its input.
+use Rattle.std.specs.Prelude.{◌≡◌, ℕ, ◌<◌, ◌≤◌, List, [], length, Ok, Err}
+use Rattle.std.specs.declared.option.Option.{Option}
+use Rattle.std.specs.declared.result.Result.{Result}
+use Rattle.std.specs.Io.KnownBytes.{Consumes, IsAtEnd}
+use Rattle.sf_outside.specs.declared.gains.WriteStop.{WriteStop}
+use Rattle.source_meaning.specs.ClassTables.{Source}
+use Rattle.session.specs.declared.feeding.Session.{Session}
+use Rattle.session.specs.declared.feeding.InputEnd.{InputEnd}
+use Rattle.session.specs.declared.feeding.InputEnd.TheVariants.{End, ReadFault, TooLong}
+use Rattle.session.specs.Feeds.{Feeds}
+
+-- these bytes were taken and fed
+pub record Went {T : Type 0} (src : Source) (result : Result T WriteStop) (limit : ℕ) (left left' held held' : Option (List ℕ)) (old new : Session) : Type 0 where
+  pub taken : List ℕ
+  pub consumed : Consumes left left' taken
+  pub within : length taken ≤ limit
+  pub fed : Feeds src result old new held held' [] taken
+
+-- more bytes than the limit came: so many were fed, and at least one more was taken
+pub record WentOver {T : Type 0} (src : Source) (result : Result T WriteStop) (limit : ℕ) (left left' held held' : Option (List ℕ)) (old new : Session) : Type 0 where
+  pub before : Option (List ℕ)
+  pub went : Went src result limit left before held held' old new
+  pub full : length went.taken ≡ limit
+  pub more : List ℕ
+  pub some : 0 < length more
+  pub beyond : Consumes before left' more
+
+-- the input ended, could not be read, or was too long; or the session stopped
+abbrev pub Takes : Source → ℕ → Option (List ℕ) → Option (List ℕ) → Option (List ℕ) → Option (List ℕ) → Session → Session → Result InputEnd WriteStop → Type 0
+Takes src limit left left' held held' old new (Ok End) = Went {T = InputEnd} src (Ok End) limit left left' held held' old new × IsAtEnd left'
+Takes src limit left left' held held' old new (Ok ReadFault) = Went {T = InputEnd} src (Ok ReadFault) limit left left' held held' old new
+Takes src limit left left' held held' old new (Ok TooLong) = WentOver {T = InputEnd} src (Ok TooLong) limit left left' held held' old new
+Takes src limit left left' held held' old new (Err e) = Went {T = InputEnd} src (Err e) limit left left' held held' old new
