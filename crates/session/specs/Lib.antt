@@ -3,3 +3,4 @@ pub mod HistoryView
 pub mod Standings
 pub mod Feeds
 pub mod Takes
+pub mod Served

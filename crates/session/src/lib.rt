@@ -5,7 +5,9 @@
 mod answering;
 mod feeding;
 mod history;
+mod serving;
 
 pub use answering::Standing;
 pub use feeding::{InputEnd, Session};
 pub use history::{Committed, History};
+pub use serving::serve;
