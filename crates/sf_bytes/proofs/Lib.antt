@@ -1,3 +1,5 @@
 pub mod Texts
 pub mod Loops
 pub mod Levels
+pub mod Layers
+pub mod Lists

@@ -6,3 +6,4 @@
 
 mod fault;
 mod reading;
+mod writing;
