@@ -3,3 +3,5 @@ pub mod Loops
 pub mod Levels
 pub mod Layers
 pub mod Lists
+pub mod Wide
+pub mod Laws
