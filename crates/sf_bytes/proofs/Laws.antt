@@ -1,10 +1,11 @@
 -- What is read is spelt so, and what is spelt so is read.
-use Rattle.std.proofs.Common.{◌≡◌, ℕ, ℤ, ◌+◌, ◌^◌, ◌<◌, ◌≤◌, Bool, true, false, cond, ltb, List as Items, [], ◌∷◌, ◌++◌, length, take, drop, Option, Some, None, refl, sym, ap, subst, ◌∙◌, append_assoc, arith, FitsSigned}
+use Rattle.std.proofs.Common.{◌≡◌, ℕ, zero, suc, ℤ, ◌+◌, ◌^◌, ◌<◌, ◌≤◌, Bool, true, false, cond, ltb, List as Items, [], ◌∷◌, ◌++◌, length, take, drop, Option, Some, None, refl, sym, ap, subst, ◌∙◌, append_assoc, arith, FitsSigned}
 use Rattle.std.specs.Int.{Width, w32, w64, w128, byte_len, from_be_bytes, to_be_bytes, cast_signed, cast_unsigned}
 use Rattle.std.specs.List.{flat_map, AllByRecursion}
 use Rattle.std.specs.Str.{IsUtf8, is_utf8, chars, all_scalars, encode_utf8_all}
 use Rattle.std.proofs.lemmas.Bool.{ltb-false, le-ltb}
 use Rattle.std.proofs.lemmas.Int.{to_z-of_z, of_z-to_z}
+use Rattle.std.proofs.Math.Facts.{Fits-of_z, Fits-of_lt, Fits-lt-pow, sfits_to_z}
 use Rattle.std.proofs.lemmas.List.{take_at, drop_at, take-append-drop, length-append, length-take}
 use Rattle.std.proofs.lemmas.Str.{IsUtf8-from_is_utf8, is_utf8-from_IsUtf8, encodes-chars, chars-encodes}
 use Rattle.sf_value.specs.declared.value.Ref.{Ref}
@@ -68,3 +69,118 @@ number_spells = wide_spells w32 (2 ^ 32) wide32
 pub long_spells : Spells long_at long_bytes (λ n. n < 2 ^ 64)
 unfolding long_at long_bytes
 long_spells = wide_spells w64 (2 ^ 64) wide64
+
+int_again : (text rest : Items ℕ) (n : ℕ) → length text ≡ 16 → from_be_bytes w128 text ≡ n → cond {A = Option (ℤ × Items ℕ)} (ltb (length (text ++ rest)) 16) None (Some (cast_signed w128 (from_be_bytes w128 (take 16 (text ++ rest))), drop 16 (text ++ rest))) ≡ Some (cast_signed w128 n, rest)
+int_again text rest n len is =
+    let long : ltb (length (text ++ rest)) 16 ≡ false = le-ltb _ _ (omega (arith, len, length-append text rest)) in
+    rw (long, take_at text rest 16 len, drop_at text rest 16 len, is) refl
+
+pub int_spells : Spells int_at int_bytes (λ n. FitsSigned w128 n)
+unfolding int_at int_bytes
+int_spells = record {
+  takes = λ bytes z rest fits e.
+      let g = guard_some (ltb (length bytes) 16) (Some (cast_signed w128 (from_be_bytes w128 (take 16 bytes)), drop 16 bytes)) (z, rest) e in
+      let n = from_be_bytes w128 (take 16 bytes) in
+      let t = (wide_spells w128 (2 ^ 128) wide128).takes bytes n (drop 16 bytes) fits (rw g.0 refl) in
+      let same : to_be_bytes w128 (cast_unsigned w128 (cast_signed w128 n)) ≡ to_be_bytes w128 n = ap (to_be_bytes w128) (of_z-to_z w128 n t.1) in
+      subst (λ (p : ℤ × Items ℕ). (bytes ≡ to_be_bytes w128 (cast_unsigned w128 p.0) ++ p.1) × FitsSigned w128 p.0) (some_is _ _ g.1)
+          (t.0 ∙ ap (λ xs. xs ++ drop 16 bytes) (sym same), sfits_to_z (Fits-of_lt {w = w128} t.1));
+  again = λ z rest fits.
+      let n = cast_unsigned w128 z in
+      let same : from_be_bytes w128 (to_be_bytes w128 n) ≡ n = wide128.again n (Fits-lt-pow {w = w128} (Fits-of_z {w = w128} fits)) in
+      int_again (to_be_bytes w128 n) rest n (wide128.len n) same ∙ ap (λ number. Some (number, rest)) (to_z-of_z w128 z fits);
+}
+
+-- ---- texts
+
+pub text_spells : Spells text_at text_bytes (λ text. IsShortText text × IsRealText text)
+unfolding text_at text_bytes
+text_spells = record {
+  takes = λ bytes text rest fits e.
+      let b = bind_some (number_at bytes) (λ count. cond (ltb (length count.1) count.0) None (cond (is_utf8 (take count.0 count.1)) (Some (chars (take count.0 count.1), drop count.0 count.1)) None)) (text, rest) e in
+      let count = b.0.0 in
+      let after = b.0.1 in
+      let t = number_spells.takes bytes count after fits b.1 in
+      let g = guard_some (ltb (length after) count) (cond (is_utf8 (take count after)) (Some (chars (take count after), drop count after)) None) (text, rest) b.2 in
+      let long : count ≤ length after = ltb-false _ _ g.0 in
+      let len : length (take count after) ≡ count = omega (arith, length-take count after) in
+      let h = guard_true (is_utf8 (take count after)) (Some (chars (take count after), drop count after)) (text, rest) g.1 in
+      let utf8 : IsUtf8 (take count after) = IsUtf8-from_is_utf8 _ h.0 in
+      let back : encode_utf8_all (chars (take count after)) ≡ take count after = encodes-chars (take count after) utf8 in
+      let short : length (encode_utf8_all (chars (take count after))) ≡ count = ap length back ∙ len in
+      let real : all_scalars (chars (take count after)) ≡ true = ap (λ bs. all_scalars (chars bs)) (sym utf8.1.1) ∙ ap all_scalars (chars-encodes utf8.0 utf8.1.0) ∙ utf8.1.0 in
+      let parts : bytes ≡ (number_bytes (length (encode_utf8_all (chars (take count after)))) ++ encode_utf8_all (chars (take count after))) ++ drop count after =
+          t.0 ∙ ap (λ xs. number_bytes count ++ xs) (sym (take-append-drop count after)) ∙ sym (append_assoc (number_bytes count) (take count after) (drop count after))
+          ∙ (λ i. (number_bytes (sym short i) ++ sym back i) ++ drop count after) in
+      subst (λ (p : Items ℕ × Items ℕ). (bytes ≡ (number_bytes (length (encode_utf8_all p.0)) ++ encode_utf8_all p.0) ++ p.1) × (IsShortText p.0 × IsRealText p.0)) (some_is _ _ h.1)
+          (parts, (omega (arith, short, t.1), real));
+  again = λ text rest fits.
+      let utf8 : IsUtf8 (encode_utf8_all text) = (text, (fits.1, refl)) in
+      let good : is_utf8 (encode_utf8_all text) ≡ true = is_utf8-from_IsUtf8 _ utf8 in
+      let long : ltb (length (encode_utf8_all text ++ rest)) (length (encode_utf8_all text)) ≡ false = le-ltb _ _ (omega (arith, length-append (encode_utf8_all text) rest)) in
+      let regrouped : (number_bytes (length (encode_utf8_all text)) ++ encode_utf8_all text) ++ rest ≡ number_bytes (length (encode_utf8_all text)) ++ (encode_utf8_all text ++ rest) = append_assoc (number_bytes (length (encode_utf8_all text))) (encode_utf8_all text) rest in
+      let count = number_spells.again (length (encode_utf8_all text)) (encode_utf8_all text ++ rest) fits.0 in
+      rw (regrouped, count, long, take_at (encode_utf8_all text) rest (length (encode_utf8_all text)) refl, drop_at (encode_utf8_all text) rest (length (encode_utf8_all text)) refl, good, chars-encodes text fits.1) refl;
+}
+
+-- ---- fields one after the other
+
+-- a thing of two fields, made of them and taken apart
+pub two_spells : {A B C : Type 0} (a_at : Reader A) (a_bytes : A → Items ℕ) (FitsA : A → Type 0) (b_at : Reader B) (b_bytes : B → Items ℕ) (FitsB : B → Type 0)
+    (make : A → B → C) (first : C → A) (second : C → B) → ((x : A) (y : B) → first (make x y) ≡ x) → ((x : A) (y : B) → second (make x y) ≡ y) → ((z : C) → make (first z) (second z) ≡ z)
+    → Spells a_at a_bytes FitsA → Spells b_at b_bytes FitsB
+    → Spells (λ bytes. a_at bytes >>= λ x. b_at x.1 >>= λ y. Some (make x.0 y.0, y.1)) (λ z. a_bytes (first z) ++ b_bytes (second z)) (λ z. FitsA (first z) × FitsB (second z))
+two_spells {C = C} a_at a_bytes FitsA b_at b_bytes FitsB make first second is-first is-second is-made a b = record {
+  takes = λ bytes z rest fits e.
+      let x = bind_some (a_at bytes) (λ x. b_at x.1 >>= λ y. Some (make x.0 y.0, y.1)) (z, rest) e in
+      let t = a.takes bytes x.0.0 x.0.1 fits x.1 in
+      let y = bind_some (b_at x.0.1) (λ y. Some (make x.0.0 y.0, y.1)) (z, rest) x.2 in
+      let u = b.takes x.0.1 y.0.0 y.0.1 (rest_fits bytes _ x.0.1 fits t.0) y.1 in
+      let parts : bytes ≡ (a_bytes x.0.0 ++ b_bytes y.0.0) ++ y.0.1 = t.0 ∙ ap (λ xs. a_bytes x.0.0 ++ xs) u.0 ∙ sym (append_assoc (a_bytes x.0.0) (b_bytes y.0.0) y.0.1) in
+      let f = is-first x.0.0 y.0.0 in
+      let s = is-second x.0.0 y.0.0 in
+      subst (λ (p : C × Items ℕ). (bytes ≡ (a_bytes (first p.0) ++ b_bytes (second p.0)) ++ p.1) × (FitsA (first p.0) × FitsB (second p.0))) (some_is _ _ y.2)
+          (parts ∙ (λ i. (a_bytes (sym f i) ++ b_bytes (sym s i)) ++ y.0.1), (subst FitsA (sym f) t.1, subst FitsB (sym s) u.1));
+  again = λ z rest fits.
+      rw (append_assoc (a_bytes (first z)) (b_bytes (second z)) rest, a.again (first z) (b_bytes (second z) ++ rest) fits.0, b.again (second z) rest fits.1, is-made z) refl;
+}
+
+pub ref_spells : Spells ref_at ref_bytes (λ at. IsShortText at.key × IsRealRef at)
+unfolding ref_at ref_bytes
+ref_spells =
+    let whole = two_spells number_at number_bytes (λ n. n < 2 ^ 32) text_at text_bytes (λ text. IsShortText text × IsRealText text) (λ class key. record { class = class; key = key }) (λ (at : Ref). at.class) (λ (at : Ref). at.key) (λ x y. refl) (λ x y. refl) (λ z. refl) number_spells text_spells in
+    record {
+      takes = λ bytes at rest fits e. let t = whole.takes bytes at rest fits e in (t.0, (t.1.1.0, (t.1.0, t.1.1.1)));
+      again = λ at rest fits. whole.again at rest (fits.1.0, (fits.0, fits.1.1));
+    }
+
+-- ---- lists
+
+module _ {A : Type 0} (item_at : Reader A) (item_bytes : A → Items ℕ) (Fits : A → Type 0) (item : Spells item_at item_bytes Fits) where
+  items_takes : (count : ℕ) (bytes : Items ℕ) (xs : Items A) (rest : Items ℕ) → IsBytes bytes → items_at item_at count bytes ≡ Some (xs, rest) → (bytes ≡ flat_map item_bytes xs ++ rest) × ((length xs ≡ count) × AllByRecursion Fits xs)
+  unfolding items_at
+  items_takes zero bytes xs rest fits e = subst (λ (p : Items A × Items ℕ). (bytes ≡ flat_map item_bytes p.0 ++ p.1) × ((length p.0 ≡ 0) × AllByRecursion Fits p.0)) (some_is _ _ e) (refl, (refl, tt))
+  items_takes (suc count) bytes xs rest fits e =
+      let x = bind_some (item_at bytes) (λ x. items_at item_at count x.1 >>= λ others. Some (x.0 ∷ others.0, others.1)) (xs, rest) e in
+      let t = item.takes bytes x.0.0 x.0.1 fits x.1 in
+      let y = bind_some (items_at item_at count x.0.1) (λ others. Some (x.0.0 ∷ others.0, others.1)) (xs, rest) x.2 in
+      let u = items_takes count x.0.1 y.0.0 y.0.1 (rest_fits bytes _ x.0.1 fits t.0) y.1 in
+      let parts : bytes ≡ (item_bytes x.0.0 ++ flat_map item_bytes y.0.0) ++ y.0.1 = t.0 ∙ ap (λ bs. item_bytes x.0.0 ++ bs) u.0 ∙ sym (append_assoc (item_bytes x.0.0) (flat_map item_bytes y.0.0) y.0.1) in
+      subst (λ (p : Items A × Items ℕ). (bytes ≡ flat_map item_bytes p.0 ++ p.1) × ((length p.0 ≡ suc count) × AllByRecursion Fits p.0)) (some_is _ _ y.2) (parts, (ap suc u.1.0, (t.1, u.1.1)))
+
+  items_again : (xs : Items A) (rest : Items ℕ) → AllByRecursion Fits xs → items_at item_at (length xs) (flat_map item_bytes xs ++ rest) ≡ Some (xs, rest)
+  unfolding items_at
+  items_again [] rest fits = refl
+  items_again (x ∷ xs) rest fits = rw (append_assoc (item_bytes x) (flat_map item_bytes xs) rest, item.again x (flat_map item_bytes xs ++ rest) fits.0, items_again xs rest fits.1) refl
+
+  pub list_spells : Spells (list_at item_at) (list_bytes item_bytes) (λ xs. (length xs < 2 ^ 32) × AllByRecursion Fits xs)
+  unfolding list_at
+  list_spells = record {
+    takes = λ bytes xs rest fits e.
+        let n = bind_some (number_at bytes) (λ count. items_at item_at count.0 count.1) (xs, rest) e in
+        let t = number_spells.takes bytes n.0.0 n.0.1 fits n.1 in
+        let u = items_takes n.0.0 n.0.1 xs rest (rest_fits bytes _ n.0.1 fits t.0) n.2 in
+        (t.0 ∙ (λ i. number_bytes (sym u.1.0 i) ++ u.0 i) ∙ sym (append_assoc (number_bytes (length xs)) (flat_map item_bytes xs) rest), (omega (arith, u.1.0, t.1), u.1.1));
+    again = λ xs rest fits.
+        rw (append_assoc (number_bytes (length xs)) (flat_map item_bytes xs) rest, number_spells.again (length xs) (flat_map item_bytes xs ++ rest) fits.0) (items_again xs rest fits.1);
+  }
