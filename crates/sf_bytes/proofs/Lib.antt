@@ -5,3 +5,4 @@ pub mod Layers
 pub mod Lists
 pub mod Wide
 pub mod Laws
+pub mod ValueLaws
