@@ -56,7 +56,7 @@ wide_spells w limit wide = record {
       let long : byte_len w ≤ length bytes = ltb-false _ _ g.0 in
       let front : to_be_bytes w (from_be_bytes w (take (byte_len w) bytes)) ≡ take (byte_len w) bytes = wide.back (take (byte_len w) bytes) (omega (arith, length-take (byte_len w) bytes)) (IsBytes-take (byte_len w) bytes fits) in
       subst (λ (p : ℕ × Items ℕ). (bytes ≡ to_be_bytes w p.0 ++ p.1) × (p.0 < limit)) (some_is _ _ g.1)
-          (sym (ap (λ xs. xs ++ drop (byte_len w) bytes) front ∙ take-append-drop (byte_len w) bytes), wide.below (take (byte_len w) bytes) (IsBytes-take (byte_len w) bytes fits));
+      (sym (ap (λ xs. xs ++ drop (byte_len w) bytes) front ∙ take-append-drop (byte_len w) bytes), wide.below (take (byte_len w) bytes) (IsBytes-take (byte_len w) bytes fits));
   again = λ n rest lt.
       let long : ltb (length (to_be_bytes w n ++ rest)) (byte_len w) ≡ false = le-ltb _ _ (omega (arith, wide.len n, length-append (to_be_bytes w n) rest)) in
       rw (long, take_at (to_be_bytes w n) rest (byte_len w) (wide.len n), drop_at (to_be_bytes w n) rest (byte_len w) (wide.len n), wide.again n lt) refl;
@@ -84,7 +84,7 @@ int_spells = record {
       let t = (wide_spells w128 (2 ^ 128) wide128).takes bytes n (drop 16 bytes) fits (rw g.0 refl) in
       let same : to_be_bytes w128 (cast_unsigned w128 (cast_signed w128 n)) ≡ to_be_bytes w128 n = ap (to_be_bytes w128) (of_z-to_z w128 n t.1) in
       subst (λ (p : ℤ × Items ℕ). (bytes ≡ to_be_bytes w128 (cast_unsigned w128 p.0) ++ p.1) × FitsSigned w128 p.0) (some_is _ _ g.1)
-          (t.0 ∙ ap (λ xs. xs ++ drop 16 bytes) (sym same), sfits_to_z (Fits-of_lt {w = w128} t.1));
+      (t.0 ∙ ap (λ xs. xs ++ drop 16 bytes) (sym same), sfits_to_z (Fits-of_lt {w = w128} t.1));
   again = λ z rest fits.
       let n = cast_unsigned w128 z in
       let same : from_be_bytes w128 (to_be_bytes w128 n) ≡ n = wide128.again n (Fits-lt-pow {w = w128} (Fits-of_z {w = w128} fits)) in
@@ -110,10 +110,10 @@ text_spells = record {
       let short : length (encode_utf8_all (chars (take count after))) ≡ count = ap length back ∙ len in
       let real : all_scalars (chars (take count after)) ≡ true = ap (λ bs. all_scalars (chars bs)) (sym utf8.1.1) ∙ ap all_scalars (chars-encodes utf8.0 utf8.1.0) ∙ utf8.1.0 in
       let parts : bytes ≡ (number_bytes (length (encode_utf8_all (chars (take count after)))) ++ encode_utf8_all (chars (take count after))) ++ drop count after =
-          t.0 ∙ ap (λ xs. number_bytes count ++ xs) (sym (take-append-drop count after)) ∙ sym (append_assoc (number_bytes count) (take count after) (drop count after))
-          ∙ (λ i. (number_bytes (sym short i) ++ sym back i) ++ drop count after) in
+      t.0 ∙ ap (λ xs. number_bytes count ++ xs) (sym (take-append-drop count after)) ∙ sym (append_assoc (number_bytes count) (take count after) (drop count after))
+      ∙ (λ i. (number_bytes (sym short i) ++ sym back i) ++ drop count after) in
       subst (λ (p : Items ℕ × Items ℕ). (bytes ≡ (number_bytes (length (encode_utf8_all p.0)) ++ encode_utf8_all p.0) ++ p.1) × (IsShortText p.0 × IsRealText p.0)) (some_is _ _ h.1)
-          (parts, (omega (arith, short, t.1), real));
+      (parts, (omega (arith, short, t.1), real));
   again = λ text rest fits.
       let utf8 : IsUtf8 (encode_utf8_all text) = (text, (fits.1, refl)) in
       let good : is_utf8 (encode_utf8_all text) ≡ true = is_utf8-from_IsUtf8 _ utf8 in
@@ -140,7 +140,7 @@ two_spells {C = C} a_at a_bytes FitsA b_at b_bytes FitsB make first second is-fi
       let f = is-first x.0.0 y.0.0 in
       let s = is-second x.0.0 y.0.0 in
       subst (λ (p : C × Items ℕ). (bytes ≡ (a_bytes (first p.0) ++ b_bytes (second p.0)) ++ p.1) × (FitsA (first p.0) × FitsB (second p.0))) (some_is _ _ y.2)
-          (parts ∙ (λ i. (a_bytes (sym f i) ++ b_bytes (sym s i)) ++ y.0.1), (subst FitsA (sym f) t.1, subst FitsB (sym s) u.1));
+      (parts ∙ (λ i. (a_bytes (sym f i) ++ b_bytes (sym s i)) ++ y.0.1), (subst FitsA (sym f) t.1, subst FitsB (sym s) u.1));
   again = λ z rest fits.
       rw (append_assoc (a_bytes (first z)) (b_bytes (second z)) rest, a.again (first z) (b_bytes (second z) ++ rest) fits.0, b.again (second z) rest fits.1, is-made z) refl;
 }

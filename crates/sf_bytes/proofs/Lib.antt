@@ -6,3 +6,5 @@ pub mod Lists
 pub mod Wide
 pub mod Laws
 pub mod ValueLaws
+pub mod Fronts
+pub mod Public

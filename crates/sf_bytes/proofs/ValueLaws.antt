@@ -34,7 +34,7 @@ one_takes {B = B} a_at a_bytes FitsA a b_bytes FitsB make tag bytes fit rest y a
     let x = bind_some (a_at rest) (λ x. Some (make x.0, x.1)) (y, after) e in
     let t = a.takes rest x.0.0 x.0.1 fits x.1 in
     subst (λ (p : B × Items ℕ). (tag ∷ rest ≡ b_bytes p.0 ++ p.1) × FitsB p.0) (some_is _ _ x.2)
-        (ap (λ bs. tag ∷ bs) t.0 ∙ ap (λ bs. bs ++ x.0.1) (sym (bytes x.0.0)), fit x.0.0 t.1)
+    (ap (λ bs. tag ∷ bs) t.0 ∙ ap (λ bs. bs ++ x.0.1) (sym (bytes x.0.0)), fit x.0.0 t.1)
 
 pub one_again : {A B : Type 0} (a_at : Reader A) (a_bytes : A → Items ℕ) (FitsA : A → Type 0) → Spells a_at a_bytes FitsA → (make : A → B)
     → (x : A) (rest : Items ℕ) → FitsA x → one_at a_at make (a_bytes x ++ rest) ≡ Some (make x, rest)

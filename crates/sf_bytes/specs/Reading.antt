@@ -1,5 +1,6 @@
 -- Reading from left to right: what is read, and the bytes after it.
-use Rattle.std.specs.Prelude.{◌≡◌, ℕ, zero, suc, ℤ, true, false, List as Items, [], ◌∷◌, length, take, drop, Option, Some, None, Result, Ok, Err, nat_lt, if◌then◌else◌}
+use Rattle.std.specs.Prelude.{◌≡◌, ℕ, zero, suc, ℤ, true, false, List as Items, [], ◌∷◌, length, take, drop, Option, Some, None, Result, Ok, Err, IsErr, nat_lt, if◌then◌else◌}
+use Rattle.std.specs.declared.alloc.AllocError.{AllocError}
 use Rattle.std.specs.Int.{w32, w64, w128, from_be_bytes, cast_signed}
 use Rattle.std.specs.Str.{chars, is_utf8}
 use Rattle.sf_bytes.specs.declared.fault.Unread.{Unread}
@@ -23,6 +24,12 @@ FallsShort NoSpelling read = read ≡ None
 abbrev pub Gives : {X A : Type 0} → (X → A) → Result X Unread → Option A → Type 0
 Gives view (Ok x) read = read ≡ Some (view x)
 Gives view (Err e) read = FallsShort e read
+
+-- what is answered where a reader returned so
+abbrev pub Answers : {X B : Type 0} → (X → B) → Result X Unread → Result (Option B) AllocError → Type 0
+Answers view (Ok x) answer = answer ≡ Ok (Some (view x))
+Answers view (Err NoSpelling) answer = answer ≡ Ok None
+Answers view (Err NoMemory) answer = IsErr answer
 
 unfoldable pub number_at : Reader ℕ
 number_at bytes = if nat_lt (length bytes) 4 then None else Some (from_be_bytes w32 (take 4 bytes), drop 4 bytes)

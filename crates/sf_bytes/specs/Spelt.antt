@@ -74,7 +74,10 @@ unfoldable mutual
 abbrev pub AreReal : Items Value → Type 0
 AreReal values = AllByRecursion IsReal values
 
--- ---- both
+-- ---- what is written and read
 
 abbrev pub IsSpeltValue : Value → Type 0
 IsSpeltValue value = IsShort value × NestsWithin value 64
+
+abbrev pub IsReadValue : Value → Type 0
+IsReadValue value = IsSpeltValue value × IsReal value

@@ -1,0 +1,59 @@
+-- What a public reader answers, from what its reader reads.
+use Rattle.std.proofs.Common.{◌≡◌, ℕ, ◌+◌, ◌-◌, ◌≤◌, List as Items, ◌++◌, length, take, drop, Option, Some, None, Result, Ok, Err, IfOk, IsErr, refl, sym, ap, subst, ◌∙◌, true≢false, arith}
+use Rattle.std.specs.Prelude.{◌↔◌}
+use Rattle.std.specs.declared.alloc.AllocError.{AllocError}
+use Rattle.std.proofs.lemmas.List.{take_at, take-append-drop, length-append, length-drop}
+use Rattle.sf_bytes.specs.declared.fault.Unread.{Unread}
+use Rattle.sf_bytes.specs.declared.fault.Unread.TheVariants.{NoMemory, NoSpelling}
+use Rattle.sf_bytes.specs.Reading.{Reader, Gives, Answers}
+use Rattle.sf_bytes.specs.Reads.{BeginsWith, Reads, NoneBeginsAnother}
+use Rattle.sf_bytes.proofs.Wide.{IsBytes}
+use Rattle.sf_bytes.proofs.Laws.{Spells, some_is}
+
+module _ {A : Type 0} (item_at : Reader A) (item_bytes : A → Items ℕ) (Fits : A → Type 0) (item : Spells item_at item_bytes Fits) where
+  pub stands_apart : NoneBeginsAnother item_bytes Fits
+  stands_apart a b after_a after_b fits_a fits_b same =
+      ap (λ (p : A × Items ℕ). p.0) (some_is (a, after_a) (b, after_b) (sym (item.again a after_a fits_a) ∙ ap item_at same ∙ item.again b after_b fits_b))
+
+  -- an item at the front is what the reader reads
+  front_read : (bytes : Items ℕ) (x : A) (count : ℕ) → Fits x → take count bytes ≡ item_bytes x → item_at bytes ≡ Some (x, drop count bytes)
+  front_read bytes x count fits front = ap item_at (sym (take-append-drop count bytes) ∙ ap (λ xs. xs ++ drop count bytes) front) ∙ item.again x (drop count bytes) fits
+
+  module _ {X : Type 0} (view : X → A × Items ℕ) (bytes : Items ℕ) (are_bytes : IsBytes bytes) where
+    -- what is left is no longer than what was there
+    pub shorter : (read : Result X Unread) → Gives view read (item_at bytes) → IfOk read (λ x. length (view x).1 ≤ length bytes)
+    shorter (Ok x) h =
+        let t = item.takes bytes (view x).0 (view x).1 are_bytes h in
+        omega (arith, ap length t.0, length-append (item_bytes (view x).0) (view x).1)
+    shorter (Err e) h = tt
+
+    nothing_found : (y : A) (rest : Items ℕ) → ◌≡◌ {A = Option (A × Items ℕ)} None (Some (y, rest)) → ⊥
+    nothing_found y rest e = absurd cc
+
+    found_is : (x : A) (rest : Items ℕ) → item_at bytes ≡ Some (x, rest) → (y : A) (count : ℕ) → ◌≡◌ {A = Option (A × ℕ)} (Some (x, length bytes - length rest)) (Some (y, count)) ↔ (Fits y × BeginsWith item_bytes bytes y count)
+    found_is x rest read y count =
+        let t = item.takes bytes x rest are_bytes read in
+        let len : length bytes - length rest ≡ length (item_bytes x) = omega (arith, ap length t.0, length-append (item_bytes x) rest) in
+        let front : take (length bytes - length rest) bytes ≡ item_bytes x = ap (λ xs. take (length bytes - length rest) xs) t.0 ∙ take_at (item_bytes x) rest (length bytes - length rest) (sym len) in
+        (λ e. subst (λ (p : A × ℕ). Fits p.0 × BeginsWith item_bytes bytes p.0 p.1) (some_is (x, length bytes - length rest) (y, count) e) (t.1, (omega arith, front)),
+         λ h.
+            let same = some_is (x, rest) (y, drop count bytes) (sym read ∙ front_read bytes y count h.0 h.1.1) in
+            let left : length rest ≡ length bytes - count = ap (λ (p : A × Items ℕ). length p.1) same ∙ length-drop count bytes in
+            let taken : length bytes - length rest ≡ count = omega (arith, left, h.1.0) in
+            λ i. Some ((same i).0, taken i))
+
+    none_is : item_at bytes ≡ None → (y : A) (count : ℕ) → ◌≡◌ {A = Option (A × ℕ)} None (Some (y, count)) ↔ (Fits y × BeginsWith item_bytes bytes y count)
+    none_is read y count = (λ e. absurd cc, λ h. absurd (nothing_found y (drop count bytes) (sym read ∙ front_read bytes y count h.0 h.1.1)))
+
+    pub reads : (read : Result X Unread) (result : Result (Option (A × ℕ)) AllocError) → Gives view read (item_at bytes) → Answers (λ x. ((view x).0, length bytes - length (view x).1)) read result → Reads item_bytes Fits bytes result
+    reads (Ok x) result h e = subst (Reads item_bytes Fits bytes) (sym e) (found_is (view x).0 (view x).1 h)
+    reads (Err NoSpelling) result h e = subst (Reads item_bytes Fits bytes) (sym e) (none_is h)
+    reads (Err NoMemory) (Ok read) h e = absurd (true≢false (sym e))
+    reads (Err NoMemory) (Err f) h e = tt
+
+-- the same reader, where what has bytes is said in other words
+pub said : {A : Type 0} {item_at : Reader A} {item_bytes : A → Items ℕ} {Fits Said : A → Type 0} → Spells item_at item_bytes Fits → ((x : A) → Fits x → Said x) → ((x : A) → Said x → Fits x) → Spells item_at item_bytes Said
+said item to from = record {
+  takes = λ bytes x rest fits e. let t = item.takes bytes x rest fits e in (t.0, to x t.1);
+  again = λ x rest h. item.again x rest (from x h);
+}
