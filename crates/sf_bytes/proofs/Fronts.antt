@@ -34,13 +34,14 @@ module _ {A : Type 0} (item_at : Reader A) (item_bytes : A → Items ℕ) (Fits 
     found_is x rest read y count =
         let t = item.takes bytes x rest are_bytes read in
         let len : length bytes - length rest ≡ length (item_bytes x) = omega (arith, ap length t.0, length-append (item_bytes x) rest) in
-        let front : take (length bytes - length rest) bytes ≡ item_bytes x = ap (λ xs. take (length bytes - length rest) xs) t.0 ∙ take_at (item_bytes x) rest (length bytes - length rest) (sym len) in
-        (λ e. subst (λ (p : A × ℕ). Fits p.0 × BeginsWith item_bytes bytes p.0 p.1) (some_is (x, length bytes - length rest) (y, count) e) (t.1, (omega arith, front)),
-         λ h.
-            let same = some_is (x, rest) (y, drop count bytes) (sym read ∙ front_read bytes y count h.0 h.1.1) in
-            let left : length rest ≡ length bytes - count = ap (λ (p : A × Items ℕ). length p.1) same ∙ length-drop count bytes in
-            let taken : length bytes - length rest ≡ count = omega (arith, left, h.1.0) in
-            λ i. Some ((same i).0, taken i))
+        let front : take (length bytes - length rest) bytes ≡ item_bytes x = ap (λ xs. take (length bytes - length rest) xs) t.0 ∙ take_at (item_bytes x) rest (length bytes - length rest) (sym len) in (
+          λ e. subst (λ (p : A × ℕ). Fits p.0 × BeginsWith item_bytes bytes p.0 p.1) (some_is (x, length bytes - length rest) (y, count) e) (t.1, (omega arith, front)),
+          λ h.
+              let same = some_is (x, rest) (y, drop count bytes) (sym read ∙ front_read bytes y count h.0 h.1.1) in
+              let left : length rest ≡ length bytes - count = ap (λ (p : A × Items ℕ). length p.1) same ∙ length-drop count bytes in
+              let taken : length bytes - length rest ≡ count = omega (arith, left, h.1.0) in
+              λ i. Some ((same i).0, taken i),
+        )
 
     none_is : item_at bytes ≡ None → (y : A) (count : ℕ) → ◌≡◌ {A = Option (A × ℕ)} None (Some (y, count)) ↔ (Fits y × BeginsWith item_bytes bytes y count)
     none_is read y count = (λ e. absurd cc, λ h. absurd (nothing_found y (drop count bytes) (sym read ∙ front_read bytes y count h.0 h.1.1)))

@@ -3,6 +3,16 @@ use Rattle.std.specs.Prelude.{ℕ, ℤ, ◌+◌, true, false, List as Items, [],
 use Rattle.std.specs.Int.{w32, w64, w128, to_be_bytes, cast_unsigned}
 use Rattle.std.specs.List.{flat_map}
 use Rattle.std.specs.Str.{encode_utf8_all}
+use Rattle.sf_value.specs.declared.Act.{Act}
+use Rattle.sf_value.specs.declared.Act.TheVariants.{Call, New}
+use Rattle.sf_value.specs.declared.BatchRecord.{BatchRecord}
+use Rattle.sf_value.specs.declared.Entry.{Entry}
+use Rattle.sf_value.specs.declared.Failure.{Failure}
+use Rattle.sf_value.specs.declared.Held.{Held}
+use Rattle.sf_value.specs.declared.Outcome.{Outcome}
+use Rattle.sf_value.specs.declared.Outcome.TheVariants as outcomes
+use Rattle.sf_value.specs.declared.Request.{Request}
+use Rattle.sf_value.specs.declared.Snapshot.{Snapshot}
 use Rattle.sf_value.specs.declared.value.Ref.{Ref}
 use Rattle.sf_value.specs.declared.value.Value.{Value, Int, Bool as Truth, Str, Nil, List', Entity, Row_of-Value, end_of-Value, more_of-Value}
 
@@ -24,6 +34,10 @@ text_bytes text = number_bytes (length (encode_utf8_all text)) ++ encode_utf8_al
 -- how many items there are, and these
 abbrev pub list_bytes : {A : Type 0} → (A → Items ℕ) → Items A → Items ℕ
 list_bytes item_bytes items = number_bytes (length items) ++ flat_map item_bytes items
+
+-- the same, with a count of eight bytes
+abbrev pub long_list_bytes : {A : Type 0} → (A → Items ℕ) → Items A → Items ℕ
+long_list_bytes item_bytes items = long_bytes (length items) ++ flat_map item_bytes items
 
 unfoldable pub ref_bytes : Ref → Items ℕ
 ref_bytes at = number_bytes at.class ++ text_bytes at.key
@@ -48,3 +62,30 @@ unfoldable mutual
 
 abbrev pub values_bytes : Items Value → Items ℕ
 values_bytes values = list_bytes value_bytes values
+
+unfoldable pub act_bytes : Act → Items ℕ
+act_bytes (Call class key method args) = 0 ∷ number_bytes class ++ text_bytes key ++ number_bytes method ++ values_bytes args
+act_bytes (New class args) = 1 ∷ number_bytes class ++ values_bytes args
+
+unfoldable pub request_bytes : Request → Items ℕ
+request_bytes request = text_bytes request.id ++ act_bytes request.act
+
+-- one byte for the kind
+unfoldable pub failure_bytes : Failure → Items ℕ
+failure_bytes failure = failure.kind ∷ text_bytes failure.message
+
+unfoldable pub outcome_bytes : Outcome → Items ℕ
+outcome_bytes (outcomes.Value value) = 0 ∷ value_bytes value
+outcome_bytes (outcomes.Failed failure) = 1 ∷ failure_bytes failure
+
+unfoldable pub entry_bytes : Entry → Items ℕ
+entry_bytes entry = request_bytes entry.request ++ outcome_bytes entry.outcome
+
+unfoldable pub held_bytes : Held → Items ℕ
+held_bytes held = ref_bytes held.at ++ values_bytes held.fields.fields
+
+unfoldable pub batch_bytes : BatchRecord → Items ℕ
+batch_bytes batch = list_bytes request_bytes batch.news ++ list_bytes number_bytes batch.committed
+
+unfoldable pub snapshot_bytes : Snapshot → Items ℕ
+snapshot_bytes snapshot = text_bytes snapshot.program ++ list_bytes entry_bytes snapshot.history ++ long_list_bytes held_bytes snapshot.records ++ list_bytes request_bytes snapshot.pending

@@ -1,9 +1,19 @@
 -- Which things have bytes.
 use Rattle.std.specs.Prelude.{◌≡◌, ℕ, ◌-◌, ◌^◌, ◌<◌, true, List as Items, length, FitsSigned}
-use Rattle.std.specs.Int.{w128}
+use Rattle.std.specs.Int.{w128, IsInRange}
 use Rattle.std.specs.List.{AllByRecursion}
 use Rattle.std.specs.Str.{all_scalars, encode_utf8_all}
 use Rattle.sf_bytes.specs.ByteForms.{row_len}
+use Rattle.sf_value.specs.declared.Act.{Act}
+use Rattle.sf_value.specs.declared.Act.TheVariants.{Call, New}
+use Rattle.sf_value.specs.declared.BatchRecord.{BatchRecord}
+use Rattle.sf_value.specs.declared.Entry.{Entry}
+use Rattle.sf_value.specs.declared.Failure.{Failure}
+use Rattle.sf_value.specs.declared.Held.{Held}
+use Rattle.sf_value.specs.declared.Outcome.{Outcome}
+use Rattle.sf_value.specs.declared.Outcome.TheVariants as outcomes
+use Rattle.sf_value.specs.declared.Request.{Request}
+use Rattle.sf_value.specs.declared.Snapshot.{Snapshot}
 use Rattle.sf_value.specs.declared.value.Ref.{Ref}
 use Rattle.sf_value.specs.declared.value.Value.{Value, Int, Bool as Truth, Str, Nil, List', Entity, Row_of-Value, end_of-Value, more_of-Value}
 
@@ -74,10 +84,81 @@ unfoldable mutual
 abbrev pub AreReal : Items Value → Type 0
 AreReal values = AllByRecursion IsReal values
 
--- ---- what is written and read
+abbrev pub IsRealAct : Act → Type 0
+IsRealAct (Call class key method args) = (class < 2 ^ 32) × (IsRealText key × ((method < 2 ^ 32) × AreReal args))
+IsRealAct (New class args) = (class < 2 ^ 32) × AreReal args
+
+abbrev pub IsRealRequest : Request → Type 0
+IsRealRequest request = IsRealText request.id × IsRealAct request.act
+
+abbrev pub IsRealOutcome : Outcome → Type 0
+IsRealOutcome (outcomes.Value value) = IsReal value
+IsRealOutcome (outcomes.Failed failure) = IsRealText failure.message
+
+abbrev pub IsRealEntry : Entry → Type 0
+IsRealEntry entry = IsRealRequest entry.request × IsRealOutcome entry.outcome
+
+abbrev pub IsRealHeld : Held → Type 0
+IsRealHeld held = IsRealRef held.at × AreReal held.fields.fields
+
+abbrev pub IsRealBatch : BatchRecord → Type 0
+IsRealBatch batch = AllByRecursion IsRealRequest batch.news × AllByRecursion (λ place. place < 2 ^ 32) batch.committed
+
+abbrev pub IsRealSnapshot : Snapshot → Type 0
+IsRealSnapshot snapshot = IsRealText snapshot.program × (AllByRecursion IsRealEntry snapshot.history × (((length snapshot.records < 2 ^ 64) × AllByRecursion IsRealHeld snapshot.records) × AllByRecursion IsRealRequest snapshot.pending))
+
+-- ---- what may be written
 
 abbrev pub IsSpeltValue : Value → Type 0
 IsSpeltValue value = IsShort value × NestsWithin value 64
 
+-- arguments or fields
+abbrev pub AreSpelt : Items Value → Type 0
+AreSpelt values = AreShort values × NestWithin values 64
+
+-- so many that a count can say it
+abbrev pub IsSpeltList : {A : Type 0} → (A → Type 0) → Items A → Type 0
+IsSpeltList IsSpelt items = (length items < 2 ^ 32) × AllByRecursion IsSpelt items
+
+abbrev pub IsSpeltAct : Act → Type 0
+IsSpeltAct (Call class key method args) = IsShortText key × AreSpelt args
+IsSpeltAct (New class args) = AreSpelt args
+
+abbrev pub IsSpeltRequest : Request → Type 0
+IsSpeltRequest request = IsShortText request.id × IsSpeltAct request.act
+
+abbrev pub IsSpeltFailure : Failure → Type 0
+IsSpeltFailure failure = IsInRange 1 12 failure.kind × IsShortText failure.message
+
+abbrev pub IsSpeltOutcome : Outcome → Type 0
+IsSpeltOutcome (outcomes.Value value) = IsSpeltValue value
+IsSpeltOutcome (outcomes.Failed failure) = IsSpeltFailure failure
+
+abbrev pub IsSpeltEntry : Entry → Type 0
+IsSpeltEntry entry = IsSpeltRequest entry.request × IsSpeltOutcome entry.outcome
+
+abbrev pub IsSpeltHeld : Held → Type 0
+IsSpeltHeld held = IsShortText held.at.key × AreSpelt held.fields.fields
+
+abbrev pub IsSpeltBatch : BatchRecord → Type 0
+IsSpeltBatch batch = IsSpeltList IsSpeltRequest batch.news × (length batch.committed < 2 ^ 32)
+
+abbrev pub IsSpeltSnapshot : Snapshot → Type 0
+IsSpeltSnapshot snapshot = IsShortText snapshot.program × (IsSpeltList IsSpeltEntry snapshot.history × (AllByRecursion IsSpeltHeld snapshot.records × IsSpeltList IsSpeltRequest snapshot.pending))
+
+-- ---- what is read
+
 abbrev pub IsReadValue : Value → Type 0
 IsReadValue value = IsSpeltValue value × IsReal value
+
+abbrev pub IsReadRequest : Request → Type 0
+IsReadRequest request = IsSpeltRequest request × IsRealRequest request
+
+abbrev pub IsReadOutcome : Outcome → Type 0
+IsReadOutcome outcome = IsSpeltOutcome outcome × IsRealOutcome outcome
+
+abbrev pub IsReadBatch : BatchRecord → Type 0
+IsReadBatch batch = IsSpeltBatch batch × IsRealBatch batch
+
+abbrev pub IsReadSnapshot : Snapshot → Type 0
+IsReadSnapshot snapshot = IsSpeltSnapshot snapshot × IsRealSnapshot snapshot

@@ -11,7 +11,9 @@ ghost use Rattle.sf_bytes.specs.Spelt.{IsSpeltValue, IsReadValue, IsReal};
 ghost use Rattle.sf_bytes.specs.Reads.{Reads, NoneBeginsAnother};
 
 mod fault;
+mod items;
 mod reading;
+mod requests;
 mod writing;
 
 use fault::answer;

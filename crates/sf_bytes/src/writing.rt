@@ -1,7 +1,7 @@
 //! Writing bytes at the end of others.
 
 ghost use Rattle.std.specs.Prelude.{◌≡◌, ◌++◌, ◌<◌, ◌^◌, OnOk};
-ghost use Rattle.sf_bytes.specs.ByteForms.{number_bytes, int_bytes, text_bytes, ref_bytes, value_bytes, values_bytes};
+ghost use Rattle.sf_bytes.specs.ByteForms.{number_bytes, long_bytes, int_bytes, text_bytes, ref_bytes, value_bytes, values_bytes};
 ghost use Rattle.sf_bytes.specs.Spelt.{IsShortText, IsShort, AreShort, IsRealText, IsRealRef, IsReal, AreReal};
 
 use sf_value::{Bytes, Ref, Text, Value};
@@ -10,6 +10,14 @@ use std::alloc::{AllocError, Global};
 #[tactic(auto, unfolding(crate::specs::ByteForms::number_bytes))]
 pub(crate) fn put_number(out: &mut Bytes, alloc: Global, number: u32) -> Result<(), AllocError>
     ensures { OnOk result (out.new ≡ out.old ++ number_bytes number) }
+{
+    out.extend_from_slice(alloc, &number.to_be_bytes())
+}
+
+/// A number in eight bytes.
+#[tactic(auto, unfolding(crate::specs::ByteForms::long_bytes))]
+pub(crate) fn put_long(out: &mut Bytes, alloc: Global, number: u64) -> Result<(), AllocError>
+    ensures { OnOk result (out.new ≡ out.old ++ long_bytes number) }
 {
     out.extend_from_slice(alloc, &number.to_be_bytes())
 }
