@@ -27,3 +27,8 @@ all_at P all i x h lt is = subst P (sym is) (All-from_recursion P all h i x lt)
 -- bytes at the end of those of the elements before
 pub bytes_step : {A : Type 0} (f : A → Items ℕ) (old count before after : Items ℕ) (all : Items A) (i : ℕ) (x : A) → i < length all → x ≡ get_or all i x → before ≡ old ++ (count ++ flat_map f (take i all)) → after ≡ before ++ f x → after ≡ old ++ (count ++ flat_map f (take (i + 1) all))
 bytes_step f old count before after all i x lt is h e = rw (e, h, flat_step f all i x lt is) (simp append_assoc)
+
+-- what asks nothing holds of each element
+pub all_free : {A : Type 0} (all : Items A) → AllByRecursion (λ _. Unit {0}) all
+all_free [] = tt
+all_free (x ∷ xs) = (tt, all_free xs)

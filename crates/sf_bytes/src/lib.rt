@@ -13,6 +13,7 @@ ghost use Rattle.sf_bytes.specs.Reads.{Reads, NoneBeginsAnother};
 mod fault;
 mod items;
 mod reading;
+mod records;
 mod requests;
 mod writing;
 

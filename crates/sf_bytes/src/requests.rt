@@ -7,6 +7,7 @@ ghost use Rattle.sf_bytes.specs.Spelt.{IsSpeltAct, IsSpeltRequest, IsSpeltFailur
 
 use crate::LEVELS;
 use crate::fault::Unread;
+use crate::items::Item;
 use crate::reading::{number_of, ref_of, text_of, value_of, values_of};
 use crate::writing::{put_number, put_text, put_value, put_values};
 use sf_value::{Act, Bytes, Failure, Outcome, Request};
@@ -156,5 +157,27 @@ pub(crate) fn put_outcome(
             out.push(alloc, 1)?;
             put_failure(out, alloc, failure)
         }
+    }
+}
+
+impl Item for Request {
+    ghost use Rattle.sf_bytes.specs.ByteForms.{request_bytes};
+    ghost use Rattle.sf_bytes.specs.Reading.{request_at};
+    ghost use Rattle.sf_bytes.specs.Spelt.{IsSpeltRequest, IsRealRequest};
+
+    ghost reads = { request_at };
+
+    ghost bytes_of = { request_bytes };
+
+    ghost is_spelt = { IsSpeltRequest };
+
+    ghost is_real = { IsRealRequest };
+
+    fn read(alloc: Global, bytes: &[u8]) -> Result<(Request, &[u8]), Unread> {
+        request_of(alloc, bytes)
+    }
+
+    fn put(&self, out: &mut Bytes, alloc: Global) -> Result<(), AllocError> {
+        put_request(out, alloc, self)
     }
 }
