@@ -51,10 +51,3 @@ module _ {A : Type 0} (item_at : Reader A) (item_bytes : A → Items ℕ) (Fits 
     reads (Err NoSpelling) result h e = subst (Reads item_bytes Fits bytes) (sym e) (none_is h)
     reads (Err NoMemory) (Ok read) h e = absurd (true≢false (sym e))
     reads (Err NoMemory) (Err f) h e = tt
-
--- the same reader, where what has bytes is said in other words
-pub said : {A : Type 0} {item_at : Reader A} {item_bytes : A → Items ℕ} {Fits Said : A → Type 0} → Spells item_at item_bytes Fits → ((x : A) → Fits x → Said x) → ((x : A) → Said x → Fits x) → Spells item_at item_bytes Said
-said item to from = record {
-  takes = λ bytes x rest fits e. let t = item.takes bytes x rest fits e in (t.0, to x t.1);
-  again = λ x rest h. item.again x rest (from x h);
-}

@@ -8,10 +8,9 @@ use Rattle.std.proofs.lemmas.Int.{to_z-of_z, of_z-to_z}
 use Rattle.std.proofs.Math.Facts.{Fits-of_z, Fits-of_lt, Fits-lt-pow, sfits_to_z}
 use Rattle.std.proofs.lemmas.List.{take_at, drop_at, take-append-drop, length-append, length-take}
 use Rattle.std.proofs.lemmas.Str.{IsUtf8-from_is_utf8, is_utf8-from_IsUtf8, encodes-chars, chars-encodes}
-use Rattle.sf_value.specs.declared.value.Ref.{Ref}
-use Rattle.sf_bytes.specs.ByteForms.{number_bytes, long_bytes, int_bytes, text_bytes, list_bytes, ref_bytes}
-use Rattle.sf_bytes.specs.Reading.{Reader, ◌>>=◌, number_at, long_at, int_at, text_at, ref_at, items_at, list_at}
-use Rattle.sf_bytes.specs.Spelt.{IsShortText, IsRealText, IsRealRef}
+use Rattle.sf_bytes.specs.ByteForms.{number_bytes, long_bytes, int_bytes, text_bytes, list_bytes, long_list_bytes}
+use Rattle.sf_bytes.specs.Reading.{Reader, ◌>>=◌, number_at, long_at, int_at, text_at, items_at, list_at, long_list_at}
+use Rattle.sf_bytes.specs.Spelt.{IsShortText, IsRealText}
 use Rattle.sf_bytes.proofs.Wide.{IsBytes, IsBytes-rest, IsBytes-take, IsWide, wide32, wide64, wide128}
 
 -- a reader reads what these bytes stand for, and nothing else
@@ -43,6 +42,13 @@ some_is x y e = cc
 
 pub rest_fits : (bytes front rest : Items ℕ) → IsBytes bytes → bytes ≡ front ++ rest → IsBytes rest
 rest_fits bytes front rest fits e = IsBytes-rest front rest (subst IsBytes e fits)
+
+-- the same reader, where what has bytes is said in other words
+pub said : {A : Type 0} {item_at : Reader A} {item_bytes : A → Items ℕ} {Fits Said : A → Type 0} → Spells item_at item_bytes Fits → ((x : A) → Fits x → Said x) → ((x : A) → Said x → Fits x) → Spells item_at item_bytes Said
+said item to from = record {
+  takes = λ bytes x rest fits e. let t = item.takes bytes x rest fits e in (t.0, to x t.1);
+  again = λ x rest h. item.again x rest (from x h);
+}
 
 -- ---- numbers
 
@@ -123,37 +129,6 @@ text_spells = record {
       rw (regrouped, count, long, take_at (encode_utf8_all text) rest (length (encode_utf8_all text)) refl, drop_at (encode_utf8_all text) rest (length (encode_utf8_all text)) refl, good, chars-encodes text fits.1) refl;
 }
 
--- ---- fields one after the other
-
--- a thing of two fields, made of them and taken apart
-pub two_spells : {A B C : Type 0} (a_at : Reader A) (a_bytes : A → Items ℕ) (FitsA : A → Type 0) (b_at : Reader B) (b_bytes : B → Items ℕ) (FitsB : B → Type 0)
-    (make : A → B → C) (first : C → A) (second : C → B) → ((x : A) (y : B) → first (make x y) ≡ x) → ((x : A) (y : B) → second (make x y) ≡ y) → ((z : C) → make (first z) (second z) ≡ z)
-    → Spells a_at a_bytes FitsA → Spells b_at b_bytes FitsB
-    → Spells (λ bytes. a_at bytes >>= λ x. b_at x.1 >>= λ y. Some (make x.0 y.0, y.1)) (λ z. a_bytes (first z) ++ b_bytes (second z)) (λ z. FitsA (first z) × FitsB (second z))
-two_spells {C = C} a_at a_bytes FitsA b_at b_bytes FitsB make first second is-first is-second is-made a b = record {
-  takes = λ bytes z rest fits e.
-      let x = bind_some (a_at bytes) (λ x. b_at x.1 >>= λ y. Some (make x.0 y.0, y.1)) (z, rest) e in
-      let t = a.takes bytes x.0.0 x.0.1 fits x.1 in
-      let y = bind_some (b_at x.0.1) (λ y. Some (make x.0.0 y.0, y.1)) (z, rest) x.2 in
-      let u = b.takes x.0.1 y.0.0 y.0.1 (rest_fits bytes _ x.0.1 fits t.0) y.1 in
-      let parts : bytes ≡ (a_bytes x.0.0 ++ b_bytes y.0.0) ++ y.0.1 = t.0 ∙ ap (λ xs. a_bytes x.0.0 ++ xs) u.0 ∙ sym (append_assoc (a_bytes x.0.0) (b_bytes y.0.0) y.0.1) in
-      let f = is-first x.0.0 y.0.0 in
-      let s = is-second x.0.0 y.0.0 in
-      subst (λ (p : C × Items ℕ). (bytes ≡ (a_bytes (first p.0) ++ b_bytes (second p.0)) ++ p.1) × (FitsA (first p.0) × FitsB (second p.0))) (some_is _ _ y.2)
-      (parts ∙ (λ i. (a_bytes (sym f i) ++ b_bytes (sym s i)) ++ y.0.1), (subst FitsA (sym f) t.1, subst FitsB (sym s) u.1));
-  again = λ z rest fits.
-      rw (append_assoc (a_bytes (first z)) (b_bytes (second z)) rest, a.again (first z) (b_bytes (second z) ++ rest) fits.0, b.again (second z) rest fits.1, is-made z) refl;
-}
-
-pub ref_spells : Spells ref_at ref_bytes (λ at. IsShortText at.key × IsRealRef at)
-unfolding ref_at ref_bytes
-ref_spells =
-    let whole = two_spells number_at number_bytes (λ n. n < 2 ^ 32) text_at text_bytes (λ text. IsShortText text × IsRealText text) (λ class key. record { class = class; key = key }) (λ (at : Ref). at.class) (λ (at : Ref). at.key) (λ x y. refl) (λ x y. refl) (λ z. refl) number_spells text_spells in
-    record {
-      takes = λ bytes at rest fits e. let t = whole.takes bytes at rest fits e in (t.0, (t.1.1.0, (t.1.0, t.1.1.1)));
-      again = λ at rest fits. whole.again at rest (fits.1.0, (fits.0, fits.1.1));
-    }
-
 -- ---- lists
 
 module _ {A : Type 0} (item_at : Reader A) (item_bytes : A → Items ℕ) (Fits : A → Type 0) (item : Spells item_at item_bytes Fits) where
@@ -173,14 +148,22 @@ module _ {A : Type 0} (item_at : Reader A) (item_bytes : A → Items ℕ) (Fits 
   items_again [] rest fits = refl
   items_again (x ∷ xs) rest fits = rw (append_assoc (item_bytes x) (flat_map item_bytes xs) rest, item.again x (flat_map item_bytes xs ++ rest) fits.0, items_again xs rest fits.1) refl
 
+  counted_spells : (count_at : Reader ℕ) (count_bytes : ℕ → Items ℕ) (limit : ℕ) → Spells count_at count_bytes (λ n. n < limit)
+      → Spells (λ bytes. count_at bytes >>= λ count. items_at item_at count.0 count.1) (λ xs. count_bytes (length xs) ++ flat_map item_bytes xs) (λ xs. (length xs < limit) × AllByRecursion Fits xs)
+  counted_spells count_at count_bytes limit counts = record {
+    takes = λ bytes xs rest fits e.
+        let n = bind_some (count_at bytes) (λ count. items_at item_at count.0 count.1) (xs, rest) e in
+        let t = counts.takes bytes n.0.0 n.0.1 fits n.1 in
+        let u = items_takes n.0.0 n.0.1 xs rest (rest_fits bytes _ n.0.1 fits t.0) n.2 in
+        (t.0 ∙ (λ i. count_bytes (sym u.1.0 i) ++ u.0 i) ∙ sym (append_assoc (count_bytes (length xs)) (flat_map item_bytes xs) rest), (omega (arith, u.1.0, t.1), u.1.1));
+    again = λ xs rest fits.
+        rw (append_assoc (count_bytes (length xs)) (flat_map item_bytes xs) rest, counts.again (length xs) (flat_map item_bytes xs ++ rest) fits.0) (items_again xs rest fits.1);
+  }
+
   pub list_spells : Spells (list_at item_at) (list_bytes item_bytes) (λ xs. (length xs < 2 ^ 32) × AllByRecursion Fits xs)
   unfolding list_at
-  list_spells = record {
-    takes = λ bytes xs rest fits e.
-        let n = bind_some (number_at bytes) (λ count. items_at item_at count.0 count.1) (xs, rest) e in
-        let t = number_spells.takes bytes n.0.0 n.0.1 fits n.1 in
-        let u = items_takes n.0.0 n.0.1 xs rest (rest_fits bytes _ n.0.1 fits t.0) n.2 in
-        (t.0 ∙ (λ i. number_bytes (sym u.1.0 i) ++ u.0 i) ∙ sym (append_assoc (number_bytes (length xs)) (flat_map item_bytes xs) rest), (omega (arith, u.1.0, t.1), u.1.1));
-    again = λ xs rest fits.
-        rw (append_assoc (number_bytes (length xs)) (flat_map item_bytes xs) rest, number_spells.again (length xs) (flat_map item_bytes xs ++ rest) fits.0) (items_again xs rest fits.1);
-  }
+  list_spells = counted_spells number_at number_bytes (2 ^ 32) number_spells
+
+  pub long_list_spells : Spells (long_list_at item_at) (long_list_bytes item_bytes) (λ xs. (length xs < 2 ^ 64) × AllByRecursion Fits xs)
+  unfolding long_list_at
+  long_list_spells = counted_spells long_at long_bytes (2 ^ 64) long_spells

@@ -8,3 +8,5 @@ pub mod Laws
 pub mod ValueLaws
 pub mod Fronts
 pub mod Public
+pub mod Fields
+pub mod RecordLaws

@@ -4,8 +4,7 @@ use Rattle.sf_value.specs.declared.value.Value.{Value}
 use Rattle.sf_bytes.specs.ByteForms.{value_bytes}
 use Rattle.sf_bytes.specs.Reading.{value_within}
 use Rattle.sf_bytes.specs.Spelt.{IsReadValue}
-use Rattle.sf_bytes.proofs.Fronts.{said}
-use Rattle.sf_bytes.proofs.Laws.{Spells}
+use Rattle.sf_bytes.proofs.Laws.{Spells, said}
 use Rattle.sf_bytes.proofs.ValueLaws.{value_spells}
 
 pub read_value_spells : Spells (value_within 64) value_bytes IsReadValue

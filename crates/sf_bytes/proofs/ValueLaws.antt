@@ -12,7 +12,8 @@ use Rattle.sf_bytes.specs.Reading.{Reader, ◌>>=◌, int_at, text_at, ref_at, l
 use Rattle.sf_bytes.specs.Spelt.{IsShortText, IsShort, AreShort, NestsWithin, NestWithin, IsRealText, IsRealRef, IsReal, AreReal}
 use Rattle.sf_bytes.proofs.Wide.{IsBytes, IsBytes-rest}
 use Rattle.sf_bytes.proofs.Layers.{bytes-List, short-List, nests-List, real-List}
-use Rattle.sf_bytes.proofs.Laws.{Spells, bind_some, found, some_is, int_spells, text_spells, ref_spells, list_spells}
+use Rattle.sf_bytes.proofs.Laws.{Spells, said, bind_some, some_is, number_spells, int_spells, text_spells, list_spells}
+use Rattle.sf_bytes.proofs.Fields.{two_spells}
 
 -- a value that is spelt where its lists may nest so deep
 abbrev pub FitsAt : ℕ → Value → Type 0
@@ -20,6 +21,12 @@ FitsAt level value = IsShort value × (NestsWithin value level × IsReal value)
 
 abbrev pub FitAt : ℕ → Items Value → Type 0
 FitAt level values = AreShort values × (NestWithin values level × AreReal values)
+
+pub ref_spells : Spells ref_at ref_bytes (λ at. IsShortText at.key × IsRealRef at)
+unfolding ref_at ref_bytes
+ref_spells =
+    said (two_spells number_spells text_spells (λ class key. record { class = class; key = key }) (λ (at : Ref). at.class) (λ (at : Ref). at.key) (λ x y. refl) (λ x y. refl) (λ made. refl))
+        (λ at h. (h.1.0, (h.0, h.1.1))) (λ at h. (h.1.0, (h.0, h.1.1)))
 
 -- ---- a thing made of one other, behind a tag
 
