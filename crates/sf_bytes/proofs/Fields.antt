@@ -32,10 +32,10 @@ module _ {A B : Type 0} {a_at : Reader A} {a_bytes : A → Items ℕ} {FitsA : A
       → (made : Z) (rest : Items ℕ) → IsBytes bytes → two_at a_at b_at make bytes ≡ Some (made, rest) → P made rest
   two_takes {Z} make bytes P known made rest fits e = step_takes a (λ x after. b_at after >>= λ y. Some (make x y.0, y.1)) bytes P
       (λ x after parts fx fits made rest e.
-          let y = bind_some (b_at after) (λ y. Some (make x y.0, y.1)) (made, rest) e in
-          let u = b.takes after y.0.0 y.0.1 fits y.1 in
-          subst (λ (p : Z × Items ℕ). P p.0 p.1) (some_is (make x y.0.0, y.0.1) (made, rest) y.2)
-              (known x y.0.0 y.0.1 (parts ∙ ap (λ bs. a_bytes x ++ bs) u.0 ∙ sym (append_assoc (a_bytes x) (b_bytes y.0.0) y.0.1)) fx u.1))
+      let y = bind_some (b_at after) (λ y. Some (make x y.0, y.1)) (made, rest) e in
+      let u = b.takes after y.0.0 y.0.1 fits y.1 in
+      subst (λ (p : Z × Items ℕ). P p.0 p.1) (some_is (make x y.0.0, y.0.1) (made, rest) y.2)
+      (known x y.0.0 y.0.1 (parts ∙ ap (λ bs. a_bytes x ++ bs) u.0 ∙ sym (append_assoc (a_bytes x) (b_bytes y.0.0) y.0.1)) fx u.1))
       made rest fits e
 
   pub two_again : {Z : Type 0} (make : A → B → Z) (x : A) (y : B) (rest : Items ℕ) → FitsA x → FitsB y → two_at a_at b_at make ((a_bytes x ++ b_bytes y) ++ rest) ≡ Some (make x y, rest)
@@ -61,8 +61,8 @@ module _ {A B C : Type 0} {a_at : Reader A} {a_bytes : A → Items ℕ} {FitsA :
       → (made : Z) (rest : Items ℕ) → IsBytes bytes → three_at a_at b_at c_at make bytes ≡ Some (made, rest) → P made rest
   three_takes make bytes P known made rest fits e = step_takes a (λ x. two_at b_at c_at (make x)) bytes P
       (λ x after parts fx fits made rest e. two_takes b c (make x) after P
-          (λ y z rest more fy fz. known x y z rest (parts ∙ ap (λ bs. a_bytes x ++ bs) more ∙ grouped_3 (a_bytes x) (b_bytes y) (c_bytes z) rest) fx fy fz)
-          made rest fits e)
+      (λ y z rest more fy fz. known x y z rest (parts ∙ ap (λ bs. a_bytes x ++ bs) more ∙ grouped_3 (a_bytes x) (b_bytes y) (c_bytes z) rest) fx fy fz)
+      made rest fits e)
       made rest fits e
 
   pub three_again : {Z : Type 0} (make : A → B → C → Z) (x : A) (y : B) (z : C) (rest : Items ℕ) → FitsA x → FitsB y → FitsC z → three_at a_at b_at c_at make (((a_bytes x ++ b_bytes y) ++ c_bytes z) ++ rest) ≡ Some (make x y z, rest)
@@ -80,8 +80,8 @@ module _ {A B C D : Type 0} {a_at : Reader A} {a_bytes : A → Items ℕ} {FitsA
       → (made : Z) (rest : Items ℕ) → IsBytes bytes → four_at a_at b_at c_at d_at make bytes ≡ Some (made, rest) → P made rest
   four_takes make bytes P known made rest fits e = step_takes a (λ x. three_at b_at c_at d_at (make x)) bytes P
       (λ x after parts fx fits made rest e. three_takes b c d (make x) after P
-          (λ y z w rest more fy fz fw. known x y z w rest (parts ∙ ap (λ bs. a_bytes x ++ bs) more ∙ grouped_4 (a_bytes x) (b_bytes y) (c_bytes z) (d_bytes w) rest) fx fy fz fw)
-          made rest fits e)
+      (λ y z w rest more fy fz fw. known x y z w rest (parts ∙ ap (λ bs. a_bytes x ++ bs) more ∙ grouped_4 (a_bytes x) (b_bytes y) (c_bytes z) (d_bytes w) rest) fx fy fz fw)
+      made rest fits e)
       made rest fits e
 
   pub four_again : {Z : Type 0} (make : A → B → C → D → Z) (x : A) (y : B) (z : C) (w : D) (rest : Items ℕ) → FitsA x → FitsB y → FitsC z → FitsD w → four_at a_at b_at c_at d_at make ((((a_bytes x ++ b_bytes y) ++ c_bytes z) ++ d_bytes w) ++ rest) ≡ Some (make x y z w, rest)

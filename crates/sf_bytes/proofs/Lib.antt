@@ -7,6 +7,5 @@ pub mod Wide
 pub mod Laws
 pub mod ValueLaws
 pub mod Fronts
-pub mod Public
 pub mod Fields
 pub mod RecordLaws

@@ -52,7 +52,7 @@ pub request_spells : Spells request_at request_bytes IsReadRequest
 unfolding request_at request_bytes IsReadAct
 request_spells =
     said (two_spells text_spells act_spells (λ id act. record { id = id; act = act }) (λ (request : Request). request.id) (λ (request : Request). request.act) (λ x y. refl) (λ x y. refl) (λ made. refl))
-        (λ request h. ((h.0.0, h.1.0), (h.0.1, h.1.1))) (λ request h. ((h.0.0, h.1.0), (h.0.1, h.1.1)))
+    (λ request h. ((h.0.0, h.1.0), (h.0.1, h.1.1))) (λ request h. ((h.0.0, h.1.0), (h.0.1, h.1.1)))
 
 -- ---- outcomes
 
@@ -106,13 +106,13 @@ entry_spells : Spells entry_at entry_bytes (λ entry. IsSpeltEntry entry × IsRe
 unfolding entry_at entry_bytes
 entry_spells =
     said (two_spells request_spells outcome_spells (λ request outcome. record { request = request; outcome = outcome }) (λ (entry : Entry). entry.request) (λ (entry : Entry). entry.outcome) (λ x y. refl) (λ x y. refl) (λ made. refl))
-        (λ entry h. ((h.0.0, h.1.0), (h.0.1, h.1.1))) (λ entry h. ((h.0.0, h.1.0), (h.0.1, h.1.1)))
+    (λ entry h. ((h.0.0, h.1.0), (h.0.1, h.1.1))) (λ entry h. ((h.0.0, h.1.0), (h.0.1, h.1.1)))
 
 held_spells : Spells held_at held_bytes (λ held. IsSpeltHeld held × IsRealHeld held)
 unfolding held_at held_bytes
 held_spells =
     said (two_spells ref_spells (values_spells 64) (λ at fields. record { at = at; fields = record { fields = fields } }) (λ (held : Held). held.at) (λ (held : Held). held.fields.fields) (λ x y. refl) (λ x y. refl) (λ made. refl))
-        (λ held h. ((h.0.0, (h.1.0, h.1.1.0)), (h.0.1, h.1.1.1))) (λ held h. ((h.0.0, h.1.0), (h.0.1.0, (h.0.1.1, h.1.1))))
+    (λ held h. ((h.0.0, (h.1.0, h.1.1.0)), (h.0.1, h.1.1.1))) (λ held h. ((h.0.0, h.1.0), (h.0.1.0, (h.0.1.1, h.1.1))))
 
 -- each element has both, and all have the one and all have the other
 parted : {A : Type 0} (P Q : A → Type 0) (xs : Items A) → AllByRecursion (λ x. P x × Q x) xs → AllByRecursion P xs × AllByRecursion Q xs
@@ -138,7 +138,7 @@ pub batch_spells : Spells batch_at batch_bytes IsReadBatch
 unfolding batch_at batch_bytes
 batch_spells =
     said (two_spells (listed_spells request_spells) (list_spells number_at number_bytes (λ n. n < 2 ^ 32) number_spells) (λ news committed. record { news = news; committed = committed }) (λ (batch : BatchRecord). batch.news) (λ (batch : BatchRecord). batch.committed) (λ x y. refl) (λ x y. refl) (λ made. refl))
-        (λ batch h. ((h.0.0, h.1.0), (h.0.1, h.1.1))) (λ batch h. ((h.0.0, h.1.0), (h.0.1, h.1.1)))
+    (λ batch h. ((h.0.0, h.1.0), (h.0.1, h.1.1))) (λ batch h. ((h.0.0, h.1.0), (h.0.1, h.1.1)))
 
 made_snapshot : Items ℕ → Items Entry → Items Held → Items Request → Snapshot
 made_snapshot program history records pending = record { program = program; history = history; records = records; pending = pending }

@@ -26,7 +26,7 @@ pub ref_spells : Spells ref_at ref_bytes (λ at. IsShortText at.key × IsRealRef
 unfolding ref_at ref_bytes
 ref_spells =
     said (two_spells number_spells text_spells (λ class key. record { class = class; key = key }) (λ (at : Ref). at.class) (λ (at : Ref). at.key) (λ x y. refl) (λ x y. refl) (λ made. refl))
-        (λ at h. (h.1.0, (h.0, h.1.1))) (λ at h. (h.1.0, (h.0, h.1.1)))
+    (λ at h. (h.1.0, (h.0, h.1.1))) (λ at h. (h.1.0, (h.0, h.1.1)))
 
 -- ---- a thing made of one other, behind a tag
 

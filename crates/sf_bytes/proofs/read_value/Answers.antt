@@ -3,7 +3,7 @@ use Rattle.sf_bytes.specs.ByteForms.{value_bytes}
 use Rattle.sf_bytes.specs.Reading.{value_within}
 use Rattle.sf_bytes.specs.Spelt.{IsReadValue}
 use Rattle.sf_bytes.proofs.Fronts.{shorter, reads}
-use Rattle.sf_bytes.proofs.Public.{read_value_spells}
+use Rattle.sf_bytes.proofs.RecordLaws.{read_value_spells}
 use Rattle.sf_bytes.proofs.read_value.Goals as goal
 
 pub answer-requires : goal.answer-requires
