@@ -51,3 +51,8 @@ module _ {A : Type 0} (item_at : Reader A) (item_bytes : A → Items ℕ) (Fits 
     reads (Err NoSpelling) result h e = subst (Reads item_bytes Fits bytes) (sym e) (none_is h)
     reads (Err NoMemory) (Ok read) h e = absurd (true≢false (sym e))
     reads (Err NoMemory) (Err f) h e = tt
+
+-- what was written is read again, whatever follows it
+pub read_again : {A : Type 0} (item_bytes : A → Items ℕ) (IsItem : A → Type 0) (bytes : Items ℕ) (read : Option (A × ℕ)) → Reads item_bytes IsItem bytes (Ok read) → (x : A) (rest : Items ℕ) → IsItem x → bytes ≡ item_bytes x ++ rest → read ≡ Some (x, length (item_bytes x))
+read_again item_bytes IsItem bytes read h x rest is e =
+    (h x (length (item_bytes x))).1 (is, (omega (arith, ap length e, length-append (item_bytes x) rest), ap (λ bs. take (length (item_bytes x)) bs) e ∙ take_at (item_bytes x) rest (length (item_bytes x)) refl))

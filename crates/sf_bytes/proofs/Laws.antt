@@ -99,6 +99,13 @@ int_spells = record {
 
 -- ---- texts
 
+real_chars : (bytes : Items ℕ) → IsUtf8 bytes → all_scalars (chars bytes) ≡ true
+real_chars bytes utf8 = ap (λ bs. all_scalars (chars bs)) (sym utf8.1.1) ∙ ap all_scalars (chars-encodes utf8.0 utf8.1.0) ∙ utf8.1.0
+
+-- bytes behind their count
+counted : (bytes : Items ℕ) (count : ℕ) (after front rest text : Items ℕ) → bytes ≡ number_bytes count ++ after → after ≡ front ++ rest → length front ≡ count → text ≡ front → bytes ≡ (number_bytes (length text) ++ text) ++ rest
+counted bytes count after front rest text parts more len is = rw (is, len, parts, more) (sym (append_assoc (number_bytes count) front rest))
+
 pub text_spells : Spells text_at text_bytes (λ text. IsShortText text × IsRealText text)
 unfolding text_at text_bytes
 text_spells = record {
@@ -114,10 +121,8 @@ text_spells = record {
       let utf8 : IsUtf8 (take count after) = IsUtf8-from_is_utf8 _ h.0 in
       let back : encode_utf8_all (chars (take count after)) ≡ take count after = encodes-chars (take count after) utf8 in
       let short : length (encode_utf8_all (chars (take count after))) ≡ count = ap length back ∙ len in
-      let real : all_scalars (chars (take count after)) ≡ true = ap (λ bs. all_scalars (chars bs)) (sym utf8.1.1) ∙ ap all_scalars (chars-encodes utf8.0 utf8.1.0) ∙ utf8.1.0 in
-      let parts : bytes ≡ (number_bytes (length (encode_utf8_all (chars (take count after)))) ++ encode_utf8_all (chars (take count after))) ++ drop count after =
-      t.0 ∙ ap (λ xs. number_bytes count ++ xs) (sym (take-append-drop count after)) ∙ sym (append_assoc (number_bytes count) (take count after) (drop count after))
-      ∙ (λ i. (number_bytes (sym short i) ++ sym back i) ++ drop count after) in
+      let real : all_scalars (chars (take count after)) ≡ true = real_chars (take count after) utf8 in
+      let parts = counted bytes count after (take count after) (drop count after) (encode_utf8_all (chars (take count after))) t.0 (sym (take-append-drop count after)) len back in
       subst (λ (p : Items ℕ × Items ℕ). (bytes ≡ (number_bytes (length (encode_utf8_all p.0)) ++ encode_utf8_all p.0) ++ p.1) × (IsShortText p.0 × IsRealText p.0)) (some_is _ _ h.1)
       (parts, (omega (arith, short, t.1), real));
   again = λ text rest fits.

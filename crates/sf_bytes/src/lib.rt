@@ -124,3 +124,6 @@ pub fn spellings_stand_apart()
     ensures batches { NoneBeginsAnother batch_bytes IsReadBatch }
     ensures snapshots { NoneBeginsAnother snapshot_bytes IsReadSnapshot }
 {}
+
+#[cfg(test)]
+mod tests;
