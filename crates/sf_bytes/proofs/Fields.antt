@@ -1,5 +1,5 @@
 -- Fields that are read one after the other, and what is made of them.
-use Rattle.std.proofs.Common.{◌≡◌, ℕ, List as Items, ◌++◌, Option, Some, None, refl, sym, ap, subst, ◌∙◌, append_assoc}
+use Rattle.std.proofs.Common.{◌≡◌, ℕ, List as Items, ◌++◌, Some, refl, sym, ap, subst, ◌∙◌, append_assoc}
 use Rattle.sf_bytes.specs.Reading.{Reader, ◌>>=◌}
 use Rattle.sf_bytes.proofs.Wide.{IsBytes}
 use Rattle.sf_bytes.proofs.Laws.{Spells, bind_some, some_is, rest_fits}

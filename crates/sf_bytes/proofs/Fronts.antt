@@ -1,8 +1,7 @@
 -- What a public reader answers, from what its reader reads.
-use Rattle.std.proofs.Common.{◌≡◌, ℕ, ◌+◌, ◌-◌, ◌≤◌, List as Items, ◌++◌, length, take, drop, Option, Some, None, Result, Ok, Err, IfOk, IsErr, refl, sym, ap, subst, ◌∙◌, true≢false, arith}
-use Rattle.std.specs.Prelude.{◌↔◌}
+use Rattle.std.proofs.Common.{◌≡◌, ℕ, ◌-◌, ◌≤◌, List as Items, ◌++◌, length, take, drop, Option, Some, None, Result, Ok, Err, IfOk, refl, sym, ap, subst, ◌∙◌, true≢false, arith}
 use Rattle.std.specs.declared.alloc.AllocError.{AllocError}
-use Rattle.std.proofs.lemmas.List.{take_at, take-append-drop, length-append, length-drop}
+use Rattle.std.proofs.lemmas.List.{take_at, take-append-drop, length-append, length-take}
 use Rattle.sf_bytes.specs.declared.fault.Unread.{Unread}
 use Rattle.sf_bytes.specs.declared.fault.Unread.TheVariants.{NoMemory, NoSpelling}
 use Rattle.sf_bytes.specs.Reading.{Reader, Gives, Answers}
@@ -30,21 +29,14 @@ module _ {A : Type 0} (item_at : Reader A) (item_bytes : A → Items ℕ) (Fits 
     nothing_found : (y : A) (rest : Items ℕ) → ◌≡◌ {A = Option (A × Items ℕ)} None (Some (y, rest)) → ⊥
     nothing_found y rest e = absurd cc
 
-    found_is : (x : A) (rest : Items ℕ) → item_at bytes ≡ Some (x, rest) → (y : A) (count : ℕ) → ◌≡◌ {A = Option (A × ℕ)} (Some (x, length bytes - length rest)) (Some (y, count)) ↔ (Fits y × BeginsWith item_bytes bytes y count)
-    found_is x rest read y count =
+    found_is : (x : A) (rest : Items ℕ) → item_at bytes ≡ Some (x, rest) → Fits x × BeginsWith item_bytes bytes x (length bytes - length rest)
+    found_is x rest read =
         let t = item.takes bytes x rest are_bytes read in
         let len : length bytes - length rest ≡ length (item_bytes x) = omega (arith, ap length t.0, length-append (item_bytes x) rest) in
-        let front : take (length bytes - length rest) bytes ≡ item_bytes x = ap (λ xs. take (length bytes - length rest) xs) t.0 ∙ take_at (item_bytes x) rest (length bytes - length rest) (sym len) in (
-          λ e. subst (λ (p : A × ℕ). Fits p.0 × BeginsWith item_bytes bytes p.0 p.1) (some_is (x, length bytes - length rest) (y, count) e) (t.1, (omega arith, front)),
-          λ h.
-              let same = some_is (x, rest) (y, drop count bytes) (sym read ∙ front_read bytes y count h.0 h.1.1) in
-              let left : length rest ≡ length bytes - count = ap (λ (p : A × Items ℕ). length p.1) same ∙ length-drop count bytes in
-              let taken : length bytes - length rest ≡ count = omega (arith, left, h.1.0) in
-              λ i. Some ((same i).0, taken i),
-        )
+        (t.1, (omega arith, ap (λ xs. take (length bytes - length rest) xs) t.0 ∙ take_at (item_bytes x) rest (length bytes - length rest) (sym len)))
 
-    none_is : item_at bytes ≡ None → (y : A) (count : ℕ) → ◌≡◌ {A = Option (A × ℕ)} None (Some (y, count)) ↔ (Fits y × BeginsWith item_bytes bytes y count)
-    none_is read y count = (λ e. absurd cc, λ h. absurd (nothing_found y (drop count bytes) (sym read ∙ front_read bytes y count h.0 h.1.1)))
+    none_is : item_at bytes ≡ None → (x : A) (count : ℕ) → Fits x → BeginsWith item_bytes bytes x count → ⊥
+    none_is read x count fits front = nothing_found x (drop count bytes) (sym read ∙ front_read bytes x count fits front.1)
 
     pub reads : (read : Result X Unread) (result : Result (Option (A × ℕ)) AllocError) → Gives view read (item_at bytes) → Answers (λ x. ((view x).0, length bytes - length (view x).1)) read result → Reads item_bytes Fits bytes result
     reads (Ok x) result h e = subst (Reads item_bytes Fits bytes) (sym e) (found_is (view x).0 (view x).1 h)
@@ -53,6 +45,12 @@ module _ {A : Type 0} (item_at : Reader A) (item_bytes : A → Items ℕ) (Fits 
     reads (Err NoMemory) (Err f) h e = tt
 
 -- what was written is read again, whatever follows it
-pub read_again : {A : Type 0} (item_bytes : A → Items ℕ) (IsItem : A → Type 0) (bytes : Items ℕ) (read : Option (A × ℕ)) → Reads item_bytes IsItem bytes (Ok read) → (x : A) (rest : Items ℕ) → IsItem x → bytes ≡ item_bytes x ++ rest → read ≡ Some (x, length (item_bytes x))
-read_again item_bytes IsItem bytes read h x rest is e =
-    (h x (length (item_bytes x))).1 (is, (omega (arith, ap length e, length-append (item_bytes x) rest), ap (λ bs. take (length (item_bytes x)) bs) e ∙ take_at (item_bytes x) rest (length (item_bytes x)) refl))
+pub read_again : {A : Type 0} (item_bytes : A → Items ℕ) (IsItem : A → Type 0) → NoneBeginsAnother item_bytes IsItem → (bytes : Items ℕ) (read : Option (A × ℕ)) → Reads item_bytes IsItem bytes (Ok read)
+    → (x : A) (rest : Items ℕ) → IsItem x → bytes ≡ item_bytes x ++ rest → read ≡ Some (x, length (item_bytes x))
+read_again item_bytes IsItem apart bytes None h x rest is e =
+    absurd (h x (length (item_bytes x)) is (omega (arith, ap length e, length-append (item_bytes x) rest), ap (λ bs. take (length (item_bytes x)) bs) e ∙ take_at (item_bytes x) rest (length (item_bytes x)) refl))
+read_again item_bytes IsItem apart bytes (Some found) h x rest is e =
+    let whole : item_bytes found.0 ++ drop found.1 bytes ≡ item_bytes x ++ rest = ap (λ xs. xs ++ drop found.1 bytes) (sym h.1.1) ∙ take-append-drop found.1 bytes ∙ e in
+    let same : found.0 ≡ x = apart found.0 x (drop found.1 bytes) rest h.0 is whole in
+    let count : found.1 ≡ length (item_bytes x) = omega (arith, h.1.0, ap length h.1.1, length-take found.1 bytes, ap (λ y. length (item_bytes y)) same) in
+    λ i. Some (same i, count i)

@@ -1,5 +1,5 @@
 -- Requests, outcomes, batches and snapshots are read as they are spelt.
-use Rattle.std.proofs.Common.{◌≡◌, ℕ, zero, suc, ◌^◌, ◌<◌, ◌≤◌, true, List as Items, [], ◌∷◌, ◌++◌, length, Option, Some, None, refl, sym, ap, subst, ◌∙◌, arith}
+use Rattle.std.proofs.Common.{◌≡◌, ℕ, zero, suc, ◌^◌, ◌<◌, true, List as Items, [], ◌∷◌, ◌++◌, length, Some, refl, ap, arith}
 use Rattle.std.specs.Int.{is_in_range, IsInRange}
 use Rattle.std.specs.List.{AllByRecursion}
 use Rattle.std.proofs.lemmas.Bool.Decides.{nat_tests}
@@ -14,13 +14,12 @@ use Rattle.sf_value.specs.declared.Outcome.TheVariants as outcomes
 use Rattle.sf_value.specs.declared.Request.{Request}
 use Rattle.sf_value.specs.declared.Snapshot.{Snapshot}
 use Rattle.sf_value.specs.declared.value.Ref.{Ref}
-use Rattle.sf_value.specs.declared.value.Value.{Value}
-use Rattle.sf_bytes.specs.ByteForms.{number_bytes, text_bytes, list_bytes, long_list_bytes, ref_bytes, value_bytes, values_bytes, act_bytes, request_bytes, failure_bytes, outcome_bytes, entry_bytes, held_bytes, batch_bytes, snapshot_bytes}
-use Rattle.sf_bytes.specs.Reading.{Reader, number_at, text_at, ref_at, list_at, long_list_at, value_within, values_within, act_at, request_at, failure_at, outcome_at, entry_at, held_at, batch_at, snapshot_at}
-use Rattle.sf_bytes.specs.Spelt.{IsShortText, IsRealText, IsSpeltList, IsSpeltAct, IsRealAct, IsSpeltRequest, IsRealRequest, IsSpeltFailure, IsSpeltOutcome, IsRealOutcome, IsSpeltEntry, IsRealEntry, IsSpeltHeld, IsRealHeld, IsReadValue, IsReadRequest, IsReadOutcome, IsReadBatch, IsReadSnapshot}
+use Rattle.sf_bytes.specs.ByteForms.{number_bytes, text_bytes, list_bytes, long_list_bytes, ref_bytes, value_bytes, act_bytes, request_bytes, failure_bytes, outcome_bytes, entry_bytes, held_bytes, batch_bytes, snapshot_bytes}
+use Rattle.sf_bytes.specs.Reading.{Reader, number_at, text_at, list_at, long_list_at, value_within, act_at, request_at, failure_at, outcome_at, entry_at, held_at, batch_at, snapshot_at}
+use Rattle.sf_bytes.specs.Spelt.{IsShortText, IsRealText, IsSpeltList, IsSpeltAct, IsRealAct, IsSpeltFailure, IsSpeltEntry, IsRealEntry, IsSpeltHeld, IsRealHeld, IsReadValue, IsReadRequest, IsReadOutcome, IsReadBatch, IsReadSnapshot}
 use Rattle.sf_bytes.proofs.Wide.{IsBytes, IsBytes-rest}
-use Rattle.sf_bytes.proofs.Laws.{Spells, said, some_is, guard_true, number_spells, text_spells, list_spells, long_list_spells}
-use Rattle.sf_bytes.proofs.ValueLaws.{FitAt, one_at, one_takes, one_again, ref_spells, value_spells, values_spells}
+use Rattle.sf_bytes.proofs.Laws.{Spells, said, guard_true, number_spells, text_spells, list_spells, long_list_spells}
+use Rattle.sf_bytes.proofs.ValueLaws.{one_at, one_takes, one_again, ref_spells, value_spells, values_spells}
 use Rattle.sf_bytes.proofs.Fields.{two_takes, two_again, two_spells, three_takes, three_again, four_takes, four_again}
 
 -- ---- requests

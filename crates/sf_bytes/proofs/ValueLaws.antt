@@ -1,5 +1,5 @@
 -- Values are read as they are spelt, at each level.
-use Rattle.std.proofs.Common.{◌≡◌, ℕ, zero, suc, ℤ, ◌+◌, ◌-◌, ◌^◌, ◌<◌, Bool as Truth, true, false, List as Items, [], ◌∷◌, ◌++◌, length, Option, Some, None, refl, sym, ap, subst, ◌∙◌, arith, FitsSigned}
+use Rattle.std.proofs.Common.{◌≡◌, ℕ, zero, suc, ℤ, ◌-◌, Bool as Truth, true, false, List as Items, [], ◌∷◌, ◌++◌, Some, refl, sym, ap, subst, ◌∙◌, arith, FitsSigned}
 use Rattle.std.proofs.Math.Path.{transport}
 use Rattle.std.specs.Int.{w128}
 use Rattle.std.specs.List.{AllByRecursion}
@@ -8,7 +8,7 @@ use Rattle.sf_value.specs.declared.value.Ref.{Ref}
 use Rattle.sf_value.specs.declared.value.Value.{Value, Int, Bool, Str, Nil, List, Entity}
 use Rattle.sf_value.proofs.Variants.{by_variants}
 use Rattle.sf_bytes.specs.ByteForms.{int_bytes, text_bytes, ref_bytes, value_bytes, values_bytes}
-use Rattle.sf_bytes.specs.Reading.{Reader, ◌>>=◌, int_at, text_at, ref_at, list_at, tagged_at, value_by, values_within}
+use Rattle.sf_bytes.specs.Reading.{Reader, ◌>>=◌, int_at, text_at, ref_at, tagged_at, value_by, values_within}
 use Rattle.sf_bytes.specs.Spelt.{IsShortText, IsShort, AreShort, NestsWithin, NestWithin, IsRealText, IsRealRef, IsReal, AreReal}
 use Rattle.sf_bytes.proofs.Wide.{IsBytes, IsBytes-rest}
 use Rattle.sf_bytes.proofs.Layers.{bytes-List, short-List, nests-List, real-List}
