@@ -9,3 +9,4 @@ pub mod ValueLaws
 pub mod Fronts
 pub mod Fields
 pub mod RecordLaws
+pub mod Light

@@ -18,19 +18,22 @@ use Rattle.sf_value.specs.declared.Snapshot.{Snapshot}
 use Rattle.sf_value.specs.declared.value.Ref.{Ref}
 use Rattle.sf_value.specs.declared.value.Value.{Value, Int, Bool as Truth, Str, Nil, List, Entity}
 
+-- what reads an item from the front of bytes
 abbrev pub Reader : Type 0 → Type 0
 Reader A = Items ℕ → Option (A × Items ℕ)
 
+-- one step after another
 infixl 10 ◌>>=◌
 abbrev pub ◌>>=◌ : {A B : Type 0} → Option A → (A → Option B) → Option B
 None >>= f = None
 (Some x) >>= f = f x
 
--- what a function returned, seen by view, is what reading gives, unless memory ran out
+-- nothing is read, or memory ran out
 abbrev pub FallsShort : {A : Type 0} → Unread → Option A → Type 0
 FallsShort NoMemory read = Unit {0}
 FallsShort NoSpelling read = read ≡ None
 
+-- what a function returned, seen by view, is what reading gives, unless memory ran out
 abbrev pub Gives : {X A : Type 0} → (X → A) → Result X Unread → Option A → Type 0
 Gives view (Ok x) read = read ≡ Some (view x)
 Gives view (Err e) read = FallsShort e read
@@ -40,6 +43,8 @@ abbrev pub Answers : {X B : Type 0} → (X → B) → Result X Unread → Result
 Answers view (Ok x) answer = answer ≡ Ok (Some (view x))
 Answers view (Err NoSpelling) answer = answer ≡ Ok None
 Answers view (Err NoMemory) answer = IsErr answer
+
+-- ---- numbers and texts
 
 unfoldable pub number_at : Reader ℕ
 number_at bytes = if nat_lt (length bytes) 4 then None else Some (from_be_bytes w32 (take 4 bytes), drop 4 bytes)
@@ -61,6 +66,8 @@ ref_at bytes = do
   key ← text_at class.1
   Some (record { class = class.0; key = key.0 }, key.1)
 
+-- ---- lists
+
 -- so many items, one after the other
 unfoldable pub items_at : {A : Type 0} → Reader A → ℕ → Reader (Items A)
 items_at item_at zero bytes = Some ([], bytes)
@@ -81,6 +88,8 @@ long_list_at item_at bytes = do
   count ← long_at bytes
   items_at item_at count.0 count.1
 
+-- ---- values
+
 -- what follows a value's first byte, where lists are read so
 unfoldable pub tagged_at : Reader (Items Value) → ℕ → Reader Value
 tagged_at values_at zero rest = Some (Nil, rest)
@@ -100,6 +109,7 @@ tagged_at values_at (suc (suc (suc (suc (suc (suc zero)))))) rest = do
   Some (Entity entity.0, entity.1)
 tagged_at values_at _ rest = None
 
+-- a value, where lists are read so
 unfoldable pub value_by : Reader (Items Value) → Reader Value
 value_by values_at [] = None
 value_by values_at (tag ∷ rest) = tagged_at values_at tag rest
@@ -112,6 +122,8 @@ values_within (suc level) bytes = list_at (value_by (values_within level)) bytes
 -- a value with lists at most so deep
 abbrev pub value_within : ℕ → Reader Value
 value_within level bytes = value_by (values_within level) bytes
+
+-- ---- what holds values, field by field
 
 unfoldable pub act_at : Reader Act
 act_at [] = None

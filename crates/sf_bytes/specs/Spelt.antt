@@ -19,6 +19,7 @@ use Rattle.sf_value.specs.declared.value.Value.{Value, Int, Bool as Truth, Str, 
 
 -- ---- no longer than a count can say
 
+-- fewer bytes than 2^32
 abbrev pub IsShortText : Items ℕ → Type 0
 IsShortText text = length (encode_utf8_all text) < 2 ^ 32
 
@@ -32,10 +33,12 @@ unfoldable mutual
   IsShort (List' shape row) = (row_len row < 2 ^ 32) × IsShortRow row
   IsShort (Entity at) = IsShortText at.key
 
+  -- each element of a list
   pub IsShortRow : {n : _} → Row_of-Value n → Type 0
   IsShortRow end_of-Value = Unit {0}
   IsShortRow (more_of-Value value row) = IsShort value × IsShortRow row
 
+-- a list on its own
 abbrev pub AreShort : Items Value → Type 0
 AreShort values = (length values < 2 ^ 32) × AllByRecursion IsShort values
 
@@ -51,6 +54,7 @@ unfoldable mutual
   NestsWithin (List' shape row) level = (0 < level) × RowNestsWithin row (level - 1)
   NestsWithin (Entity at) level = Unit {0}
 
+  -- each element of a list
   pub RowNestsWithin : {n : _} → Row_of-Value n → ℕ → Type 0
   RowNestsWithin end_of-Value level = Unit {0}
   RowNestsWithin (more_of-Value value row) level = NestsWithin value level × RowNestsWithin row level
@@ -61,14 +65,16 @@ NestWithin values level = (0 < level) × AllByRecursion (λ value. NestsWithin v
 
 -- ---- what a program can hold
 
+-- each code point is one of Unicode's characters
 abbrev pub IsRealText : Items ℕ → Type 0
 IsRealText text = all_scalars text ≡ true
 
+-- the class fits its type
 abbrev pub IsRealRef : Ref → Type 0
 IsRealRef at = (at.class < 2 ^ 32) × IsRealText at.key
 
 unfoldable mutual
-  -- each number fits its type, and each text is of Unicode's characters: so is every value that a program holds
+  -- each number fits its type, and each text is real: so is every value that a program holds
   pub IsReal : Value → Type 0
   IsReal (Int n) = FitsSigned w128 n
   IsReal (Truth b) = Unit {0}
@@ -77,10 +83,12 @@ unfoldable mutual
   IsReal (List' shape row) = IsRealRow row
   IsReal (Entity at) = IsRealRef at
 
+  -- each element of a list
   pub IsRealRow : {n : _} → Row_of-Value n → Type 0
   IsRealRow end_of-Value = Unit {0}
   IsRealRow (more_of-Value value row) = IsReal value × IsRealRow row
 
+-- and so on, for each thing that holds values, numbers or texts
 abbrev pub AreReal : Items Value → Type 0
 AreReal values = AllByRecursion IsReal values
 
@@ -109,10 +117,11 @@ IsRealSnapshot snapshot = IsRealText snapshot.program × (AllByRecursion IsRealE
 
 -- ---- what may be written
 
+-- a value whose lists nest at most 64 deep
 abbrev pub IsSpeltValue : Value → Type 0
 IsSpeltValue value = IsShort value × NestsWithin value 64
 
--- arguments or fields
+-- arguments or fields, whose list is a level itself
 abbrev pub AreSpelt : Items Value → Type 0
 AreSpelt values = AreShort values × NestWithin values 64
 
@@ -120,6 +129,7 @@ AreSpelt values = AreShort values × NestWithin values 64
 abbrev pub IsSpeltList : {A : Type 0} → (A → Type 0) → Items A → Type 0
 IsSpeltList IsSpelt items = (length items < 2 ^ 32) × AllByRecursion IsSpelt items
 
+-- texts, arguments and fields are spelt, a kind is one of the twelve, and all lists but that of the records can be counted
 abbrev pub IsSpeltAct : Act → Type 0
 IsSpeltAct (Call class key method args) = IsShortText key × AreSpelt args
 IsSpeltAct (New class args) = AreSpelt args
@@ -146,7 +156,7 @@ IsSpeltBatch batch = IsSpeltList IsSpeltRequest batch.news × (length batch.comm
 abbrev pub IsSpeltSnapshot : Snapshot → Type 0
 IsSpeltSnapshot snapshot = IsShortText snapshot.program × (IsSpeltList IsSpeltEntry snapshot.history × (AllByRecursion IsSpeltHeld snapshot.records × IsSpeltList IsSpeltRequest snapshot.pending))
 
--- ---- what is read
+-- ---- what is read: what may be written, and what a program can hold
 
 abbrev pub IsReadValue : Value → Type 0
 IsReadValue value = IsSpeltValue value × IsReal value

@@ -1,5 +1,5 @@
 -- What holds of each variant holds of every value.
-use Rattle.std.proofs.Common.{◌≡◌, ℤ, Bool as Truth, List as Items, subst, sym}
+use Rattle.std.proofs.Common.{ℤ, Bool as Truth, List as Items, subst, sym}
 use Rattle.sf_value.specs.declared.text.Text.{Text}
 use Rattle.sf_value.specs.declared.value.Ref.{Ref}
 use Rattle.sf_value.specs.declared.value.Value.{Value, Int, Bool, Str, Nil, List, Entity, Value-F, out-Value, roll-Value, roll-out-Value}
