@@ -3,9 +3,20 @@ use Rattle.std.specs.Prelude.{ℕ, ℤ, ◌+◌, true, false, List as Items, [],
 use Rattle.std.specs.Int.{w32, w64, w128, to_be_bytes, cast_unsigned}
 use Rattle.std.specs.List.{flat_map}
 use Rattle.std.specs.Str.{encode_utf8_all}
+use Rattle.sf_value.specs.declared.Act.{Act}
+use Rattle.sf_value.specs.declared.Act.TheVariants.{Call, New}
+use Rattle.sf_value.specs.declared.BatchRecord.{BatchRecord}
+use Rattle.sf_value.specs.declared.Entry.{Entry}
+use Rattle.sf_value.specs.declared.Failure.{Failure}
+use Rattle.sf_value.specs.declared.Held.{Held}
+use Rattle.sf_value.specs.declared.Outcome.{Outcome}
+use Rattle.sf_value.specs.declared.Outcome.TheVariants as outcomes
+use Rattle.sf_value.specs.declared.Request.{Request}
+use Rattle.sf_value.specs.declared.Snapshot.{Snapshot}
 use Rattle.sf_value.specs.declared.value.Ref.{Ref}
 use Rattle.sf_value.specs.declared.value.Value.{Value, Int, Bool as Truth, Str, Nil, List', Entity, Row_of-Value, end_of-Value, more_of-Value}
 
+-- a number
 unfoldable pub number_bytes : ℕ → Items ℕ
 number_bytes n = to_be_bytes w32 n
 
@@ -25,10 +36,16 @@ text_bytes text = number_bytes (length (encode_utf8_all text)) ++ encode_utf8_al
 abbrev pub list_bytes : {A : Type 0} → (A → Items ℕ) → Items A → Items ℕ
 list_bytes item_bytes items = number_bytes (length items) ++ flat_map item_bytes items
 
+-- the same, with a count of eight bytes
+abbrev pub long_list_bytes : {A : Type 0} → (A → Items ℕ) → Items A → Items ℕ
+long_list_bytes item_bytes items = long_bytes (length items) ++ flat_map item_bytes items
+
+-- an entity: its class and its key
 unfoldable pub ref_bytes : Ref → Items ℕ
 ref_bytes at = number_bytes at.class ++ text_bytes at.key
 
 unfoldable mutual
+  -- a byte that says which kind it is, and what the kind asks for
   pub value_bytes : Value → Items ℕ
   value_bytes Nil = 0 ∷ []
   value_bytes (Truth false) = 1 ∷ []
@@ -38,13 +55,50 @@ unfoldable mutual
   value_bytes (List' shape row) = 5 ∷ number_bytes (row_len row) ++ row_bytes row
   value_bytes (Entity at) = 6 ∷ ref_bytes at
 
+  -- the elements of a list, one after the other
   pub row_bytes : {n : _} → Row_of-Value n → Items ℕ
   row_bytes end_of-Value = []
   row_bytes (more_of-Value value row) = value_bytes value ++ row_bytes row
 
+  -- how many elements
   pub row_len : {n : _} → Row_of-Value n → ℕ
   row_len end_of-Value = 0
   row_len (more_of-Value value row) = 1 + row_len row
 
+-- arguments, or the fields of a record
 abbrev pub values_bytes : Items Value → Items ℕ
 values_bytes values = list_bytes value_bytes values
+
+-- a call: class, key, method, arguments; or a creation: class, arguments
+unfoldable pub act_bytes : Act → Items ℕ
+act_bytes (Call class key method args) = 0 ∷ number_bytes class ++ text_bytes key ++ number_bytes method ++ values_bytes args
+act_bytes (New class args) = 1 ∷ number_bytes class ++ values_bytes args
+
+-- the id, and what is asked for
+unfoldable pub request_bytes : Request → Items ℕ
+request_bytes request = text_bytes request.id ++ act_bytes request.act
+
+-- one byte for the kind, and the message
+unfoldable pub failure_bytes : Failure → Items ℕ
+failure_bytes failure = failure.kind ∷ text_bytes failure.message
+
+-- a value, or a failure
+unfoldable pub outcome_bytes : Outcome → Items ℕ
+outcome_bytes (outcomes.Value value) = 0 ∷ value_bytes value
+outcome_bytes (outcomes.Failed failure) = 1 ∷ failure_bytes failure
+
+-- a committed request, and what it came to
+unfoldable pub entry_bytes : Entry → Items ℕ
+entry_bytes entry = request_bytes entry.request ++ outcome_bytes entry.outcome
+
+-- an entity, and its fields
+unfoldable pub held_bytes : Held → Items ℕ
+held_bytes held = ref_bytes held.at ++ values_bytes held.fields.fields
+
+-- the new requests, and the places that are committed
+unfoldable pub batch_bytes : BatchRecord → Items ℕ
+batch_bytes batch = list_bytes request_bytes batch.news ++ list_bytes number_bytes batch.committed
+
+-- the program, the history, the records and the pending requests
+unfoldable pub snapshot_bytes : Snapshot → Items ℕ
+snapshot_bytes snapshot = text_bytes snapshot.program ++ list_bytes entry_bytes snapshot.history ++ long_list_bytes held_bytes snapshot.records ++ list_bytes request_bytes snapshot.pending

@@ -1,28 +1,50 @@
 -- Reading from left to right: what is read, and the bytes after it.
-use Rattle.std.specs.Prelude.{◌≡◌, ℕ, zero, suc, ℤ, true, false, List as Items, [], ◌∷◌, length, take, drop, Option, Some, None, Result, Ok, Err, nat_lt, if◌then◌else◌}
-use Rattle.std.specs.Int.{w32, w64, w128, from_be_bytes, cast_signed}
+use Rattle.std.specs.Prelude.{◌≡◌, ℕ, zero, suc, ℤ, true, false, List as Items, [], ◌∷◌, length, take, drop, Option, Some, None, Result, Ok, Err, IsErr, nat_lt, if◌then◌else◌}
+use Rattle.std.specs.declared.alloc.AllocError.{AllocError}
+use Rattle.std.specs.Int.{w32, w64, w128, from_be_bytes, cast_signed, is_in_range}
 use Rattle.std.specs.Str.{chars, is_utf8}
 use Rattle.sf_bytes.specs.declared.fault.Unread.{Unread}
 use Rattle.sf_bytes.specs.declared.fault.Unread.TheVariants.{NoMemory, NoSpelling}
+use Rattle.sf_value.specs.declared.Act.{Act}
+use Rattle.sf_value.specs.declared.Act.TheVariants.{Call, New}
+use Rattle.sf_value.specs.declared.BatchRecord.{BatchRecord}
+use Rattle.sf_value.specs.declared.Entry.{Entry}
+use Rattle.sf_value.specs.declared.Failure.{Failure}
+use Rattle.sf_value.specs.declared.Held.{Held}
+use Rattle.sf_value.specs.declared.Outcome.{Outcome}
+use Rattle.sf_value.specs.declared.Outcome.TheVariants as outcomes
+use Rattle.sf_value.specs.declared.Request.{Request}
+use Rattle.sf_value.specs.declared.Snapshot.{Snapshot}
 use Rattle.sf_value.specs.declared.value.Ref.{Ref}
 use Rattle.sf_value.specs.declared.value.Value.{Value, Int, Bool as Truth, Str, Nil, List, Entity}
 
+-- what reads an item from the front of bytes
 abbrev pub Reader : Type 0 → Type 0
 Reader A = Items ℕ → Option (A × Items ℕ)
 
+-- one step after another
 infixl 10 ◌>>=◌
 abbrev pub ◌>>=◌ : {A B : Type 0} → Option A → (A → Option B) → Option B
 None >>= f = None
 (Some x) >>= f = f x
 
--- what a function returned, seen by view, is what reading gives, unless memory ran out
+-- nothing is read, or memory ran out
 abbrev pub FallsShort : {A : Type 0} → Unread → Option A → Type 0
 FallsShort NoMemory read = Unit {0}
 FallsShort NoSpelling read = read ≡ None
 
+-- what a function returned, seen by view, is what reading gives, unless memory ran out
 abbrev pub Gives : {X A : Type 0} → (X → A) → Result X Unread → Option A → Type 0
 Gives view (Ok x) read = read ≡ Some (view x)
 Gives view (Err e) read = FallsShort e read
+
+-- what is answered where a reader returned so
+abbrev pub Answers : {X B : Type 0} → (X → B) → Result X Unread → Result (Option B) AllocError → Type 0
+Answers view (Ok x) answer = answer ≡ Ok (Some (view x))
+Answers view (Err NoSpelling) answer = answer ≡ Ok None
+Answers view (Err NoMemory) answer = IsErr answer
+
+-- ---- numbers and texts
 
 unfoldable pub number_at : Reader ℕ
 number_at bytes = if nat_lt (length bytes) 4 then None else Some (from_be_bytes w32 (take 4 bytes), drop 4 bytes)
@@ -44,6 +66,8 @@ ref_at bytes = do
   key ← text_at class.1
   Some (record { class = class.0; key = key.0 }, key.1)
 
+-- ---- lists
+
 -- so many items, one after the other
 unfoldable pub items_at : {A : Type 0} → Reader A → ℕ → Reader (Items A)
 items_at item_at zero bytes = Some ([], bytes)
@@ -57,6 +81,14 @@ unfoldable pub list_at : {A : Type 0} → Reader A → Reader (Items A)
 list_at item_at bytes = do
   count ← number_at bytes
   items_at item_at count.0 count.1
+
+-- a count of eight bytes, and so many items
+unfoldable pub long_list_at : {A : Type 0} → Reader A → Reader (Items A)
+long_list_at item_at bytes = do
+  count ← long_at bytes
+  items_at item_at count.0 count.1
+
+-- ---- values
 
 -- what follows a value's first byte, where lists are read so
 unfoldable pub tagged_at : Reader (Items Value) → ℕ → Reader Value
@@ -77,6 +109,7 @@ tagged_at values_at (suc (suc (suc (suc (suc (suc zero)))))) rest = do
   Some (Entity entity.0, entity.1)
 tagged_at values_at _ rest = None
 
+-- a value, where lists are read so
 unfoldable pub value_by : Reader (Items Value) → Reader Value
 value_by values_at [] = None
 value_by values_at (tag ∷ rest) = tagged_at values_at tag rest
@@ -89,3 +122,66 @@ values_within (suc level) bytes = list_at (value_by (values_within level)) bytes
 -- a value with lists at most so deep
 abbrev pub value_within : ℕ → Reader Value
 value_within level bytes = value_by (values_within level) bytes
+
+-- ---- what holds values, field by field
+
+unfoldable pub act_at : Reader Act
+act_at [] = None
+act_at (zero ∷ rest) = do
+  at ← ref_at rest
+  method ← number_at at.1
+  args ← values_within 64 method.1
+  Some (Call at.0.class at.0.key method.0 args.0, args.1)
+act_at (suc zero ∷ rest) = do
+  class ← number_at rest
+  args ← values_within 64 class.1
+  Some (New class.0 args.0, args.1)
+act_at (suc (suc tag) ∷ rest) = None
+
+unfoldable pub request_at : Reader Request
+request_at bytes = do
+  id ← text_at bytes
+  act ← act_at id.1
+  Some (record { id = id.0; act = act.0 }, act.1)
+
+unfoldable pub failure_at : Reader Failure
+failure_at [] = None
+failure_at (kind ∷ rest) = if is_in_range 1 12 kind then (do
+  message ← text_at rest
+  Some (record { kind = kind; message = message.0 }, message.1)) else None
+
+unfoldable pub outcome_at : Reader Outcome
+outcome_at [] = None
+outcome_at (zero ∷ rest) = do
+  value ← value_within 64 rest
+  Some (outcomes.Value value.0, value.1)
+outcome_at (suc zero ∷ rest) = do
+  failure ← failure_at rest
+  Some (outcomes.Failed failure.0, failure.1)
+outcome_at (suc (suc tag) ∷ rest) = None
+
+unfoldable pub entry_at : Reader Entry
+entry_at bytes = do
+  request ← request_at bytes
+  outcome ← outcome_at request.1
+  Some (record { request = request.0; outcome = outcome.0 }, outcome.1)
+
+unfoldable pub held_at : Reader Held
+held_at bytes = do
+  at ← ref_at bytes
+  fields ← values_within 64 at.1
+  Some (record { at = at.0; fields = record { fields = fields.0 } }, fields.1)
+
+unfoldable pub batch_at : Reader BatchRecord
+batch_at bytes = do
+  news ← list_at request_at bytes
+  committed ← list_at number_at news.1
+  Some (record { news = news.0; committed = committed.0 }, committed.1)
+
+unfoldable pub snapshot_at : Reader Snapshot
+snapshot_at bytes = do
+  program ← text_at bytes
+  history ← list_at entry_at program.1
+  records ← long_list_at held_at history.1
+  pending ← list_at request_at records.1
+  Some (record { program = program.0; history = history.0; records = records.0; pending = pending.0 }, pending.1)

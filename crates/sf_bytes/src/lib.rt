@@ -1,8 +1,129 @@
 //! The bytes of values, requests, outcomes, batches and snapshots, as a store keeps them.
 //!
 //! Each thing has one spelling, and no spelling begins another, so that what was written is read
-//! again whatever follows it.
+//! again whatever follows it. Reading takes memory and time by the bytes that are there, never by a
+//! count that they claim.
 #![tactic(auto)]
 
+ghost use Rattle.std.specs.Prelude.{◌≡◌, IfOk, OnOk};
+ghost use Rattle.sf_bytes.specs.ByteForms.{value_bytes, request_bytes, outcome_bytes, batch_bytes, snapshot_bytes};
+ghost use Rattle.sf_bytes.specs.Spelt.{IsSpeltValue, IsSpeltRequest, IsSpeltOutcome, IsSpeltBatch, IsSpeltSnapshot, IsReal, IsRealRequest, IsRealOutcome, IsRealBatch, IsRealSnapshot, IsReadValue, IsReadRequest, IsReadOutcome, IsReadBatch, IsReadSnapshot};
+ghost use Rattle.sf_bytes.specs.Reads.{Reads, NoneBeginsAnother};
+
 mod fault;
+mod items;
 mod reading;
+mod records;
+mod requests;
+mod writing;
+
+use fault::answer;
+use sf_list::Sequence;
+use sf_value::{BatchRecord, Bytes, Outcome, Request, Snapshot, Value};
+use std::alloc::{AllocError, Global};
+
+/// How deep lists of values may nest. The list of a request's arguments and that of a record's fields
+/// are levels.
+const LEVELS: u32 = 64;
+
+/// The bytes of a value.
+pub fn write_value(alloc: Global, value: &Value) -> Result<Bytes, AllocError>
+    requires { IsSpeltValue value.now }
+    ensures bytes { IfOk result (λ made. made ≡ value_bytes value.now) }
+    ensures real { OnOk result (IsReal value.now) }
+{
+    let mut out = Sequence::new(alloc);
+    writing::put_value(&mut out, alloc, value)?;
+    Ok(out)
+}
+
+/// The bytes of a request.
+pub fn write_request(alloc: Global, request: &Request) -> Result<Bytes, AllocError>
+    requires { IsSpeltRequest request.now }
+    ensures bytes { IfOk result (λ made. made ≡ request_bytes request.now) }
+    ensures real { OnOk result (IsRealRequest request.now) }
+{
+    let mut out = Sequence::new(alloc);
+    requests::put_request(&mut out, alloc, request)?;
+    Ok(out)
+}
+
+/// The bytes of an outcome.
+pub fn write_outcome(alloc: Global, outcome: &Outcome) -> Result<Bytes, AllocError>
+    requires { IsSpeltOutcome outcome.now }
+    ensures bytes { IfOk result (λ made. made ≡ outcome_bytes outcome.now) }
+    ensures real { OnOk result (IsRealOutcome outcome.now) }
+{
+    let mut out = Sequence::new(alloc);
+    requests::put_outcome(&mut out, alloc, outcome)?;
+    Ok(out)
+}
+
+/// The bytes of a batch.
+pub fn write_batch(alloc: Global, batch: &BatchRecord) -> Result<Bytes, AllocError>
+    requires { IsSpeltBatch batch.now }
+    ensures bytes { IfOk result (λ made. made ≡ batch_bytes batch.now) }
+    ensures real { OnOk result (IsRealBatch batch.now) }
+{
+    let mut out = Sequence::new(alloc);
+    records::put_batch(&mut out, alloc, batch)?;
+    Ok(out)
+}
+
+/// The bytes of a snapshot.
+pub fn write_snapshot(alloc: Global, snapshot: &Snapshot) -> Result<Bytes, AllocError>
+    requires { IsSpeltSnapshot snapshot.now }
+    ensures bytes { IfOk result (λ made. made ≡ snapshot_bytes snapshot.now) }
+    ensures real { OnOk result (IsRealSnapshot snapshot.now) }
+{
+    let mut out = Sequence::new(alloc);
+    records::put_snapshot(&mut out, alloc, snapshot)?;
+    Ok(out)
+}
+
+/// The value that the bytes begin with, and how many bytes it takes.
+pub fn read_value(alloc: Global, bytes: &[u8]) -> Result<Option<(Value, usize)>, AllocError>
+    ensures { Reads value_bytes IsReadValue bytes.now result }
+{
+    answer(bytes, reading::value_of(alloc, LEVELS, bytes))
+}
+
+/// The request that the bytes begin with, and how many bytes it takes.
+pub fn read_request(alloc: Global, bytes: &[u8]) -> Result<Option<(Request, usize)>, AllocError>
+    ensures { Reads request_bytes IsReadRequest bytes.now result }
+{
+    answer(bytes, requests::request_of(alloc, bytes))
+}
+
+/// The outcome that the bytes begin with, and how many bytes it takes.
+pub fn read_outcome(alloc: Global, bytes: &[u8]) -> Result<Option<(Outcome, usize)>, AllocError>
+    ensures { Reads outcome_bytes IsReadOutcome bytes.now result }
+{
+    answer(bytes, requests::outcome_of(alloc, bytes))
+}
+
+/// The batch that the bytes begin with, and how many bytes it takes.
+pub fn read_batch(alloc: Global, bytes: &[u8]) -> Result<Option<(BatchRecord, usize)>, AllocError>
+    ensures { Reads batch_bytes IsReadBatch bytes.now result }
+{
+    answer(bytes, records::batch_of(alloc, bytes))
+}
+
+/// The snapshot that the bytes begin with, and how many bytes it takes.
+pub fn read_snapshot(alloc: Global, bytes: &[u8]) -> Result<Option<(Snapshot, usize)>, AllocError>
+    ensures { Reads snapshot_bytes IsReadSnapshot bytes.now result }
+{
+    answer(bytes, records::snapshot_of(alloc, bytes))
+}
+
+/// No spelling begins another of its kind, whatever follows it.
+pub fn spellings_stand_apart()
+    ensures values { NoneBeginsAnother value_bytes IsReadValue }
+    ensures requests { NoneBeginsAnother request_bytes IsReadRequest }
+    ensures outcomes { NoneBeginsAnother outcome_bytes IsReadOutcome }
+    ensures batches { NoneBeginsAnother batch_bytes IsReadBatch }
+    ensures snapshots { NoneBeginsAnother snapshot_bytes IsReadSnapshot }
+{}
+
+#[cfg(test)]
+mod tests;

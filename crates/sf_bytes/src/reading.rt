@@ -1,7 +1,7 @@
 //! Reading bytes from left to right.
 
 ghost use Rattle.std.specs.Prelude.{◌≡◌};
-ghost use Rattle.sf_bytes.specs.Reading.{Gives, number_at, int_at, text_at, ref_at, tagged_at, value_within, values_within};
+ghost use Rattle.sf_bytes.specs.Reading.{Gives, number_at, long_at, int_at, text_at, ref_at, tagged_at, value_within, values_within};
 
 use crate::fault::Unread;
 use sf_list::Sequence;
@@ -17,6 +17,21 @@ pub(crate) fn number_of(bytes: &[u8]) -> Result<(u32, &[u8]), Unread>
     }
     let (front, rest) = bytes.split_at(4);
     let number = u32::from_be_bytes([front[0], front[1], front[2], front[3]]);
+    Ok((number, rest))
+}
+
+/// A number in eight bytes.
+#[tactic(auto, unfolding(crate::specs::Reading::long_at))]
+pub(crate) fn long_of(bytes: &[u8]) -> Result<(u64, &[u8]), Unread>
+    ensures { Gives (λ x. (x.0, x.1.now)) result (long_at bytes.now) }
+{
+    if bytes.len() < 8 {
+        return Err(Unread::NoSpelling);
+    }
+    let (front, rest) = bytes.split_at(8);
+    let number = u64::from_be_bytes([
+        front[0], front[1], front[2], front[3], front[4], front[5], front[6], front[7],
+    ]);
     Ok((number, rest))
 }
 

@@ -1,2 +1,3 @@
 pub mod Weights
 pub mod Maps
+pub mod Variants

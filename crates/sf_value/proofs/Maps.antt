@@ -83,3 +83,7 @@ pub insert-keyed : {X : Type 0} (es : List (Ref × X)) (k : Ref) (v : X) → fro
 insert-keyed es k v = same_map key_total key_exact _ _ (λ q.
     get-from_entries key_total _ q ∙ find-insert_entry k v es q
     ∙ sym (get-insert key_total (from_entries (keyed es)) (key_of k) v q ∙ ap (cond (eq_by_cmp key_cmp q (key_of k)) (Some v)) (get-from_entries key_total (keyed es) q)))
+
+-- a key says which entity it is
+pub ref_of_key : (a b : Ref) → key_of a ≡ key_of b → a ≡ b
+ref_of_key a b same = λ i. record { class = (same i).0; key = (same i).1 }

@@ -1,0 +1,136 @@
+//! Batches, snapshots, and what these list.
+
+ghost use Rattle.std.specs.Prelude.{◌≡◌, ◌++◌, ◌<◌, ◌^◌, OnOk};
+ghost use Rattle.sf_bytes.specs.ByteForms.{number_bytes, entry_bytes, held_bytes, batch_bytes, snapshot_bytes};
+ghost use Rattle.sf_bytes.specs.Reading.{Gives, number_at, entry_at, held_at, batch_at, snapshot_at};
+ghost use Rattle.sf_bytes.specs.Spelt.{IsSpeltEntry, IsSpeltHeld, IsSpeltBatch, IsSpeltSnapshot, IsRealEntry, IsRealHeld, IsRealBatch, IsRealSnapshot};
+
+use crate::LEVELS;
+use crate::fault::Unread;
+use crate::items::{Item, list_of, long_list_of, put_list, put_long_list};
+use crate::reading::{number_of, ref_of, text_of, values_of};
+use crate::requests::{outcome_of, put_outcome, put_request, request_of};
+use crate::writing::{put_number, put_ref, put_text, put_values};
+use sf_value::{BatchRecord, Bytes, Entry, Held, Record, Snapshot};
+use std::alloc::{AllocError, Global};
+
+impl Item for u32 {
+    ghost reads = { number_at };
+
+    ghost bytes_of = { number_bytes };
+
+    ghost is_spelt = { λ _. Unit {0} };
+
+    ghost is_real = { λ number. number < 2 ^ 32 };
+
+    fn read(_alloc: Global, bytes: &[u8]) -> Result<(u32, &[u8]), Unread> {
+        number_of(bytes)
+    }
+
+    fn put(&self, out: &mut Bytes, alloc: Global) -> Result<(), AllocError> {
+        put_number(out, alloc, *self)
+    }
+}
+
+impl Item for Entry {
+    ghost reads = { entry_at };
+
+    ghost bytes_of = { entry_bytes };
+
+    ghost is_spelt = { IsSpeltEntry };
+
+    ghost is_real = { IsRealEntry };
+
+    #[tactic(auto, unfolding(crate::specs::Reading::entry_at))]
+    fn read(alloc: Global, bytes: &[u8]) -> Result<(Entry, &[u8]), Unread> {
+        let (request, rest) = request_of(alloc, bytes)?;
+        let (outcome, rest) = outcome_of(alloc, rest)?;
+        Ok((Entry { request, outcome }, rest))
+    }
+
+    #[tactic(auto, unfolding(crate::specs::ByteForms::entry_bytes))]
+    fn put(&self, out: &mut Bytes, alloc: Global) -> Result<(), AllocError> {
+        put_request(out, alloc, &self.request)?;
+        put_outcome(out, alloc, &self.outcome)
+    }
+}
+
+impl Item for Held {
+    ghost reads = { held_at };
+
+    ghost bytes_of = { held_bytes };
+
+    ghost is_spelt = { IsSpeltHeld };
+
+    ghost is_real = { IsRealHeld };
+
+    #[tactic(auto, unfolding(crate::specs::Reading::held_at))]
+    fn read(alloc: Global, bytes: &[u8]) -> Result<(Held, &[u8]), Unread> {
+        let (at, rest) = ref_of(alloc, bytes)?;
+        let (fields, rest) = values_of(alloc, LEVELS, rest)?;
+        let fields = Record { fields };
+        Ok((Held { at, fields }, rest))
+    }
+
+    #[tactic(auto, unfolding(crate::specs::ByteForms::held_bytes))]
+    fn put(&self, out: &mut Bytes, alloc: Global) -> Result<(), AllocError> {
+        put_ref(out, alloc, &self.at)?;
+        put_values(out, alloc, self.fields.fields.as_slice())
+    }
+}
+
+#[tactic(auto, unfolding(crate::specs::Reading::batch_at))]
+pub(crate) fn batch_of(alloc: Global, bytes: &[u8]) -> Result<(BatchRecord, &[u8]), Unread>
+    ensures { Gives (λ x. (x.0, x.1.now)) result (batch_at bytes.now) }
+{
+    let (news, rest) = list_of(alloc, bytes)?;
+    let (committed, rest) = list_of(alloc, rest)?;
+    Ok((BatchRecord { news, committed }, rest))
+}
+
+#[tactic(auto, unfolding(crate::specs::Reading::snapshot_at))]
+pub(crate) fn snapshot_of(alloc: Global, bytes: &[u8]) -> Result<(Snapshot, &[u8]), Unread>
+    ensures { Gives (λ x. (x.0, x.1.now)) result (snapshot_at bytes.now) }
+{
+    let (program, rest) = text_of(alloc, bytes)?;
+    let (history, rest) = list_of(alloc, rest)?;
+    let (records, rest) = long_list_of(alloc, rest)?;
+    let (pending, rest) = list_of(alloc, rest)?;
+    let snapshot = Snapshot {
+        program,
+        history,
+        records,
+        pending,
+    };
+    Ok((snapshot, rest))
+}
+
+#[tactic(auto, using(crate::proofs::Lists::all_free), unfolding(crate::specs::ByteForms::batch_bytes))]
+pub(crate) fn put_batch(
+    out: &mut Bytes,
+    alloc: Global,
+    batch: &BatchRecord,
+) -> Result<(), AllocError>
+    requires { IsSpeltBatch batch.now }
+    ensures bytes { OnOk result (out.new ≡ out.old ++ batch_bytes batch.now) }
+    ensures real { OnOk result (IsRealBatch batch.now) }
+{
+    put_list(out, alloc, &batch.news)?;
+    put_list(out, alloc, &batch.committed)
+}
+
+#[tactic(auto, unfolding(crate::specs::ByteForms::snapshot_bytes))]
+pub(crate) fn put_snapshot(
+    out: &mut Bytes,
+    alloc: Global,
+    snapshot: &Snapshot,
+) -> Result<(), AllocError>
+    requires { IsSpeltSnapshot snapshot.now }
+    ensures bytes { OnOk result (out.new ≡ out.old ++ snapshot_bytes snapshot.now) }
+    ensures real { OnOk result (IsRealSnapshot snapshot.now) }
+{
+    put_text(out, alloc, &snapshot.program)?;
+    put_list(out, alloc, &snapshot.history)?;
+    put_long_list(out, alloc, &snapshot.records)?;
+    put_list(out, alloc, &snapshot.pending)
+}
