@@ -1,0 +1,2 @@
+pub mod OneClass
+pub mod Rules
