@@ -5,7 +5,9 @@
 #![tactic(auto)]
 
 mod fault;
+mod lines;
 mod small;
 mod token;
+mod tokens;
 
 pub use fault::SmallError;
