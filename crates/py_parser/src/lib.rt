@@ -6,6 +6,7 @@
 
 mod fault;
 mod lines;
+mod reader;
 mod small;
 mod token;
 mod tokens;
