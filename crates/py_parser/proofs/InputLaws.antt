@@ -1,5 +1,5 @@
 -- Laws of what is left to read.
-use Rattle.std.proofs.Common.{◌≡◌, ◌<◌, ℕ, Bool, true, false, List, [], ◌∷◌, length, arith}
+use Rattle.std.proofs.Common.{◌≡◌, ◌<◌, true, List, [], ◌∷◌, length, arith}
 use Rattle.py_parser.specs.declared.token.Kind.{Kind}
 use Rattle.py_parser.specs.declared.token.Token.{Token}
 use Rattle.py_parser.specs.Input.{shows_first}

@@ -1,3 +1,4 @@
+pub mod Fails
 pub mod InputLaws
 pub mod OneClass
 pub mod Rules

@@ -15,7 +15,7 @@ use Rattle.py_parser.specs.declared.small.MethodHead.{MethodHead}
 use Rattle.py_parser.specs.declared.small.SmallMethod.{SmallMethod}
 use Rattle.py_parser.specs.declared.small.SmallClass.{SmallClass}
 use Rattle.py_parser.specs.Input.{Outcome, found, past, first, others, column}
-use Rattle.py_parser.specs.SmallGrammar.{members, IsAtom, IsTerms, IsSum, IsValue, IsParams, IsInitHead, IsMethodHead, IsIntField, IsStep, IsFields, IsInit, IsKey, IsSteps, IsMethod, IsMethods, IsClass, atom_number, atom_field, atom_local_needs_0, atom_local, terms_more_stops_x, terms_more_stops_xs0, terms_more, terms_end, sum_is_stops_x, sum_is_stops_xs, sum_is, value_is_stops_x, value_is_needs_1, value_is, params_more, params_end, init_head_is_needs_0, init_head_is_needs_2, init_head_is, method_head_is_needs_0, method_head_is_needs_2, method_head_is, int_field_is_needs_0, int_field_is_stops_x, int_field_is, step_field_stops_x, step_field, step_local_needs_0, step_local_stops_x, step_local, fields_more_stops_x, fields_more_stops_xs0, fields_more, fields_end, init_is_needs_0, init_is_stops_h, init_is_needs_2, init_is_needs_3, init_is_stops_fs, init_is, key_is_needs_0, key_is_needs_1, key_is_needs_2, key_is_needs_3, key_is, steps_more_stops_x, steps_more_stops_xs0, steps_more, steps_end, method_is_needs_0, method_is_stops_h, method_is_needs_2, method_is_stops_ss, method_is_needs_4, method_is_needs_5, method_is_stops_x, method_is, methods_more_stops_x, methods_more_stops_xs0, methods_more, methods_end, class_is_needs_0, class_is_stops_a, class_is_stops_b, class_is_stops_x, class_is_stops_xs, class_is}
+use Rattle.py_parser.specs.SmallGrammar.{members, IsAtom, IsTerms, IsSum, IsValue, IsParams, IsInitHead, IsMethodHead, IsIntField, IsStep, IsFields, IsInit, IsKey, IsSteps, IsMethod, IsMethods, IsClass, atom_number, atom_field, atom_local_needs_0, atom_local, terms_more_stops_x, terms_more_stops_xs0, terms_more, terms_end, sum_is_stops_x, sum_is_stops_xs, sum_is, value_is_stops_x, value_is_needs_1, value_is, params_more, params_end, init_head_is_needs_0, init_head_is_needs_2, init_head_is, method_head_is_needs_0, method_head_is_needs_2, method_head_is, int_field_is_needs_0, int_field_is_stops_x, int_field_is, step_field_stops_x, step_field, step_local_needs_0, step_local_stops_x, step_local, fields_more_stops_x, fields_more_stops_xs0, fields_more, fields_end, init_is_needs_0, init_is_stops_h, init_is_needs_2, init_is_needs_3, init_is_stops_fs, init_is, key_is_needs_0, key_is_needs_1, key_is_needs_2, key_is_needs_3, key_is, steps_more_stops_x, steps_more_stops_xs0, steps_more, steps_end, method_is_needs_0, method_is_stops_h, method_is_needs_2, method_is_stops_ss, method_is_needs_4, method_is_needs_5, method_is_stops_x, method_is, methods_more_stops_x, methods_more_stops_xs0, methods_more, methods_end, class_is_needs_0, class_is_stops_a, class_is_stops_b, class_is_needs_3, class_is_stops_xs, class_is}
 
 same_rest : {A R : Type 0} {x y : A} {a b : R} → found x a ≡ found y b → a ≡ b
 same_rest e = cc
@@ -349,36 +349,36 @@ pub class_one : {i j : List Line} {o p : Option SmallClass} → IsClass i o → 
 class_one (class_is_needs_0 h0) e (class_is_needs_0 h0') = cc
 class_one (class_is_needs_0 h0) e (class_is_stops_a h0' h1') = cc
 class_one (class_is_needs_0 h0) e (class_is_stops_b h0' h1' h2') = cc
-class_one (class_is_needs_0 h0) e (class_is_stops_x h0' h1' h2' h3') = cc
+class_one (class_is_needs_0 h0) e (class_is_needs_3 h0' h1' h2' h3') = cc
 class_one (class_is_needs_0 h0) e (class_is_stops_xs h0' h1' h2' h3' h4') = cc
 class_one (class_is_needs_0 h0) e (class_is h0' h1' h2' h3' h4') = cc
 class_one (class_is_stops_a h0 h1) e (class_is_needs_0 h0') = cc
 class_one (class_is_stops_a h0 h1) e (class_is_stops_a h0' h1') = let s1 = init_one h1 (ap (λ z. column (members z)) e) (ap (λ z. members z) e) h1' in cc
 class_one (class_is_stops_a h0 h1) e (class_is_stops_b h0' h1' h2') = let s1 = init_one h1 (ap (λ z. column (members z)) e) (ap (λ z. members z) e) h1' in cc
-class_one (class_is_stops_a h0 h1) e (class_is_stops_x h0' h1' h2' h3') = let s1 = init_one h1 (ap (λ z. column (members z)) e) (ap (λ z. members z) e) h1' in cc
+class_one (class_is_stops_a h0 h1) e (class_is_needs_3 h0' h1' h2' h3') = let s1 = init_one h1 (ap (λ z. column (members z)) e) (ap (λ z. members z) e) h1' in cc
 class_one (class_is_stops_a h0 h1) e (class_is_stops_xs h0' h1' h2' h3' h4') = let s1 = init_one h1 (ap (λ z. column (members z)) e) (ap (λ z. members z) e) h1' in cc
 class_one (class_is_stops_a h0 h1) e (class_is h0' h1' h2' h3' h4') = let s1 = init_one h1 (ap (λ z. column (members z)) e) (ap (λ z. members z) e) h1' in cc
 class_one (class_is_stops_b h0 h1 h2) e (class_is_needs_0 h0') = cc
 class_one (class_is_stops_b h0 h1 h2) e (class_is_stops_a h0' h1') = let s1 = init_one h1 (ap (λ z. column (members z)) e) (ap (λ z. members z) e) h1' in cc
 class_one (class_is_stops_b h0 h1 h2) e (class_is_stops_b h0' h1' h2') = let s1 = init_one h1 (ap (λ z. column (members z)) e) (ap (λ z. members z) e) h1' in let s2 = key_one h2 (ap (λ z. column (members z)) e) (same_rest s1) h2' in cc
-class_one (class_is_stops_b h0 h1 h2) e (class_is_stops_x h0' h1' h2' h3') = let s1 = init_one h1 (ap (λ z. column (members z)) e) (ap (λ z. members z) e) h1' in let s2 = key_one h2 (ap (λ z. column (members z)) e) (same_rest s1) h2' in cc
+class_one (class_is_stops_b h0 h1 h2) e (class_is_needs_3 h0' h1' h2' h3') = let s1 = init_one h1 (ap (λ z. column (members z)) e) (ap (λ z. members z) e) h1' in let s2 = key_one h2 (ap (λ z. column (members z)) e) (same_rest s1) h2' in cc
 class_one (class_is_stops_b h0 h1 h2) e (class_is_stops_xs h0' h1' h2' h3' h4') = let s1 = init_one h1 (ap (λ z. column (members z)) e) (ap (λ z. members z) e) h1' in let s2 = key_one h2 (ap (λ z. column (members z)) e) (same_rest s1) h2' in cc
 class_one (class_is_stops_b h0 h1 h2) e (class_is h0' h1' h2' h3' h4') = let s1 = init_one h1 (ap (λ z. column (members z)) e) (ap (λ z. members z) e) h1' in let s2 = key_one h2 (ap (λ z. column (members z)) e) (same_rest s1) h2' in cc
-class_one (class_is_stops_x h0 h1 h2 h3) e (class_is_needs_0 h0') = cc
-class_one (class_is_stops_x h0 h1 h2 h3) e (class_is_stops_a h0' h1') = let s1 = init_one h1 (ap (λ z. column (members z)) e) (ap (λ z. members z) e) h1' in cc
-class_one (class_is_stops_x h0 h1 h2 h3) e (class_is_stops_b h0' h1' h2') = let s1 = init_one h1 (ap (λ z. column (members z)) e) (ap (λ z. members z) e) h1' in let s2 = key_one h2 (ap (λ z. column (members z)) e) (same_rest s1) h2' in cc
-class_one (class_is_stops_x h0 h1 h2 h3) e (class_is_stops_x h0' h1' h2' h3') = let s1 = init_one h1 (ap (λ z. column (members z)) e) (ap (λ z. members z) e) h1' in let s2 = key_one h2 (ap (λ z. column (members z)) e) (same_rest s1) h2' in let s3 = method_one h3 (ap (λ z. column (members z)) e) (same_rest s2) h3' in cc
-class_one (class_is_stops_x h0 h1 h2 h3) e (class_is_stops_xs h0' h1' h2' h3' h4') = let s1 = init_one h1 (ap (λ z. column (members z)) e) (ap (λ z. members z) e) h1' in let s2 = key_one h2 (ap (λ z. column (members z)) e) (same_rest s1) h2' in let s3 = method_one h3 (ap (λ z. column (members z)) e) (same_rest s2) h3' in cc
-class_one (class_is_stops_x h0 h1 h2 h3) e (class_is h0' h1' h2' h3' h4') = let s1 = init_one h1 (ap (λ z. column (members z)) e) (ap (λ z. members z) e) h1' in let s2 = key_one h2 (ap (λ z. column (members z)) e) (same_rest s1) h2' in let s3 = method_one h3 (ap (λ z. column (members z)) e) (same_rest s2) h3' in cc
+class_one (class_is_needs_3 h0 h1 h2 h3) e (class_is_needs_0 h0') = cc
+class_one (class_is_needs_3 h0 h1 h2 h3) e (class_is_stops_a h0' h1') = let s1 = init_one h1 (ap (λ z. column (members z)) e) (ap (λ z. members z) e) h1' in cc
+class_one (class_is_needs_3 h0 h1 h2 h3) e (class_is_stops_b h0' h1' h2') = let s1 = init_one h1 (ap (λ z. column (members z)) e) (ap (λ z. members z) e) h1' in let s2 = key_one h2 (ap (λ z. column (members z)) e) (same_rest s1) h2' in cc
+class_one (class_is_needs_3 h0 h1 h2 h3) e (class_is_needs_3 h0' h1' h2' h3') = let s1 = init_one h1 (ap (λ z. column (members z)) e) (ap (λ z. members z) e) h1' in let s2 = key_one h2 (ap (λ z. column (members z)) e) (same_rest s1) h2' in cc
+class_one (class_is_needs_3 h0 h1 h2 h3) e (class_is_stops_xs h0' h1' h2' h3' h4') = let s1 = init_one h1 (ap (λ z. column (members z)) e) (ap (λ z. members z) e) h1' in let s2 = key_one h2 (ap (λ z. column (members z)) e) (same_rest s1) h2' in cc
+class_one (class_is_needs_3 h0 h1 h2 h3) e (class_is h0' h1' h2' h3' h4') = let s1 = init_one h1 (ap (λ z. column (members z)) e) (ap (λ z. members z) e) h1' in let s2 = key_one h2 (ap (λ z. column (members z)) e) (same_rest s1) h2' in cc
 class_one (class_is_stops_xs h0 h1 h2 h3 h4) e (class_is_needs_0 h0') = cc
 class_one (class_is_stops_xs h0 h1 h2 h3 h4) e (class_is_stops_a h0' h1') = let s1 = init_one h1 (ap (λ z. column (members z)) e) (ap (λ z. members z) e) h1' in cc
 class_one (class_is_stops_xs h0 h1 h2 h3 h4) e (class_is_stops_b h0' h1' h2') = let s1 = init_one h1 (ap (λ z. column (members z)) e) (ap (λ z. members z) e) h1' in let s2 = key_one h2 (ap (λ z. column (members z)) e) (same_rest s1) h2' in cc
-class_one (class_is_stops_xs h0 h1 h2 h3 h4) e (class_is_stops_x h0' h1' h2' h3') = let s1 = init_one h1 (ap (λ z. column (members z)) e) (ap (λ z. members z) e) h1' in let s2 = key_one h2 (ap (λ z. column (members z)) e) (same_rest s1) h2' in let s3 = method_one h3 (ap (λ z. column (members z)) e) (same_rest s2) h3' in cc
-class_one (class_is_stops_xs h0 h1 h2 h3 h4) e (class_is_stops_xs h0' h1' h2' h3' h4') = let s1 = init_one h1 (ap (λ z. column (members z)) e) (ap (λ z. members z) e) h1' in let s2 = key_one h2 (ap (λ z. column (members z)) e) (same_rest s1) h2' in let s3 = method_one h3 (ap (λ z. column (members z)) e) (same_rest s2) h3' in let s4 = methods_one h4 (ap (λ z. column (members z)) e) (same_rest s3) h4' in cc
-class_one (class_is_stops_xs h0 h1 h2 h3 h4) e (class_is h0' h1' h2' h3' h4') = let s1 = init_one h1 (ap (λ z. column (members z)) e) (ap (λ z. members z) e) h1' in let s2 = key_one h2 (ap (λ z. column (members z)) e) (same_rest s1) h2' in let s3 = method_one h3 (ap (λ z. column (members z)) e) (same_rest s2) h3' in let s4 = methods_one h4 (ap (λ z. column (members z)) e) (same_rest s3) h4' in cc
+class_one (class_is_stops_xs h0 h1 h2 h3 h4) e (class_is_needs_3 h0' h1' h2' h3') = let s1 = init_one h1 (ap (λ z. column (members z)) e) (ap (λ z. members z) e) h1' in let s2 = key_one h2 (ap (λ z. column (members z)) e) (same_rest s1) h2' in cc
+class_one (class_is_stops_xs h0 h1 h2 h3 h4) e (class_is_stops_xs h0' h1' h2' h3' h4') = let s1 = init_one h1 (ap (λ z. column (members z)) e) (ap (λ z. members z) e) h1' in let s2 = key_one h2 (ap (λ z. column (members z)) e) (same_rest s1) h2' in let s4 = methods_one h4 (ap (λ z. column (members z)) e) (same_rest s2) h4' in cc
+class_one (class_is_stops_xs h0 h1 h2 h3 h4) e (class_is h0' h1' h2' h3' h4') = let s1 = init_one h1 (ap (λ z. column (members z)) e) (ap (λ z. members z) e) h1' in let s2 = key_one h2 (ap (λ z. column (members z)) e) (same_rest s1) h2' in let s4 = methods_one h4 (ap (λ z. column (members z)) e) (same_rest s2) h4' in cc
 class_one (class_is h0 h1 h2 h3 h4) e (class_is_needs_0 h0') = cc
 class_one (class_is h0 h1 h2 h3 h4) e (class_is_stops_a h0' h1') = let s1 = init_one h1 (ap (λ z. column (members z)) e) (ap (λ z. members z) e) h1' in cc
 class_one (class_is h0 h1 h2 h3 h4) e (class_is_stops_b h0' h1' h2') = let s1 = init_one h1 (ap (λ z. column (members z)) e) (ap (λ z. members z) e) h1' in let s2 = key_one h2 (ap (λ z. column (members z)) e) (same_rest s1) h2' in cc
-class_one (class_is h0 h1 h2 h3 h4) e (class_is_stops_x h0' h1' h2' h3') = let s1 = init_one h1 (ap (λ z. column (members z)) e) (ap (λ z. members z) e) h1' in let s2 = key_one h2 (ap (λ z. column (members z)) e) (same_rest s1) h2' in let s3 = method_one h3 (ap (λ z. column (members z)) e) (same_rest s2) h3' in cc
-class_one (class_is h0 h1 h2 h3 h4) e (class_is_stops_xs h0' h1' h2' h3' h4') = let s1 = init_one h1 (ap (λ z. column (members z)) e) (ap (λ z. members z) e) h1' in let s2 = key_one h2 (ap (λ z. column (members z)) e) (same_rest s1) h2' in let s3 = method_one h3 (ap (λ z. column (members z)) e) (same_rest s2) h3' in let s4 = methods_one h4 (ap (λ z. column (members z)) e) (same_rest s3) h4' in cc
-class_one (class_is h0 h1 h2 h3 h4) e (class_is h0' h1' h2' h3' h4') = let s1 = init_one h1 (ap (λ z. column (members z)) e) (ap (λ z. members z) e) h1' in let s2 = key_one h2 (ap (λ z. column (members z)) e) (same_rest s1) h2' in let s3 = method_one h3 (ap (λ z. column (members z)) e) (same_rest s2) h3' in let s4 = methods_one h4 (ap (λ z. column (members z)) e) (same_rest s3) h4' in cc
+class_one (class_is h0 h1 h2 h3 h4) e (class_is_needs_3 h0' h1' h2' h3') = let s1 = init_one h1 (ap (λ z. column (members z)) e) (ap (λ z. members z) e) h1' in let s2 = key_one h2 (ap (λ z. column (members z)) e) (same_rest s1) h2' in cc
+class_one (class_is h0 h1 h2 h3 h4) e (class_is_stops_xs h0' h1' h2' h3' h4') = let s1 = init_one h1 (ap (λ z. column (members z)) e) (ap (λ z. members z) e) h1' in let s2 = key_one h2 (ap (λ z. column (members z)) e) (same_rest s1) h2' in let s4 = methods_one h4 (ap (λ z. column (members z)) e) (same_rest s2) h4' in cc
+class_one (class_is h0 h1 h2 h3 h4) e (class_is h0' h1' h2' h3' h4') = let s1 = init_one h1 (ap (λ z. column (members z)) e) (ap (λ z. members z) e) h1' in let s2 = key_one h2 (ap (λ z. column (members z)) e) (same_rest s1) h2' in let s4 = methods_one h4 (ap (λ z. column (members z)) e) (same_rest s2) h4' in cc

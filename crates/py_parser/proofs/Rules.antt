@@ -12,7 +12,7 @@ use Rattle.py_parser.specs.declared.small.IntField.{IntField}
 use Rattle.py_parser.specs.declared.small.Step.{Step}
 use Rattle.py_parser.specs.declared.small.SmallMethod.{SmallMethod}
 use Rattle.py_parser.specs.Input.{Outcome, found, stops, past, shows, place_at, addition, first, others, is_at}
-use Rattle.py_parser.specs.SmallGrammar.{param_at, is_step, has_line, IsAtom, IsTerms, IsSum, IsValue, IsParams, IsInitHead, IsMethodHead, IsIntField, IsStep, IsFields, IsInit, IsKey, IsSteps, IsMethod, IsMethods, IsClass, atom_number, atom_field, atom_local_needs_0, atom_local, terms_more_stops_x, terms_more_stops_xs0, terms_more, terms_end, sum_is_stops_x, sum_is_stops_xs, sum_is, value_is_stops_x, value_is_needs_1, value_is, params_more, params_end, init_head_is_needs_0, init_head_is_needs_2, init_head_is, method_head_is_needs_0, method_head_is_needs_2, method_head_is, int_field_is_needs_0, int_field_is_stops_x, int_field_is, step_field_stops_x, step_field, step_local_needs_0, step_local_stops_x, step_local, fields_more_stops_x, fields_more_stops_xs0, fields_more, fields_end, init_is_needs_0, init_is_stops_h, init_is_needs_2, init_is_needs_3, init_is_stops_fs, init_is, key_is_needs_0, key_is_needs_1, key_is_needs_2, key_is_needs_3, key_is, steps_more_stops_x, steps_more_stops_xs0, steps_more, steps_end, method_is_needs_0, method_is_stops_h, method_is_needs_2, method_is_stops_ss, method_is_needs_4, method_is_needs_5, method_is_stops_x, method_is, methods_more_stops_x, methods_more_stops_xs0, methods_more, methods_end, class_is_needs_0, class_is_stops_a, class_is_stops_b, class_is_stops_x, class_is_stops_xs, class_is}
+use Rattle.py_parser.specs.SmallGrammar.{param_at, is_step, has_line, IsAtom, IsTerms, IsSum, IsValue, IsParams, IsInitHead, IsMethodHead, IsIntField, IsStep, IsFields, IsInit, IsKey, IsSteps, IsMethod, IsMethods, IsClass, atom_number, atom_field, atom_local_needs_0, atom_local, terms_more_stops_x, terms_more_stops_xs0, terms_more, terms_end, sum_is_stops_x, sum_is_stops_xs, sum_is, value_is_stops_x, value_is_needs_1, value_is, params_more, params_end, init_head_is_needs_0, init_head_is_needs_2, init_head_is, method_head_is_needs_0, method_head_is_needs_2, method_head_is, int_field_is_needs_0, int_field_is_stops_x, int_field_is, step_field_stops_x, step_field, step_local_needs_0, step_local_stops_x, step_local, fields_more_stops_x, fields_more_stops_xs0, fields_more, fields_end, init_is_needs_0, init_is_stops_h, init_is_needs_2, init_is_needs_3, init_is_stops_fs, init_is, key_is_needs_0, key_is_needs_1, key_is_needs_2, key_is_needs_3, key_is, steps_more_stops_x, steps_more_stops_xs0, steps_more, steps_end, method_is_needs_0, method_is_stops_h, method_is_needs_2, method_is_stops_ss, method_is_needs_4, method_is_needs_5, method_is_stops_x, method_is, methods_more_stops_x, methods_more_stops_xs0, methods_more, methods_end, class_is_needs_0, class_is_stops_a, class_is_stops_b, class_is_needs_3, class_is_stops_xs, class_is}
 
 -- the items so far before what follows
 abbrev pub with_front : {A R : Type 0} → List A → Outcome (List A) R → Outcome (List A) R
@@ -135,4 +135,4 @@ pub ruleset method_rules = (method_is_needs_0, method_is_stops_h, method_is_need
 
 pub ruleset methods_rules = (methods_more_stops_x, methods_more_stops_xs0, methods_more, methods_end, methods_done, methods_pushed, methods_ends_stops_x)
 
-pub ruleset class_rules = (class_is_needs_0, class_is_stops_a, class_is_stops_b, class_is_stops_x, class_is_stops_xs, class_is)
+pub ruleset class_rules = (class_is_needs_0, class_is_stops_a, class_is_stops_b, class_is_needs_3, class_is_stops_xs, class_is)

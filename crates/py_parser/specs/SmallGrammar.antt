@@ -171,6 +171,6 @@ pub data IsClass : List Line → Option SmallClass → Type 0 where
   class_is_needs_0 : {i : List Line} → opens i ≡ false → IsClass i None
   class_is_stops_a : {i : List Line} → opens i ≡ true → IsInit (column (members i)) (members i) stops → IsClass i None
   class_is_stops_b : {i : List Line} {a : Init} {m1 : List Line} → opens i ≡ true → IsInit (column (members i)) (members i) (found a m1) → IsKey (column (members i)) m1 stops → IsClass i None
-  class_is_stops_x : {i : List Line} {a : Init} {m1 : List Line} {b : Key} {m2 : List Line} → opens i ≡ true → IsInit (column (members i)) (members i) (found a m1) → IsKey (column (members i)) m1 (found b m2) → IsMethod (column (members i)) m2 stops → IsClass i None
-  class_is_stops_xs : {i : List Line} {a : Init} {m1 : List Line} {b : Key} {m2 : List Line} {x : SmallMethod} {m3 : List Line} → opens i ≡ true → IsInit (column (members i)) (members i) (found a m1) → IsKey (column (members i)) m1 (found b m2) → IsMethod (column (members i)) m2 (found x m3) → IsMethods (column (members i)) m3 stops → IsClass i None
-  class_is : {i : List Line} {a : Init} {m1 : List Line} {b : Key} {m2 : List Line} {x : SmallMethod} {m3 : List Line} {xs : List SmallMethod} {m4 : List Line} → opens i ≡ true → IsInit (column (members i)) (members i) (found a m1) → IsKey (column (members i)) m1 (found b m2) → IsMethod (column (members i)) m2 (found x m3) → IsMethods (column (members i)) m3 (found xs m4) → IsClass i (Some (record { name = class_name i; init = a; key = b; methods = x ∷ xs }))
+  class_is_needs_3 : {i : List Line} {a : Init} {m1 : List Line} {b : Key} {m2 : List Line} → opens i ≡ true → IsInit (column (members i)) (members i) (found a m1) → IsKey (column (members i)) m1 (found b m2) → has_line m2 ≡ false → IsClass i None
+  class_is_stops_xs : {i : List Line} {a : Init} {m1 : List Line} {b : Key} {m2 : List Line} → opens i ≡ true → IsInit (column (members i)) (members i) (found a m1) → IsKey (column (members i)) m1 (found b m2) → has_line m2 ≡ true → IsMethods (column (members i)) m2 stops → IsClass i None
+  class_is : {i : List Line} {a : Init} {m1 : List Line} {b : Key} {m2 : List Line} {xs : List SmallMethod} {m4 : List Line} → opens i ≡ true → IsInit (column (members i)) (members i) (found a m1) → IsKey (column (members i)) m1 (found b m2) → has_line m2 ≡ true → IsMethods (column (members i)) m2 (found xs m4) → IsClass i (Some (record { name = class_name i; init = a; key = b; methods = xs }))

@@ -1,9 +1,7 @@
-use Rattle.std.proofs.Common.{◌≡◌, rules, sym, ap, subst, ◌∙◌, SFits}
+use Rattle.std.proofs.Common.{rules, SFits}
 use Rattle.std.specs.Int.{w128}
 use Rattle.std.proofs.lemmas.Int.{to_z-of_z}
-use Rattle.py_parser.specs.declared.small.Operand.TheVariants as opd
-use Rattle.py_parser.specs.Input.{found}
-use Rattle.py_parser.specs.SmallGrammar.{IsAtom, atom_number}
+use Rattle.py_parser.specs.SmallGrammar.{atom_number}
 use Rattle.py_parser.proofs.reader.atom.Goals as goal
 
 pub returns-then-shows-clause-comes : goal.returns-then-shows-clause-comes
