@@ -1,4 +1,6 @@
 pub mod Fails
 pub mod InputLaws
+pub mod LexRules
 pub mod OneClass
+pub mod OneText
 pub mod Rules

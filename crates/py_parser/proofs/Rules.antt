@@ -23,14 +23,14 @@ with_front front stops = stops
 abbrev pub GoesOn : {A R : Type 0} → (R → Outcome (List A) R → Type 0) → R → R → List A → Type 0
 GoesOn {A} {R} P start now items = (o : Outcome (List A) R) → P now o → P start (with_front items o)
 
-nothing_more : {A R : Type 0} (P : R → Outcome (List A) R → Type 0) (start now rest : R) (items : List A) → GoesOn P start now items → P now (found [] rest) → P start (found items rest)
+pub nothing_more : {A R : Type 0} (P : R → Outcome (List A) R → Type 0) (start now rest : R) (items : List A) → GoesOn P start now items → P now (found [] rest) → P start (found items rest)
 nothing_more P start now rest items g e = subst (λ xs. P start (found xs rest)) (append-nil items) (g (found [] rest) e)
 
-abbrev after_one : {A R : Type 0} → A → Outcome (List A) R → Outcome (List A) R
+abbrev pub after_one : {A R : Type 0} → A → Outcome (List A) R → Outcome (List A) R
 after_one x (found xs rest) = found (x ∷ xs) rest
 after_one x stops = stops
 
-regrouped : {A R : Type 0} (P : R → Outcome (List A) R → Type 0) (start : R) (items : List A) (x : A) (o : Outcome (List A) R) → P start (with_front items (after_one x o)) → P start (with_front (items ++ x ∷ []) o)
+pub regrouped : {A R : Type 0} (P : R → Outcome (List A) R → Type 0) (start : R) (items : List A) (x : A) (o : Outcome (List A) R) → P start (with_front items (after_one x o)) → P start (with_front (items ++ x ∷ []) o)
 regrouped P start items x (found xs rest) h = rw append_assoc h
 regrouped P start items x stops h = h
 

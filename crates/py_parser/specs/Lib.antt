@@ -1,3 +1,4 @@
 pub mod Input
 pub mod Kinds
 pub mod SmallGrammar
+pub mod SmallTokens
