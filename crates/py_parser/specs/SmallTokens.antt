@@ -95,6 +95,9 @@ leads_with_zero (b ∷ bs) = b == 48 && nat_lt 0 (value_from 0 (b ∷ bs))
 abbrev pub makes_number : List ℕ → ℕ → Bool
 makes_number run next = are_digits false run && not (leads_with_zero run) && not (is_letter next || next == 46) && nat_lt (value_from 0 run) (2 ^ 127)
 
+abbrev pub number_of : List ℕ → ℕ → Option ℕ
+number_of run next = if makes_number run next then Some (value_from 0 run) else None
+
 -- a sign by its two bytes, with its length
 abbrev pub sign_of : ℕ → ℕ → Option (Kind × ℕ)
 sign_of a b =
@@ -145,7 +148,7 @@ name i = if is_letter (byte i) then name_of (word i) else None
 
 -- the value of the number here
 unfoldable pub number : Scan → Option ℕ
-number i = if is_digit (byte i) && makes_number (digits i) (byte (moved (length (digits i)) i)) then Some (value_from 0 (digits i)) else None
+number i = if is_digit (byte i) then number_of (digits i) (byte (moved (length (digits i)) i)) else None
 
 unfoldable pub sign : Scan → Option (Kind × ℕ)
 sign i = sign_of (byte i) (byte (moved 1 i))

@@ -11,5 +11,6 @@ mod reader;
 mod small;
 mod token;
 mod tokens;
+mod words;
 
 pub use fault::SmallError;
