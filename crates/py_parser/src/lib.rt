@@ -6,6 +6,7 @@
 
 mod class;
 mod fault;
+mod keywords;
 mod lines;
 mod reader;
 mod small;
