@@ -30,4 +30,9 @@ run-ascii (x ∷ xs) =
     let by_test : (b : Bool) → is_word x ≡ b → IsAscii (take_while is_word (x ∷ xs)) = λ b. elim b as (λ z. is_word x ≡ z → IsAscii (take_while is_word (x ∷ xs))) [ true ↦ λ e. subst IsAscii (sym (take_while-cons is_word x xs ∙ ap (λ t. cond t (x ∷ take_while is_word xs) []) e)) (IsAscii-cons x (take_while is_word xs) (word-ascii x e) (run-ascii xs)) | false ↦ λ e. subst IsAscii (sym (take_while-cons is_word x xs ∙ ap (λ t. cond t (x ∷ take_while is_word xs) []) e)) IsAscii-nil ] in
     by_test (is_word x) refl
 
+pub word-ascii_at : (word xs : List ℕ) → word ≡ take_while is_word xs → IsAscii word
+word-ascii_at word xs e = subst IsAscii (sym e) (run-ascii xs)
+
+pub ruleset words = (word-ascii_at)
+
 pub ruleset ascii_texts = (IsUtf8-from_ascii)

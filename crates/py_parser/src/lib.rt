@@ -9,6 +9,7 @@ mod fault;
 mod keywords;
 mod lines;
 mod reader;
+mod scanner;
 mod small;
 mod token;
 mod tokens;

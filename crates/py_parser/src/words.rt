@@ -1,6 +1,6 @@
 //! Words, numbers and signs, byte by byte.
 
-ghost use Rattle.std.specs.Prelude.{◌≡◌, ◌<◌, ◌≤◌, ◌^◌, ℕ, false, length, take_while, MatchOption, IfSome};
+ghost use Rattle.std.specs.Prelude.{◌≡◌, ◌<◌, ◌≤◌, ◌^◌, ℕ, false, length, take_while, MatchOption, IfSome, IsAscii};
 ghost use Rattle.py_parser.specs.SmallTokens as spec;
 
 use crate::token::Kind;
@@ -46,9 +46,10 @@ fn number_run(bytes: &[u8]) -> usize
 }
 
 /// The letters, digits and underscores that the bytes begin with.
-#[tactic(auto, using(crate::proofs::Runs::run_is))]
+#[tactic(auto, using(crate::proofs::Runs::run_is, crate::proofs::Runs::words))]
 pub fn word_of(bytes: &[u8]) -> &[u8]
-    ensures { result.now ≡ take_while spec.is_word bytes.now }
+    ensures word { result.now ≡ take_while spec.is_word bytes.now }
+    ensures ascii { IsAscii result.now }
 {
     &bytes[..word_run(bytes)]
 }
