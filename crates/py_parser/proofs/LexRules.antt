@@ -1,10 +1,10 @@
 -- The loops of the scanner, and its rules as the check tries them.
-use Rattle.std.proofs.Common.{◌≡◌, ℕ, true, false, Option, Some, None, List, [], ◌∷◌, ◌++◌, sym, subst}
+use Rattle.std.proofs.Common.{◌≡◌, ℕ, true, false, Some, None, List, [], ◌∷◌, ◌++◌, sym, subst}
 use Rattle.py_parser.specs.declared.token.Kind.{Kind}
 use Rattle.py_parser.specs.declared.token.Token.{Token}
 use Rattle.py_parser.specs.declared.token.Line.{Line}
 use Rattle.py_parser.specs.Input.{Outcome, found, stops}
-use Rattle.py_parser.specs.SmallTokens.{Scan, at_end, ends_line, unspaced, spaces, past_line, IsToken, IsTokens, IsLines, token_keyword, token_name, token_number, token_sign_needs_0, token_sign, tokens_end, tokens_more_stops_x, tokens_more_stops_xs0, tokens_more, lines_end, lines_blank_stops, lines_blank, lines_more_stops_ts, lines_more_stops_xs0, lines_more}
+use Rattle.py_parser.specs.SmallTokens.{Scan, keyword, name, number, sign, bare, moved, at_end, ends_line, unspaced, spaces, past_line, IsToken, IsTokens, IsLines, token_keyword, token_name, token_number, token_sign_needs_0, token_sign, tokens_end, tokens_more_stops_x, tokens_more_stops_xs0, tokens_more, lines_end, lines_blank_stops, lines_blank, lines_more_stops_ts, lines_more_stops_xs0, lines_more}
 use Rattle.py_parser.proofs.Rules.{GoesOn, nothing_more, after_one, regrouped}
 
 blank_line : (now : Scan) (o : Outcome (List Line) Scan) → at_end now ≡ false → ends_line (unspaced now) ≡ true → IsLines (past_line (unspaced now)) o → IsLines now o
@@ -26,7 +26,7 @@ pub tokens_pushed : (start now mid : Scan) (items all : List Token) (x : Token) 
 tokens_pushed start now mid items all x m1 g u0 u1 m e = subst (λ w. GoesOn IsTokens start w all) (sym m) (subst (λ (ys : List Token). GoesOn IsTokens start m1 ys) (sym e) (λ o rest. regrouped IsTokens start items x o (g (after_one x o) (tokens_one_more now x m1 o u0 u1 rest))))
 
 pub tokens_ends_stops_x : (start now : Scan) (items : List Token) → GoesOn IsTokens start now items → ends_line (unspaced now) ≡ false → IsToken (unspaced now) stops → IsTokens start stops
-tokens_ends_stops_x start now items  g u0 u1 = g stops (tokens_more_stops_x u0 u1)
+tokens_ends_stops_x start now items g u0 u1 = g stops (tokens_more_stops_x u0 u1)
 
 -- lines
 lines_one_more : (now : Scan) (ts : List Token) (m1 : Scan) (o : Outcome (List Line) (Scan)) → at_end now ≡ false → ends_line (unspaced now) ≡ false → IsTokens (unspaced now) (found ts m1) → IsLines (past_line m1) o → IsLines now (after_one (record { column = spaces now; tokens = ts }) o)
@@ -40,9 +40,13 @@ pub lines_pushed : (start now mid : Scan) (items all : List Line) (ts : List Tok
 lines_pushed start now mid items all ts m1 g u0 u1 u2 m e = subst (λ w. GoesOn IsLines start w all) (sym m) (subst (λ (ys : List Line). GoesOn IsLines start (past_line m1) ys) (sym e) (λ o rest. regrouped IsLines start items (record { column = spaces now; tokens = ts }) o (g (after_one (record { column = spaces now; tokens = ts }) o) (lines_one_more now ts m1 o u0 u1 u2 rest))))
 
 pub lines_ends_stops_ts : (start now : Scan) (items : List Line) → GoesOn IsLines start now items → at_end now ≡ false → ends_line (unspaced now) ≡ false → IsTokens (unspaced now) stops → IsLines start stops
-lines_ends_stops_ts start now items  g u0 u1 u2 = g stops (lines_more_stops_ts u0 u1 u2)
+lines_ends_stops_ts start now items g u0 u1 u2 = g stops (lines_more_stops_ts u0 u1 u2)
 
-pub ruleset token_rules = (token_keyword, token_name, token_number, token_sign_needs_0, token_sign)
+-- a sign with its length
+pub sign_found : (i : Scan) (kind : Kind) (n : ℕ) → keyword i ≡ None → name i ≡ None → number i ≡ None → Some (kind, n) ≡ sign i → IsToken i (found (bare kind i) (moved n i))
+sign_found i kind n a b c e = token_sign {s = (kind, n)} a b c (sym e)
+
+pub ruleset token_rules = (sign_found, token_keyword, token_name, token_number, token_sign_needs_0, token_sign)
 
 pub ruleset tokens_rules = (tokens_end, tokens_more_stops_x, tokens_more_stops_xs0, tokens_more, tokens_done, tokens_pushed, tokens_ends_stops_x)
 

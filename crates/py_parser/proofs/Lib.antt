@@ -6,3 +6,4 @@ pub mod OneClass
 pub mod OneText
 pub mod Rules
 pub mod Runs
+pub mod Tables

@@ -1,9 +1,8 @@
 -- A text has one list of lines and one table of names at most.
-use Rattle.std.proofs.Common.{◌≡◌, ℕ, Option, Some, None, List, [], ◌∷◌, ap}
-use Rattle.py_parser.specs.declared.token.Kind.{Kind}
+use Rattle.std.proofs.Common.{◌≡◌, List, ap}
 use Rattle.py_parser.specs.declared.token.Token.{Token}
 use Rattle.py_parser.specs.declared.token.Line.{Line}
-use Rattle.py_parser.specs.Input.{Outcome, found, stops}
+use Rattle.py_parser.specs.Input.{Outcome, found}
 use Rattle.py_parser.specs.SmallTokens.{Scan, unspaced, past_line, IsToken, IsTokens, IsLines, token_keyword, token_name, token_number, token_sign_needs_0, token_sign, tokens_end, tokens_more_stops_x, tokens_more_stops_xs0, tokens_more, lines_end, lines_blank_stops, lines_blank, lines_more_stops_ts, lines_more_stops_xs0, lines_more}
 
 same_rest : {A R : Type 0} {x y : A} {a b : R} → found x a ≡ found y b → a ≡ b
@@ -94,4 +93,3 @@ lines_one (lines_more h0 h1 h2 h3) e (lines_blank h0' h1' h2') = cc
 lines_one (lines_more h0 h1 h2 h3) e (lines_more_stops_ts h0' h1' h2') = let s2 = tokens_one h2 (ap (λ z. unspaced z) e) h2' in cc
 lines_one (lines_more h0 h1 h2 h3) e (lines_more_stops_xs0 h0' h1' h2' h3') = let s2 = tokens_one h2 (ap (λ z. unspaced z) e) h2' in let s3 = lines_one h3 (ap (λ z. past_line z) (same_rest s2)) h3' in cc
 lines_one (lines_more h0 h1 h2 h3) e (lines_more h0' h1' h2' h3') = let s2 = tokens_one h2 (ap (λ z. unspaced z) e) h2' in let s3 = lines_one h3 (ap (λ z. past_line z) (same_rest s2)) h3' in cc
-

@@ -1,5 +1,5 @@
 -- Runs of bytes that pass a test.
-use Rattle.std.proofs.Common.{◌≡◌, ◌≤◌, ◌+◌, ℕ, Bool, true, false, cond, List, [], ◌∷◌, length, take, refl, ap, arith, min}
+use Rattle.std.proofs.Common.{◌≡◌, ◌≤◌, ◌+◌, ℕ, Bool, true, false, cond, List, [], ◌∷◌, length, take, refl, ap, arith}
 use Rattle.std.specs.Prelude.{take_while}
 use Rattle.std.specs.List.{prefix_len}
 use Rattle.std.proofs.Common.{length-take, sym, subst, ◌∙◌, ◌<◌}
@@ -32,7 +32,5 @@ run-ascii (x ∷ xs) =
 
 pub word-ascii_at : (word xs : List ℕ) → word ≡ take_while is_word xs → IsAscii word
 word-ascii_at word xs e = subst IsAscii (sym e) (run-ascii xs)
-
-pub ruleset words = (word-ascii_at)
 
 pub ruleset ascii_texts = (IsUtf8-from_ascii)

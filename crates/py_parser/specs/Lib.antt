@@ -1,4 +1,5 @@
 pub mod Input
 pub mod Kinds
+pub mod Lexed
 pub mod SmallGrammar
 pub mod SmallTokens

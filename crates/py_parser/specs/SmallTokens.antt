@@ -1,5 +1,5 @@
 -- The lexical rules of small programs, on bytes.
-use Rattle.std.specs.Prelude.{◌≡◌, ℕ, ◌+◌, ◌*◌, ◌-◌, ◌<◌, ◌≤◌, ◌^◌, Bool, true, false, not, ◌||◌, ◌&&◌, ◌==◌, nat_le, nat_lt, if◌then◌else◌, List, [], ◌∷◌, length, drop, take_while, slice_index, pos, codes, bytes_eq, unwrap_or, is_none, Option, Some, None}
+use Rattle.std.specs.Prelude.{◌≡◌, ℕ, ◌+◌, ◌*◌, ◌-◌, ◌≤◌, ◌^◌, Bool, true, false, not, ◌||◌, ◌&&◌, ◌==◌, nat_le, nat_lt, if◌then◌else◌, List, [], ◌∷◌, length, drop, take_while, slice_index, pos, codes, bytes_eq, unwrap_or, is_none, Option, Some, None}
 use Rattle.std.specs.List.{list_any}
 use Rattle.py_tree.specs.declared.names.Place.{Place}
 use Rattle.py_tree.specs.declared.names.Name.{Name}
@@ -211,3 +211,10 @@ pub data IsLines : Scan → Outcome (List Line) (Scan) → Type 0 where
   lines_more_stops_xs0 : {i : Scan} {ts : List Token} {m1 : Scan} → at_end i ≡ false → ends_line (unspaced i) ≡ false → IsTokens (unspaced i) (found ts m1) → IsLines (past_line m1) stops → IsLines i stops
   lines_more : {i : Scan} {ts : List Token} {m1 : Scan} {xs0 : List Line} {m0 : Scan} → at_end i ≡ false → ends_line (unspaced i) ≡ false → IsTokens (unspaced i) (found ts m1) → IsLines (past_line m1) (found xs0 m0) → IsLines i (found ((record { column = spaces i; tokens = ts }) ∷ xs0) m0)
 
+-- the text's lines, and the table of its names
+abbrev pub IsText : List ℕ → List Line → List (List ℕ) → Type 0
+IsText text lines names = (past : Scan) × IsLines (start text) (found lines past) × (past.names ≡ names)
+
+-- the text has no lines
+abbrev pub IsNoText : List ℕ → Type 0
+IsNoText text = IsLines (start text) stops

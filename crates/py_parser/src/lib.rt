@@ -7,6 +7,7 @@
 mod class;
 mod fault;
 mod keywords;
+mod lex;
 mod lines;
 mod reader;
 mod scanner;

@@ -46,7 +46,7 @@ fn number_run(bytes: &[u8]) -> usize
 }
 
 /// The letters, digits and underscores that the bytes begin with.
-#[tactic(auto, using(crate::proofs::Runs::run_is, crate::proofs::Runs::words))]
+#[tactic(auto, using(crate::proofs::Runs::run_is))]
 pub fn word_of(bytes: &[u8]) -> &[u8]
     ensures word { result.now ≡ take_while spec.is_word bytes.now }
     ensures ascii { IsAscii result.now }

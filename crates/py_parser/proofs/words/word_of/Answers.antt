@@ -1,4 +1,4 @@
-use Rattle.std.proofs.Common.{◌≡◌, take, ap, ◌∙◌}
+use Rattle.std.proofs.Common.{take, ap, ◌∙◌}
 use Rattle.py_parser.specs.SmallTokens.{is_word}
 use Rattle.py_parser.proofs.Runs.{run_is, word-ascii_at}
 use Rattle.py_parser.proofs.words.word_of.Goals as goal
