@@ -7,3 +7,4 @@ pub mod OneText
 pub mod Rules
 pub mod Runs
 pub mod Tables
+pub mod TreeLaws

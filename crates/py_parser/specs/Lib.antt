@@ -3,3 +3,4 @@ pub mod Kinds
 pub mod Lexed
 pub mod SmallGrammar
 pub mod SmallTokens
+pub mod SmallTrees

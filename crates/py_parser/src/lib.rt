@@ -4,6 +4,7 @@
 //! tested by the rules, and its tree is built. Each stage is exactly its definition in `specs/`.
 #![tactic(auto)]
 
+mod build;
 mod class;
 mod fault;
 mod keywords;
