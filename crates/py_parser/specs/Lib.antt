@@ -2,5 +2,6 @@ pub mod Input
 pub mod Kinds
 pub mod Lexed
 pub mod SmallGrammar
+pub mod SmallRules
 pub mod SmallTokens
 pub mod SmallTrees

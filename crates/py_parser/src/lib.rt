@@ -10,6 +10,7 @@ mod fault;
 mod keywords;
 mod lex;
 mod lines;
+mod names;
 mod reader;
 mod scanner;
 mod small;
