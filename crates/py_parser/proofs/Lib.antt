@@ -4,6 +4,7 @@ pub mod InputLaws
 pub mod LexRules
 pub mod OneClass
 pub mod OneText
+pub mod RuleLaws
 pub mod Rules
 pub mod Runs
 pub mod Tables

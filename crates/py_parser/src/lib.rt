@@ -5,6 +5,7 @@
 #![tactic(auto)]
 
 mod build;
+mod check;
 mod class;
 mod fault;
 mod keywords;

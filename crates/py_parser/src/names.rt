@@ -1,6 +1,7 @@
 //! Names that may stand where they do.
 
 ghost use Rattle.std.specs.Prelude.{◌≡◌, not, nat_le, IfOk};
+ghost use Rattle.std.specs.List.{list_all};
 ghost use Rattle.py_parser.specs.SmallRules as spec;
 
 use crate::small::{IntField, Parameter, SmallMethod};
@@ -42,11 +43,17 @@ pub fn is_free(class: u32, name: u32) -> bool
     !is_reserved(name) && name != class
 }
 
+fn all_are_free(class: u32, names: &[u32]) -> bool
+    ensures { result ≡ list_all (spec.is_free class) names.now }
+{
+    names.iter().all(|name| is_free(class, *name))
+}
+
 /// Whether these may be the parameters of a method.
 pub fn are_params(class: u32, names: &[u32]) -> bool
     ensures { result ≡ spec.are_params class names.now }
 {
-    names.len() <= LIMIT && are_distinct(names) && names.iter().all(|name| is_free(class, *name))
+    names.len() <= LIMIT && are_distinct(names) && all_are_free(class, names)
 }
 
 pub fn param_names(
