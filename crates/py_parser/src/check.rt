@@ -1,6 +1,6 @@
 //! The rules of a small class.
 
-ghost use Rattle.std.specs.Prelude.{◌≡◌, ◌+◌, ◌≤◌, [], length, IfOk, OnOk};
+ghost use Rattle.std.specs.Prelude.{◌≡◌, [], ◌∷◌, ◌++◌, IfOk, OnOk};
 ghost use Rattle.std.specs.List.{list_all};
 ghost use Rattle.py_parser.specs.SmallRules as spec;
 
@@ -130,4 +130,107 @@ fn methods_ok(
         }
     }
     Ok(true)
+}
+
+/// Adds names at the end.
+fn add_names(alloc: Global, all: &mut Sequence<u32>, names: &[u32]) -> Result<(), AllocError>
+    ensures { OnOk result (all.new ≡ all.old ++ names.now) }
+{
+    for name in names {
+        all.push(alloc, *name)?;
+    }
+    Ok(())
+}
+
+/// The names of all that is defined in the class.
+fn member_names(alloc: Global, class: &SmallClass) -> Result<Sequence<u32>, AllocError>
+    ensures { IfOk result (λ names. names ≡ spec.member_names class.now) }
+{
+    let mut all = Sequence::new(alloc);
+    all.push(alloc, class.init.name.name.0)?;
+    all.push(alloc, class.key.name.name.0)?;
+    all.push(alloc, class.init.key_field.field.name.0)?;
+    add_names(alloc, &mut all, method_names(alloc, &class.methods)?.as_slice())?;
+    add_names(
+        alloc,
+        &mut all,
+        field_names(alloc, &class.init.fields)?.as_slice(),
+    )?;
+    Ok(all)
+}
+
+/// The names of the parameters of `__init__`.
+fn init_names(alloc: Global, class: &SmallClass) -> Result<Sequence<u32>, AllocError>
+    ensures { IfOk result (λ names. names ≡ class.now.init.key_param.name.name.0 ∷ spec.param_names class.now.init.params) }
+{
+    let mut all = Sequence::new(alloc);
+    all.push(alloc, class.init.key_param.name.name.0)?;
+    add_names(
+        alloc,
+        &mut all,
+        param_names(alloc, &class.init.params)?.as_slice(),
+    )?;
+    Ok(all)
+}
+
+fn all_method_names_ok(names: &Names, methods: &[u32]) -> bool
+    ensures { result ≡ list_all (spec.method_name_ok names.now) methods.now }
+{
+    methods.iter().all(|name| method_name_ok(names, *name))
+}
+
+/// Whether the class and what is in it may have their names.
+fn names_ok(alloc: Global, names: &Names, class: &SmallClass) -> Result<bool, AllocError>
+    ensures { IfOk result (λ ok. ok ≡ spec.names_ok names.now class.now) }
+{
+    if is_reserved(class.name.name.0) {
+        return Ok(false);
+    }
+    if !are_params(class.name.name.0, init_names(alloc, class)?.as_slice()) {
+        return Ok(false);
+    }
+    if class.init.fields.len() >= LIMIT {
+        return Ok(false);
+    }
+    if class.methods.len() > LIMIT {
+        return Ok(false);
+    }
+    if !are_distinct(member_names(alloc, class)?.as_slice()) {
+        return Ok(false);
+    }
+    let methods = method_names(alloc, &class.methods)?;
+    Ok(all_method_names_ok(names, methods.as_slice()))
+}
+
+/// Whether the key is the text parameter, and the fields are ints that are known.
+fn init_ok(alloc: Global, class: &SmallClass) -> Result<bool, AllocError>
+    ensures { IfOk result (λ ok. ok ≡ spec.init_ok class.now) }
+{
+    if class.init.key_field.param.name.0 != class.init.key_param.name.name.0 {
+        return Ok(false);
+    }
+    if class.key.field.name.0 != class.init.key_field.field.name.0 {
+        return Ok(false);
+    }
+    let params = param_names(alloc, &class.init.params)?;
+    fields_ok(alloc, params.as_slice(), class.init.fields.as_slice())
+}
+
+/// Whether the class keeps all rules.
+pub fn keeps_rules(alloc: Global, names: &Names, class: &SmallClass) -> Result<bool, AllocError>
+    ensures { IfOk result (λ ok. ok ≡ spec.keeps_rules names.now class.now) }
+{
+    if !names_ok(alloc, names, class)? {
+        return Ok(false);
+    }
+    if !init_ok(alloc, class)? {
+        return Ok(false);
+    }
+    let fields = field_names(alloc, &class.init.fields)?;
+    methods_ok(
+        alloc,
+        class.name.name.0,
+        fields.as_slice(),
+        class.methods.as_slice(),
+    )
 }
