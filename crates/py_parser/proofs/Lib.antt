@@ -3,6 +3,7 @@ pub mod Fails
 pub mod InputLaws
 pub mod LexRules
 pub mod OneClass
+pub mod OneProgram
 pub mod OneText
 pub mod RuleLaws
 pub mod Rules

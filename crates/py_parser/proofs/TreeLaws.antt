@@ -2,7 +2,7 @@
 use Rattle.std.proofs.Common.{◌≡◌, ℕ, ◌+◌, ◌<◌, List, [], ◌∷◌, ◌++◌, length, map, take, get_or, refl, sym, ap, ◌∙◌, append_assoc}
 use Rattle.std.proofs.lemmas.List.{take_more, map-append}
 use Rattle.py_tree.specs.declared.names.Place.{Place}
-use Rattle.py_tree.specs.PlainExpressions.{PlainExpr, PlainLink, PChain, links_of}
+use Rattle.py_tree.specs.PlainExpressions.{PlainExpr, PChain, links_of}
 use Rattle.py_parser.specs.declared.small.Term.{Term}
 use Rattle.py_parser.specs.SmallTrees.{chained, term_tree}
 

@@ -5,7 +5,6 @@ use Rattle.py_tree.specs.declared.stmt.Target.{Target}
 use Rattle.py_tree.specs.declared.stmt.Target.TheVariants as tgt
 use Rattle.py_parser.specs.declared.small.Operand.{Operand}
 use Rattle.py_parser.specs.declared.small.Operand.TheVariants as opd
-use Rattle.py_parser.specs.declared.small.Term.{Term}
 use Rattle.py_parser.specs.declared.small.Sum.{Sum}
 use Rattle.py_parser.specs.declared.small.Parameter.{Parameter}
 use Rattle.py_parser.specs.declared.small.IntField.{IntField}

@@ -1,5 +1,5 @@
 -- The tree of a small class.
-use Rattle.std.specs.Prelude.{ℕ, List, [], ◌∷◌, ◌++◌, map, Some, None}
+use Rattle.std.specs.Prelude.{List, [], ◌∷◌, ◌++◌, map, Some, None}
 use Rattle.py_tree.specs.declared.names.Place.{Place}
 use Rattle.py_tree.specs.declared.stmt.Target.TheVariants as tgt
 use Rattle.py_tree.specs.PlainTypes.{WInt, WStr}

@@ -95,12 +95,7 @@ fn int_field_stmt(alloc: Global, field: &IntField) -> Result<Stmt, AllocError>
 {
     let value = sum_expr(alloc, &field.value)?;
     let ty = Some(written_int(field.ty));
-    Ok(assignment(
-        field.place,
-        Target::Field(field.field),
-        ty,
-        value,
-    ))
+    Ok(assignment(field.place, Target::Field(field.field), ty, value))
 }
 
 fn add_fields(

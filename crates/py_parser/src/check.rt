@@ -34,8 +34,7 @@ fn terms_ok(locals: &[u32], fields: &[u32], terms: &[Term]) -> bool
 fn sum_ok(locals: &[u32], fields: &[u32], sum: &Sum) -> bool
     ensures { result ≡ spec.sum_ok locals.now fields.now sum.now }
 {
-    operand_ok(locals, fields, sum.first.operand)
-        && terms_ok(locals, fields, sum.more.as_slice())
+    operand_ok(locals, fields, sum.first.operand) && terms_ok(locals, fields, sum.more.as_slice())
 }
 
 /// Whether each declaration reads int parameters and the int fields before it.
@@ -150,7 +149,11 @@ fn member_names(alloc: Global, class: &SmallClass) -> Result<Sequence<u32>, Allo
     all.push(alloc, class.init.name.name.0)?;
     all.push(alloc, class.key.name.name.0)?;
     all.push(alloc, class.init.key_field.field.name.0)?;
-    add_names(alloc, &mut all, method_names(alloc, &class.methods)?.as_slice())?;
+    add_names(
+        alloc,
+        &mut all,
+        method_names(alloc, &class.methods)?.as_slice(),
+    )?;
     add_names(
         alloc,
         &mut all,

@@ -12,6 +12,7 @@ mod keywords;
 mod lex;
 mod lines;
 mod names;
+mod parse;
 mod reader;
 mod scanner;
 mod small;
@@ -20,3 +21,4 @@ mod tokens;
 mod words;
 
 pub use fault::SmallError;
+pub use parse::{Parsed, has_one_tree, parse_small};

@@ -56,10 +56,7 @@ pub fn are_params(class: u32, names: &[u32]) -> bool
     names.len() <= LIMIT && are_distinct(names) && all_are_free(class, names)
 }
 
-pub fn param_names(
-    alloc: Global,
-    params: &Sequence<Parameter>,
-) -> Result<Sequence<u32>, AllocError>
+pub fn param_names(alloc: Global, params: &Sequence<Parameter>) -> Result<Sequence<u32>, AllocError>
     ensures { IfOk result (λ names. names ≡ spec.param_names params.now) }
 {
     let mut names = Sequence::new(alloc);
@@ -69,10 +66,7 @@ pub fn param_names(
     Ok(names)
 }
 
-pub fn field_names(
-    alloc: Global,
-    fields: &Sequence<IntField>,
-) -> Result<Sequence<u32>, AllocError>
+pub fn field_names(alloc: Global, fields: &Sequence<IntField>) -> Result<Sequence<u32>, AllocError>
     ensures { IfOk result (λ names. names ≡ spec.field_names fields.now) }
 {
     let mut names = Sequence::new(alloc);

@@ -1,4 +1,4 @@
-use Rattle.std.proofs.Common.{◌≡◌, ◌++◌, map, take}
+use Rattle.std.proofs.Common.{◌≡◌, map, take}
 use Rattle.py_tree.specs.PlainExpressions.{plain_links}
 use Rattle.py_parser.specs.SmallTrees.{term_tree}
 use Rattle.py_parser.proofs.build.links.Given as goal
