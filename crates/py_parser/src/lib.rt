@@ -16,6 +16,8 @@ mod parse;
 mod reader;
 mod scanner;
 mod small;
+#[cfg(test)]
+mod tests;
 mod token;
 mod tokens;
 mod words;
