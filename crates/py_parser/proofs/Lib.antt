@@ -1,0 +1,12 @@
+pub mod Digits
+pub mod Fails
+pub mod InputLaws
+pub mod LexRules
+pub mod OneClass
+pub mod OneProgram
+pub mod OneText
+pub mod RuleLaws
+pub mod Rules
+pub mod Runs
+pub mod Tables
+pub mod TreeLaws

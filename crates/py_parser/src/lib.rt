@@ -4,8 +4,23 @@
 //! tested by the rules, and its tree is built. Each stage is exactly its definition in `specs/`.
 #![tactic(auto)]
 
+mod build;
+mod check;
+mod class;
 mod fault;
+mod keywords;
+mod lex;
+mod lines;
+mod names;
+mod parse;
+mod reader;
+mod scanner;
 mod small;
+#[cfg(test)]
+mod tests;
 mod token;
+mod tokens;
+mod words;
 
 pub use fault::SmallError;
+pub use parse::{Parsed, has_one_tree, parse_small};

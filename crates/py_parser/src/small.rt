@@ -103,3 +103,19 @@ pub struct SmallClass {
     pub key: Key,
     pub methods: Sequence<SmallMethod>,
 }
+
+/// The first line of `__init__`.
+#[derive(Drop)]
+pub struct InitHead {
+    pub name: PlacedName,
+    pub key_param: Parameter,
+    pub params: Sequence<Parameter>,
+}
+
+/// The first line of a method, with the place of its result type.
+#[derive(Drop)]
+pub struct MethodHead {
+    pub name: PlacedName,
+    pub params: Sequence<Parameter>,
+    pub result: Place,
+}

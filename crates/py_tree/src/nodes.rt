@@ -72,6 +72,17 @@ pub fn attribute(alloc: Global, on: Expr, name: PlacedName) -> Result<Expr, Allo
     })
 }
 
+/// `self.name`, which begins at `place`.
+#[tactic(auto, using(crate::proofs::Views::expr_views))]
+pub fn self_field(alloc: Global, place: Place, name: PlacedName) -> Result<Expr, AllocError>
+    ensures { IfOk result (λ made. plain_expr made ≡ PAttr place (PSelf place) name.name.0 name.place) }
+{
+    Ok(Expr {
+        place,
+        kind: ExprKind::Attr(Box::new(alloc, self_of(place))?, name),
+    })
+}
+
 pub fn link_of(op: BinOp, place: Place, right: Expr) -> Link
     ensures { plain_link result ≡ PLink op place (plain_expr right) }
 {
