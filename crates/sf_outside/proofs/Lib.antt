@@ -5,3 +5,5 @@ pub mod GainLaws
 pub mod LogLaws
 pub mod Moves
 pub mod NamedFiles
+pub mod NamedValues
+pub mod Refusals

@@ -8,5 +8,6 @@ pub mod DiskModel
 pub mod Gains
 pub mod LogState
 pub mod Memory
+pub mod MountState
 pub mod Named
 pub mod SinceMoments

@@ -14,6 +14,7 @@ mod gains;
 mod memory_files;
 mod memory_sink;
 mod memory_source;
+mod mount_book;
 mod store_disk;
 
 pub use devices::{Failed, Files, Sink, Source};
