@@ -3,7 +3,7 @@ use Rattle.std.proofs.Common.{◌≡◌, ◌≢◌, ◌⊎◌, inl, inr, ⊎_eli
 use Rattle.std.specs.declared.option.Option.{Option}
 use Rattle.sf_outside.specs.declared.store_disk.StoreFile.{StoreFile}
 use Rattle.sf_outside.specs.declared.store_disk.StoreFile.TheVariants.{Log0, Log1, Snap0, Snap1}
-use Rattle.sf_outside.specs.DiskModel.{Four, Image, DiskFacts, of_file, with_file, written, Torn, TornFile, Elapses, LeavesOnly, Stays, SeenWritten, ImagesTorn, IsDurable, IsClean}
+use Rattle.sf_outside.specs.DiskModel.{Four, Image, DiskFacts, of_file, with_file, written, Torn, TornFile, Elapses, LeavesOnly, Stays, KnownStep, SeenTorn, ImagesTorn, IsDurable, IsClean}
 
 -- the file that was put is there
 pub of_file-same : {A : Type 0} (file : StoreFile) (x : A) (four : Four A) → of_file file (with_file file x four) ≡ x
@@ -92,6 +92,33 @@ LeavesOnly-weaker old new P Q leaves weaker = record {
   each = λ image left. weaker image (leaves.each image left);
   before = λ since image le left. ⊎_elim (λ was. inl was) (λ has. inr (weaker image has)) (leaves.before since image le left)
 }
+
+-- nothing was called
+pub Stays-refl : (facts : DiskFacts) → Stays facts facts
+Stays-refl facts = record {
+  seen = refl;
+  images = λ image leaves. leaves;
+  time = record { later = omega arith; nothing_else = λ since image le left. inl left; keeps = λ since image le left. left }
+}
+
+-- an image is one of itself with a file torn
+pub TornFile-none : (file : StoreFile) (at n : ℕ) (image : Image) → TornFile file at n image image
+TornFile-none file at n image = record {
+  bytes = of_file file image;
+  torn = record { before = refl; after = refl; no_shorter = omega arith; no_longer = omega arith };
+  image = sym (with_file-same file image)
+}
+
+-- so a call that changes nothing may stand for a write that failed
+pub SeenTorn-stays : (file : StoreFile) (at n : ℕ) (old new : DiskFacts) → Stays old new → SeenTorn file at n old new
+SeenTorn-stays file at n old new stays = subst (KnownStep (TornFile file at n) old.seen) (sym stays.seen) (torn_same old.seen)
+  where
+    torn_same : (seen : Option Image) → KnownStep (TornFile file at n) seen seen
+    torn_same None = tt
+    torn_same (Some image) = TornFile-none file at n image
+
+pub ImagesTorn-stays : (file : StoreFile) (at n : ℕ) (old new : DiskFacts) → Stays old new → ImagesTorn file at n old new
+ImagesTorn-stays file at n old new stays image leaves = (image, stays.images image leaves, TornFile-none file at n image)
 
 -- after calls that change nothing a file is as durable as before
 pub IsDurable-stays : (file : StoreFile) (old new : DiskFacts) → IsDurable file old → Stays old new → IsDurable file new

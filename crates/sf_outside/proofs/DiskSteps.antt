@@ -131,8 +131,8 @@ IsDurable-sync file calls image leaves =
     synced_leaves (of_file file files) (of_file file image) (subst (λ h. FileLeaves h (of_file file image)) history left)
     ∙ sym (now_of file files) ∙ sym (ap (of_file file) (bytes_now-quiet calls (Sync file) (bytes_now-sync file)))
 
-pub Stays-mount : (calls : List DiskCall) → bytes_now (files_after (calls ++ Mount ∷ [])) ≡ bytes_now (files_after calls)
-Stays-mount calls = bytes_now-quiet calls Mount (λ files. refl)
+pub bytes_now-mount : (calls : List DiskCall) → bytes_now (files_after (calls ++ Mount ∷ [])) ≡ bytes_now (files_after calls)
+bytes_now-mount calls = bytes_now-quiet calls Mount (λ files. refl)
 
 mount_each : (files : Four FileHistory) (image : Image) → Leaves (after_call Mount files) image → (file : StoreFile) → of_file file (bytes_now files) ≡ of_file file image
 mount_each files image leaves Log0 = sym (synced_leaves files.log0 image.log0 (leaves.each Log0))
@@ -143,7 +143,7 @@ mount_each files image leaves Snap1 = sym (synced_leaves files.snap1 image.snap1
 pub IsClean-mount : (calls : List DiskCall) → IsClean (facts_after (calls ++ Mount ∷ []))
 IsClean-mount calls image leaves =
     let files = files_after calls in
-    ap Some (Stays-mount calls ∙ same_files (bytes_now files) image (mount_each files image (subst (λ all. Leaves all image) (after_calls-more calls Mount new_files) leaves)))
+    ap Some (bytes_now-mount calls ∙ same_files (bytes_now files) image (mount_each files image (subst (λ all. Leaves all image) (after_calls-more calls Mount new_files) leaves)))
 
 -- what a crash leaves of a file after a write, it left before, torn by the write
 write_leaves : (at : ℕ) (bytes : List ℕ) (file : FileHistory) (left : List ℕ) → FileLeaves (file_after_write at bytes file) left → (between : List ℕ) × FileLeaves file between × Torn at (length bytes) between left
@@ -176,3 +176,19 @@ ImagesTorn-write file at bytes calls image leaves =
         image = sym (with_file-again file here.0 (of_file file image) image ∙ with_file-same file image)
       }
     )
+
+-- ---- bytes that are what a read gives are so after one call more
+
+pub holds_quiet : (image : Image) (calls more : List DiskCall) → image ≡ bytes_now (files_after calls) → more ≡ calls ++ Quiet ∷ [] → image ≡ bytes_now (files_after more)
+holds_quiet image calls more holds is = holds ∙ sym (bytes_now-quiet calls Quiet (λ files. refl)) ∙ ap (λ all. bytes_now (files_after all)) (sym is)
+
+pub holds_sync : (file : StoreFile) (image : Image) (calls more : List DiskCall) → image ≡ bytes_now (files_after calls) → more ≡ calls ++ Sync file ∷ [] → image ≡ bytes_now (files_after more)
+holds_sync file image calls more holds is = holds ∙ sym (bytes_now-quiet calls (Sync file) (bytes_now-sync file)) ∙ ap (λ all. bytes_now (files_after all)) (sym is)
+
+pub holds_mount : (image : Image) (calls more : List DiskCall) → image ≡ bytes_now (files_after calls) → more ≡ calls ++ Mount ∷ [] → image ≡ bytes_now (files_after more)
+holds_mount image calls more holds is = holds ∙ sym (bytes_now-mount calls) ∙ ap (λ all. bytes_now (files_after all)) (sym is)
+
+pub holds_write : (file : StoreFile) (at : ℕ) (bytes : List ℕ) (image new : Image) (calls more : List DiskCall) → image ≡ bytes_now (files_after calls) → new ≡ with_file file (written (of_file file image) at bytes) image → more ≡ calls ++ Write file at bytes ∷ []
+    → new ≡ bytes_now (files_after more)
+holds_write file at bytes image new calls more holds changed is =
+    changed ∙ ap (λ old. with_file file (written (of_file file old) at bytes) old) holds ∙ sym (SeenWritten-write file at bytes calls) ∙ ap (λ all. bytes_now (files_after all)) (sym is)

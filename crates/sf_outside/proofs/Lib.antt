@@ -1,4 +1,5 @@
 pub mod DiskLaws
+pub mod DiskStateLaws
 pub mod DiskSteps
 pub mod FileRooms
 pub mod GainLaws

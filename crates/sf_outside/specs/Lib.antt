@@ -5,6 +5,7 @@ pub mod Causes
 pub mod DiskCalls
 pub mod DiskFiles
 pub mod DiskModel
+pub mod DiskState
 pub mod Gains
 pub mod LogState
 pub mod Memory

@@ -6,13 +6,24 @@ ghost use Rattle.sf_outside.specs.Causes.{HasCause, Rose};
 ghost use Rattle.sf_outside.specs.DiskModel.{DiskFacts, Mounts, of_file, Elapses, Stays, SeenWritten, SeenTorn, ImagesTorn, IsDurable, IsClean, CopiedAll, mounted, NotMounted};
 
 use crate::devices::Failed;
-use std::alloc::Global;
+use std::alloc::{AllocError, Global};
 
 /// Why a disk isn't mounted.
 #[derive(Clone, Copy, PartialEq, Eq, Debug)]
 pub enum MountFault {
     Failed,
     NoMemory,
+}
+
+impl From<AllocError> for MountFault {
+    ghost use Rattle.std.specs.Prelude.{◌≡◌};
+    ghost use Rattle.sf_outside.specs.declared.store_disk.MountFault.TheVariants.{NoMemory};
+
+    ghost from_gives = { λ _ fault. fault ≡ NoMemory };
+
+    fn from(_error: AllocError) -> MountFault {
+        MountFault::NoMemory
+    }
 }
 
 /// The files of a store.
