@@ -8,6 +8,7 @@ use Rattle.sf_outside.specs.declared.store_disk.StoreFile.TheVariants.{Log0, Log
 use Rattle.sf_outside.specs.DiskModel.{Four, Image, DiskFacts, of_file, with_file, written, written_end, Torn, TornFile, Elapses, Stays, SeenWritten, ImagesTorn, IsDurable, IsClean}
 use Rattle.sf_outside.specs.SinceMoments.{SomeSince}
 use Rattle.sf_outside.specs.DiskCalls.{DiskCall, Quiet, Write, Sync, Mount, FileHistory, file_after_write, file_after_sync, after_call, after_calls, files_after, new_files, bytes_now, TornBy, FileLeaves, Leaves, facts_after}
+use Rattle.sf_outside.proofs.Writes.{written-torn}
 use Rattle.sf_outside.proofs.DiskLaws.{of_file-same, of_file-other, with_file-same, with_file-again, same_files}
 
 -- what holds of the new thing for one file, and of the old ones for the others, holds of each
@@ -28,37 +29,6 @@ changed_each P Snap1 x four here there Log0 = there Log0 (λ same. cc)
 changed_each P Snap1 x four here there Log1 = there Log1 (λ same. cc)
 changed_each P Snap1 x four here there Snap0 = there Snap0 (λ same. cc)
 changed_each P Snap1 x four here there Snap1 = here
-
--- ---- a whole write is one that tears nothing
-
--- the file up to the place, with zeros where it ends before
-abbrev pub front : List ℕ → ℕ → List ℕ
-front file at = take at (file ++ replicate (at - length file) 0)
-
-pub length-front : (file : List ℕ) (at : ℕ) → length (front file at) ≡ at
-length-front file at = length-take-le at (file ++ replicate (at - length file) 0) (omega (arith, length-append file (replicate (at - length file) 0), length-replicate {A = ℕ} (at - length file) 0))
-
-front-same : (file : List ℕ) (at m : ℕ) → m ≤ at → m ≤ length file → take m (front file at) ≡ take m file
-front-same file at m within there = take-take m at (file ++ replicate (at - length file) 0) within ∙ take-append-le m file (replicate (at - length file) 0) there
-
--- front, bytes and the rest behind them
-whole-torn : (file : List ℕ) (at : ℕ) (bytes : List ℕ) → 0 < length bytes → Torn at (length bytes) file (front file at ++ bytes ++ drop (at + length bytes) file)
-whole-torn file at bytes some =
-    let rest = drop (at + length bytes) file in
-    let m = min at (length file) in
-    let long : length (front file at ++ bytes) ≡ at + length bytes = length-append (front file at) bytes ∙ ap (λ n. n + length bytes) (length-front file at) in
-    let all : length (front file at ++ bytes ++ rest) ≡ at + length bytes + (length file - (at + length bytes)) = omega (arith, long, length-append (front file at ++ bytes) rest, length-drop (at + length bytes) file) in
-    let ends : written_end at (length bytes) ≡ at + length bytes = grind (arith, nat_tests) in
-    record {
-      before = take-append-le m (front file at ++ bytes) rest (omega (arith, long)) ∙ take-append-le m (front file at) bytes (omega (arith, length-front file at)) ∙ front-same file at m (omega arith) (omega arith);
-      after = drop_at (front file at ++ bytes) rest (at + length bytes) long;
-      no_shorter = omega (arith, all);
-      no_longer = omega (arith, all, ends)
-    }
-
-pub written-torn : (file : List ℕ) (at : ℕ) (bytes : List ℕ) → Torn at (length bytes) file (written file at bytes)
-written-torn file at [] = record { before = refl; after = refl; no_shorter = omega arith; no_longer = omega arith }
-written-torn file at (byte ∷ bytes) = whole-torn file at (byte ∷ bytes) (omega arith)
 
 -- ---- the files after one call more
 

@@ -5,7 +5,7 @@ use Rattle.std.proofs.lemmas.List.{append_assoc, take-append-le, drop_at, drop-d
 use Rattle.std.proofs.lemmas.Slice.{take-put_mid, drop-put_mid}
 use borrow.Rule.Slice.PartMut.{put_mid}
 use Rattle.sf_outside.specs.DiskModel.{written}
-use Rattle.sf_outside.proofs.DiskSteps.{front, length-front}
+use Rattle.sf_outside.proofs.Writes.{front, length-front}
 
 -- a front that is longer than the first list
 take_past : (front rest : List ℕ) (n : ℕ) → length front ≤ n → take n (front ++ rest) ≡ front ++ take (n - length front) rest

@@ -8,3 +8,4 @@ pub mod Moves
 pub mod NamedFiles
 pub mod NamedValues
 pub mod Refusals
+pub mod Writes
