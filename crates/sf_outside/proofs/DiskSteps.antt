@@ -7,7 +7,7 @@ use Rattle.sf_outside.specs.declared.store_disk.StoreFile.{StoreFile}
 use Rattle.sf_outside.specs.declared.store_disk.StoreFile.TheVariants.{Log0, Log1, Snap0, Snap1}
 use Rattle.sf_outside.specs.DiskModel.{Four, Image, DiskFacts, of_file, with_file, written, written_end, Torn, TornFile, Elapses, Stays, SeenWritten, ImagesTorn, IsDurable, IsClean}
 use Rattle.sf_outside.specs.SinceMoments.{SomeSince}
-use Rattle.sf_outside.specs.DiskCalls.{DiskCall, Quiet, Write, Sync, Mount, FileHistory, file_after_write, file_after_sync, after_call, after_calls, files_after, new_files, bytes_now, TornBy, FileLeaves, Leaves, facts_after}
+use Rattle.sf_outside.specs.DiskCalls.{DiskCall, Quiet, Write, Sync, Mount, FileHistory, file_after_write, file_after_sync, after_call, after_calls, files_after, new_files, bytes_now, TornBy, FileLeaves, Leaves, reads_each, facts_after}
 use Rattle.sf_outside.proofs.Writes.{written-torn}
 use Rattle.sf_outside.proofs.DiskLaws.{of_file-same, of_file-other, with_file-same, with_file-again, same_files}
 
@@ -87,19 +87,13 @@ Stays-sync file calls = stays_with calls (Sync file) (bytes_now-sync file) (λ f
     changed_each (λ f history. FileLeaves history (of_file f image) → FileLeaves (of_file f files) (of_file f image)) file (file_after_sync (of_file file files)) files
       (λ left. inl (synced_leaves (of_file file files) (of_file file image) left)) (λ f differs left. left) other (leaves.each other) })
 
-now_of : (file : StoreFile) (files : Four FileHistory) → of_file file (bytes_now files) ≡ (of_file file files).now
-now_of Log0 files = refl
-now_of Log1 files = refl
-now_of Snap0 files = refl
-now_of Snap1 files = refl
-
 pub IsDurable-sync : (file : StoreFile) (calls : List DiskCall) → IsDurable file (facts_after (calls ++ Sync file ∷ []))
 IsDurable-sync file calls image leaves =
     let files = files_after calls in
     let history : of_file file (after_call (Sync file) files) ≡ file_after_sync (of_file file files) = of_file-same file (file_after_sync (of_file file files)) files in
     let left : FileLeaves (of_file file (after_call (Sync file) files)) (of_file file image) = subst (λ all. FileLeaves (of_file file all) (of_file file image)) (after_calls-more calls (Sync file) new_files) (leaves.each file) in
     synced_leaves (of_file file files) (of_file file image) (subst (λ h. FileLeaves h (of_file file image)) history left)
-    ∙ sym (now_of file files) ∙ sym (ap (of_file file) (bytes_now-quiet calls (Sync file) (bytes_now-sync file)))
+    ∙ sym (reads_each files file) ∙ sym (ap (of_file file) (bytes_now-quiet calls (Sync file) (bytes_now-sync file)))
 
 pub bytes_now-mount : (calls : List DiskCall) → bytes_now (files_after (calls ++ Mount ∷ [])) ≡ bytes_now (files_after calls)
 bytes_now-mount calls = bytes_now-quiet calls Mount (λ files. refl)

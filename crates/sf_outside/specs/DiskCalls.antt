@@ -65,7 +65,8 @@ FileLeaves file bytes = (bytes ≡ file.now) ⊎ TornBy file.writes file.synced 
 pub record Leaves (files : Four FileHistory) (image : Image) : Type 0 where
   pub each : (file : StoreFile) → FileLeaves (of_file file files) (of_file file image)
 
-reads_each : (files : Four FileHistory) (file : StoreFile) → of_file file (bytes_now files) ≡ (of_file file files).now
+-- file by file
+pub reads_each : (files : Four FileHistory) (file : StoreFile) → of_file file (bytes_now files) ≡ (of_file file files).now
 reads_each files Log0 = refl
 reads_each files Log1 = refl
 reads_each files Snap0 = refl

@@ -24,6 +24,7 @@ pub use memory_disk::MemDisk;
 pub use memory_files::MemFiles;
 pub use memory_sink::MemSink;
 pub use memory_source::MemSource;
+pub use mount_book::MountBook;
 pub use store_disk::{Disk, MountFault, StoreFile};
 
 #[cfg(test)]
