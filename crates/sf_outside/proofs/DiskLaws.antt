@@ -1,5 +1,5 @@
 -- What holds of every disk: the files of an image, moments that accumulate, and what a sync makes durable.
-use Rattle.std.proofs.Common.{◌≡◌, ◌≢◌, ◌⊎◌, inl, inr, ⊎_elim, ℕ, ◌≤◌, List, length, Some, None, refl, sym, ap, ◌∙◌, subst, arith, IfSome, IsSome, IsSomeAnd}
+use Rattle.std.proofs.Common.{◌≡◌, ◌≢◌, inl, inr, ⊎_elim, ℕ, List, length, Some, None, refl, sym, ap, ◌∙◌, subst, arith, IsSomeAnd}
 use Rattle.std.specs.declared.option.Option.{Option}
 use Rattle.sf_outside.specs.declared.store_disk.StoreFile.{StoreFile}
 use Rattle.sf_outside.specs.declared.store_disk.StoreFile.TheVariants.{Log0, Log1, Snap0, Snap1}
@@ -66,7 +66,7 @@ pub LeavesOnly-start : (facts : DiskFacts) (P : Image → Type 0) → ((image : 
 LeavesOnly-start facts P here = record {
   later = omega arith;
   each = λ image left. here image (facts.only_now image left);
-  before = λ since image le left. inl left
+  before = λ since image le left. inl left;
 }
 
 -- one call more, after which a crash leaves what has P
@@ -74,7 +74,7 @@ pub LeavesOnly-next : (old between new : DiskFacts) (P : Image → Type 0) → L
 LeavesOnly-next old between new P so_far time here = record {
   later = omega (arith, so_far.later, time.later);
   each = λ image left. ⊎_elim (so_far.each image) (here image) (time.nothing_else old.moment image so_far.later left);
-  before = λ since image le left. ⊎_elim (so_far.before since image le) (λ now. inr (here image now)) (time.nothing_else since image (omega (arith, le, so_far.later)) left)
+  before = λ since image le left. ⊎_elim (so_far.before since image le) (λ now. inr (here image now)) (time.nothing_else since image (omega (arith, le, so_far.later)) left);
 }
 
 -- a whole run more
@@ -82,7 +82,7 @@ pub LeavesOnly-then : (old between new : DiskFacts) (P : Image → Type 0) → L
 LeavesOnly-then old between new P first rest = record {
   later = omega (arith, first.later, rest.later);
   each = λ image left. ⊎_elim (first.each image) (λ has. has) (rest.before old.moment image first.later left);
-  before = λ since image le left. ⊎_elim (first.before since image le) (λ has. inr has) (rest.before since image (omega (arith, le, first.later)) left)
+  before = λ since image le left. ⊎_elim (first.before since image le) (λ has. inr has) (rest.before since image (omega (arith, le, first.later)) left);
 }
 
 -- a weaker fact of each image
@@ -90,7 +90,7 @@ pub LeavesOnly-weaker : (old new : DiskFacts) (P Q : Image → Type 0) → Leave
 LeavesOnly-weaker old new P Q leaves weaker = record {
   later = leaves.later;
   each = λ image left. weaker image (leaves.each image left);
-  before = λ since image le left. ⊎_elim (λ was. inl was) (λ has. inr (weaker image has)) (leaves.before since image le left)
+  before = λ since image le left. ⊎_elim (λ was. inl was) (λ has. inr (weaker image has)) (leaves.before since image le left);
 }
 
 -- nothing was called
@@ -98,7 +98,7 @@ pub Stays-refl : (facts : DiskFacts) → Stays facts facts
 Stays-refl facts = record {
   seen = refl;
   images = λ image leaves. leaves;
-  time = record { later = omega arith; nothing_else = λ since image le left. inl left; keeps = λ since image le left. left }
+  time = record { later = omega arith; nothing_else = λ since image le left. inl left; keeps = λ since image le left. left };
 }
 
 -- an image is one of itself with a file torn
@@ -106,7 +106,7 @@ pub TornFile-none : (file : StoreFile) (at n : ℕ) (image : Image) → TornFile
 TornFile-none file at n image = record {
   bytes = of_file file image;
   torn = record { before = refl; after = refl; no_shorter = omega arith; no_longer = omega arith };
-  image = sym (with_file-same file image)
+  image = sym (with_file-same file image);
 }
 
 -- so a call that changes nothing may stand for a write that failed
@@ -152,12 +152,12 @@ module _ (file other : StoreFile) (differs : other ≢ file) where
   durable_other at n Step same old new durable step images image leaves =
       let from = images image leaves in
       seen_other image Step same old.seen new.seen step
-        (subst (λ bytes. IsSomeAnd old.seen (λ now. bytes ≡ of_file other now)) (sym (TornFile-other file other at n from.0 image from.2 differs)) (durable from.0 from.1))
+      (subst (λ bytes. IsSomeAnd old.seen (λ now. bytes ≡ of_file other now)) (sym (TornFile-other file other at n from.0 image from.2 differs)) (durable from.0 from.1))
 
   pub IsDurable-written : (at : ℕ) (bytes : List ℕ) (old new : DiskFacts) → IsDurable other old → SeenWritten file at bytes old new → ImagesTorn file at (length bytes) old new → IsDurable other new
   IsDurable-written at bytes old new durable seen images =
       durable_other at (length bytes) (λ before now. now ≡ with_file file (written (of_file file before) at bytes) before)
-        (λ before now step. ap (of_file other) step ∙ of_file-other file other (written (of_file file before) at bytes) before differs) old new durable seen images
+      (λ before now step. ap (of_file other) step ∙ of_file-other file other (written (of_file file before) at bytes) before differs) old new durable seen images
 
   pub IsDurable-torn : (at n : ℕ) (old new : DiskFacts) → IsDurable other old → SeenTorn file at n old new → ImagesTorn file at n old new → IsDurable other new
   IsDurable-torn at n old new durable seen images =
@@ -177,7 +177,7 @@ torn_from_durable file at n old new durable images image leaves =
 pub LeavesOnly-write : (file : StoreFile) (at n : ℕ) (old new : DiskFacts) → Elapses old new → ImagesTorn file at n old new → LeavesOnly old new (λ image. (before : Image) × old.may_leave before × TornFile file at n before image)
 LeavesOnly-write file at n old new time images =
     LeavesOnly-next old old new (λ image. (before : Image) × old.may_leave before × TornFile file at n before image)
-      (LeavesOnly-start old (λ image. (before : Image) × old.may_leave before × TornFile file at n before image) (λ image leaves. (image, leaves, TornFile-none file at n image))) time images
+    (LeavesOnly-start old (λ image. (before : Image) × old.may_leave before × TornFile file at n before image) (λ image leaves. (image, leaves, TornFile-none file at n image))) time images
 
 -- and of calls that change nothing: an image from before them
 pub LeavesOnly-stays : (old new : DiskFacts) → Stays old new → LeavesOnly old new old.may_leave

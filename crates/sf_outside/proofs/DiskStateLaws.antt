@@ -1,6 +1,6 @@
 -- What the calls of a disk in memory make of its facts, from its state before to its state after.
-use Rattle.std.proofs.Common.{◌≡◌, ℕ, Bool, true, false, cond, List, [], ◌∷◌, ◌++◌, length, nat_le, Result, Ok, Err, OnErr, refl, sym, ap, ◌∙◌, subst}
-use Rattle.sf_outside.specs.DiskModel.{DiskFacts, Stays}
+use Rattle.std.proofs.Common.{◌≡◌, Bool, true, false, cond, List, [], ◌∷◌, ◌++◌, length, nat_le, Result, Ok, Err, OnErr, sym, ap, ◌∙◌, subst}
+use Rattle.sf_outside.specs.DiskModel.{Stays}
 use Rattle.sf_outside.specs.DiskCalls.{DiskCall, Quiet, facts_after}
 use Rattle.sf_outside.specs.DiskState.{DiskState, after_begin, calls_quiet}
 use Rattle.sf_outside.specs.LogState.{LogState}

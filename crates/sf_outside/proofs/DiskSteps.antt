@@ -1,13 +1,12 @@
 -- What one call more does to the facts of a disk in memory.
-use Rattle.std.proofs.Common.{◌≡◌, ◌≢◌, ◌⊎◌, inl, inr, ⊎_elim, ℕ, zero, suc, ◌+◌, ◌-◌, ◌≤◌, ◌<◌, List, [], ◌∷◌, ◌++◌, length, take, drop, replicate, min, max, Some, refl, sym, ap, ◌∙◌, subst, arith, length-append, length-drop, append_assoc}
-use Rattle.std.proofs.lemmas.List.{take-append-le, take_at, drop_at, take_all, take-take, length-take, length-take-le, length-replicate}
+use Rattle.std.proofs.Common.{◌≡◌, ◌≢◌, ◌⊎◌, inl, inr, ℕ, List, [], ◌∷◌, ◌++◌, length, Some, refl, sym, ap, ◌∙◌, subst, arith, length-append}
+use Rattle.std.proofs.lemmas.List.{take-append-le, take_all}
 use Rattle.std.proofs.lemmas.Bool.{cases_lt}
-use Rattle.std.proofs.lemmas.Bool.Decides.{nat_tests}
 use Rattle.sf_outside.specs.declared.store_disk.StoreFile.{StoreFile}
 use Rattle.sf_outside.specs.declared.store_disk.StoreFile.TheVariants.{Log0, Log1, Snap0, Snap1}
-use Rattle.sf_outside.specs.DiskModel.{Four, Image, DiskFacts, of_file, with_file, written, written_end, Torn, TornFile, Elapses, Stays, SeenWritten, ImagesTorn, IsDurable, IsClean}
+use Rattle.sf_outside.specs.DiskModel.{Four, Image, of_file, with_file, written, Torn, Elapses, Stays, SeenWritten, ImagesTorn, IsDurable, IsClean}
 use Rattle.sf_outside.specs.SinceMoments.{SomeSince}
-use Rattle.sf_outside.specs.DiskCalls.{DiskCall, Quiet, Write, Sync, Mount, FileHistory, file_after_write, file_after_sync, after_call, after_calls, files_after, new_files, bytes_now, TornBy, FileLeaves, Leaves, reads_each, facts_after}
+use Rattle.sf_outside.specs.DiskCalls.{DiskCall, Quiet, Write, Sync, Mount, FileHistory, file_after_write, file_after_sync, after_call, after_calls, files_after, new_files, bytes_now, FileLeaves, Leaves, reads_each, facts_after}
 use Rattle.sf_outside.proofs.Writes.{written-torn}
 use Rattle.sf_outside.proofs.DiskLaws.{of_file-same, of_file-other, with_file-same, with_file-again, same_files}
 
@@ -41,9 +40,9 @@ after_calls-more (first ∷ calls) call files = after_calls-more calls call (aft
 module _ {A : Type 0} (P : List A → Type 0) (calls : List A) (call : A) (since : ℕ) where
   some_more : SomeSince P (calls ++ call ∷ []) since → SomeSince P calls since ⊎ P (calls ++ call ∷ [])
   some_more some = elim (cases_lt (length calls) some.0) [
-      inr within ↦ inl (some.0, some.1, within, subst P (take-append-le some.0 calls (call ∷ []) within) some.3)
-      | inl past ↦ inr (subst P (take_all some.0 (calls ++ call ∷ []) (omega (arith, past, length-append calls (call ∷ [])))) some.3)
-      ]
+    | inr within ↦ inl (some.0, some.1, within, subst P (take-append-le some.0 calls (call ∷ []) within) some.3)
+    | inl past ↦ inr (subst P (take_all some.0 (calls ++ call ∷ []) (omega (arith, past, length-append calls (call ∷ [])))) some.3)
+  ]
 
   some_kept : SomeSince P calls since → SomeSince P (calls ++ call ∷ []) since
   some_kept some = (some.0, some.1, omega (arith, some.2, length-append calls (call ∷ [])), subst P (sym (take-append-le some.0 calls (call ∷ []) some.2)) some.3)
@@ -52,7 +51,7 @@ pub Elapses-call : (calls : List DiskCall) (call : DiskCall) → Elapses (facts_
 Elapses-call calls call = record {
   later = omega (arith, length-append calls (call ∷ []));
   nothing_else = λ since image le left. some_more (λ first. Leaves (files_after first) image) calls call since left;
-  keeps = λ since image le left. some_kept (λ first. Leaves (files_after first) image) calls call since left
+  keeps = λ since image le left. some_kept (λ first. Leaves (files_after first) image) calls call since left;
 }
 
 -- ---- what each call leaves
@@ -66,7 +65,7 @@ stays_with : (calls : List DiskCall) (call : DiskCall) → ((files : Four FileHi
 stays_with calls call same fewer = record {
   seen = ap Some (bytes_now-quiet calls call same);
   images = λ image leaves. fewer (files_after calls) image (subst (λ files. Leaves files image) (after_calls-more calls call new_files) leaves);
-  time = Elapses-call calls call
+  time = Elapses-call calls call;
 }
 
 pub Stays-quiet : (calls : List DiskCall) → Stays (facts_after calls) (facts_after (calls ++ Quiet ∷ []))
@@ -83,9 +82,11 @@ synced_leaves file bytes (inl now) = now
 synced_leaves file bytes (inr synced) = synced
 
 pub Stays-sync : (file : StoreFile) (calls : List DiskCall) → Stays (facts_after calls) (facts_after (calls ++ Sync file ∷ []))
-Stays-sync file calls = stays_with calls (Sync file) (bytes_now-sync file) (λ files image leaves. record { each = λ other.
-    changed_each (λ f history. FileLeaves history (of_file f image) → FileLeaves (of_file f files) (of_file f image)) file (file_after_sync (of_file file files)) files
-      (λ left. inl (synced_leaves (of_file file files) (of_file file image) left)) (λ f differs left. left) other (leaves.each other) })
+Stays-sync file calls = stays_with calls (Sync file) (bytes_now-sync file) (λ files image leaves. record {
+  each = λ other.
+      changed_each (λ f history. FileLeaves history (of_file f image) → FileLeaves (of_file f files) (of_file f image)) file (file_after_sync (of_file file files)) files
+      (λ left. inl (synced_leaves (of_file file files) (of_file file image) left)) (λ f differs left. left) other (leaves.each other);
+})
 
 pub IsDurable-sync : (file : StoreFile) (calls : List DiskCall) → IsDurable file (facts_after (calls ++ Sync file ∷ []))
 IsDurable-sync file calls image leaves =
@@ -132,13 +133,15 @@ ImagesTorn-write file at bytes calls image leaves =
     let here = write_leaves at bytes (of_file file files) (of_file file image) (subst (λ h. FileLeaves h (of_file file image)) (of_file-same file changed files) (all.each file)) in
     let before : Image = with_file file here.0 image in (
       before,
-      record { each = λ other. changed_each (λ f bytes. FileLeaves (of_file f files) bytes) file here.0 image here.1
-        (λ f differs. subst (λ h. FileLeaves h (of_file f image)) (of_file-other file f changed files differs) (all.each f)) other },
+      record {
+        each = λ other. changed_each (λ f bytes. FileLeaves (of_file f files) bytes) file here.0 image here.1
+            (λ f differs. subst (λ h. FileLeaves h (of_file f image)) (of_file-other file f changed files differs) (all.each f)) other;
+      },
       record {
         bytes = of_file file image;
         torn = subst (λ b. Torn at (length bytes) b (of_file file image)) (sym (of_file-same file here.0 image)) here.2;
-        image = sym (with_file-again file here.0 (of_file file image) image ∙ with_file-same file image)
-      }
+        image = sym (with_file-again file here.0 (of_file file image) image ∙ with_file-same file image);
+      },
     )
 
 -- ---- bytes that are what a read gives are so after one call more

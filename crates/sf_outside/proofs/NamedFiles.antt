@@ -5,7 +5,7 @@ use Rattle.std.specs.declared.option.Option.{Option}
 use Rattle.std.specs.List.{position}
 use Rattle.sf_outside.specs.Causes.{next_count}
 use Rattle.sf_outside.specs.Named.{FileState, content_of, faults_of, listed}
-use Rattle.sf_outside.proofs.NamedValues.{FirstAt, first_at, none_named, value_named-first, value_named-set, value_named-related, value_named-missing, value_named-later}
+use Rattle.sf_outside.proofs.NamedValues.{first_at, none_named, value_named-first, value_named-set, value_named-related, value_named-missing, value_named-later}
 
 -- what a fault at the place of a name changes
 pub record FaultAt (others : ℕ) (old new : List FileState) (name : List ℕ) : Type 0 where
@@ -28,7 +28,7 @@ fault_at others files name place d new found is counted later =
       kept = λ q. value_named-related (λ file. file.name) (λ file. Some file.bytes) None (λ a b. b ≡ a) (λ v. refl) files place d new q first.within named bytes;
       later = λ q. value_named-related (λ file. file.name) (λ file. file.faults) others (λ a b. a ≤ b) (λ v. omega arith) files place d new q first.within named rose;
       counted = value_named-set (λ file. file.name) (λ file. file.faults) others files name place d new first named ∙ ap (λ file. file.faults) counted
-        ∙ ap (λ file. next_count file.faults) is ∙ ap next_count (sym (value_named-first (λ file. file.name) (λ file. file.faults) others files name place d first))
+          ∙ ap (λ file. next_count file.faults) is ∙ ap next_count (sym (value_named-first (λ file. file.name) (λ file. file.faults) others files name place d first));
     }
 
 -- no file has this name
@@ -39,7 +39,7 @@ pub record Missing (files : List FileState) (name : List ℕ) : Type 0 where
 pub missing_at : (files : List FileState) (name : List ℕ) → None ≡ position (λ file. bytes_eq file.name name) files → Missing files name
 missing_at files name none = record {
   content = value_named-missing (λ file. file.name) (λ file. Some file.bytes) None files name (none_named (λ file. file.name) files name none);
-  faults = λ others. value_named-missing (λ file. file.name) (λ file. file.faults) others files name (none_named (λ file. file.name) files name none)
+  faults = λ others. value_named-missing (λ file. file.name) (λ file. file.faults) others files name (none_named (λ file. file.name) files name none);
 }
 
 -- the count of all other names rose

@@ -1,5 +1,5 @@
 -- A mount of a name that is refused, once more or for the first time.
-use Rattle.std.proofs.Common.{◌≡◌, ◌≢◌, ℕ, ◌+◌, ◌≤◌, ◌<◌, Bool, true, false, cond, List, [], ◌∷◌, ◌++◌, length, get_or, set, Some, None, refl, sym, ap, ◌∙◌, arith, bytes_eq}
+use Rattle.std.proofs.Common.{◌≡◌, ◌≢◌, ℕ, ◌≤◌, true, cond, List, [], ◌∷◌, ◌++◌, get_or, set, Some, None, sym, ap, ◌∙◌, arith, bytes_eq}
 use Rattle.std.proofs.lemmas.Grind.{common_steps}
 use Rattle.std.proofs.lemmas.Slice.Eq.{bytes_eq-Decides}
 use Rattle.std.specs.List.{position}
@@ -27,7 +27,7 @@ refused_again old name place d new found is counted later =
       counted = after ∙ ap (λ refused. refused.count) counted ∙ ap next_count (sym before);
       later = omega (arith, later, before, after);
       others = λ other differs. value_named-others (λ refused. refused.name) (λ refused. refused.count) 0 old place d new other first.within named
-        (other_name held.name other (λ same. differs (sym same ∙ same_name held.name name first.here)))
+          (other_name held.name other (λ same. differs (sym same ∙ same_name held.name name first.here)));
     }
 
 pub refused_first : (old : List RefusedName) (name : List ℕ) → None ≡ position (λ refused. bytes_eq refused.name name) old → Refused old (old ++ record { name = name; count = 1 } ∷ []) name
@@ -43,7 +43,7 @@ refused_first old name none =
       counted = after ∙ ap next_count (sym before);
       later = omega (arith, before, after);
       others = λ other differs. value_named-push (λ refused. refused.name) (λ refused. refused.count) 0 old new other
-        ∙ ap (λ b. value_named (λ (refused : RefusedName). refused.name) (λ refused. refused.count) (cond b 1 0) old other) (other_name name other (λ same. differs (sym same)))
+          ∙ ap (λ b. value_named (λ (refused : RefusedName). refused.name) (λ refused. refused.count) (cond b 1 0) old other) (other_name name other (λ same. differs (sym same)));
     }
 
 -- and so in all that is kept of the mounts

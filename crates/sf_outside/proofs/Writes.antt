@@ -2,7 +2,7 @@
 use Rattle.std.proofs.Common.{◌≡◌, ℕ, ◌+◌, ◌-◌, ◌≤◌, ◌<◌, List, [], ◌∷◌, ◌++◌, length, take, drop, replicate, min, max, refl, sym, ap, ◌∙◌, subst, arith, inl, inr, add-zero, length-append, length-drop, append-nil, take-append-drop}
 use Rattle.std.proofs.lemmas.Bool.{cases_lt}
 use Rattle.std.proofs.lemmas.Bool.Decides.{nat_tests}
-use Rattle.std.proofs.lemmas.List.{take-append-le, take_at, drop_at, take_all, take-take, length-take-le, length-replicate}
+use Rattle.std.proofs.lemmas.List.{take-append-le, drop_at, take_all, take-take, length-take-le, length-replicate}
 use Rattle.sf_outside.specs.DiskModel.{written, written_end, Torn}
 
 -- the file up to the place, with zeros where it ends before
@@ -27,7 +27,7 @@ whole-torn file at bytes some =
       before = take-append-le m (front file at ++ bytes) rest (omega (arith, long)) ∙ take-append-le m (front file at) bytes (omega (arith, length-front file at)) ∙ front-same file at m (omega arith) (omega arith);
       after = drop_at (front file at ++ bytes) rest (at + length bytes) long;
       no_shorter = omega (arith, all);
-      no_longer = omega (arith, all, ends)
+      no_longer = omega (arith, all, ends);
     }
 
 pub written-torn : (file : List ℕ) (at : ℕ) (bytes : List ℕ) → Torn at (length bytes) file (written file at bytes)
@@ -65,9 +65,9 @@ pub Torn-none : (at : ℕ) (old new : List ℕ) → Torn at 0 old new → new �
 Torn-none at old new torn =
     let same : length new ≡ length old = omega (arith, torn.no_shorter, torn.no_longer) in
     elim (cases_lt at (length old)) [
-      inl within ↦ sym (take-append-drop at new) ∙ ap (λ l. l ++ drop at new) (Torn-front at 0 old new torn (omega (arith, within)))
-        ∙ ap (λ l. take at old ++ l) (subst (λ k. drop k new ≡ drop k old) (add-zero at) torn.after) ∙ take-append-drop at old
+      | inl within ↦ sym (take-append-drop at new) ∙ ap (λ l. l ++ drop at new) (Torn-front at 0 old new torn (omega (arith, within)))
+          ∙ ap (λ l. take at old ++ l) (subst (λ k. drop k new ≡ drop k old) (add-zero at) torn.after) ∙ take-append-drop at old
       | inr past ↦
-        let least : min at (length old) ≡ length old = omega (arith, past) in
-        sym (take_all (length old) new (omega (arith, same))) ∙ subst (λ k. take k new ≡ take k old) least torn.before ∙ take_all (length old) old (omega arith)
-      ]
+          let least : min at (length old) ≡ length old = omega (arith, past) in
+          sym (take_all (length old) new (omega (arith, same))) ∙ subst (λ k. take k new ≡ take k old) least torn.before ∙ take_all (length old) old (omega arith)
+    ]

@@ -1,6 +1,6 @@
 -- A disk in memory: the calls that it had, and what each of them leaves.
-use Rattle.std.specs.Prelude.{ℕ, ◌≡◌, ◌⊎◌, ◌+◌, ◌≤◌, List, [], ◌∷◌, length, take, Some, refl}
-use mathlib.Core.Logic.{inl, inr}
+use Rattle.std.specs.Prelude.{ℕ, ◌≡◌, ◌⊎◌, List, [], ◌∷◌, length, Some, refl}
+use mathlib.Core.Logic.{inl}
 use Rattle.sf_outside.specs.DiskModel.{Four, Image, DiskFacts, Torn, of_file, with_file, written}
 use Rattle.sf_outside.specs.declared.store_disk.StoreFile.{StoreFile}
 use Rattle.sf_outside.specs.declared.store_disk.StoreFile.TheVariants.{Log0, Log1, Snap0, Snap1}
@@ -36,8 +36,11 @@ after_call Quiet files = files
 after_call (Write file at bytes) files = with_file file (file_after_write at bytes (of_file file files)) files
 after_call (Sync file) files = with_file file (file_after_sync (of_file file files)) files
 after_call Mount files = record {
-  log0 = file_after_sync files.log0; log1 = file_after_sync files.log1;
-  snap0 = file_after_sync files.snap0; snap1 = file_after_sync files.snap1 }
+  log0 = file_after_sync files.log0;
+  log1 = file_after_sync files.log1;
+  snap0 = file_after_sync files.snap0;
+  snap1 = file_after_sync files.snap1;
+}
 
 -- the files after these calls, from the first on
 abbrev pub after_calls : List DiskCall → Four FileHistory → Four FileHistory
@@ -86,5 +89,5 @@ facts_after calls = record {
   told = λ image leaves. refl;
   reads = leaves_now (files_after calls);
   counts_now = λ since image within leaves. counts_last (λ first. Leaves (files_after first) image) calls since within leaves;
-  only_now = λ image left. last_only (λ first. Leaves (files_after first) image) calls left
+  only_now = λ image left. last_only (λ first. Leaves (files_after first) image) calls left;
 }

@@ -79,7 +79,7 @@ untold = record {
   told = λ image leaves. absurd leaves;
   reads = tt;
   counts_now = λ since image within leaves. leaves;
-  only_now = λ image left. left
+  only_now = λ image left. left;
 }
 
 -- Time goes on: a crash since a moment may have left what it might have left before, or what it may leave now.

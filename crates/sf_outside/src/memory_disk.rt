@@ -37,8 +37,14 @@ impl Model for MemDisk {
     ghost Value = { DiskState };
 
     ghost view = { λ disk. record {
-        calls = disk.log.calls; limit = disk.log.limit; room = disk.log.room;
-        fail_at = disk.calls.fail_at.items; made = disk.calls.made; faults = disk.faults; mounts = disk.mounts } };
+      calls = disk.log.calls;
+      limit = disk.log.limit;
+      room = disk.log.room;
+      fail_at = disk.calls.fail_at.items;
+      made = disk.calls.made;
+      faults = disk.faults;
+      mounts = disk.mounts;
+    } };
 
     ghost invariant = { λ disk. (disk.files.image ≡ bytes_now (files_after disk.log.calls)) × (disk.files.room ≡ disk.log.room) };
 }
@@ -47,8 +53,15 @@ impl MemDisk {
     /// A disk with empty files. Each file may grow to `room` bytes, and all writes together may have as
     /// many. It takes `calls` calls, of which those fail whose numbers, from 1, `fail_at` lists.
     pub fn new(alloc: Global, room: u64, calls: u64, fail_at: &[u64]) -> Result<MemDisk, AllocError>
-        ensures { IfOk result (λ made. made ≡ record { calls = []; limit = calls; room = room; fail_at = fail_at.now; made = 0; faults = 0;
-            mounts = record { count = 0; name = None; moment = 0; refusals = [] } }) }
+        ensures { IfOk result (λ made. made ≡ record {
+          calls = [];
+          limit = calls;
+          room = room;
+          fail_at = fail_at.now;
+          made = 0;
+          faults = 0;
+          mounts = record { count = 0; name = None; moment = 0; refusals = [] };
+        }) }
     {
         Ok(MemDisk {
             files: DiskFiles::new(alloc, room)?,

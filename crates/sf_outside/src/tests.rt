@@ -1,8 +1,8 @@
 //! What the forms in memory do, call by call.
 
 use crate::{
-    Disk, Failed, Files, MemDisk, MemFiles, MemSink, MemSource, MountFault, Sink, Source, StoreFile,
-    WriteStop, write_line,
+    Disk, Failed, Files, MemDisk, MemFiles, MemSink, MemSource, MountFault, Sink, Source,
+    StoreFile, WriteStop, write_line,
 };
 use std::test::Fail;
 

@@ -1,6 +1,5 @@
 use Rattle.std.proofs.Common.{Some, ap, sym, ◌∙◌, subst}
 use Rattle.sf_outside.specs.DiskCalls.{Mount, facts_after, bytes_now, files_after}
-use Rattle.sf_outside.specs.DiskState.{calls_quiet}
 use Rattle.sf_outside.specs.DiskModel.{IsClean}
 use Rattle.sf_outside.proofs.DiskSteps.{IsClean-mount, bytes_now-mount, holds_mount}
 use Rattle.sf_outside.proofs.DiskStateLaws.{on_err, Stays-quietly, noted_last}
@@ -25,7 +24,7 @@ returns-then-not-begins-clause-contents c =
 pub invariant_of-self-2 : goal.invariant_of-self-2
 invariant_of-self-2 c = (
   holds_mount c.self-2.inside.files.image c.self-2.inside.log.calls c.note_mount.new.self.calls c.self-2.invariant.0 (ap (λ log. log.calls) c.note_mount.ensures),
-  c.self-2.invariant.1 ∙ sym (ap (λ log. log.room) c.note_mount.ensures)
+  c.self-2.invariant.1 ∙ sym (ap (λ log. log.room) c.note_mount.ensures),
 )
 
 pub returns-clause-clean : goal.returns-clause-clean

@@ -10,7 +10,7 @@ returns-then-not-begins-clause-stays c = Stays-quietly c.args.self.now c.begins.
 pub invariant_of-self : goal.invariant_of-self
 invariant_of-self c = (
   holds_quiet c.self.inside.files.image c.self.inside.log.calls c.note_quiet.new.self.calls c.self.invariant.0 (ap (λ log. log.calls) c.note_quiet.ensures),
-  c.self.invariant.1 ∙ sym (ap (λ log. log.room) c.note_quiet.ensures)
+  c.self.invariant.1 ∙ sym (ap (λ log. log.room) c.note_quiet.ensures),
 )
 
 pub returns-clause-stays : goal.returns-clause-stays

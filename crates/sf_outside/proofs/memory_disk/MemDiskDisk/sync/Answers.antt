@@ -11,7 +11,7 @@ returns-then-not-begins-clause-stays c = Stays-quietly c.args.self.now c.begins.
 pub invariant_of-self : goal.invariant_of-self
 invariant_of-self c = (
   holds_sync c.args.file c.self.inside.files.image c.self.inside.log.calls c.note_sync.new.self.calls c.self.invariant.0 (ap (λ log. log.calls) c.note_sync.ensures),
-  c.self.invariant.1 ∙ sym (ap (λ log. log.room) c.note_sync.ensures)
+  c.self.invariant.1 ∙ sym (ap (λ log. log.room) c.note_sync.ensures),
 )
 
 pub returns-clause-durable : goal.returns-clause-durable
