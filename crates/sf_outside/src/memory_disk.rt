@@ -1,6 +1,6 @@
 //! A disk in memory. It notes each call, and so tells what a crash at each moment may have left.
 
-ghost use Rattle.std.specs.Prelude.{◌≡◌, ◌+◌, ◌^◌, ◌≤◌, ◌||◌, None, Some, [], length, is_err, true, false, not, nat_lt, if◌then◌else◌, IfOk, IfSome, OnOk, OnErr, IsErrOf};
+ghost use Rattle.std.specs.Prelude.{◌≡◌, ◌+◌, ◌^◌, ◌≤◌, ◌||◌, ℕ, List, None, Some, [], length, is_err, true, false, not, nat_lt, if◌then◌else◌, IfOk, IfSome, OnOk, OnErr, IsErrOf};
 ghost use Rattle.std.specs.Io.{ReadsAtMost};
 ghost use Rattle.sf_outside.specs.Causes.{HasCause, Rose, next_count};
 ghost use Rattle.sf_outside.specs.DiskModel.{of_file, Elapses, Stays, SeenWritten, SeenTorn, ImagesTorn, IsDurable, IsClean, CopiedAll, mounted, NotMounted};
@@ -112,6 +112,8 @@ impl MemDisk {
 impl Disk for MemDisk {
     ghost facts = { λ disk. facts_after disk.calls };
 
+    ghost found = { λ disk name. (facts_after disk.calls).seen };
+
     ghost faults = { λ disk. disk.faults };
 
     ghost mounts = { λ disk. mounts_of disk.mounts };
@@ -119,15 +121,16 @@ impl Disk for MemDisk {
     /// Keeps the files as they are.
     fn mount(&mut self, alloc: Global, name: &str) -> Result<(), MountFault>
         ensures clean { OnOk result (IsClean (facts_after self.new.calls)) }
+        ensures found { OnOk result ((facts_after self.new.calls).seen ≡ (facts_after self.old.calls).seen) }
         ensures ok { OnOk result (mounts_of self.new.mounts ≡ mounted (mounts_of self.old.mounts) name.now (length self.new.calls)) }
         ensures err { OnErr result (NotMounted name.now (mounts_of self.old.mounts) (mounts_of self.new.mounts)) }
         ensures kept { OnErr result (Stays (facts_after self.old.calls) (facts_after self.new.calls)) }
+        ensures same { OnErr result ((other : List ℕ) → (facts_after self.new.calls).seen ≡ (facts_after self.old.calls).seen) }
         ensures later { length self.old.calls ≤ length self.new.calls }
         ensures cause { IsErrOf result MountFault.Failed → Rose (refusals_of self.old.mounts.refusals name.now) (refusals_of self.new.mounts.refusals name.now) }
         ensures faults { self.new.faults ≡ self.old.faults }
         ensures succeeds { OnOk result (fails_next self.old ≡ false) }
         ensures fails { IsErrOf result MountFault.Failed → fails_next self.old ≡ true }
-        ensures contents { (facts_after self.new.calls).seen ≡ (facts_after self.old.calls).seen }
         ensures settings { (self.new.limit ≡ self.old.limit) × (self.new.room ≡ self.old.room) × (self.new.fail_at ≡ self.old.fail_at) }
     {
         let taken = String::from_str(alloc, name)?;
