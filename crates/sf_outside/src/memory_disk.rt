@@ -40,7 +40,7 @@ impl Model for MemDisk {
       calls = disk.log.calls;
       limit = disk.log.limit;
       room = disk.log.room;
-      fail_at = disk.calls.fail_at.items;
+      fail_at = disk.calls.fail_at;
       made = disk.calls.made;
       faults = disk.faults;
       mounts = disk.mounts;

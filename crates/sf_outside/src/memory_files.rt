@@ -79,7 +79,7 @@ impl Model for MemFiles {
 
     ghost Value = { FilesState };
 
-    ghost view = { λ files. record { files = files.files.items; other_faults = files.other_faults; fail_at = files.calls.fail_at.items; calls = files.calls.made } };
+    ghost view = { λ files. record { files = files.files.items; other_faults = files.other_faults; fail_at = files.calls.fail_at; calls = files.calls.made } };
 }
 
 impl MemFiles {
