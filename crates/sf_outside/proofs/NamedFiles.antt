@@ -1,17 +1,18 @@
 -- The first file of a name, and a fault that is counted there.
-use Rattle.std.proofs.Common.{◌≡◌, ℕ, ◌+◌, ◌≤◌, ◌<◌, Bool, true, false, List, [], ◌∷◌, ◌++◌, ◌||◌, length, get_or, set, Some, None, refl, sym, ap, ◌∙◌, arith, bytes_eq, is_none, map, take}
+use Rattle.std.proofs.Common.{◌≡◌, ◌≢◌, cond, IsSome, ℕ, ◌+◌, ◌≤◌, ◌<◌, Bool, true, false, List, [], ◌∷◌, ◌++◌, ◌||◌, length, get_or, set, Some, None, refl, sym, ap, ◌∙◌, arith, bytes_eq, is_none, map, take}
 use Rattle.std.proofs.lemmas.List.{map_more, length-map, length-take-le}
 use Rattle.std.specs.declared.option.Option.{Option}
 use Rattle.std.specs.List.{position}
 use Rattle.sf_outside.specs.Causes.{next_count}
 use Rattle.sf_outside.specs.Named.{FileState, content_of, faults_of, listed}
-use Rattle.sf_outside.proofs.NamedValues.{first_at, none_named, value_named-first, value_named-set, value_named-related, value_named-missing, value_named-later}
+use Rattle.sf_outside.proofs.NamedValues.{first_at, none_named, value_named-first, value_named-set, value_named-related, value_named-others, value_named-missing, value_named-later, same_name, other_name}
 
 -- what a fault at the place of a name changes
 pub record FaultAt (others : ℕ) (old new : List FileState) (name : List ℕ) : Type 0 where
   pub kept : (q : List ℕ) → content_of new q ≡ content_of old q
   pub later : (q : List ℕ) → faults_of others old q ≤ faults_of others new q
   pub counted : faults_of others new name ≡ next_count (faults_of others old name)
+  pub elsewhere : (q : List ℕ) → q ≢ name → faults_of others new q ≡ faults_of others old q
 
 pub content_at : (files : List FileState) (name : List ℕ) (place : ℕ) (d : FileState) → Some place ≡ position (λ file. bytes_eq file.name name) files → d ≡ get_or files place d → content_of files name ≡ Some d.bytes
 content_at files name place d found is =
@@ -29,6 +30,8 @@ fault_at others files name place d new found is counted later =
       later = λ q. value_named-related (λ file. file.name) (λ file. file.faults) others (λ a b. a ≤ b) (λ v. omega arith) files place d new q first.within named rose;
       counted = value_named-set (λ file. file.name) (λ file. file.faults) others files name place d new first named ∙ ap (λ file. file.faults) counted
           ∙ ap (λ file. next_count file.faults) is ∙ ap next_count (sym (value_named-first (λ file. file.name) (λ file. file.faults) others files name place d first));
+      elsewhere = λ q differs. value_named-others (λ file. file.name) (λ file. file.faults) others files place d new q first.within named
+          (other_name (get_or files place d).name q (λ same. differs (sym same ∙ same_name (get_or files place d).name name first.here)));
     }
 
 -- no file has this name
@@ -45,6 +48,15 @@ missing_at files name none = record {
 -- the count of all other names rose
 pub others_later : (files : List FileState) (before now : ℕ) (q : List ℕ) → before ≤ now → faults_of before files q ≤ faults_of now files q
 others_later files before now q later = value_named-later (λ file. file.name) (λ file. file.faults) before now files q later
+
+-- a name that a file has doesn't depend on the count of the others
+held_cond : (b : Bool) (x before now : ℕ) (here there : Option (List ℕ)) → (IsSome there → now ≡ before) → IsSome (cond b here there) → cond b x now ≡ cond b x before
+held_cond true x before now here there rest held = refl
+held_cond false x before now here there rest held = rest held
+
+pub faults_held : (files : List FileState) (q : List ℕ) (before now : ℕ) → IsSome (content_of files q) → faults_of now files q ≡ faults_of before files q
+faults_held [] q before now held = cc
+faults_held (file ∷ files) q before now held = held_cond (bytes_eq file.name q) file.faults _ _ (Some file.bytes) (content_of files q) (faults_held files q before now) held
 
 -- a read fails where no file has the name
 pub fails_missing : (due : Bool) (content : Option (List ℕ)) → content ≡ None → true ≡ due || is_none content

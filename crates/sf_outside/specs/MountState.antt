@@ -1,6 +1,7 @@
 -- What a disk in memory keeps of its mounts.
-use Rattle.std.specs.Prelude.{ℕ, List}
+use Rattle.std.specs.Prelude.{ℕ, List, Some}
 use Rattle.std.specs.declared.option.Option.{Option}
+use Rattle.sf_outside.specs.Causes.{next_count}
 use Rattle.sf_outside.specs.DiskModel.{Mounts}
 use Rattle.sf_outside.specs.Named.{value_named}
 
@@ -23,3 +24,7 @@ refusals_of refusals name = value_named (λ refused. refused.name) (λ refused. 
 -- as every disk tells it
 abbrev pub mounts_of : MountState → Mounts
 mounts_of state = record { count = state.count; name = state.name; moment = state.moment; refused = refusals_of state.refusals }
+
+-- one more succeeded
+abbrev pub with_mount : MountState → List ℕ → ℕ → MountState
+with_mount state name moment = record { count = next_count state.count; name = Some name; moment = moment; refusals = state.refusals }

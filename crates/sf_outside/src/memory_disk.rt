@@ -7,7 +7,7 @@ ghost use Rattle.sf_outside.specs.DiskModel.{of_file, Elapses, Stays, SeenWritte
 ghost use Rattle.sf_outside.specs.DiskCalls.{Quiet, Write, Sync, Mount, facts_after};
 ghost use Rattle.sf_outside.specs.DiskState.{fails_next, after_begin, after_done, after_fault, calls_quiet};
 ghost use Rattle.sf_outside.specs.LogState.{bytes_written};
-ghost use Rattle.sf_outside.specs.MountState.{mounts_of, refusals_of};
+ghost use Rattle.sf_outside.specs.MountState.{mounts_of, refusals_of, with_mount};
 
 use crate::call_log::CallLog;
 use crate::calls::Calls;
@@ -131,6 +131,7 @@ impl Disk for MemDisk {
         ensures faults { self.new.faults ≡ self.old.faults }
         ensures succeeds { OnOk result (fails_next self.old ≡ false) }
         ensures fails { IsErrOf result MountFault.Failed → fails_next self.old ≡ true }
+        ensures exact { OnOk result (self.new ≡ record (after_done Mount self.old) { mounts = with_mount self.old.mounts name.now (length self.new.calls) }) }
         ensures settings { (self.new.limit ≡ self.old.limit) × (self.new.room ≡ self.old.room) × (self.new.fail_at ≡ self.old.fail_at) }
     {
         let taken = String::from_str(alloc, name)?;

@@ -1,10 +1,10 @@
 //! What a disk in memory keeps of its mounts.
 
-ghost use Rattle.std.specs.Prelude.{◌≡◌, ◌≤◌, None, Some, [], bytes_eq, string_bytes, IfOk, OnOk, OnErr};
+ghost use Rattle.std.specs.Prelude.{◌≡◌, ◌≤◌, None, [], bytes_eq, string_bytes, IfOk, OnOk, OnErr};
 ghost use Rattle.std.specs.List.{position};
 ghost use Rattle.sf_outside.specs.Causes.{next_count};
 ghost use Rattle.sf_outside.specs.DiskModel.{NotMounted};
-ghost use Rattle.sf_outside.specs.MountState.{mounts_of, refusals_of};
+ghost use Rattle.sf_outside.specs.MountState.{mounts_of, refusals_of, with_mount};
 
 use std::alloc::{AllocError, Global};
 use std::marker::Model;
@@ -84,7 +84,7 @@ impl MountBook {
 
     /// Keeps a mount that succeeded, and the moment after it.
     pub fn succeed(&mut self, name: String, moment: u64)
-        ensures { self.new ≡ record self.old { count = next_count self.old.count; name = Some (string_bytes name); moment = moment } }
+        ensures { self.new ≡ with_mount self.old (string_bytes name) moment }
     {
         self.count = self.count.saturating_add(1);
         self.name = Some(name);
