@@ -127,11 +127,6 @@ IsDurable file facts = (image : Image) → facts.may_leave image → IsSomeAnd f
 abbrev pub IsClean : DiskFacts → Type 0
 IsClean facts = (image : Image) → facts.may_leave image → facts.seen ≡ Some image
 
--- a read copied as many bytes as stand there
-pub record CopiedAll (all : List ℕ) (at n : ℕ) (buf : List ℕ) : Type 0 where
-  pub count : n ≡ min (length buf) (length all - at)
-  pub bytes : take n buf ≡ take n (drop at all)
-
 -- how many mounts succeeded, as far as the count reaches; the name of the last, and the moment when it was done;
 -- how many mounts of each name were refused
 pub record Mounts : Type 0 where

@@ -2,8 +2,9 @@
 
 ghost use Rattle.std.specs.Prelude.{◌≡◌, ◌+◌, ◌^◌, ◌≤◌, ◌||◌, ℕ, List, None, Some, [], length, is_err, true, false, not, nat_lt, if◌then◌else◌, IfOk, IfSome, OnOk, OnErr, IsErrOf};
 ghost use Rattle.std.specs.Io.{ReadsAtMost};
+ghost use Rattle.sf_outside.specs.Bytes.{CopiedAll};
 ghost use Rattle.sf_outside.specs.Causes.{HasCause, Rose, next_count};
-ghost use Rattle.sf_outside.specs.DiskModel.{of_file, Elapses, Stays, SeenWritten, SeenTorn, ImagesTorn, IsDurable, IsClean, CopiedAll, mounted, NotMounted};
+ghost use Rattle.sf_outside.specs.DiskModel.{of_file, Elapses, Stays, SeenWritten, SeenTorn, ImagesTorn, IsDurable, IsClean, mounted, NotMounted};
 ghost use Rattle.sf_outside.specs.DiskCalls.{Quiet, Write, Sync, Mount, facts_after};
 ghost use Rattle.sf_outside.specs.DiskState.{fails_next, after_begin, after_done, after_fault, calls_quiet};
 ghost use Rattle.sf_outside.specs.LogState.{bytes_written};

@@ -3,8 +3,9 @@
 ghost use Rattle.std.specs.Prelude.{◌≡◌, ◌+◌, ◌^◌, ◌≤◌, ℕ, List, length, IfOk, IfSome, OnOk, OnErr, IsErrOf};
 ghost use Rattle.std.specs.declared.option.Option.{Option};
 ghost use Rattle.std.specs.Io.{ReadsAtMost};
+ghost use Rattle.sf_outside.specs.Bytes.{CopiedAll};
 ghost use Rattle.sf_outside.specs.Causes.{HasCause, Rose};
-ghost use Rattle.sf_outside.specs.DiskModel.{Image, DiskFacts, Mounts, of_file, Elapses, Stays, SeenWritten, SeenTorn, ImagesTorn, IsDurable, IsClean, CopiedAll, mounted, NotMounted};
+ghost use Rattle.sf_outside.specs.DiskModel.{Image, DiskFacts, Mounts, of_file, Elapses, Stays, SeenWritten, SeenTorn, ImagesTorn, IsDurable, IsClean, mounted, NotMounted};
 
 use crate::devices::Failed;
 use std::alloc::{AllocError, Global};
