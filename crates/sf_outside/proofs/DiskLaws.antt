@@ -1,9 +1,9 @@
 -- What holds of every disk: the files of an image, moments that accumulate, and what a sync makes durable.
-use Rattle.std.proofs.Common.{◌≡◌, ◌≢◌, ◌⊎◌, inl, inr, ⊎_elim, ℕ, ◌≤◌, List, Some, None, refl, sym, ap, ◌∙◌, subst, arith, IfSome, IsSome, IsSomeAnd}
+use Rattle.std.proofs.Common.{◌≡◌, ◌≢◌, inl, inr, ⊎_elim, ℕ, List, length, Some, None, refl, sym, ap, ◌∙◌, subst, arith, IsSomeAnd}
 use Rattle.std.specs.declared.option.Option.{Option}
 use Rattle.sf_outside.specs.declared.store_disk.StoreFile.{StoreFile}
 use Rattle.sf_outside.specs.declared.store_disk.StoreFile.TheVariants.{Log0, Log1, Snap0, Snap1}
-use Rattle.sf_outside.specs.DiskModel.{Four, Image, DiskFacts, of_file, with_file, written, Torn, TornFile, Elapses, LeavesOnly, Stays, SeenWritten, ImagesTorn, IsDurable, IsClean}
+use Rattle.sf_outside.specs.DiskModel.{Four, Image, DiskFacts, of_file, with_file, written, Torn, TornFile, Elapses, LeavesOnly, Stays, KnownStep, SeenWritten, SeenTorn, ImagesTorn, IsDurable, IsClean}
 
 -- the file that was put is there
 pub of_file-same : {A : Type 0} (file : StoreFile) (x : A) (four : Four A) → of_file file (with_file file x four) ≡ x
@@ -66,7 +66,7 @@ pub LeavesOnly-start : (facts : DiskFacts) (P : Image → Type 0) → ((image : 
 LeavesOnly-start facts P here = record {
   later = omega arith;
   each = λ image left. here image (facts.only_now image left);
-  before = λ since image le left. inl left
+  before = λ since image le left. inl left;
 }
 
 -- one call more, after which a crash leaves what has P
@@ -74,7 +74,7 @@ pub LeavesOnly-next : (old between new : DiskFacts) (P : Image → Type 0) → L
 LeavesOnly-next old between new P so_far time here = record {
   later = omega (arith, so_far.later, time.later);
   each = λ image left. ⊎_elim (so_far.each image) (here image) (time.nothing_else old.moment image so_far.later left);
-  before = λ since image le left. ⊎_elim (so_far.before since image le) (λ now. inr (here image now)) (time.nothing_else since image (omega (arith, le, so_far.later)) left)
+  before = λ since image le left. ⊎_elim (so_far.before since image le) (λ now. inr (here image now)) (time.nothing_else since image (omega (arith, le, so_far.later)) left);
 }
 
 -- a whole run more
@@ -82,7 +82,7 @@ pub LeavesOnly-then : (old between new : DiskFacts) (P : Image → Type 0) → L
 LeavesOnly-then old between new P first rest = record {
   later = omega (arith, first.later, rest.later);
   each = λ image left. ⊎_elim (first.each image) (λ has. has) (rest.before old.moment image first.later left);
-  before = λ since image le left. ⊎_elim (first.before since image le) (λ has. inr has) (rest.before since image (omega (arith, le, first.later)) left)
+  before = λ since image le left. ⊎_elim (first.before since image le) (λ has. inr has) (rest.before since image (omega (arith, le, first.later)) left);
 }
 
 -- a weaker fact of each image
@@ -90,8 +90,35 @@ pub LeavesOnly-weaker : (old new : DiskFacts) (P Q : Image → Type 0) → Leave
 LeavesOnly-weaker old new P Q leaves weaker = record {
   later = leaves.later;
   each = λ image left. weaker image (leaves.each image left);
-  before = λ since image le left. ⊎_elim (λ was. inl was) (λ has. inr (weaker image has)) (leaves.before since image le left)
+  before = λ since image le left. ⊎_elim (λ was. inl was) (λ has. inr (weaker image has)) (leaves.before since image le left);
 }
+
+-- nothing was called
+pub Stays-refl : (facts : DiskFacts) → Stays facts facts
+Stays-refl facts = record {
+  seen = refl;
+  images = λ image leaves. leaves;
+  time = record { later = omega arith; nothing_else = λ since image le left. inl left; keeps = λ since image le left. left };
+}
+
+-- an image is one of itself with a file torn
+pub TornFile-none : (file : StoreFile) (at n : ℕ) (image : Image) → TornFile file at n image image
+TornFile-none file at n image = record {
+  bytes = of_file file image;
+  torn = record { before = refl; after = refl; no_shorter = omega arith; no_longer = omega arith };
+  image = sym (with_file-same file image);
+}
+
+-- so a call that changes nothing may stand for a write that failed
+pub SeenTorn-stays : (file : StoreFile) (at n : ℕ) (old new : DiskFacts) → Stays old new → SeenTorn file at n old new
+SeenTorn-stays file at n old new stays = subst (KnownStep (TornFile file at n) old.seen) (sym stays.seen) (torn_same old.seen)
+  where
+    torn_same : (seen : Option Image) → KnownStep (TornFile file at n) seen seen
+    torn_same None = tt
+    torn_same (Some image) = TornFile-none file at n image
+
+pub ImagesTorn-stays : (file : StoreFile) (at n : ℕ) (old new : DiskFacts) → Stays old new → ImagesTorn file at n old new
+ImagesTorn-stays file at n old new stays image leaves = (image, stays.images image leaves, TornFile-none file at n image)
 
 -- after calls that change nothing a file is as durable as before
 pub IsDurable-stays : (file : StoreFile) (old new : DiskFacts) → IsDurable file old → Stays old new → IsDurable file new
@@ -111,3 +138,47 @@ IsClean-each facts durable image leaves = clean_at facts.seen (λ file. durable 
 -- and then each of its files is
 pub IsDurable-clean : (file : StoreFile) (facts : DiskFacts) → IsClean facts → IsDurable file facts
 IsDurable-clean file facts clean image leaves = subst (λ seen. IsSomeAnd seen (λ now. of_file file image ≡ of_file file now)) (sym (clean image leaves)) refl
+
+-- what a read gives of another file after a write, and so what is durable of it
+module _ (file other : StoreFile) (differs : other ≢ file) where
+  seen_other : (image : Image) (Step : Image → Image → Type 0) → ((before now : Image) → Step before now → of_file other now ≡ of_file other before) → (old new : Option Image) → KnownStep Step old new
+      → IsSomeAnd old (λ now. of_file other image ≡ of_file other now) → IsSomeAnd new (λ now. of_file other image ≡ of_file other now)
+  seen_other image Step same None new step was = absurd was
+  seen_other image Step same (Some before) None step was = absurd step
+  seen_other image Step same (Some before) (Some now) step was = was ∙ sym (same before now step)
+
+  durable_other : (at n : ℕ) (Step : Image → Image → Type 0) → ((before now : Image) → Step before now → of_file other now ≡ of_file other before) → (old new : DiskFacts) → IsDurable other old
+      → KnownStep Step old.seen new.seen → ImagesTorn file at n old new → IsDurable other new
+  durable_other at n Step same old new durable step images image leaves =
+      let from = images image leaves in
+      seen_other image Step same old.seen new.seen step
+      (subst (λ bytes. IsSomeAnd old.seen (λ now. bytes ≡ of_file other now)) (sym (TornFile-other file other at n from.0 image from.2 differs)) (durable from.0 from.1))
+
+  pub IsDurable-written : (at : ℕ) (bytes : List ℕ) (old new : DiskFacts) → IsDurable other old → SeenWritten file at bytes old new → ImagesTorn file at (length bytes) old new → IsDurable other new
+  IsDurable-written at bytes old new durable seen images =
+      durable_other at (length bytes) (λ before now. now ≡ with_file file (written (of_file file before) at bytes) before)
+      (λ before now step. ap (of_file other) step ∙ of_file-other file other (written (of_file file before) at bytes) before differs) old new durable seen images
+
+  pub IsDurable-torn : (at n : ℕ) (old new : DiskFacts) → IsDurable other old → SeenTorn file at n old new → ImagesTorn file at n old new → IsDurable other new
+  IsDurable-torn at n old new durable seen images =
+      durable_other at n (TornFile file at n) (λ before now step. TornFile-other file other at n before now step differs) old new durable seen images
+
+-- What a crash leaves after a write to a file that was durable: the file as it read, torn by the write.
+pub torn_from_durable : (file : StoreFile) (at n : ℕ) (old new : DiskFacts) → IsDurable file old → ImagesTorn file at n old new → (image : Image) → new.may_leave image → IsSomeAnd old.seen (λ now. Torn at n (of_file file now) (of_file file image))
+torn_from_durable file at n old new durable images image leaves =
+    let from = images image leaves in
+    torn_at old.seen from.0 (durable from.0 from.1) (TornFile-torn file at n from.0 image from.2)
+  where
+    torn_at : (seen : Option Image) (before : Image) → IsSomeAnd seen (λ now. of_file file before ≡ of_file file now) → Torn at n (of_file file before) (of_file file image) → IsSomeAnd seen (λ now. Torn at n (of_file file now) (of_file file image))
+    torn_at None before same torn = same
+    torn_at (Some now) before same torn = subst (λ bytes. Torn at n bytes (of_file file image)) same torn
+
+-- A run of a write, one call: each image is one from before it with the file torn.
+pub LeavesOnly-write : (file : StoreFile) (at n : ℕ) (old new : DiskFacts) → Elapses old new → ImagesTorn file at n old new → LeavesOnly old new (λ image. (before : Image) × old.may_leave before × TornFile file at n before image)
+LeavesOnly-write file at n old new time images =
+    LeavesOnly-next old old new (λ image. (before : Image) × old.may_leave before × TornFile file at n before image)
+    (LeavesOnly-start old (λ image. (before : Image) × old.may_leave before × TornFile file at n before image) (λ image leaves. (image, leaves, TornFile-none file at n image))) time images
+
+-- and of calls that change nothing: an image from before them
+pub LeavesOnly-stays : (old new : DiskFacts) → Stays old new → LeavesOnly old new old.may_leave
+LeavesOnly-stays old new stays = LeavesOnly-next old old new old.may_leave (LeavesOnly-start old old.may_leave (λ image leaves. leaves)) stays.time stays.images

@@ -1,13 +1,13 @@
 -- What one call more does to the facts of a disk in memory.
-use Rattle.std.proofs.Common.{◌≡◌, ◌≢◌, ◌⊎◌, inl, inr, ⊎_elim, ℕ, zero, suc, ◌+◌, ◌-◌, ◌≤◌, ◌<◌, List, [], ◌∷◌, ◌++◌, length, take, drop, replicate, min, max, Some, refl, sym, ap, ◌∙◌, subst, arith, length-append, length-drop, append_assoc}
-use Rattle.std.proofs.lemmas.List.{take-append-le, take_at, drop_at, take_all, take-take, length-take, length-take-le, length-replicate}
+use Rattle.std.proofs.Common.{◌≡◌, ◌≢◌, ◌⊎◌, inl, inr, ℕ, List, [], ◌∷◌, ◌++◌, length, Some, refl, sym, ap, ◌∙◌, subst, arith, length-append}
+use Rattle.std.proofs.lemmas.List.{take-append-le, take_all}
 use Rattle.std.proofs.lemmas.Bool.{cases_lt}
-use Rattle.std.proofs.lemmas.Bool.Decides.{nat_tests}
 use Rattle.sf_outside.specs.declared.store_disk.StoreFile.{StoreFile}
 use Rattle.sf_outside.specs.declared.store_disk.StoreFile.TheVariants.{Log0, Log1, Snap0, Snap1}
-use Rattle.sf_outside.specs.DiskModel.{Four, Image, DiskFacts, of_file, with_file, written, written_end, Torn, TornFile, Elapses, Stays, SeenWritten, ImagesTorn, IsDurable, IsClean}
+use Rattle.sf_outside.specs.DiskModel.{Four, Image, of_file, with_file, written, Torn, Elapses, Stays, SeenWritten, ImagesTorn, IsDurable, IsClean}
 use Rattle.sf_outside.specs.SinceMoments.{SomeSince}
-use Rattle.sf_outside.specs.DiskCalls.{DiskCall, Quiet, Write, Sync, Mount, FileHistory, file_after_write, file_after_sync, after_call, after_calls, files_after, new_files, bytes_now, TornBy, FileLeaves, Leaves, facts_after}
+use Rattle.sf_outside.specs.DiskCalls.{DiskCall, Quiet, Write, Sync, Mount, FileHistory, file_after_write, file_after_sync, after_call, after_calls, files_after, new_files, bytes_now, FileLeaves, Leaves, reads_each, facts_after}
+use Rattle.sf_outside.proofs.Writes.{written-torn}
 use Rattle.sf_outside.proofs.DiskLaws.{of_file-same, of_file-other, with_file-same, with_file-again, same_files}
 
 -- what holds of the new thing for one file, and of the old ones for the others, holds of each
@@ -29,37 +29,6 @@ changed_each P Snap1 x four here there Log1 = there Log1 (λ same. cc)
 changed_each P Snap1 x four here there Snap0 = there Snap0 (λ same. cc)
 changed_each P Snap1 x four here there Snap1 = here
 
--- ---- a whole write is one that tears nothing
-
--- the file up to the place, with zeros where it ends before
-abbrev pub front : List ℕ → ℕ → List ℕ
-front file at = take at (file ++ replicate (at - length file) 0)
-
-pub length-front : (file : List ℕ) (at : ℕ) → length (front file at) ≡ at
-length-front file at = length-take-le at (file ++ replicate (at - length file) 0) (omega (arith, length-append file (replicate (at - length file) 0), length-replicate {A = ℕ} (at - length file) 0))
-
-front-same : (file : List ℕ) (at m : ℕ) → m ≤ at → m ≤ length file → take m (front file at) ≡ take m file
-front-same file at m within there = take-take m at (file ++ replicate (at - length file) 0) within ∙ take-append-le m file (replicate (at - length file) 0) there
-
--- front, bytes and the rest behind them
-whole-torn : (file : List ℕ) (at : ℕ) (bytes : List ℕ) → 0 < length bytes → Torn at (length bytes) file (front file at ++ bytes ++ drop (at + length bytes) file)
-whole-torn file at bytes some =
-    let rest = drop (at + length bytes) file in
-    let m = min at (length file) in
-    let long : length (front file at ++ bytes) ≡ at + length bytes = length-append (front file at) bytes ∙ ap (λ n. n + length bytes) (length-front file at) in
-    let all : length (front file at ++ bytes ++ rest) ≡ at + length bytes + (length file - (at + length bytes)) = omega (arith, long, length-append (front file at ++ bytes) rest, length-drop (at + length bytes) file) in
-    let ends : written_end at (length bytes) ≡ at + length bytes = grind (arith, nat_tests) in
-    record {
-      before = take-append-le m (front file at ++ bytes) rest (omega (arith, long)) ∙ take-append-le m (front file at) bytes (omega (arith, length-front file at)) ∙ front-same file at m (omega arith) (omega arith);
-      after = drop_at (front file at ++ bytes) rest (at + length bytes) long;
-      no_shorter = omega (arith, all);
-      no_longer = omega (arith, all, ends)
-    }
-
-pub written-torn : (file : List ℕ) (at : ℕ) (bytes : List ℕ) → Torn at (length bytes) file (written file at bytes)
-written-torn file at [] = record { before = refl; after = refl; no_shorter = omega arith; no_longer = omega arith }
-written-torn file at (byte ∷ bytes) = whole-torn file at (byte ∷ bytes) (omega arith)
-
 -- ---- the files after one call more
 
 pub after_calls-more : (calls : List DiskCall) (call : DiskCall) (files : Four FileHistory) → after_calls (calls ++ call ∷ []) files ≡ after_call call (after_calls calls files)
@@ -71,9 +40,9 @@ after_calls-more (first ∷ calls) call files = after_calls-more calls call (aft
 module _ {A : Type 0} (P : List A → Type 0) (calls : List A) (call : A) (since : ℕ) where
   some_more : SomeSince P (calls ++ call ∷ []) since → SomeSince P calls since ⊎ P (calls ++ call ∷ [])
   some_more some = elim (cases_lt (length calls) some.0) [
-      inr within ↦ inl (some.0, some.1, within, subst P (take-append-le some.0 calls (call ∷ []) within) some.3)
-      | inl past ↦ inr (subst P (take_all some.0 (calls ++ call ∷ []) (omega (arith, past, length-append calls (call ∷ [])))) some.3)
-      ]
+    | inr within ↦ inl (some.0, some.1, within, subst P (take-append-le some.0 calls (call ∷ []) within) some.3)
+    | inl past ↦ inr (subst P (take_all some.0 (calls ++ call ∷ []) (omega (arith, past, length-append calls (call ∷ [])))) some.3)
+  ]
 
   some_kept : SomeSince P calls since → SomeSince P (calls ++ call ∷ []) since
   some_kept some = (some.0, some.1, omega (arith, some.2, length-append calls (call ∷ [])), subst P (sym (take-append-le some.0 calls (call ∷ []) some.2)) some.3)
@@ -82,7 +51,7 @@ pub Elapses-call : (calls : List DiskCall) (call : DiskCall) → Elapses (facts_
 Elapses-call calls call = record {
   later = omega (arith, length-append calls (call ∷ []));
   nothing_else = λ since image le left. some_more (λ first. Leaves (files_after first) image) calls call since left;
-  keeps = λ since image le left. some_kept (λ first. Leaves (files_after first) image) calls call since left
+  keeps = λ since image le left. some_kept (λ first. Leaves (files_after first) image) calls call since left;
 }
 
 -- ---- what each call leaves
@@ -96,7 +65,7 @@ stays_with : (calls : List DiskCall) (call : DiskCall) → ((files : Four FileHi
 stays_with calls call same fewer = record {
   seen = ap Some (bytes_now-quiet calls call same);
   images = λ image leaves. fewer (files_after calls) image (subst (λ files. Leaves files image) (after_calls-more calls call new_files) leaves);
-  time = Elapses-call calls call
+  time = Elapses-call calls call;
 }
 
 pub Stays-quiet : (calls : List DiskCall) → Stays (facts_after calls) (facts_after (calls ++ Quiet ∷ []))
@@ -113,15 +82,11 @@ synced_leaves file bytes (inl now) = now
 synced_leaves file bytes (inr synced) = synced
 
 pub Stays-sync : (file : StoreFile) (calls : List DiskCall) → Stays (facts_after calls) (facts_after (calls ++ Sync file ∷ []))
-Stays-sync file calls = stays_with calls (Sync file) (bytes_now-sync file) (λ files image leaves. record { each = λ other.
-    changed_each (λ f history. FileLeaves history (of_file f image) → FileLeaves (of_file f files) (of_file f image)) file (file_after_sync (of_file file files)) files
-      (λ left. inl (synced_leaves (of_file file files) (of_file file image) left)) (λ f differs left. left) other (leaves.each other) })
-
-now_of : (file : StoreFile) (files : Four FileHistory) → of_file file (bytes_now files) ≡ (of_file file files).now
-now_of Log0 files = refl
-now_of Log1 files = refl
-now_of Snap0 files = refl
-now_of Snap1 files = refl
+Stays-sync file calls = stays_with calls (Sync file) (bytes_now-sync file) (λ files image leaves. record {
+  each = λ other.
+      changed_each (λ f history. FileLeaves history (of_file f image) → FileLeaves (of_file f files) (of_file f image)) file (file_after_sync (of_file file files)) files
+      (λ left. inl (synced_leaves (of_file file files) (of_file file image) left)) (λ f differs left. left) other (leaves.each other);
+})
 
 pub IsDurable-sync : (file : StoreFile) (calls : List DiskCall) → IsDurable file (facts_after (calls ++ Sync file ∷ []))
 IsDurable-sync file calls image leaves =
@@ -129,10 +94,10 @@ IsDurable-sync file calls image leaves =
     let history : of_file file (after_call (Sync file) files) ≡ file_after_sync (of_file file files) = of_file-same file (file_after_sync (of_file file files)) files in
     let left : FileLeaves (of_file file (after_call (Sync file) files)) (of_file file image) = subst (λ all. FileLeaves (of_file file all) (of_file file image)) (after_calls-more calls (Sync file) new_files) (leaves.each file) in
     synced_leaves (of_file file files) (of_file file image) (subst (λ h. FileLeaves h (of_file file image)) history left)
-    ∙ sym (now_of file files) ∙ sym (ap (of_file file) (bytes_now-quiet calls (Sync file) (bytes_now-sync file)))
+    ∙ sym (reads_each files file) ∙ sym (ap (of_file file) (bytes_now-quiet calls (Sync file) (bytes_now-sync file)))
 
-pub Stays-mount : (calls : List DiskCall) → bytes_now (files_after (calls ++ Mount ∷ [])) ≡ bytes_now (files_after calls)
-Stays-mount calls = bytes_now-quiet calls Mount (λ files. refl)
+pub bytes_now-mount : (calls : List DiskCall) → bytes_now (files_after (calls ++ Mount ∷ [])) ≡ bytes_now (files_after calls)
+bytes_now-mount calls = bytes_now-quiet calls Mount (λ files. refl)
 
 mount_each : (files : Four FileHistory) (image : Image) → Leaves (after_call Mount files) image → (file : StoreFile) → of_file file (bytes_now files) ≡ of_file file image
 mount_each files image leaves Log0 = sym (synced_leaves files.log0 image.log0 (leaves.each Log0))
@@ -143,7 +108,7 @@ mount_each files image leaves Snap1 = sym (synced_leaves files.snap1 image.snap1
 pub IsClean-mount : (calls : List DiskCall) → IsClean (facts_after (calls ++ Mount ∷ []))
 IsClean-mount calls image leaves =
     let files = files_after calls in
-    ap Some (Stays-mount calls ∙ same_files (bytes_now files) image (mount_each files image (subst (λ all. Leaves all image) (after_calls-more calls Mount new_files) leaves)))
+    ap Some (bytes_now-mount calls ∙ same_files (bytes_now files) image (mount_each files image (subst (λ all. Leaves all image) (after_calls-more calls Mount new_files) leaves)))
 
 -- what a crash leaves of a file after a write, it left before, torn by the write
 write_leaves : (at : ℕ) (bytes : List ℕ) (file : FileHistory) (left : List ℕ) → FileLeaves (file_after_write at bytes file) left → (between : List ℕ) × FileLeaves file between × Torn at (length bytes) between left
@@ -168,11 +133,29 @@ ImagesTorn-write file at bytes calls image leaves =
     let here = write_leaves at bytes (of_file file files) (of_file file image) (subst (λ h. FileLeaves h (of_file file image)) (of_file-same file changed files) (all.each file)) in
     let before : Image = with_file file here.0 image in (
       before,
-      record { each = λ other. changed_each (λ f bytes. FileLeaves (of_file f files) bytes) file here.0 image here.1
-        (λ f differs. subst (λ h. FileLeaves h (of_file f image)) (of_file-other file f changed files differs) (all.each f)) other },
+      record {
+        each = λ other. changed_each (λ f bytes. FileLeaves (of_file f files) bytes) file here.0 image here.1
+            (λ f differs. subst (λ h. FileLeaves h (of_file f image)) (of_file-other file f changed files differs) (all.each f)) other;
+      },
       record {
         bytes = of_file file image;
         torn = subst (λ b. Torn at (length bytes) b (of_file file image)) (sym (of_file-same file here.0 image)) here.2;
-        image = sym (with_file-again file here.0 (of_file file image) image ∙ with_file-same file image)
-      }
+        image = sym (with_file-again file here.0 (of_file file image) image ∙ with_file-same file image);
+      },
     )
+
+-- ---- bytes that are what a read gives are so after one call more
+
+pub holds_quiet : (image : Image) (calls more : List DiskCall) → image ≡ bytes_now (files_after calls) → more ≡ calls ++ Quiet ∷ [] → image ≡ bytes_now (files_after more)
+holds_quiet image calls more holds is = holds ∙ sym (bytes_now-quiet calls Quiet (λ files. refl)) ∙ ap (λ all. bytes_now (files_after all)) (sym is)
+
+pub holds_sync : (file : StoreFile) (image : Image) (calls more : List DiskCall) → image ≡ bytes_now (files_after calls) → more ≡ calls ++ Sync file ∷ [] → image ≡ bytes_now (files_after more)
+holds_sync file image calls more holds is = holds ∙ sym (bytes_now-quiet calls (Sync file) (bytes_now-sync file)) ∙ ap (λ all. bytes_now (files_after all)) (sym is)
+
+pub holds_mount : (image : Image) (calls more : List DiskCall) → image ≡ bytes_now (files_after calls) → more ≡ calls ++ Mount ∷ [] → image ≡ bytes_now (files_after more)
+holds_mount image calls more holds is = holds ∙ sym (bytes_now-mount calls) ∙ ap (λ all. bytes_now (files_after all)) (sym is)
+
+pub holds_write : (file : StoreFile) (at : ℕ) (bytes : List ℕ) (image new : Image) (calls more : List DiskCall) → image ≡ bytes_now (files_after calls) → new ≡ with_file file (written (of_file file image) at bytes) image → more ≡ calls ++ Write file at bytes ∷ []
+    → new ≡ bytes_now (files_after more)
+holds_write file at bytes image new calls more holds changed is =
+    changed ∙ ap (λ old. with_file file (written (of_file file old) at bytes) old) holds ∙ sym (SeenWritten-write file at bytes calls) ∙ ap (λ all. bytes_now (files_after all)) (sym is)

@@ -1,25 +1,20 @@
 -- A file in a room that is filled with zeros behind its end: what a write into the room makes of both.
-use Rattle.std.proofs.Common.{◌≡◌, ℕ, zero, suc, ◌+◌, ◌-◌, ◌≤◌, ◌<◌, List, [], ◌∷◌, ◌++◌, length, take, drop, replicate, max, refl, sym, ap, ◌∙◌, inl, inr, arith, length-append, length-drop, take-append-drop}
+use Rattle.std.proofs.Common.{◌≡◌, ℕ, ◌+◌, ◌-◌, ◌≤◌, ◌<◌, List, [], ◌∷◌, ◌++◌, length, take, drop, replicate, max, refl, sym, ap, ◌∙◌, inl, inr, arith, length-append, take-append-drop}
 use Rattle.std.proofs.lemmas.Bool.{cases_lt}
 use Rattle.std.proofs.lemmas.List.{append_assoc, take-append-le, drop_at, drop-drop, drop-take, drop_all, drop-replicate, length-take-le, length-replicate, replicate-append-replicate}
 use Rattle.std.proofs.lemmas.Slice.{take-put_mid, drop-put_mid}
 use borrow.Rule.Slice.PartMut.{put_mid}
 use Rattle.sf_outside.specs.DiskModel.{written}
-use Rattle.sf_outside.proofs.DiskSteps.{front, length-front}
-
--- a front that is longer than the first list
-take_past : (front rest : List ℕ) (n : ℕ) → length front ≤ n → take n (front ++ rest) ≡ front ++ take (n - length front) rest
-take_past [] rest n past = ap (λ k. take k rest) (omega arith)
-take_past (x ∷ front) rest zero past = absurd (omega (arith, past))
-take_past (x ∷ front) rest (suc n) past = ap (λ l. x ∷ l) (take_past front rest n (omega (arith, past)) ∙ ap (λ k. front ++ take k rest) (omega arith))
+use Rattle.sf_outside.proofs.Fronts.{take_past}
+use Rattle.sf_outside.proofs.Writes.{front}
 
 -- what is left of a front
 drop_front : (all : List ℕ) (n len : ℕ) → len ≤ length all → drop n (take len all) ≡ take (len - n) (drop n all)
 drop_front all n len within = elim (cases_lt len n) [
-      inl past ↦ let none : len - n ≡ 0 = omega (arith, past) in
-        drop_all n (take len all) (omega (arith, past, length-take-le len all within)) ∙ ap (λ k. take k (drop n all)) (sym none)
-      | inr before ↦ ap (λ k. drop n (take k all)) (omega (arith, before)) ∙ drop-take n (len - n) all
-      ]
+  | inl past ↦ let none : len - n ≡ 0 = omega (arith, past) in
+      drop_all n (take len all) (omega (arith, past, length-take-le len all within)) ∙ ap (λ k. take k (drop n all)) (sym none)
+  | inr before ↦ ap (λ k. drop n (take k all)) (omega (arith, before)) ∙ drop-take n (len - n) all
+]
 
 -- more zeros than a front has room for
 take_padded : (file : List ℕ) (at zeros : ℕ) → at - length file ≤ zeros → take at (file ++ replicate zeros 0) ≡ front file at

@@ -1,77 +1,84 @@
--- How what a sink gained is carried on over lines that follow.
-use Rattle.std.proofs.Common.{◌≡◌, ℕ, zero, suc, ◌+◌, List, [], ◌∷◌, ◌++◌, length, take, drop, get_or, map, Ok, Err, refl, sym, ap, ◌∙◌, subst, append_assoc, append-nil, IsErr, ◌<◌, arith}
+-- How what a sink gained by some lines goes on over the lines that follow.
+use Rattle.std.proofs.Common.{◌≡◌, ℕ, ◌+◌, ◌<◌, List, [], ◌∷◌, ◌++◌, length, take, drop, get_or, map, min, Ok, Err, IsErr, refl, sym, ap, ◌∙◌, subst, append_assoc, append-nil, arith}
 use Rattle.std.proofs.lemmas.List.{map_more, map-append, take_all, take-append-drop}
+use Rattle.std.proofs.KnownBytes.{Appends-trans, Appends-nil}
 use Rattle.std.specs.declared.option.Option.{Option}
 use Rattle.std.specs.declared.result.Result.{Result}
 use Rattle.std.specs.Io.KnownBytes.{Appends}
-use Rattle.std.proofs.KnownBytes.{Appends-trans, Appends-nil}
 use Rattle.sf_outside.specs.declared.gains.WriteStop.{WriteStop}
 use Rattle.sf_outside.specs.declared.gains.WriteStop.TheVariants.{NoMemory, WriteFault}
 use Rattle.sf_outside.specs.Gains.{joined, Wrote}
-
-pub joined-append : (xs ys : List (List ℕ)) → joined (xs ++ ys) ≡ joined xs ++ joined ys
-unfolding joined
-joined-append [] ys = refl
-joined-append (x ∷ xs) ys = ap (λ text. x ++ text) (joined-append xs ys) ∙ sym (append_assoc x (joined xs) (joined ys))
+use Rattle.sf_outside.proofs.Fronts.{take_into, take_first}
 
 pub joined-nil : joined [] ≡ []
 unfolding joined
 joined-nil = refl
 
-pub joined_one : (x : List ℕ) → joined (x ∷ []) ≡ x
+pub joined_one : (line : List ℕ) → joined (line ∷ []) ≡ line
 unfolding joined
-joined_one x = append-nil x
+joined_one line = append-nil line
 
--- a front of the first lines is a front of them all
-take_front : {A : Type 0} (n : ℕ) (xs ys : List A) → (m : ℕ) × (take m (xs ++ ys) ≡ take n xs)
-take_front zero xs ys = (0, refl)
-take_front (suc n) [] ys = (0, refl)
-take_front (suc n) (x ∷ xs) ys = let rest = take_front n xs ys in (suc rest.0, ap (λ l. x ∷ l) rest.1)
+pub joined-append : (first rest : List (List ℕ)) → joined (first ++ rest) ≡ joined first ++ joined rest
+unfolding joined
+joined-append [] rest = refl
+joined-append (line ∷ first) rest = ap (λ text. line ++ text) (joined-append first rest) ∙ sym (append_assoc line (joined first) (joined rest))
 
--- the first lines and a front of the others are a front of them all
-take_after : {A : Type 0} (n : ℕ) (xs ys : List A) → (m : ℕ) × (take m (xs ++ ys) ≡ xs ++ take n ys)
-take_after n [] ys = (n, refl)
-take_after n (x ∷ xs) ys = let rest = take_after n xs ys in (suc rest.0, ap (λ l. x ∷ l) rest.1)
+-- all of the first lines, and k lines of the rest
+joined_into : (first rest : List (List ℕ)) (k : ℕ) → joined (take (length first + k) (first ++ rest)) ≡ joined first ++ joined (take k rest)
+joined_into first rest k = ap joined (take_into first rest k) ∙ joined-append first (take k rest)
 
--- no line was written yet
-pub Wrote-none : {U : Type 0} (u : U) (a : Option (List ℕ)) → Wrote (Ok u) a a []
-Wrote-none u a = subst (Appends a a) (sym joined-nil) (Appends-nil a)
+-- the text of the first lines, and n bytes of the text of the rest
+text_into : (first rest : List (List ℕ)) (n : ℕ) → take (length (joined first) + n) (joined (first ++ rest)) ≡ joined first ++ take n (joined rest)
+text_into first rest n = ap (take (length (joined first) + n)) (joined-append first rest) ∙ take_into (joined first) (joined rest) n
 
--- first lines that were all written, and then the result on the lines after them
-pub Wrote-after : {T U : Type 0} (u : U) (r : Result T WriteStop) (a b c : Option (List ℕ)) (xs ys : List (List ℕ)) → Wrote (Ok u) a b xs → Wrote r b c ys → Wrote r a c (xs ++ ys)
-Wrote-after u (Ok v) a b c xs ys first then = subst (Appends a c) (sym (joined-append xs ys)) (Appends-trans a b c _ _ first then)
-Wrote-after u (Err NoMemory) a b c xs ys first then =
-    let lines = take_after then.0 xs ys in
-    (lines.0, subst (Appends a c) (sym (ap joined lines.1 ∙ joined-append xs (take then.0 ys))) (Appends-trans a b c _ _ first then.1))
-Wrote-after u (Err WriteFault) a b c xs ys first then =
-    let bytes = take_after then.0 (joined xs) (joined ys) in
-    (bytes.0, subst (Appends a c) (sym (ap (take bytes.0) (joined-append xs ys) ∙ bytes.1)) (Appends-trans a b c _ _ first then.1))
+-- n bytes of the text of the first lines
+text_first : (first rest : List (List ℕ)) (n : ℕ) → take (min n (length (joined first))) (joined (first ++ rest)) ≡ take n (joined first)
+text_first first rest n = ap (take (min n (length (joined first)))) (joined-append first rest) ∙ take_first (joined first) (joined rest) n
 
--- a stop within the first lines is a stop within them all
-pub Wrote-more : {T : Type 0} (r : Result T WriteStop) (a b : Option (List ℕ)) (xs ys : List (List ℕ)) → IsErr r → Wrote r a b xs → Wrote r a b (xs ++ ys)
-Wrote-more (Ok v) a b xs ys stopped wrote = cc
-Wrote-more (Err NoMemory) a b xs ys stopped wrote =
-    let lines = take_front wrote.0 xs ys in (lines.0, subst (λ l. Appends a b (joined l)) (sym lines.1) wrote.1)
-Wrote-more (Err WriteFault) a b xs ys stopped wrote =
-    let bytes = take_front wrote.0 (joined xs) (joined ys) in
-    (bytes.0, subst (Appends a b) (sym (ap (take bytes.0) (joined-append xs ys) ∙ bytes.1)) wrote.1)
+-- no line was to be written
+pub Wrote-none : {U : Type 0} (value : U) (held : Option (List ℕ)) → Wrote (Ok value) held held []
+Wrote-none value held = subst (Appends held held) (sym joined-nil) (Appends-nil held)
 
--- the exit of a `?` passes the same stop on
-pub Wrote-passed : (V : Type 0) {T : Type 0} (stop : WriteStop) (r : Result T WriteStop) (a b : Option (List ℕ)) (xs : List (List ℕ)) → r ≡ Err stop → Wrote {T = V} (Err stop) a b xs → Wrote r a b xs
-Wrote-passed V NoMemory r a b xs is wrote = rw is wrote
-Wrote-passed V WriteFault r a b xs is wrote = rw is wrote
+-- the first lines were all written, and this is the result of the rest
+pub Wrote-after : {T U : Type 0} (value : U) (result : Result T WriteStop) (start between end : Option (List ℕ)) (first rest : List (List ℕ))
+    → Wrote (Ok value) start between first → Wrote result between end rest → Wrote result start end (first ++ rest)
+Wrote-after value (Ok done) start between end first rest whole more =
+    subst (Appends start end) (sym (joined-append first rest)) (Appends-trans start between end _ _ whole more)
+Wrote-after value (Err NoMemory) start between end first rest whole more =
+    (length first + more.0, subst (Appends start end) (sym (joined_into first rest more.0)) (Appends-trans start between end _ _ whole more.1))
+Wrote-after value (Err WriteFault) start between end first rest whole more =
+    (length (joined first) + more.0, subst (Appends start end) (sym (text_into first rest more.0)) (Appends-trans start between end _ _ whole more.1))
 
--- in a loop over a list, each element giving a line: one line more
-pub Wrote-next : {T U : Type 0} (u : U) (r : Result T WriteStop) (a b c : Option (List ℕ)) {X : Type 0} (line : X → List ℕ) (xs : List X) (i : ℕ) (x : X) → i < length xs → x ≡ get_or xs i x
-    → Wrote (Ok u) a b (map line (take i xs)) → Wrote r b c (line x ∷ []) → Wrote r a c (map line (take (i + 1) xs))
-Wrote-next u r a b c line xs i x within is first then =
-    subst (Wrote r a c) (sym (map_more line xs i x within ∙ ap (λ y. map line (take i xs) ++ line y ∷ []) (sym is))) (Wrote-after u r a b c (map line (take i xs)) (line x ∷ []) first then)
+-- a stop within the first lines is a stop within them and the rest
+pub Wrote-more : {T : Type 0} (result : Result T WriteStop) (start end : Option (List ℕ)) (first rest : List (List ℕ)) → IsErr result → Wrote result start end first → Wrote result start end (first ++ rest)
+Wrote-more (Ok value) start end first rest stopped wrote = cc
+Wrote-more (Err NoMemory) start end first rest stopped wrote =
+    (min wrote.0 (length first), subst (λ lines. Appends start end (joined lines)) (sym (take_first first rest wrote.0)) wrote.1)
+Wrote-more (Err WriteFault) start end first rest stopped wrote =
+    (min wrote.0 (length (joined first)), subst (Appends start end) (sym (text_first first rest wrote.0)) wrote.1)
 
--- in such a loop: a stop at an element is a stop within the whole
-pub Wrote-stop : {T : Type 0} (r : Result T WriteStop) (a b : Option (List ℕ)) {X : Type 0} (line : X → List ℕ) (xs : List X) (i : ℕ) → IsErr r → Wrote r a b (map line (take i xs)) → Wrote r a b (map line xs)
-Wrote-stop r a b line xs i stopped wrote =
-    subst (Wrote r a b) (sym (map-append line (take i xs) (drop i xs)) ∙ ap (map line) (take-append-drop i xs)) (Wrote-more r a b (map line (take i xs)) (map line (drop i xs)) stopped wrote)
+-- a result that hands the stop of another on, as the exit of a `?`
+pub Wrote-passed : (V : Type 0) {T : Type 0} (stop : WriteStop) (result : Result T WriteStop) (start end : Option (List ℕ)) (lines : List (List ℕ))
+    → result ≡ Err stop → Wrote {T = V} (Err stop) start end lines → Wrote result start end lines
+Wrote-passed V NoMemory result start end lines is wrote = rw is wrote
+Wrote-passed V WriteFault result start end lines is wrote = rw is wrote
 
--- want of memory after these lines
-pub Wrote-no_memory : {T : Type 0} (r : Result T WriteStop) (a b : Option (List ℕ)) (xs : List (List ℕ)) → r ≡ Err NoMemory → Appends a b (joined xs) → Wrote r a b xs
-Wrote-no_memory r a b xs is wrote = rw is (length xs, subst (λ l. Appends a b (joined l)) (sym (take_all (length xs) xs (omega arith))) wrote)
+-- memory ran out after these lines
+pub Wrote-no_memory : {T : Type 0} (result : Result T WriteStop) (start end : Option (List ℕ)) (lines : List (List ℕ)) → result ≡ Err NoMemory → Appends start end (joined lines) → Wrote result start end lines
+Wrote-no_memory result start end lines is whole =
+    rw is (length lines, subst (λ l. Appends start end (joined l)) (sym (take_all (length lines) lines (omega arith))) whole)
+
+-- In a loop over things that each give a line: the lines so far, and the one at i.
+pub Wrote-next : {T U : Type 0} (value : U) (result : Result T WriteStop) (start between end : Option (List ℕ)) {X : Type 0} (line : X → List ℕ) (things : List X) (i : ℕ) (thing : X)
+    → i < length things → thing ≡ get_or things i thing → Wrote (Ok value) start between (map line (take i things)) → Wrote result between end (line thing ∷ []) → Wrote result start end (map line (take (i + 1) things))
+Wrote-next value result start between end line things i thing within is so_far one =
+    let lines : map line (take (i + 1) things) ≡ map line (take i things) ++ line thing ∷ [] =
+    map_more line things i thing within ∙ ap (λ other. map line (take i things) ++ line other ∷ []) (sym is) in
+    subst (Wrote result start end) (sym lines) (Wrote-after value result start between end (map line (take i things)) (line thing ∷ []) so_far one)
+
+-- In such a loop: a stop at i is a stop within all the lines.
+pub Wrote-stop : {T : Type 0} (result : Result T WriteStop) (start end : Option (List ℕ)) {X : Type 0} (line : X → List ℕ) (things : List X) (i : ℕ)
+    → IsErr result → Wrote result start end (map line (take i things)) → Wrote result start end (map line things)
+Wrote-stop result start end line things i stopped wrote =
+    let lines : map line (take i things) ++ map line (drop i things) ≡ map line things = sym (map-append line (take i things) (drop i things)) ∙ ap (map line) (take-append-drop i things) in
+    subst (Wrote result start end) lines (Wrote-more result start end (map line (take i things)) (map line (drop i things)) stopped wrote)

@@ -1,7 +1,12 @@
+pub mod CopyLaws
 pub mod DiskLaws
+pub mod DiskStateLaws
 pub mod DiskSteps
 pub mod FileRooms
+pub mod Fronts
 pub mod GainLaws
 pub mod LogLaws
-pub mod Moves
 pub mod NamedFiles
+pub mod NamedValues
+pub mod Refusals
+pub mod Writes

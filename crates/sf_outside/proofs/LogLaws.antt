@@ -1,10 +1,9 @@
 -- The calls that a log notes, and one more.
 use Rattle.std.proofs.Common.{◌≡◌, ℕ, ◌+◌, ◌≤◌, List, [], ◌∷◌, ◌++◌, length, take, drop, refl, sym, ap, ◌∙◌, arith, length-drop, append-nil}
-use Rattle.std.proofs.lemmas.List.{take-append-le, drop-append-le, length-take-le, take_all}
-use Rattle.sf_outside.specs.declared.store_disk.StoreFile.{StoreFile}
+use Rattle.std.proofs.lemmas.List.{take-append-le, drop-append-le, length-take-le}
 use Rattle.sf_outside.specs.declared.call_log.Note.{Note}
 use Rattle.sf_outside.specs.declared.call_log.Note.TheVariants as note
-use Rattle.sf_outside.specs.DiskCalls.{DiskCall, Quiet, Write, Sync, Mount}
+use Rattle.sf_outside.specs.DiskCalls.{Quiet, Write, Sync, Mount}
 use Rattle.sf_outside.specs.LogState.{bytes_written}
 use Rattle.sf_outside.specs.CallLog.{calls_of, noted_bytes}
 

@@ -1,84 +1,37 @@
--- The first file of a name, and a change of its count.
-use Rattle.std.proofs.Common.{◌≡◌, ℕ, zero, suc, ◌+◌, ◌≤◌, ◌<◌, Bool, true, false, cond, List, [], ◌∷◌, ◌++◌, ◌||◌, length, get_or, set, Some, None, refl, sym, ap, ◌∙◌, arith, bytes_eq, is_none, subst, map, take}
+-- The first file of a name, and a fault that is counted there.
+use Rattle.std.proofs.Common.{◌≡◌, ◌≢◌, cond, IsSome, ℕ, ◌+◌, ◌≤◌, ◌<◌, Bool, true, false, List, [], ◌∷◌, ◌++◌, ◌||◌, length, get_or, set, Some, None, refl, sym, ap, ◌∙◌, arith, bytes_eq, is_none, map, take}
 use Rattle.std.proofs.lemmas.List.{map_more, length-map, length-take-le}
 use Rattle.std.specs.declared.option.Option.{Option}
-use Rattle.std.specs.List.{position, position_or_len}
-use Rattle.std.proofs.lemmas.List.Quantifiers.{position-Some}
-use Rattle.std.proofs.lemmas.List.Sums.{fails_before_first}
-use Rattle.std.proofs.lemmas.Grind.{common_steps}
+use Rattle.std.specs.List.{position}
 use Rattle.sf_outside.specs.Causes.{next_count}
 use Rattle.sf_outside.specs.Named.{FileState, content_of, faults_of, listed}
-
--- the place of the first file of a name
-pub record FirstAt (files : List FileState) (name : List ℕ) (i : ℕ) (d : FileState) : Type 0 where
-  pub within : i < length files
-  pub here : bytes_eq (get_or files i d).name name ≡ true
-  pub before : (k : ℕ) → k < i → bytes_eq (get_or files k d).name name ≡ false
-
--- a file in place of another of the same name and bytes, with no lower count
-pub record Recounts (old new : FileState) : Type 0 where
-  pub name : new.name ≡ old.name
-  pub bytes : new.bytes ≡ old.bytes
-  pub later : old.faults ≤ new.faults
-
-rest_first : (file : FileState) (files : List FileState) (name : List ℕ) (i : ℕ) (d : FileState) → FirstAt (file ∷ files) name (suc i) d → FirstAt files name i d
-rest_first file files name i d first = record { within = omega (arith, first.within); here = first.here; before = λ k lt. first.before (suc k) (omega (arith, lt)) }
-
-pub content-first : (files : List FileState) (name : List ℕ) (i : ℕ) (d : FileState) → FirstAt files name i d → content_of files name ≡ Some (get_or files i d).bytes
-content-first [] name i d first = absurd (omega (arith, first.within))
-content-first (file ∷ files) name zero d first = rw first.here refl
-content-first (file ∷ files) name (suc i) d first = rw (first.before 0 (omega arith)) (content-first files name i d (rest_first file files name i d first))
-
-pub faults-first : (others : ℕ) (files : List FileState) (name : List ℕ) (i : ℕ) (d : FileState) → FirstAt files name i d → faults_of others files name ≡ (get_or files i d).faults
-faults-first others [] name i d first = absurd (omega (arith, first.within))
-faults-first others (file ∷ files) name zero d first = rw first.here refl
-faults-first others (file ∷ files) name (suc i) d first = rw (first.before 0 (omega arith)) (faults-first others files name i d (rest_first file files name i d first))
-
-pub content-recount : (files : List FileState) (i : ℕ) (d new : FileState) (q : List ℕ) → i < length files → Recounts (get_or files i d) new → content_of (set files i new) q ≡ content_of files q
-content-recount [] i d new q within same = absurd (omega (arith, within))
-content-recount (file ∷ files) zero d new q within same = rw (same.name, same.bytes) refl
-content-recount (file ∷ files) (suc i) d new q within same = ap (λ rest. cond (bytes_eq file.name q) (Some file.bytes) rest) (content-recount files i d new q (omega arith) same)
-
-faults_le : (b : Bool) (x y x' y' : ℕ) → x ≤ x' → y ≤ y' → cond b x y ≤ cond b x' y'
-faults_le true x y x' y' here there = here
-faults_le false x y x' y' here there = there
-
-pub faults-recount : (others : ℕ) (files : List FileState) (i : ℕ) (d new : FileState) (q : List ℕ) → i < length files → Recounts (get_or files i d) new → faults_of others files q ≤ faults_of others (set files i new) q
-faults-recount others [] i d new q within same = absurd (omega (arith, within))
-faults-recount others (file ∷ files) zero d new q within same = rw same.name (faults_le (bytes_eq file.name q) _ _ _ _ same.later (omega arith))
-faults-recount others (file ∷ files) (suc i) d new q within same = faults_le (bytes_eq file.name q) _ _ _ _ (omega arith) (faults-recount others files i d new q (omega arith) same)
-
--- the count of the name itself is that of the new file
-pub faults-first-recount : (others : ℕ) (files : List FileState) (name : List ℕ) (i : ℕ) (d new : FileState) → FirstAt files name i d → Recounts (get_or files i d) new → faults_of others (set files i new) name ≡ new.faults
-faults-first-recount others [] name i d new first same = absurd (omega (arith, first.within))
-faults-first-recount others (file ∷ files) name zero d new first same = rw (same.name, first.here) refl
-faults-first-recount others (file ∷ files) name (suc i) d new first same =
-    rw (first.before 0 (omega arith)) (faults-first-recount others files name i d new (rest_first file files name i d first) same)
+use Rattle.sf_outside.proofs.NamedValues.{first_at, none_named, value_named-first, value_named-set, value_named-related, value_named-others, value_named-missing, value_named-later, same_name, other_name}
 
 -- what a fault at the place of a name changes
 pub record FaultAt (others : ℕ) (old new : List FileState) (name : List ℕ) : Type 0 where
   pub kept : (q : List ℕ) → content_of new q ≡ content_of old q
   pub later : (q : List ℕ) → faults_of others old q ≤ faults_of others new q
   pub counted : faults_of others new name ≡ next_count (faults_of others old name)
-
-first_at : (files : List FileState) (name : List ℕ) (place : ℕ) (d : FileState) → Some place ≡ position (λ file. bytes_eq file.name name) files → FirstAt files name place d
-first_at files name place d found =
-    let facts = position-Some (λ file. bytes_eq file.name name) files place d (sym found) in
-    record { within = facts.0; here = facts.1; before = facts.2 }
+  pub elsewhere : (q : List ℕ) → q ≢ name → faults_of others new q ≡ faults_of others old q
 
 pub content_at : (files : List FileState) (name : List ℕ) (place : ℕ) (d : FileState) → Some place ≡ position (λ file. bytes_eq file.name name) files → d ≡ get_or files place d → content_of files name ≡ Some d.bytes
-content_at files name place d found is = content-first files name place d (first_at files name place d found) ∙ ap (λ file. Some file.bytes) (sym is)
+content_at files name place d found is =
+    value_named-first (λ file. file.name) (λ file. Some file.bytes) None files name place d (first_at (λ file. file.name) files name place d found) ∙ ap (λ file. Some file.bytes) (sym is)
 
 pub fault_at : (others : ℕ) (files : List FileState) (name : List ℕ) (place : ℕ) (d new : FileState) → Some place ≡ position (λ file. bytes_eq file.name name) files → d ≡ get_or files place d
     → new ≡ record d { faults = next_count d.faults } → d.faults ≤ new.faults → FaultAt others files (set files place new) name
 fault_at others files name place d new found is counted later =
-    let first = first_at files name place d found in
-    let same : Recounts d new = record { name = ap (λ file. file.name) counted; bytes = ap (λ file. file.bytes) counted; later = later } in
-    let held : Recounts (get_or files place d) new = subst (λ file. Recounts file new) is same in
+    let first = first_at (λ (file : FileState). file.name) files name place d found in
+    let named : new.name ≡ (get_or files place d).name = ap (λ file. file.name) counted ∙ ap (λ file. file.name) is in
+    let bytes : Some new.bytes ≡ Some (get_or files place d).bytes = ap (λ file. Some file.bytes) counted ∙ ap (λ file. Some file.bytes) is in
+    let rose : (get_or files place d).faults ≤ new.faults = omega (arith, later, ap (λ file. file.faults) is) in
     record {
-      kept = λ q. content-recount files place d new q first.within held;
-      later = λ q. faults-recount others files place d new q first.within held;
-      counted = faults-first-recount others files name place d new first held ∙ ap (λ file. file.faults) counted ∙ ap (λ file. next_count file.faults) is ∙ ap next_count (sym (faults-first others files name place d first));
+      kept = λ q. value_named-related (λ file. file.name) (λ file. Some file.bytes) None (λ a b. b ≡ a) (λ v. refl) files place d new q first.within named bytes;
+      later = λ q. value_named-related (λ file. file.name) (λ file. file.faults) others (λ a b. a ≤ b) (λ v. omega arith) files place d new q first.within named rose;
+      counted = value_named-set (λ file. file.name) (λ file. file.faults) others files name place d new first named ∙ ap (λ file. file.faults) counted
+          ∙ ap (λ file. next_count file.faults) is ∙ ap next_count (sym (value_named-first (λ file. file.name) (λ file. file.faults) others files name place d first));
+      elsewhere = λ q differs. value_named-others (λ file. file.name) (λ file. file.faults) others files place d new q first.within named
+          (other_name (get_or files place d).name q (λ same. differs (sym same ∙ same_name (get_or files place d).name name first.here)));
     }
 
 -- no file has this name
@@ -86,22 +39,24 @@ pub record Missing (files : List FileState) (name : List ℕ) : Type 0 where
   pub content : content_of files name ≡ None
   pub faults : (others : ℕ) → faults_of others files name ≡ others
 
-pub missing : (files : List FileState) (name : List ℕ) → ((k : ℕ) (d : FileState) → k < length files → bytes_eq (get_or files k d).name name ≡ false) → Missing files name
-missing [] name none = record { content = refl; faults = λ others. refl }
-missing (file ∷ files) name none =
-    let rest = missing files name (λ k d within. none (suc k) d (omega (arith, within))) in
-    let here : bytes_eq file.name name ≡ false = none 0 file (omega arith) in
-    record { content = rw here rest.content; faults = λ others. rw here (rest.faults others) }
-
 pub missing_at : (files : List FileState) (name : List ℕ) → None ≡ position (λ file. bytes_eq file.name name) files → Missing files name
-missing_at files name none =
-    let past : length files ≤ position_or_len (λ file. bytes_eq file.name name) files = grind (arith, common_steps) in
-    missing files name (λ k d within. fails_before_first (λ file. bytes_eq file.name name) files k d (omega (arith, within, past)))
+missing_at files name none = record {
+  content = value_named-missing (λ file. file.name) (λ file. Some file.bytes) None files name (none_named (λ file. file.name) files name none);
+  faults = λ others. value_named-missing (λ file. file.name) (λ file. file.faults) others files name (none_named (λ file. file.name) files name none);
+}
 
 -- the count of all other names rose
 pub others_later : (files : List FileState) (before now : ℕ) (q : List ℕ) → before ≤ now → faults_of before files q ≤ faults_of now files q
-others_later [] before now q h = h
-others_later (file ∷ files) before now q h = faults_le (bytes_eq file.name q) _ _ _ _ (omega arith) (others_later files before now q h)
+others_later files before now q later = value_named-later (λ file. file.name) (λ file. file.faults) before now files q later
+
+-- a name that a file has doesn't depend on the count of the others
+held_cond : (b : Bool) (x before now : ℕ) (here there : Option (List ℕ)) → (IsSome there → now ≡ before) → IsSome (cond b here there) → cond b x now ≡ cond b x before
+held_cond true x before now here there rest held = refl
+held_cond false x before now here there rest held = rest held
+
+pub faults_held : (files : List FileState) (q : List ℕ) (before now : ℕ) → IsSome (content_of files q) → faults_of now files q ≡ faults_of before files q
+faults_held [] q before now held = cc
+faults_held (file ∷ files) q before now held = held_cond (bytes_eq file.name q) file.faults _ _ (Some file.bytes) (content_of files q) (faults_held files q before now) held
 
 -- a read fails where no file has the name
 pub fails_missing : (due : Bool) (content : Option (List ℕ)) → content ≡ None → true ≡ due || is_none content

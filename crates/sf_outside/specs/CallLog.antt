@@ -1,5 +1,5 @@
 -- The log of a disk in memory: what it notes of each call, and the bytes of all writes one after another.
-use Rattle.std.specs.Prelude.{ℕ, ◌+◌, List, [], ◌∷◌, length, take, drop}
+use Rattle.std.specs.Prelude.{ℕ, ◌+◌, List, [], ◌∷◌, take, drop}
 use Rattle.sf_outside.specs.DiskCalls.{DiskCall, Quiet, Write, Sync, Mount}
 use Rattle.sf_outside.specs.declared.call_log.Note.{Note}
 use Rattle.sf_outside.specs.declared.call_log.Note.TheVariants as note

@@ -1,6 +1,6 @@
 -- A disk in memory: the calls that it had, and what each of them leaves.
-use Rattle.std.specs.Prelude.{ℕ, ◌≡◌, ◌⊎◌, ◌+◌, ◌≤◌, List, [], ◌∷◌, length, take, Some, refl}
-use mathlib.Core.Logic.{inl, inr}
+use Rattle.std.specs.Prelude.{ℕ, ◌≡◌, ◌⊎◌, List, [], ◌∷◌, length, Some, refl}
+use mathlib.Core.Logic.{inl}
 use Rattle.sf_outside.specs.DiskModel.{Four, Image, DiskFacts, Torn, of_file, with_file, written}
 use Rattle.sf_outside.specs.declared.store_disk.StoreFile.{StoreFile}
 use Rattle.sf_outside.specs.declared.store_disk.StoreFile.TheVariants.{Log0, Log1, Snap0, Snap1}
@@ -36,8 +36,11 @@ after_call Quiet files = files
 after_call (Write file at bytes) files = with_file file (file_after_write at bytes (of_file file files)) files
 after_call (Sync file) files = with_file file (file_after_sync (of_file file files)) files
 after_call Mount files = record {
-  log0 = file_after_sync files.log0; log1 = file_after_sync files.log1;
-  snap0 = file_after_sync files.snap0; snap1 = file_after_sync files.snap1 }
+  log0 = file_after_sync files.log0;
+  log1 = file_after_sync files.log1;
+  snap0 = file_after_sync files.snap0;
+  snap1 = file_after_sync files.snap1;
+}
 
 -- the files after these calls, from the first on
 abbrev pub after_calls : List DiskCall → Four FileHistory → Four FileHistory
@@ -65,7 +68,8 @@ FileLeaves file bytes = (bytes ≡ file.now) ⊎ TornBy file.writes file.synced 
 pub record Leaves (files : Four FileHistory) (image : Image) : Type 0 where
   pub each : (file : StoreFile) → FileLeaves (of_file file files) (of_file file image)
 
-reads_each : (files : Four FileHistory) (file : StoreFile) → of_file file (bytes_now files) ≡ (of_file file files).now
+-- file by file
+pub reads_each : (files : Four FileHistory) (file : StoreFile) → of_file file (bytes_now files) ≡ (of_file file files).now
 reads_each files Log0 = refl
 reads_each files Log1 = refl
 reads_each files Snap0 = refl
@@ -85,5 +89,5 @@ facts_after calls = record {
   told = λ image leaves. refl;
   reads = leaves_now (files_after calls);
   counts_now = λ since image within leaves. counts_last (λ first. Leaves (files_after first) image) calls since within leaves;
-  only_now = λ image left. last_only (λ first. Leaves (files_after first) image) calls left
+  only_now = λ image left. last_only (λ first. Leaves (files_after first) image) calls left;
 }

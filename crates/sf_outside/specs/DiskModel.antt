@@ -69,6 +69,19 @@ pub record DiskFacts : Type 1 where
   pub counts_now : (since : ℕ) (image : Image) → since ≤ moment → may_leave image → left_since since image
   pub only_now : (image : Image) → left_since moment image → may_leave image
 
+-- what is told of a disk that tells nothing
+abbrev pub untold : DiskFacts
+untold = record {
+  seen = None;
+  may_leave = λ image. ⊥;
+  moment = 0;
+  left_since = λ since image. ⊥;
+  told = λ image leaves. absurd leaves;
+  reads = tt;
+  counts_now = λ since image within leaves. leaves;
+  only_now = λ image left. left;
+}
+
 -- Time goes on: a crash since a moment may have left what it might have left before, or what it may leave now.
 pub record Elapses (old new : DiskFacts) : Type 0 where
   pub later : old.moment ≤ new.moment
@@ -113,11 +126,6 @@ IsDurable file facts = (image : Image) → facts.may_leave image → IsSomeAnd f
 -- a crash leaves what a read gives
 abbrev pub IsClean : DiskFacts → Type 0
 IsClean facts = (image : Image) → facts.may_leave image → facts.seen ≡ Some image
-
--- a read copied as many bytes as stand there
-pub record CopiedAll (all : List ℕ) (at n : ℕ) (buf : List ℕ) : Type 0 where
-  pub count : n ≡ min (length buf) (length all - at)
-  pub bytes : take n buf ≡ take n (drop at all)
 
 -- how many mounts succeeded, as far as the count reaches; the name of the last, and the moment when it was done;
 -- how many mounts of each name were refused

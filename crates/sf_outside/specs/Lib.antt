@@ -5,8 +5,10 @@ pub mod Causes
 pub mod DiskCalls
 pub mod DiskFiles
 pub mod DiskModel
+pub mod DiskState
 pub mod Gains
 pub mod LogState
 pub mod Memory
+pub mod MountState
 pub mod Named
 pub mod SinceMoments

@@ -15,15 +15,18 @@ pub record FilesState : Type 0 where
   pub fail_at : List ℕ
   pub calls : ℕ
 
+-- what the first thing of this name has, or else this
+abbrev pub value_named : {X V : Type 0} → (X → List ℕ) → (X → V) → V → List X → List ℕ → V
+value_named name value other [] q = other
+value_named name value other (x ∷ xs) q = if bytes_eq (name x) q then value x else value_named name value other xs q
+
 -- the bytes of the first file of this name
 abbrev pub content_of : List FileState → List ℕ → Option (List ℕ)
-content_of [] name = None
-content_of (file ∷ files) name = if bytes_eq file.name name then Some file.bytes else content_of files name
+content_of files name = value_named (λ file. file.name) (λ file. Some file.bytes) None files name
 
 -- how many calls with this name failed: names that no file has share one count
 abbrev pub faults_of : ℕ → List FileState → List ℕ → ℕ
-faults_of others [] name = others
-faults_of others (file ∷ files) name = if bytes_eq file.name name then file.faults else faults_of others files name
+faults_of others files name = value_named (λ file. file.name) (λ file. file.faults) others files name
 
 -- files as they are listed, each name beside its bytes
 abbrev pub listed : List (List ℕ) → List (List ℕ) → List FileState

@@ -61,6 +61,13 @@ impl CallLog {
         self.notes.len() as u64
     }
 
+    /// How many bytes all its writes may have.
+    pub fn room(&self) -> u64
+        ensures { result ≡ self.now.room }
+    {
+        self.room
+    }
+
     pub fn is_full(&self) -> bool
         ensures { result ≡ nat_le self.now.limit (length self.now.calls) }
     {

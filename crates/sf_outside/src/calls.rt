@@ -5,6 +5,7 @@ ghost use Rattle.sf_outside.specs.Calls.{is_due};
 ghost use Rattle.sf_outside.specs.Causes.{next_count};
 
 use std::alloc::{AllocError, Global};
+use std::marker::Model;
 
 /// The numbers, from 1, of the calls that are to fail, and how many calls were made.
 #[derive(Drop)]
@@ -13,10 +14,17 @@ pub struct Calls {
     made: u64,
 }
 
+impl Model for Calls {
+    ghost use Rattle.sf_outside.specs.Calls.{CallsState};
+
+    ghost Value = { CallsState };
+
+    ghost view = { λ calls. record { fail_at = calls.fail_at.items; made = calls.made } };
+}
+
 impl Calls {
     pub fn new(alloc: Global, fail_at: &[u64]) -> Result<Calls, AllocError>
-        ensures fail_at { IfOk result (λ calls. calls.fail_at.items ≡ fail_at.now) }
-        ensures made { IfOk result (λ calls. calls.made ≡ 0) }
+        ensures { IfOk result (λ made. made ≡ record { fail_at = fail_at.now; made = 0 }) }
     {
         Ok(Calls {
             fail_at: Vec::from_slice(alloc, fail_at)?,
@@ -26,7 +34,7 @@ impl Calls {
 
     /// Counts a call, and says whether it is to fail.
     pub fn next_fails(&mut self) -> bool
-        ensures answer { result ≡ is_due self.old.fail_at.items self.new.made }
+        ensures answer { result ≡ is_due self.old.fail_at self.new.made }
         ensures counted { self.new ≡ record self.old { made = next_count self.old.made } }
     {
         self.made = self.made.saturating_add(1);

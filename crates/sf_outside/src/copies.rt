@@ -1,7 +1,7 @@
 //! Bytes that are copied out of others at a place.
 
 ghost use Rattle.std.specs.Prelude.{◌≤◌, length};
-ghost use Rattle.sf_outside.specs.DiskModel.{CopiedAll};
+ghost use Rattle.sf_outside.specs.Bytes.{CopiedAll};
 
 /// Copies as many bytes as stand at the place and have room.
 pub fn copy_at(bytes: &[u8], at: u64, buf: &mut [u8]) -> usize

@@ -82,8 +82,9 @@ impl Model for DiskFiles {
     ghost Value = { FilesRoom };
 
     ghost view = { λ files. record {
-        image = record { log0 = files.log0.bytes; log1 = files.log1.bytes; snap0 = files.snap0.bytes; snap1 = files.snap1.bytes };
-        room = files.log0.room } };
+      image = record { log0 = files.log0.bytes; log1 = files.log1.bytes; snap0 = files.snap0.bytes; snap1 = files.snap1.bytes };
+      room = files.log0.room;
+    } };
 
     ghost invariant = { λ files. (files.log1.room ≡ files.log0.room) × (files.snap0.room ≡ files.log0.room) × (files.snap1.room ≡ files.log0.room) };
 }

@@ -11,16 +11,20 @@ mod copies;
 mod devices;
 mod disk_files;
 mod gains;
+mod memory_disk;
 mod memory_files;
 mod memory_sink;
 mod memory_source;
+mod mount_book;
 mod store_disk;
 
 pub use devices::{Failed, Files, Sink, Source};
 pub use gains::{WriteStop, write_line};
+pub use memory_disk::MemDisk;
 pub use memory_files::MemFiles;
 pub use memory_sink::MemSink;
 pub use memory_source::MemSource;
+pub use mount_book::MountBook;
 pub use store_disk::{Disk, MountFault, StoreFile};
 
 #[cfg(test)]

@@ -1,6 +1,6 @@
 //! Files in memory.
 
-ghost use Rattle.std.specs.Prelude.{◌≡◌, ◌≤◌, ◌||◌, ℕ, List, map, length, bytes_eq, is_err, is_none, IfOk};
+ghost use Rattle.std.specs.Prelude.{◌≡◌, ◌≢◌, ◌≤◌, ◌||◌, ℕ, List, map, length, bytes_eq, is_err, is_none, IfOk, OnOk, IsSome};
 ghost use Rattle.std.specs.List.{position};
 ghost use Rattle.std.specs.Io.{ReadsAtMost};
 ghost use Rattle.sf_outside.specs.Bytes.{Copied, ReadsAt};
@@ -79,7 +79,7 @@ impl Model for MemFiles {
 
     ghost Value = { FilesState };
 
-    ghost view = { λ files. record { files = files.files.items; other_faults = files.other_faults; fail_at = files.calls.fail_at.items; calls = files.calls.made } };
+    ghost view = { λ files. record { files = files.files.items; other_faults = files.other_faults; fail_at = files.calls.fail_at; calls = files.calls.made } };
 }
 
 impl MemFiles {
@@ -124,6 +124,9 @@ impl Files for MemFiles {
         ensures kept { (q : List ℕ) → content_of self.new.files q ≡ content_of self.old.files q }
         ensures cause { HasCause (faults_of self.old.other_faults self.old.files name.now) (faults_of self.new.other_faults self.new.files name.now) result }
         ensures later { (q : List ℕ) → faults_of self.old.other_faults self.old.files q ≤ faults_of self.new.other_faults self.new.files q }
+        ensures quiet { OnOk result ((self.new.files ≡ self.old.files) × (self.new.other_faults ≡ self.old.other_faults)) }
+        ensures others { (q : List ℕ) → q ≢ name.now → IsSome (content_of self.old.files q) → faults_of self.new.other_faults self.new.files q ≡ faults_of self.old.other_faults self.old.files q }
+        ensures other_faults { IsSome (content_of self.old.files name.now) → self.new.other_faults ≡ self.old.other_faults }
         ensures fails { is_err result ≡ (is_due self.old.fail_at self.new.calls || is_none (content_of self.old.files name.now)) }
         ensures calls { self.new.calls ≡ next_count self.old.calls }
         ensures fail_at { self.new.fail_at ≡ self.old.fail_at }

@@ -26,7 +26,7 @@ impl Model for MemSink {
 
     ghost Value = { SinkState };
 
-    ghost view = { λ sink. record { held = sink.bytes.items; room = sink.room; fail_at = sink.calls.fail_at.items; calls = sink.calls.made; faults = sink.faults } };
+    ghost view = { λ sink. record { held = sink.bytes.items; room = sink.room; fail_at = sink.calls.fail_at; calls = sink.calls.made; faults = sink.faults } };
 
     ghost invariant = { λ sink. sink.room ≤ vec_capacity sink.bytes };
 }

@@ -7,6 +7,7 @@ ghost use Rattle.sf_outside.specs.Calls.{is_due};
 ghost use Rattle.sf_outside.specs.Causes.{HasCause, next_count};
 
 use crate::calls::Calls;
+use crate::copies::copy_at;
 use crate::devices::{Failed, Source};
 use std::alloc::{AllocError, Global};
 use std::marker::Model;
@@ -26,7 +27,7 @@ impl Model for MemSource {
 
     ghost Value = { SourceState };
 
-    ghost view = { λ source. record { left = drop source.at source.bytes.items; fail_at = source.calls.fail_at.items; calls = source.calls.made; faults = source.faults } };
+    ghost view = { λ source. record { left = drop source.at source.bytes.items; fail_at = source.calls.fail_at; calls = source.calls.made; faults = source.faults } };
 
     ghost invariant = { λ source. source.at ≤ vec_len source.bytes };
 }
@@ -63,9 +64,7 @@ impl Source for MemSource {
             self.faults = self.faults.saturating_add(1);
             return Err(Failed);
         }
-        let rest = &self.bytes.as_slice()[self.at..];
-        let count = rest.len().min(buf.len());
-        buf[..count].copy_from_slice(&rest[..count]);
+        let count = copy_at(self.bytes.as_slice(), self.at as u64, buf);
         self.at += count;
         Ok(count)
     }

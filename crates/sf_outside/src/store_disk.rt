@@ -1,18 +1,31 @@
 //! What a disk promises: what a read gives, and what a crash may leave.
 
 ghost use Rattle.std.specs.Prelude.{◌≡◌, ◌+◌, ◌^◌, ◌≤◌, ℕ, List, length, IfOk, IfSome, OnOk, OnErr, IsErrOf};
+ghost use Rattle.std.specs.declared.option.Option.{Option};
 ghost use Rattle.std.specs.Io.{ReadsAtMost};
+ghost use Rattle.sf_outside.specs.Bytes.{CopiedAll};
 ghost use Rattle.sf_outside.specs.Causes.{HasCause, Rose};
-ghost use Rattle.sf_outside.specs.DiskModel.{DiskFacts, Mounts, of_file, Elapses, Stays, SeenWritten, SeenTorn, ImagesTorn, IsDurable, IsClean, CopiedAll, mounted, NotMounted};
+ghost use Rattle.sf_outside.specs.DiskModel.{Image, DiskFacts, Mounts, of_file, Elapses, Stays, SeenWritten, SeenTorn, ImagesTorn, IsDurable, IsClean, mounted, NotMounted};
 
 use crate::devices::Failed;
-use std::alloc::Global;
+use std::alloc::{AllocError, Global};
 
 /// Why a disk isn't mounted.
 #[derive(Clone, Copy, PartialEq, Eq, Debug)]
 pub enum MountFault {
     Failed,
     NoMemory,
+}
+
+impl From<AllocError> for MountFault {
+    ghost use Rattle.std.specs.Prelude.{◌≡◌};
+    ghost use Rattle.sf_outside.specs.declared.store_disk.MountFault.TheVariants.{NoMemory};
+
+    ghost from_gives = { λ _ fault. fault ≡ NoMemory };
+
+    fn from(_error: AllocError) -> MountFault {
+        MountFault::NoMemory
+    }
 }
 
 /// The files of a store.
@@ -29,6 +42,9 @@ pub trait Disk {
     /// What is told of what it holds and of what a crash may leave.
     ghost facts: { Self → DiskFacts };
 
+    /// What a read gives after a mount of this name, where it is told.
+    ghost found: { Self → List ℕ → Option Image };
+
     /// How many calls other than `mount` failed, as far as the count reaches.
     ghost faults: { Self → ℕ };
 
@@ -38,9 +54,11 @@ pub trait Disk {
     /// Takes the folder of this name. From then on each file is there, and a crash leaves what a read gives.
     fn mount(&mut self, alloc: Global, name: &str) -> Result<(), MountFault>
         ensures clean { OnOk result (IsClean (facts self.new)) }
+        ensures found { OnOk result ((facts self.new).seen ≡ found self.old name.now) }
         ensures ok { OnOk result (mounts self.new ≡ mounted (mounts self.old) name.now (facts self.new).moment) }
         ensures err { OnErr result (NotMounted name.now (mounts self.old) (mounts self.new)) }
         ensures kept { OnErr result (Stays (facts self.old) (facts self.new)) }
+        ensures same { OnErr result ((other : List ℕ) → found self.new other ≡ found self.old other) }
         ensures later { (facts self.old).moment ≤ (facts self.new).moment }
         ensures cause { IsErrOf result MountFault.Failed → Rose ((mounts self.old).refused name.now) ((mounts self.new).refused name.now) }
         ensures faults { faults self.new ≡ faults self.old };

@@ -1,6 +1,9 @@
 //! What the forms in memory do, call by call.
 
-use crate::{Failed, Files, MemFiles, MemSink, MemSource, Sink, Source, WriteStop, write_line};
+use crate::{
+    Disk, Failed, Files, MemDisk, MemFiles, MemSink, MemSource, MountFault, Sink, Source,
+    StoreFile, WriteStop, write_line,
+};
 use std::test::Fail;
 
 #[test]
@@ -52,5 +55,29 @@ fn a_line_is_written_or_stops(rt: HostRuntime) -> Result<(), Fail> {
     assert_eq!(rt; write_line(&mut sink, b"one\n"), Ok(()));
     assert_eq!(rt; write_line(&mut sink, b"two\n"), Err(WriteStop::WriteFault));
     assert_eq!(rt; sink.bytes(), b"one\n".as_slice());
+    Ok(())
+}
+
+#[test]
+fn disk_keeps_what_was_written(rt: HostRuntime) -> Result<(), Fail> {
+    let mut disk = MemDisk::new(rt.alloc(), 8, 7, &[4])?;
+    let mut buf = [9; 4];
+    assert_eq!(rt; disk.mount(rt.alloc(), "s"), Ok(()));
+    assert_eq!(rt; disk.write_at(StoreFile::Log0, 2, b"abc"), Ok(()));
+    assert_eq!(rt; disk.len(StoreFile::Log0), Ok(5));
+    assert_eq!(rt; disk.sync(StoreFile::Log0), Err(Failed));
+    assert_eq!(rt; disk.read_at(StoreFile::Log0, 1, &mut buf), Ok(4));
+    assert_eq!(rt; buf, *b"\0abc");
+    assert_eq!(rt; disk.write_at(StoreFile::Snap1, 6, b"xyz"), Err(Failed));
+    assert_eq!(rt; disk.len(StoreFile::Snap1), Ok(0));
+    assert_eq!(rt; disk.len(StoreFile::Log0), Err(Failed));
+    Ok(())
+}
+
+#[test]
+fn a_mount_is_refused_and_then_done(rt: HostRuntime) -> Result<(), Fail> {
+    let mut disk = MemDisk::new(rt.alloc(), 1, 2, &[1])?;
+    assert_eq!(rt; disk.mount(rt.alloc(), "s"), Err(MountFault::Failed));
+    assert_eq!(rt; disk.mount(rt.alloc(), "s"), Ok(()));
     Ok(())
 }

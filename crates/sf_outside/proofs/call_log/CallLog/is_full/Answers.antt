@@ -1,4 +1,4 @@
-use Rattle.std.proofs.Common.{length, ap, arith}
+use Rattle.std.proofs.Common.{arith}
 use Rattle.std.proofs.lemmas.Grind.{common_steps}
 use Rattle.sf_outside.proofs.LogLaws.{length-calls_of}
 use Rattle.sf_outside.proofs.call_log.CallLog.is_full.Goals as goal

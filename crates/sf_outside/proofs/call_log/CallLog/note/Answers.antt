@@ -1,6 +1,6 @@
-use Rattle.std.proofs.Common.{◌≡◌, ◌+◌, ◌≤◌, ◌<◌, ◌++◌, ◌∷◌, [], length, vec_len, vec_capacity, ap, sym, ◌∙◌, arith, length-append}
+use Rattle.std.proofs.Common.{◌≡◌, ◌+◌, ◌≤◌, ◌<◌, ◌++◌, ◌∷◌, [], length, vec_len, vec_capacity, ap, arith, length-append}
 use Rattle.std.proofs.lemmas.Grind.{common_steps}
-use Rattle.sf_outside.specs.CallLog.{calls_of, noted_bytes}
+use Rattle.sf_outside.specs.CallLog.{calls_of}
 use Rattle.sf_outside.proofs.LogLaws.{length-calls_of, bytes_written-calls_of, noted_bytes-more, calls_of-more}
 use Rattle.sf_outside.proofs.call_log.CallLog.note.Goals as goal
 
@@ -26,7 +26,7 @@ invariant_of-self c =
       rw (notes, bytes) (omega (arith, noted_bytes-more c.self.inside.notes.items (c.args.note ∷ []), c.requires.bytes, c.self.invariant.0, length-append c.self.inside.bytes.items c.args.bytes.now)),
       omega (arith, c.self.invariant.1, c.push.ensures.capacity),
       omega (arith, c.self.invariant.2, c.extend_from_slice.ensures.capacity),
-      rw bytes (omega (arith, c.self.invariant.3, free, used, length-append c.self.inside.bytes.items c.args.bytes.now))
+      rw bytes (omega (arith, c.self.invariant.3, free, used, length-append c.self.inside.bytes.items c.args.bytes.now)),
     )
 
 pub returns : goal.returns

@@ -1,7 +1,7 @@
-use Rattle.std.proofs.Common.{ap, ◌∙◌, sym, arith}
-use Rattle.sf_outside.proofs.NamedFiles.{content_at, fault_at, missing_at, others_later, fails_missing, fails_held}
+use Rattle.std.proofs.Common.{ℕ, List, None, IsSome, ap, ◌∙◌, sym, subst, arith}
+use Rattle.sf_outside.proofs.NamedFiles.{content_at, fault_at, missing_at, others_later, fails_missing, fails_held, faults_held}
 use Rattle.sf_outside.specs.Calls.{is_due}
-use Rattle.sf_outside.specs.Named.{content_of}
+use Rattle.sf_outside.specs.Named.{content_of, faults_of}
 use Rattle.sf_outside.proofs.memory_files.MemFilesFiles.read_at.Goals as goal
 
 pub returns-in_default-clause-cause : goal.returns-in_default-clause-cause
@@ -41,3 +41,19 @@ returns-clause-fails c =
     fails_held _ _ c.index_mut-file.result.now.bytes
     (ap (λ files. is_due files.fail_at c.next_fails-is_due.new.self.made) (sym c.self.view_is) ∙ sym c.next_fails-is_due.ensures.answer ∙ c.if-is_due.false)
     (ap (λ files. content_of files.files c.args.name.now) (sym c.self.view_is) ∙ content_at c.self.inside.files.items c.args.name.now c.in-Some.place c.index_mut-file.result.now c.in-Some.ensures c.index_mut-file.ensures.value)
+
+pub returns-in_default-clause-others : goal.returns-in_default-clause-others
+returns-in_default-clause-others c q differs held =
+    faults_held c.self.inside.files.items q c.self.inside.other_faults c.saturating_add-self-inside.result (subst (λ files. IsSome (content_of files.files q)) (sym c.self.view_is) held)
+    ∙ ap (λ files. faults_of files.other_faults files.files q) c.self.view_is
+
+pub returns-in_default-clause-other_faults : goal.returns-in_default-clause-other_faults
+returns-in_default-clause-other_faults c held =
+    let gone = (missing_at c.self.inside.files.items c.args.name.now c.in_default.ensures).content in
+    let none : IsSome {T = List ℕ} None = subst IsSome gone (subst (λ files. IsSome (content_of files.files c.args.name.now)) (sym c.self.view_is) held) in
+    cc
+
+pub returns-then-is_due-clause-others : goal.returns-then-is_due-clause-others
+returns-then-is_due-clause-others c q differs held =
+    (fault_at c.self.inside.other_faults c.self.inside.files.items c.args.name.now c.in-Some.place c.index_mut-file.result.now c.fault.new.self c.in-Some.ensures c.index_mut-file.ensures.value c.fault.ensures.counted c.fault.ensures.later).elsewhere q differs
+    ∙ ap (λ files. faults_of files.other_faults files.files q) c.self.view_is
