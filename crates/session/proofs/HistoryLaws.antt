@@ -9,7 +9,7 @@ use Rattle.sf_value.specs.declared.Entry.{Entry}
 use Rattle.sf_value.specs.declared.text.Text.{Text}
 use Rattle.session.specs.declared.history.Committed.{Committed}
 use Rattle.session.specs.HistoryView.{kept_entry, entries_of}
-use Rattle.session.specs.OutputText.{is_committed}
+use Rattle.source_meaning.specs.Serial.{is_committed}
 
 -- an id has an entry in the table where it is committed
 pub found-committed : (es : List (Text × Committed)) (id : List ℕ) → is_some (lookup (bytes_eq id) es) ≡ is_committed (entries_of es) id
