@@ -27,7 +27,7 @@ Appends-kept (Some x) (Some y) None bs p q = absurd q
 Appends-kept (Some x) (Some y) (Some z) bs p q = q ∙ p
 
 -- what was written whole was written as a prefix
-whole_prefix : (a b : Option (List ℕ)) (xs : List ℕ) → Appends a b xs → AppendsPrefix a b xs
+pub whole_prefix : (a b : Option (List ℕ)) (xs : List ℕ) → Appends a b xs → AppendsPrefix a b xs
 whole_prefix a b xs p = (length xs, subst (Appends a b) (sym (take_at xs [] (length xs) refl) ∙ ap (take (length xs)) (append-nil xs)) p)
 
 module _ (src : Source) where

@@ -1,0 +1,68 @@
+-- What a session prints, as the replies of one serial run.
+use Rattle.std.specs.Prelude.{◌≡◌, ℕ, ◌+◌, ◌-◌, List, [], ◌∷◌, map, length, ⊤, None, Some}
+use Rattle.std.specs.List.{slice_get, range_with_len}
+use Rattle.std.specs.declared.option.Option.{Option}
+use Rattle.sf_value.specs.declared.Entry.{Entry}
+use Rattle.sf_outside.specs.Bytes.{AppendsPrefix}
+use Rattle.sf_outside.specs.Gains.{joined}
+use Rattle.source_meaning.specs.ClassTables.{Source}
+use Rattle.source_meaning.specs.Serial.{Core, IsSound}
+use Rattle.request_json.specs.Actions.{Line}
+use Rattle.request_json.specs.ReplyLines.{reply_line}
+use Rattle.session.specs.OutputText.{refusal, replies, start}
+
+-- for one line: nothing, the refusal of the line with this number, or the reply to the request at this place of the
+-- history; lines and places are counted from 1
+pub data Printed : Type 0 where
+  Nothing : Printed
+  Refused : (number : ℕ) → Printed
+  Reply : (place : ℕ) → Printed
+
+abbrev pub text_of_entry : Option Entry → ℕ → List ℕ
+text_of_entry None place = []
+text_of_entry (Some entry) place = reply_line entry.request.id entry.outcome place
+
+-- its text, where these entries are the history
+abbrev pub printed_text : List Entry → Printed → List ℕ
+printed_text history Nothing = []
+printed_text history (Refused number) = refusal number
+printed_text history (Reply place) = text_of_entry (slice_get history (place - 1)) place
+
+abbrev pub printed_texts : List Entry → List Printed → List (List ℕ)
+printed_texts history = map (printed_text history)
+
+-- the places of the replies, in the order in which they are printed
+abbrev pub places : List Printed → List ℕ
+places [] = []
+places (Nothing ∷ printed) = places printed
+places (Refused number ∷ printed) = places printed
+places (Reply place ∷ printed) = place ∷ places printed
+
+-- each refusal has the number of its line, where the first line has this one
+abbrev pub IsNumbered : ℕ → List Printed → Type 0
+IsNumbered first [] = ⊤
+IsNumbered first (Nothing ∷ printed) = IsNumbered (first + 1) printed
+IsNumbered first (Refused number ∷ printed) = (number ≡ first) × IsNumbered (first + 1) printed
+IsNumbered first (Reply place ∷ printed) = IsNumbered (first + 1) printed
+
+-- each request of the history has one reply, in the order of the history, and each refusal names its line
+pub record IsReport (history : List Entry) (printed : List Printed) : Type 0 where
+  pub counted : places printed ≡ range_with_len 1 (length history)
+  pub numbered : IsNumbered 1 printed
+
+-- what these lines are answered is what a serial run prints: the replies to the requests of a sound history, each at
+-- its place, and refusals between them
+pub record SerialLines (src : Source) (lines : List Line) : Type 0 where
+  pub core : Core
+  pub sound : IsSound src core
+  pub printed : List Printed
+  pub report : IsReport core.history printed
+  pub texts : replies src start lines ≡ printed_texts core.history printed
+
+-- known bytes grew by what a serial run prints, or by a prefix of it
+pub record SerialRun (src : Source) (old new : Option (List ℕ)) : Type 0 where
+  pub core : Core
+  pub sound : IsSound src core
+  pub printed : List Printed
+  pub report : IsReport core.history printed
+  pub wrote : AppendsPrefix old new (joined (printed_texts core.history printed))
