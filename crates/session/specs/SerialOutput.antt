@@ -1,13 +1,13 @@
 -- What a session prints, as the replies of one serial run.
-use Rattle.std.specs.Prelude.{◌≡◌, ℕ, ◌+◌, ◌-◌, List, [], ◌∷◌, map, length, ⊤, None, Some}
+use Rattle.std.specs.Prelude.{◌≡◌, ℕ, ◌+◌, ◌-◌, true, List, [], ◌∷◌, ◌++◌, map, length, ⊤, None, Some}
 use Rattle.std.specs.List.{slice_get, range_with_len}
 use Rattle.std.specs.declared.option.Option.{Option}
 use Rattle.sf_value.specs.declared.Entry.{Entry}
 use Rattle.sf_outside.specs.Bytes.{AppendsPrefix}
 use Rattle.sf_outside.specs.Gains.{joined}
 use Rattle.source_meaning.specs.ClassTables.{Source}
-use Rattle.source_meaning.specs.Serial.{Core, IsSound}
-use Rattle.request_json.specs.Actions.{Line}
+use Rattle.source_meaning.specs.Serial.{Core, IsSound, is_committed}
+use Rattle.request_json.specs.Actions.{Line, Action, Skip, Refuse, Ask, action_of}
 use Rattle.request_json.specs.ReplyLines.{reply_line}
 use Rattle.session.specs.OutputText.{refusal, replies, start}
 
@@ -50,13 +50,29 @@ pub record IsReport (history : List Entry) (printed : List Printed) : Type 0 whe
   pub counted : places printed ≡ range_with_len 1 (length history)
   pub numbered : IsNumbered 1 printed
 
--- what these lines are answered is what a serial run prints: the replies to the requests of a sound history, each at
--- its place, and refusals between them
+-- a line that asks this is refused after these entries: it can't be used, or its id is committed
+abbrev pub IsRefused : List Entry → Action → Type 0
+IsRefused before Skip = ⊥
+IsRefused before Refuse = ⊤
+IsRefused before (Ask request) = is_committed before request.id ≡ true
+
+-- what is printed for these lines fits what they ask, where these entries stand before and the lines add those: nothing
+-- for an empty line, a refusal as above, and the reply to the entry that the line's request adds
+abbrev pub Fits : Source → List Entry → List Line → List Printed → List Entry → Type 0
+Fits src before [] [] [] = ⊤
+Fits src before (line ∷ lines) (Nothing ∷ printed) added = (action_of src line ≡ Skip) × Fits src before lines printed added
+Fits src before (line ∷ lines) (Refused number ∷ printed) added = IsRefused before (action_of src line) × Fits src before lines printed added
+Fits src before (line ∷ lines) (Reply place ∷ printed) (entry ∷ added) = (action_of src line ≡ Ask entry.request) × Fits src (before ++ entry ∷ []) lines printed added
+Fits src before lines printed added = ⊥
+
+-- what these lines are answered is what a serial run prints: the replies to the requests of a sound history, which
+-- the lines asked, each at its place, and refusals between them
 pub record SerialLines (src : Source) (lines : List Line) : Type 0 where
   pub core : Core
   pub sound : IsSound src core
   pub printed : List Printed
   pub report : IsReport core.history printed
+  pub fits : Fits src [] lines printed core.history
   pub texts : replies src start lines ≡ printed_texts core.history printed
 
 -- known bytes grew by what a serial run prints, or by a prefix of it
