@@ -151,4 +151,3 @@ impl Standing {
         Ok(made)
     }
 }
-
