@@ -1,5 +1,5 @@
 -- A serial run grows by one request.
-use Rattle.std.proofs.Common.{◌≡◌, ℕ, Bool, true, false, true≢false, not, ◌&&◌, ◌||◌, List, [], ◌∷◌, ◌++◌, map, refl, sym, ap, ◌∙◌, subst}
+use Rattle.std.proofs.Common.{◌≡◌, ℕ, Bool, true, false, true≢false, not, ◌&&◌, ◌||◌, List, [], ◌∷◌, ◌++◌, refl, sym, ap, ◌∙◌}
 use Rattle.std.specs.Prelude.{bytes_eq}
 use Rattle.std.specs.Bool.{Decides}
 use Rattle.std.proofs.lemmas.List.{map-append}
@@ -8,11 +8,10 @@ use Rattle.std.proofs.lemmas.Bool.Decides.{not_from_Decides}
 use Rattle.std.proofs.lemmas.Slice.Eq.{bytes_eq-Decides}
 use Rattle.sf_value.specs.declared.Act.{Act}
 use Rattle.sf_value.specs.declared.Entry.{Entry}
-use Rattle.sf_value.specs.declared.Outcome.{Outcome}
 use Rattle.source_meaning.specs.ClassTables.{Source}
 use Rattle.source_meaning.specs.World.{State}
 use Rattle.source_meaning.specs.RequestRun.{run}
-use Rattle.source_meaning.specs.Serial.{Core, no_state, serial_outcomes, serial_state, acts_of, outcomes_of, is_committed, ids_differ, IsSound}
+use Rattle.source_meaning.specs.Serial.{Core, no_state, serial_outcomes, serial_state, acts_of, is_committed, ids_differ, IsSound}
 
 module _ (src : Source) where
   outcomes-append : (xs ys : List Act) (s : State) → serial_outcomes src s (xs ++ ys) ≡ serial_outcomes src s xs ++ serial_outcomes src (serial_state src s xs) ys

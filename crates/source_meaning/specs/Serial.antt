@@ -1,5 +1,5 @@
 -- Requests run one after another, and what makes a history with its state sound.
-use Rattle.std.specs.Prelude.{◌≡◌, ℕ, Bool, true, not, ◌&&◌, bytes_eq, List, [], ◌∷◌, map as over, IsTrue}
+use Rattle.std.specs.Prelude.{◌≡◌, ℕ, Bool, true, not, ◌&&◌, bytes_eq, List, [], ◌∷◌, map as over}
 use Rattle.std.specs.FinMap as map
 use Rattle.std.specs.List.{list_any}
 use Rattle.sf_value.specs.declared.Act.{Act}
