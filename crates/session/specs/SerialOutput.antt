@@ -11,23 +11,25 @@ use Rattle.request_json.specs.Actions.{Line, Action, Skip, Refuse, Ask, action_o
 use Rattle.request_json.specs.ReplyLines.{reply_line}
 use Rattle.session.specs.OutputText.{refusal, replies, start}
 
--- for one line: nothing, the refusal of the line with this number, or the reply to the request at this place of the
+-- what is printed for one line: nothing, the refusal of the line with this number, or the reply to the request at this place of the
 -- history; lines and places are counted from 1
 pub data Printed : Type 0 where
   Nothing : Printed
   Refused : (number : ℕ) → Printed
   Reply : (place : ℕ) → Printed
 
+-- the reply line of an entry at its place
 abbrev pub text_of_entry : Option Entry → ℕ → List ℕ
 text_of_entry None place = []
 text_of_entry (Some entry) place = reply_line entry.request.id entry.outcome place
 
--- its text, where these entries are the history
+-- what is printed, where these entries are the history: a place outside of it has no text
 abbrev pub printed_text : List Entry → Printed → List ℕ
 printed_text history Nothing = []
 printed_text history (Refused number) = refusal number
 printed_text history (Reply place) = text_of_entry (slice_get history (place - 1)) place
 
+-- and for these lines, one text for each
 abbrev pub printed_texts : List Entry → List Printed → List (List ℕ)
 printed_texts history = map (printed_text history)
 
