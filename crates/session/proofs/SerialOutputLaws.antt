@@ -1,5 +1,5 @@
 -- What a session prints is what one serial run prints.
-use Rattle.std.proofs.Common.{◌≡◌, ℕ, ◌+◌, ◌-◌, Bool, true, false, cond, List, [], ◌∷◌, ◌++◌, length, take, drop, Some, Ok, Err, refl, sym, ap, ◌∙◌, subst, append_assoc, append-nil, arith}
+use Rattle.std.proofs.Common.{◌≡◌, ℕ, suc, ◌+◌, Bool, true, false, cond, List, [], ◌∷◌, ◌++◌, length, take, drop, Some, Ok, Err, refl, sym, ap, ◌∙◌, subst, append_assoc, append-nil, arith}
 use Rattle.std.proofs.lemmas.List.{take_at, take-append-drop, length-append}
 use Rattle.std.specs.List.{slice_get, range_with_len}
 use Rattle.std.specs.declared.option.Option.{Option}
@@ -21,7 +21,7 @@ use Rattle.session.specs.declared.feeding.InputEnd.{InputEnd}
 use Rattle.session.specs.declared.feeding.InputEnd.TheVariants.{End, ReadFault, TooLong}
 use Rattle.session.specs.OutputText.{Standing, replies, after, step, start, commit, entry_of, refusal, after_action, reply_to}
 use Rattle.session.specs.Served.{Served}
-use Rattle.session.specs.SerialOutput.{Printed, Nothing, Refused, Reply, text_of_entry, printed_text, printed_texts, places, IsNumbered, IsRefused, Fits, SerialLines, SerialRun}
+use Rattle.session.specs.SerialOutput.{Printed, Nothing, Refused, Reply, entry_at, text_of_entry, printed_text, printed_texts, places, IsNumbered, IsRefused, Fits, SerialLines, SerialRun}
 use Rattle.session.proofs.ServeLaws.{whole_prefix}
 
 -- the look-up of the entry that stands behind these
@@ -31,8 +31,8 @@ seam (x ∷ es) e more = seam es e more
 
 reply_there : (es : List Entry) (e : Entry) (more : List Entry) → printed_text (es ++ e ∷ more) (Reply (length es + 1)) ≡ reply_line e.request.id e.outcome (length es + 1)
 reply_there es e more =
-    let place : length es + 1 - 1 ≡ length es = omega arith in
-    ap (λ k. text_of_entry (slice_get (es ++ e ∷ more) k) (length es + 1)) place ∙ ap (λ o. text_of_entry o (length es + 1)) (seam es e more)
+    let place : length es + 1 ≡ suc (length es) = omega arith in
+    ap (λ k. text_of_entry (entry_at (es ++ e ∷ more) k) (length es + 1)) place ∙ ap (λ o. text_of_entry o (length es + 1)) (seam es e more)
 
 -- these lines are answered from this core on, the first of them with this number: how the history grows, and what is printed
 record Goes (src : Source) (old new : Core) (number : ℕ) (lines : List Line) (texts : List (List ℕ)) : Type 0 where

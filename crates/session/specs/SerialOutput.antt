@@ -1,5 +1,5 @@
 -- What a session prints, as the replies of one serial run.
-use Rattle.std.specs.Prelude.{◌≡◌, ℕ, ◌+◌, ◌-◌, true, List, [], ◌∷◌, ◌++◌, map, length, ⊤, None, Some}
+use Rattle.std.specs.Prelude.{◌≡◌, ℕ, zero, suc, ◌+◌, true, List, [], ◌∷◌, ◌++◌, map, length, ⊤, None, Some}
 use Rattle.std.specs.List.{slice_get, range_with_len}
 use Rattle.std.specs.declared.option.Option.{Option}
 use Rattle.sf_value.specs.declared.Entry.{Entry}
@@ -11,12 +11,17 @@ use Rattle.request_json.specs.Actions.{Line, Action, Skip, Refuse, Ask, action_o
 use Rattle.request_json.specs.ReplyLines.{reply_line}
 use Rattle.session.specs.OutputText.{refusal, replies, start}
 
--- what is printed for one line: nothing, the refusal of the line with this number, or the reply to the request at this place of the
--- history; lines and places are counted from 1
+-- what is printed for one line: nothing, the refusal of the line with this number, or the reply to the request at this
+-- place of the history; lines and places are counted from 1
 pub data Printed : Type 0 where
   Nothing : Printed
   Refused : (number : ℕ) → Printed
   Reply : (place : ℕ) → Printed
+
+-- the entry at this place, if there is one
+abbrev pub entry_at : List Entry → ℕ → Option Entry
+entry_at history zero = None
+entry_at history (suc before) = slice_get history before
 
 -- the reply line of an entry at its place
 abbrev pub text_of_entry : Option Entry → ℕ → List ℕ
@@ -27,7 +32,7 @@ text_of_entry (Some entry) place = reply_line entry.request.id entry.outcome pla
 abbrev pub printed_text : List Entry → Printed → List ℕ
 printed_text history Nothing = []
 printed_text history (Refused number) = refusal number
-printed_text history (Reply place) = text_of_entry (slice_get history (place - 1)) place
+printed_text history (Reply place) = text_of_entry (entry_at history place) place
 
 -- and for these lines, one text for each
 abbrev pub printed_texts : List Entry → List Printed → List (List ℕ)
