@@ -1,6 +1,8 @@
 -- The rules that a small class keeps, beside its grammar.
-use Rattle.std.specs.Prelude.{ℕ, ◌+◌, ◌-◌, Bool, true, false, not, ◌&&◌, ◌==◌, nat_le, if◌then◌else◌, List, [], ◌∷◌, ◌++◌, map, length, slice_get, slice_index, Option, Some, None}
+use Rattle.std.specs.Prelude.{ℕ, ◌+◌, ◌-◌, Bool, true, false, not, ◌&&◌, ◌||◌, ◌==◌, nat_le, if◌then◌else◌, List, [], ◌∷◌, ◌++◌, map, length, slice_get, slice_index, Option, Some, None}
 use Rattle.std.specs.List.{list_any, list_all}
+use Rattle.py_tree.specs.declared.expr.BinOp.{BinOp}
+use Rattle.py_tree.specs.declared.expr.BinOp.TheVariants as op
 use Rattle.py_tree.specs.declared.stmt.Target.{Target}
 use Rattle.py_tree.specs.declared.stmt.Target.TheVariants as tgt
 use Rattle.py_parser.specs.declared.small.Operand.{Operand}
@@ -37,41 +39,73 @@ field_names = map (λ f. f.field.name.0)
 abbrev pub method_names : List SmallMethod → List ℕ
 method_names = map (λ m. m.name.name.0)
 
--- an operand is a number, an int that is known here, or an int field that is known here
-abbrev pub operand_ok : List ℕ → List ℕ → Operand → Bool
-operand_ok locals fields (opd.Number n) = true
-operand_ok locals fields (opd.Local x) = has locals x.name.0
-operand_ok locals fields (opd.Field f) = has fields f.name.0
+-- an operand that is an int, where these locals and fields are
+abbrev pub is_int : List ℕ → List ℕ → Operand → Bool
+is_int ints fields (opd.Number n) = true
+is_int ints fields (opd.Local x) = has ints x.name.0
+is_int ints fields (opd.Field f) = has fields f.name.0
 
-abbrev pub sum_ok : List ℕ → List ℕ → Sum → Bool
-sum_ok locals fields s = operand_ok locals fields s.first.operand && list_all (λ t. operand_ok locals fields t.atom.operand) s.more
+abbrev pub is_int_sum : List ℕ → List ℕ → Sum → Bool
+is_int_sum ints fields s = is_int ints fields s.first.operand && list_all (λ t. is_int ints fields t.atom.operand) s.more
+
+-- an operand that is a text, where these locals are, and the key's field is
+abbrev pub is_text : List ℕ → ℕ → Operand → Bool
+is_text texts key (opd.Number n) = false
+is_text texts key (opd.Local x) = has texts x.name.0
+is_text texts key (opd.Field f) = f.name.0 == key
+
+abbrev pub is_plus : BinOp → Bool
+is_plus op.Add = true
+is_plus _ = false
+
+-- texts are only joined
+abbrev pub is_text_sum : List ℕ → ℕ → Sum → Bool
+is_text_sum texts key s = is_text texts key s.first.operand && list_all (λ t. is_plus t.op && is_text texts key t.atom.operand) s.more
 
 -- the value of a declaration reads int parameters and the int fields before it
 abbrev pub fields_ok : List ℕ → List ℕ → List IntField → Bool
 fields_ok params before [] = true
-fields_ok params before (f ∷ fields) = sum_ok params before f.value && fields_ok params (before ++ f.field.name.0 ∷ []) fields
+fields_ok params before (f ∷ fields) = is_int_sum params before f.value && fields_ok params (before ++ f.field.name.0 ∷ []) fields
 
--- a local that is assigned has a free name, and a field is an int field
-abbrev pub target_ok : ℕ → List ℕ → Target → Bool
-target_ok class fields (tgt.Local x) = is_free class x.name.0
-target_ok class fields (tgt.Field f) = has fields f.name.0
+-- what a method reads: its locals that are ints, those that are texts, the int fields and the key's field
+pub record Known : Type 0 where
+  pub ints : List ℕ
+  pub texts : List ℕ
+  pub fields : List ℕ
+  pub key : ℕ
 
--- the locals after an assignment
-abbrev pub locals_after : List ℕ → Target → List ℕ
-locals_after locals (tgt.Local x) = if has locals x.name.0 then locals else locals ++ x.name.0 ∷ []
-locals_after locals (tgt.Field f) = locals
+-- a local has the type of its first value for good
+abbrev pub may_be : Known → Sum → ℕ → Bool
+may_be known value n = (is_int_sum known.ints known.fields value && not (has known.texts n)) || (is_text_sum known.texts known.key value && not (has known.ints n))
 
--- an assignment among these locals, of which there are at most 256 then
-abbrev pub step_ok : ℕ → List ℕ → List ℕ → Step → Bool
-step_ok class fields locals s = sum_ok locals fields s.value && target_ok class fields s.target && nat_le (length (locals_after locals s.target)) 256
+-- a local that is assigned has a free name, and a field is an int
+abbrev pub target_ok : ℕ → Known → Sum → Target → Bool
+target_ok class known value (tgt.Local x) = is_free class x.name.0 && may_be known value x.name.0
+target_ok class known value (tgt.Field f) = is_int_sum known.ints known.fields value && has known.fields f.name.0
 
--- each statement reads locals that are assigned before it
-abbrev pub body_ok : ℕ → List ℕ → Sum → List ℕ → List Step → Bool
-body_ok class fields value locals [] = sum_ok locals fields value
-body_ok class fields value locals (s ∷ steps) = step_ok class fields locals s && body_ok class fields value (locals_after locals s.target) steps
+abbrev pub with_local : List ℕ → ℕ → List ℕ
+with_local names n = if has names n then names else names ++ n ∷ []
 
-abbrev pub method_ok : ℕ → List ℕ → SmallMethod → Bool
-method_ok class fields m = are_params class (param_names m.params) && body_ok class fields m.value (param_names m.params) m.steps
+-- what is known after an assignment
+abbrev pub known_after : Known → Sum → Target → Known
+known_after known value (tgt.Local x) = if is_int_sum known.ints known.fields value then record known { ints = with_local known.ints x.name.0 } else record known { texts = with_local known.texts x.name.0 }
+known_after known value (tgt.Field f) = known
+
+-- the parameters and locals are at most 256
+abbrev pub are_few : Known → Bool
+are_few known = nat_le (length known.ints + length known.texts) 256
+
+-- each statement reads locals that are assigned before it, and the result is an int
+abbrev pub body_ok : ℕ → Sum → Known → List Step → Bool
+body_ok class value known [] = is_int_sum known.ints known.fields value
+body_ok class value known (s ∷ steps) = target_ok class known s.value s.target && are_few (known_after known s.value s.target) && body_ok class value (known_after known s.value s.target) steps
+
+-- what a method begins with: its parameters, and the fields
+abbrev pub known_first : List ℕ → ℕ → SmallMethod → Known
+known_first fields key m = record { ints = param_names m.params; texts = []; fields = fields; key = key }
+
+abbrev pub method_ok : ℕ → List ℕ → ℕ → SmallMethod → Bool
+method_ok class fields key m = are_params class (param_names m.params) && body_ok class m.value (known_first fields key m) m.steps
 
 -- a text that begins and ends with two underscores
 abbrev pub is_special : List ℕ → Bool
@@ -98,4 +132,4 @@ abbrev pub init_ok : SmallClass → Bool
 init_ok c = c.init.key_field.param.name.0 == c.init.key_param.name.name.0 && c.key.field.name.0 == c.init.key_field.field.name.0 && fields_ok (param_names c.init.params) [] c.init.fields
 
 abbrev pub keeps_rules : List (List ℕ) → SmallClass → Bool
-keeps_rules names c = names_ok names c && init_ok c && list_all (method_ok c.name.name.0 (field_names c.init.fields)) c.methods
+keeps_rules names c = names_ok names c && init_ok c && list_all (method_ok c.name.name.0 (field_names c.init.fields) c.init.key_field.field.name.0) c.methods

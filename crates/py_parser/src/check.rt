@@ -1,6 +1,6 @@
 //! The rules of a small class.
 
-ghost use Rattle.std.specs.Prelude.{◌≡◌, [], ◌∷◌, ◌++◌, IfOk, OnOk};
+ghost use Rattle.std.specs.Prelude.{◌≡◌, ◌&&◌, [], ◌∷◌, ◌++◌, IfOk, OnOk};
 ghost use Rattle.std.specs.List.{list_all};
 ghost use Rattle.py_parser.specs.SmallRules as spec;
 
@@ -8,33 +8,84 @@ use crate::names::{
     LIMIT, are_distinct, are_params, field_names, has, is_free, is_reserved, method_name_ok,
     method_names, param_names,
 };
-use crate::small::{IntField, Operand, SmallClass, SmallMethod, Step, Sum, Term};
-use py_tree::{Names, Target};
+use crate::small::{IntField, Operand, SmallClass, SmallMethod, Sum, Term};
+use py_tree::{BinOp, Names, Target};
 use sf_list::Sequence;
 use std::alloc::{AllocError, Global};
+use std::marker::Model;
 
-fn operand_ok(locals: &[u32], fields: &[u32], operand: Operand) -> bool
-    ensures { result ≡ spec.operand_ok locals.now fields.now operand }
+/// What a method reads: its locals that are ints, those that are texts, the int fields and the
+/// key's field.
+#[derive(Drop)]
+struct Known<'a> {
+    ints: Sequence<u32>,
+    texts: Sequence<u32>,
+    fields: &'a [u32],
+    key: u32,
+}
+
+impl<'a> Model for Known<'a> {
+    ghost use Rattle.py_parser.specs.SmallRules.{Known as AKnown};
+
+    ghost Value = { AKnown };
+
+    ghost view = { λ k. record { ints = k.ints; texts = k.texts; fields = k.fields.now; key = k.key } };
+}
+
+fn is_int(ints: &[u32], fields: &[u32], operand: Operand) -> bool
+    ensures { result ≡ spec.is_int ints.now fields.now operand }
 {
     match operand {
         Operand::Number(_) => true,
-        Operand::Local(name) => has(locals, name.name.0),
+        Operand::Local(name) => has(ints, name.name.0),
         Operand::Field(field) => has(fields, field.name.0),
     }
 }
 
-fn terms_ok(locals: &[u32], fields: &[u32], terms: &[Term]) -> bool
-    ensures { result ≡ list_all (λ t. spec.operand_ok locals.now fields.now t.atom.operand) terms.now }
+fn are_ints(ints: &[u32], fields: &[u32], terms: &[Term]) -> bool
+    ensures { result ≡ list_all (λ t. spec.is_int ints.now fields.now t.atom.operand) terms.now }
 {
     terms
         .iter()
-        .all(|term| operand_ok(locals, fields, term.atom.operand))
+        .all(|term| is_int(ints, fields, term.atom.operand))
 }
 
-fn sum_ok(locals: &[u32], fields: &[u32], sum: &Sum) -> bool
-    ensures { result ≡ spec.sum_ok locals.now fields.now sum.now }
+fn is_int_sum(ints: &[u32], fields: &[u32], sum: &Sum) -> bool
+    ensures { result ≡ spec.is_int_sum ints.now fields.now sum.now }
 {
-    operand_ok(locals, fields, sum.first.operand) && terms_ok(locals, fields, sum.more.as_slice())
+    is_int(ints, fields, sum.first.operand) && are_ints(ints, fields, sum.more.as_slice())
+}
+
+fn is_text(texts: &[u32], key: u32, operand: Operand) -> bool
+    ensures { result ≡ spec.is_text texts.now key operand }
+{
+    match operand {
+        Operand::Number(_) => false,
+        Operand::Local(name) => has(texts, name.name.0),
+        Operand::Field(field) => field.name.0 == key,
+    }
+}
+
+fn is_plus(op: BinOp) -> bool
+    ensures { result ≡ spec.is_plus op }
+{
+    match op {
+        BinOp::Add => true,
+        BinOp::Sub | BinOp::Mul | BinOp::FloorDiv | BinOp::Mod => false,
+    }
+}
+
+fn are_texts(texts: &[u32], key: u32, terms: &[Term]) -> bool
+    ensures { result ≡ list_all (λ t. spec.is_plus t.op && spec.is_text texts.now key t.atom.operand) terms.now }
+{
+    terms.iter().all(|term| is_plus(term.op) && is_text(texts, key, term.atom.operand))
+}
+
+/// Whether a sum joins texts.
+fn is_text_sum(texts: &[u32], key: u32, sum: &Sum) -> bool
+    ensures { result ≡ spec.is_text_sum texts.now key sum.now }
+{
+    is_text(texts, key, sum.first.operand) && are_texts(texts, key, sum.more.as_slice())
 }
 
 /// Whether each declaration reads int parameters and the int fields before it.
@@ -44,7 +95,7 @@ fn fields_ok(alloc: Global, params: &[u32], fields: &[IntField]) -> Result<bool,
 {
     let mut before = Sequence::new(alloc);
     for field in fields {
-        if !sum_ok(params, before.as_slice(), &field.value) {
+        if !is_int_sum(params, before.as_slice(), &field.value) {
             return Ok(false);
         }
         before.push(alloc, field.field.name.0)?;
@@ -52,66 +103,118 @@ fn fields_ok(alloc: Global, params: &[u32], fields: &[IntField]) -> Result<bool,
     Ok(true)
 }
 
-fn target_ok(class: u32, fields: &[u32], target: Target) -> bool
-    ensures { result ≡ spec.target_ok class fields.now target }
-{
-    match target {
-        Target::Local(name) => is_free(class, name.name.0),
-        Target::Field(field) => has(fields, field.name.0),
+impl<'a> Known<'a> {
+    fn is_int(&self, value: &Sum) -> bool
+        ensures { result ≡ spec.is_int_sum self.now.ints self.now.fields value.now }
+    {
+        is_int_sum(self.ints.as_slice(), self.fields, value)
+    }
+
+    fn is_text(&self, value: &Sum) -> bool
+        ensures { result ≡ spec.is_text_sum self.now.texts self.now.key value.now }
+    {
+        is_text_sum(self.texts.as_slice(), self.key, value)
+    }
+
+    /// Whether a local may be assigned this value: it keeps the type of its first one.
+    fn may_be(&self, name: u32, value: &Sum) -> bool
+        ensures { result ≡ spec.may_be self.now value.now name }
+    {
+        if self.is_int(value) && !has(self.texts.as_slice(), name) {
+            return true;
+        }
+        self.is_text(value) && !has(self.ints.as_slice(), name)
+    }
+
+    fn is_field(&self, name: u32) -> bool
+        ensures { result ≡ spec.has self.now.fields name }
+    {
+        has(self.fields, name)
+    }
+
+    fn target_ok(&self, class: u32, value: &Sum, target: Target) -> bool
+        ensures { result ≡ spec.target_ok class self.now value.now target }
+    {
+        match target {
+            Target::Local(name) => is_free(class, name.name.0) && self.may_be(name.name.0, value),
+            Target::Field(field) => self.is_int(value) && self.is_field(field.name.0),
+        }
+    }
+
+    /// Adds the local that is assigned, where it is new.
+    fn assign(&mut self, alloc: Global, value: &Sum, target: Target) -> Result<(), AllocError>
+        ensures { OnOk result (self.new ≡ spec.known_after self.old value.now target) }
+    {
+        let Target::Local(name) = target else {
+            return Ok(());
+        };
+        if self.is_int(value) {
+            add_local(alloc, &mut self.ints, name.name.0)?;
+        } else {
+            add_local(alloc, &mut self.texts, name.name.0)?;
+        }
+        Ok(())
+    }
+
+    fn are_few(&self) -> bool
+        ensures { result ≡ spec.are_few self.now }
+    {
+        let ints = self.ints.len();
+        ints <= LIMIT && self.texts.len() <= LIMIT - ints
     }
 }
 
-/// Adds the local that is assigned, where it is new.
-fn add_local(alloc: Global, locals: &mut Sequence<u32>, target: Target) -> Result<(), AllocError>
-    ensures { OnOk result (locals.new ≡ spec.locals_after locals.old target) }
+fn add_local(alloc: Global, locals: &mut Sequence<u32>, name: u32) -> Result<(), AllocError>
+    ensures { OnOk result (locals.new ≡ spec.with_local locals.old name) }
 {
-    if let Target::Local(name) = target {
-        if !has(locals.as_slice(), name.name.0) {
-            locals.push(alloc, name.name.0)?;
-        }
+    if !has(locals.as_slice(), name) {
+        locals.push(alloc, name)?;
     }
     Ok(())
 }
 
-/// Whether the statements of a method read locals that are assigned before, the parameters among
-/// them.
+/// Whether the statements of a method read what is known before them.
 #[tactic(auto, using(crate::proofs::RuleLaws::walks))]
 fn body_ok(
     alloc: Global,
     class: u32,
-    fields: &[u32],
-    params: Sequence<u32>,
+    mut known: Known<'_>,
     method: &SmallMethod,
 ) -> Result<bool, AllocError>
-    ensures { IfOk result (λ ok. ok ≡ spec.body_ok class fields.now method.now.value params method.now.steps) }
+    ensures { IfOk result (λ ok. ok ≡ spec.body_ok class method.now.value known.entry method.now.steps) }
 {
-    let mut locals = params;
     for step in method.steps.as_slice() {
-        let is_read = sum_ok(locals.as_slice(), fields, &step.value);
-        if !is_read || !target_ok(class, fields, step.target) {
+        if !known.target_ok(class, &step.value, step.target) {
             return Ok(false);
         }
-        add_local(alloc, &mut locals, step.target)?;
-        if locals.len() > LIMIT {
+        known.assign(alloc, &step.value, step.target)?;
+        if !known.are_few() {
             return Ok(false);
         }
     }
-    Ok(sum_ok(locals.as_slice(), fields, &method.value))
+    Ok(known.is_int(&method.value))
 }
 
 fn method_ok(
     alloc: Global,
     class: u32,
     fields: &[u32],
+    key: u32,
     method: &SmallMethod,
 ) -> Result<bool, AllocError>
-    ensures { IfOk result (λ ok. ok ≡ spec.method_ok class fields.now method.now) }
+    ensures { IfOk result (λ ok. ok ≡ spec.method_ok class fields.now key method.now) }
 {
     let params = param_names(alloc, &method.params)?;
     if !are_params(class, params.as_slice()) {
         return Ok(false);
     }
-    body_ok(alloc, class, fields, params, method)
+    let known = Known {
+        ints: params,
+        texts: Sequence::new(alloc),
+        fields,
+        key,
+    };
+    body_ok(alloc, class, known, method)
 }
 
 #[tactic(auto, using(crate::proofs::RuleLaws::walks))]
@@ -119,12 +222,13 @@ fn methods_ok(
     alloc: Global,
     class: u32,
     fields: &[u32],
+    key: u32,
     methods: &[SmallMethod],
 ) -> Result<bool, AllocError>
-    ensures { IfOk result (λ ok. ok ≡ list_all (spec.method_ok class fields.now) methods.now) }
+    ensures { IfOk result (λ ok. ok ≡ list_all (spec.method_ok class fields.now key) methods.now) }
 {
     for method in methods {
-        if !method_ok(alloc, class, fields, method)? {
+        if !method_ok(alloc, class, fields, key, method)? {
             return Ok(false);
         }
     }
@@ -234,6 +338,7 @@ pub fn keeps_rules(alloc: Global, names: &Names, class: &SmallClass) -> Result<b
         alloc,
         class.name.name.0,
         fields.as_slice(),
+        class.init.key_field.field.name.0,
         class.methods.as_slice(),
     )
 }

@@ -66,6 +66,18 @@ fn a_last_line_needs_no_line_end(rt: HostRuntime) -> Result<(), Fail> {
 }
 
 #[test]
+fn a_local_may_be_a_text(rt: HostRuntime) -> Result<(), Fail> {
+    let fields = "    self.n: int = n\n";
+    let text = class_of(
+        rt.alloc(),
+        fields,
+        "   a = self.k\n   a = a + self.k\n   return d\n",
+    )?;
+    assert!(rt; !is_refused(rt.alloc(), text.as_str()));
+    Ok(())
+}
+
+#[test]
 fn near_misses_are_refused(rt: HostRuntime) -> Result<(), Fail> {
     let good = "    self.n: int = n\n";
     let bodies = [
@@ -82,6 +94,10 @@ fn near_misses_are_refused(rt: HostRuntime) -> Result<(), Fail> {
         "   return d\nx\n",
         "   return d == d\n",
         "   return self.k\n",
+        "   a = self.k + d\n   return d\n",
+        "   a = self.k - self.k\n   return d\n",
+        "   a = self.k\n   a = d\n   return d\n",
+        "   d = self.k\n   return d\n",
         "   self.k = d\n   return d\n",
         "   return self\n",
         "   C = d\n   return C\n",

@@ -1,17 +1,17 @@
 -- Feeding bytes, one after another.
-use Rattle.std.proofs.Common.{◌≡◌, ◌<◌, ◌+◌, ℕ, nat_eq, true, false, List, [], ◌∷◌, ◌++◌, length, take, drop, get_or, Ok, Err, IsErr, refl, sym, ap, ◌∙◌, subst, append_assoc, append-nil, arith}
+use Rattle.std.proofs.Common.{◌≡◌, ◌<◌, ◌+◌, ℕ, nat_eq, false, List, [], ◌∷◌, ◌++◌, length, take, drop, get_or, Ok, Err, IsErr, sym, ap, ◌∙◌, subst, arith}
 use Rattle.std.proofs.lemmas.List.{take_more, take-append-drop, length-take}
 use Rattle.std.proofs.lemmas.Bool.Decides.{nat_tests}
 use Rattle.std.specs.Prelude.{OnOk}
 use Rattle.std.specs.declared.option.Option.{Option}
 use Rattle.std.specs.declared.result.Result.{Result}
-use Rattle.sf_outside.specs.Gains.{Wrote, joined}
+use Rattle.sf_outside.specs.Gains.{Wrote}
 use Rattle.sf_outside.specs.declared.gains.WriteStop.{WriteStop}
-use Rattle.sf_outside.specs.declared.gains.WriteStop.TheVariants.{NoMemory, WriteFault}
+use Rattle.sf_outside.specs.declared.gains.WriteStop.TheVariants.{NoMemory}
 use Rattle.sf_outside.proofs.GainLaws.{Wrote-none, Wrote-after, Wrote-more, Wrote-passed}
 use Rattle.source_meaning.specs.ClassTables.{Source}
 use Rattle.request_json.specs.RequestLines.{longest}
-use Rattle.request_json.specs.Actions.{Line, Ended, Left, whole_from, rest_from, last_line}
+use Rattle.request_json.specs.Actions.{Ended, Left, whole_from, rest_from, last_line}
 use Rattle.session.specs.declared.feeding.Session.{Session}
 use Rattle.session.specs.Standings.{standing_of}
 use Rattle.session.specs.OutputText.{Standing, replies, after, step, reply, reply_to, after_action}

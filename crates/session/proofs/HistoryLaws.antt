@@ -1,15 +1,13 @@
 -- The table of the history, seen as its entries.
-use Rattle.std.proofs.Common.{◌≡◌, ℕ, Bool, true, false, true≢false, cond, ◌||◌, is_some, List, [], ◌∷◌, ◌++◌, map, Option, Bor, None, Some, refl, sym, ap, ◌∙◌}
+use Rattle.std.proofs.Common.{◌≡◌, ℕ, Bool, true, false, true≢false, cond, ◌||◌, is_some, List, [], ◌∷◌, ◌++◌, Option, Bor, None, Some, refl, ap}
 use Rattle.std.specs.Prelude.{bytes_eq}
-use Rattle.std.specs.List.{list_any}
 use Rattle.std.specs.Map.{lookup}
 use Rattle.std.specs.Option.{option_copied}
 use Rattle.indexmap.specs.IndexMap.{insert_entry}
-use Rattle.sf_value.specs.declared.Entry.{Entry}
 use Rattle.sf_value.specs.declared.text.Text.{Text}
 use Rattle.session.specs.declared.history.Committed.{Committed}
 use Rattle.session.specs.HistoryView.{kept_entry, entries_of}
-use Rattle.session.specs.OutputText.{is_committed}
+use Rattle.source_meaning.specs.Serial.{is_committed}
 
 -- an id has an entry in the table where it is committed
 pub found-committed : (es : List (Text × Committed)) (id : List ℕ) → is_some (lookup (bytes_eq id) es) ≡ is_committed (entries_of es) id

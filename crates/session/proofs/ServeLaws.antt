@@ -1,5 +1,5 @@
 -- From what was taken to what is served.
-use Rattle.std.proofs.Common.{◌≡◌, ℕ, ◌≤◌, ◌<◌, List, [], ◌++◌, length, take, Some, None, Ok, Err, IsErr, refl, sym, ap, ◌∙◌, subst, append-nil}
+use Rattle.std.proofs.Common.{◌≡◌, ℕ, List, [], ◌++◌, length, take, Some, None, Ok, Err, IsErr, refl, sym, ap, ◌∙◌, subst, append-nil}
 use Rattle.std.proofs.lemmas.List.{take_at}
 use Rattle.std.specs.declared.option.Option.{Option}
 use Rattle.std.specs.declared.result.Result.{Result}
@@ -7,17 +7,17 @@ use Rattle.std.specs.Io.KnownBytes.{Appends, Keeps, IsAtEnd}
 use Rattle.sf_outside.specs.Bytes.{AppendsPrefix}
 use Rattle.sf_outside.specs.Gains.{Wrote, joined}
 use Rattle.sf_outside.specs.declared.gains.WriteStop.{WriteStop}
-use Rattle.sf_outside.specs.declared.gains.WriteStop.TheVariants.{NoMemory, WriteFault}
+use Rattle.sf_outside.specs.declared.gains.WriteStop.TheVariants.{WriteFault}
 use Rattle.sf_outside.proofs.GainLaws.{Wrote-after, Wrote-more, Wrote-passed}
 use Rattle.source_meaning.specs.ClassTables.{Source}
-use Rattle.request_json.specs.Actions.{Line, whole_lines, all_lines, last_line, rest_from, whole_from}
+use Rattle.request_json.specs.Actions.{Line, whole_lines, all_lines, last_line, rest_from}
 use Rattle.session.specs.declared.feeding.Session.{Session}
 use Rattle.session.specs.declared.feeding.InputEnd.{InputEnd}
 use Rattle.session.specs.declared.feeding.InputEnd.TheVariants.{End, ReadFault, TooLong}
 use Rattle.session.specs.Standings.{standing_of}
 use Rattle.session.specs.OutputText.{replies, after, start}
-use Rattle.session.specs.Takes.{Went, WentOver, Takes}
-use Rattle.session.specs.Served.{Answered, AnsweredOver, AnsweredPart, Served}
+use Rattle.session.specs.Takes.{Went, WentOver}
+use Rattle.session.specs.Served.{Answered, AnsweredPart, Served}
 use Rattle.session.proofs.LineLaws.{replies-append}
 
 pub Appends-kept : (a b c : Option (List ℕ)) (bs : List ℕ) → Appends a b bs → Keeps b c → Appends a c bs
@@ -27,7 +27,7 @@ Appends-kept (Some x) (Some y) None bs p q = absurd q
 Appends-kept (Some x) (Some y) (Some z) bs p q = q ∙ p
 
 -- what was written whole was written as a prefix
-whole_prefix : (a b : Option (List ℕ)) (xs : List ℕ) → Appends a b xs → AppendsPrefix a b xs
+pub whole_prefix : (a b : Option (List ℕ)) (xs : List ℕ) → Appends a b xs → AppendsPrefix a b xs
 whole_prefix a b xs p = (length xs, subst (Appends a b) (sym (take_at xs [] (length xs) refl) ∙ ap (take (length xs)) (append-nil xs)) p)
 
 module _ (src : Source) where
@@ -47,7 +47,9 @@ module _ (src : Source) where
   Served-stopped e r limit left left' held held' s₀ s₁ z k w = subst (Served src limit left left' held held') (sym k) (record {
     behind = left';
     answered = record {
-      taken = w.taken; consumed = w.consumed; within = w.within;
+      taken = w.taken;
+      consumed = w.consumed;
+      within = w.within;
       wrote = stop_of_all {T = InputEnd} (Err e) held held' w.taken refl (from_start {T = InputEnd} (Err e) held held' s₀ w.taken z w.fed.wrote);
     };
   })
@@ -57,7 +59,9 @@ module _ (src : Source) where
       → (w : Went {T = InputEnd} src (Ok End) limit left left' held h₁ s₀ s₁) → Wrote r h₁ h₂ (replies src (standing_of s₁.standing) (last_line (rest_from [] w.taken)))
       → Answered src limit all_lines r left left' held h₂
   ending r limit left left' held h₁ h₂ s₀ s₁ z w p = record {
-    taken = w.taken; consumed = w.consumed; within = w.within;
+    taken = w.taken;
+    consumed = w.consumed;
+    within = w.within;
     wrote = subst (Wrote r held h₂) (sym (lines_of w.taken)) (Wrote-after End r held h₁ h₂ _ _ (from_start (Ok End) held h₁ s₀ w.taken z w.fed.wrote)
         (subst (λ t. Wrote r h₁ h₂ (replies src t (last_line (rest_from [] w.taken)))) (w.fed.standing ∙ ap (λ t. after src t (whole_lines w.taken)) z) p));
   }
@@ -83,7 +87,10 @@ module _ (src : Source) where
   Served-over limit left left' held held' s₀ s₁ z w = record {
     before = w.before;
     answered = record { taken = w.went.taken; consumed = w.went.consumed; within = w.went.within; wrote = from_start (Ok TooLong) held held' s₀ w.went.taken z w.went.fed.wrote };
-    full = w.full; more = w.more; some = w.some; beyond = w.beyond;
+    full = w.full;
+    more = w.more;
+    some = w.some;
+    beyond = w.beyond;
   }
 
   -- the last flush

@@ -1,5 +1,5 @@
 -- The table of the history, seen as its entries in the order in which they were committed.
-use Rattle.std.specs.Prelude.{ℕ, List, map}
+use Rattle.std.specs.Prelude.{List, map}
 use Rattle.std.specs.Coded.{Coded, coded_list}
 use Rattle.sf_value.specs.declared.Entry.{Entry}
 use Rattle.sf_value.specs.contracts.Entry as row

@@ -4,3 +4,4 @@ pub mod Standings
 pub mod Feeds
 pub mod Takes
 pub mod Served
+pub mod SerialOutput

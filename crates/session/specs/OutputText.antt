@@ -1,17 +1,12 @@
 -- The output text of a session: what each line of its input is answered, and the history and the state that follow.
-use Rattle.std.specs.Prelude.{ℕ, ◌+◌, Bool, bytes_eq, List, [], ◌∷◌, ◌++◌, length, codes, if◌then◌else◌}
-use Rattle.std.specs.List.{list_any}
+use Rattle.std.specs.Prelude.{ℕ, ◌+◌, List, [], ◌∷◌, ◌++◌, length, codes, if◌then◌else◌}
 use Rattle.sf_value.specs.declared.Entry.{Entry}
 use Rattle.sf_value.specs.declared.Request.{Request}
 use Rattle.source_meaning.specs.ClassTables.{Source}
 use Rattle.source_meaning.specs.RequestRun.{run}
-use Rattle.source_meaning.specs.Serial.{Core, no_state}
+use Rattle.source_meaning.specs.Serial.{Core, no_state, is_committed}
 use Rattle.request_json.specs.Actions.{Line, Action, Skip, Refuse, Ask, action_of}
 use Rattle.request_json.specs.ReplyLines.{reply_line, bad_line}
-
--- a request with this id stands in the history
-abbrev pub is_committed : List Entry → List ℕ → Bool
-is_committed history id = list_any (λ e. bytes_eq id e.request.id) history
 
 -- a request with what it comes to in this state
 abbrev pub entry_of : Source → Core → Request → Entry

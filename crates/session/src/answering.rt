@@ -3,9 +3,10 @@
 ghost use Rattle.std.specs.Prelude.{◌≡◌, ◌+◌, ◌<◌, ◌≤◌, ◌^◌, [], ◌∷◌, ◌++◌, length, false, take, IfOk, OnOk};
 ghost use Rattle.py_tree.specs.PlainProgram.{plain_program};
 ghost use Rattle.source_meaning.specs.Agrees.{source_of};
+ghost use Rattle.source_meaning.specs.Serial.{is_committed};
 ghost use Rattle.request_json.specs.ReplyLines.{reply_line};
 ghost use Rattle.request_json.specs.Actions.{without_cr, used};
-ghost use Rattle.session.specs.OutputText.{after_action, reply_to, refusal, reply, step, is_committed, entry_of, commit};
+ghost use Rattle.session.specs.OutputText.{after_action, reply_to, refusal, reply, step, entry_of, commit};
 ghost use Rattle.session.specs.Standings.{core_of, standing_of, line_of, asking};
 
 use crate::history::History;
@@ -150,4 +151,3 @@ impl Standing {
         Ok(made)
     }
 }
-

@@ -1,7 +1,7 @@
 //! The requests that were committed, by their ids, in the order in which they were.
 
 ghost use Rattle.std.specs.Prelude.{◌≡◌, ◌++◌, ◌∷◌, [], false, length, OnOk, OnErr};
-ghost use Rattle.session.specs.OutputText.{is_committed};
+ghost use Rattle.source_meaning.specs.Serial.{is_committed};
 
 use indexmap::IndexMap;
 use sf_value::{Act, Outcome, Request, Text};

@@ -5,9 +5,11 @@
 mod answering;
 mod feeding;
 mod history;
+mod laws;
 mod serving;
 
 pub use answering::Standing;
 pub use feeding::{InputEnd, Session};
 pub use history::{Committed, History};
+pub use laws::{replies_are_serial, serves_serially};
 pub use serving::serve;

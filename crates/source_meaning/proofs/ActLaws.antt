@@ -1,5 +1,5 @@
 -- What a statement does on one record, at each variant.
-use Rattle.std.proofs.Common.{◌≡◌, ◌<◌, ◌≤◌, ◌+◌, ℕ, zero, suc, Bool, List, [], ◌∷◌, Ok, Err, Option, Some, None, map, drop, get_or, length, refl, sym, ap, ◌∙◌, add-one, drop-cons, subst, arith}
+use Rattle.std.proofs.Common.{◌≡◌, ◌<◌, ◌≤◌, ◌+◌, ℕ, List, [], ◌∷◌, Option, Some, None, drop, get_or, length, refl, sym, ap, ◌∙◌, add-one, drop-cons, subst}
 use Rattle.std.proofs.lemmas.List.{drop_all}
 use Rattle.py_tree.specs.declared.names.Place.{Place}
 use Rattle.py_tree.specs.declared.names.PlacedName.{PlacedName}
@@ -11,15 +11,14 @@ use Rattle.py_tree.specs.declared.stmt.Over.{Over}
 use Rattle.py_tree.specs.declared.stmt.Stmt.{Stmt}
 use Rattle.py_tree.specs.declared.stmt.Arm.{Arm}
 use Rattle.py_tree.specs.declared.stmt.StmtKind as s
-use Rattle.py_tree.specs.PlainTypes.{plain_written}
 use Rattle.py_tree.specs.PlainExpressions.{plain_expr}
-use Rattle.py_tree.specs.PlainStatements.{plain_option, plain_stmt_kind, plain_stmt, plain_stmts, stmts_of, PlainStmt, PPass, PBreak, PContinue, PDo, PReturn, PRaise, PAssert, PAssign, PAugment, PIf, PWhile, PFor, PStmt}
+use Rattle.py_tree.specs.PlainStatements.{plain_stmt_kind, plain_stmt, plain_stmts, stmts_of, PlainStmt, PPass, PBreak, PContinue, PDo, PReturn, PRaise, PAssert, PAssign, PAugment, PIf, PWhile, PFor, PStmt}
 use Rattle.py_tree.proofs.Views.{stmt-Assign, stmt-Return, stmt-Pass, stmt-Break, stmt-Continue, stmt-Expr, stmt-Raise, stmt-Assert, stmt-Augment, stmt-If, stmt-While, stmt-For}
 use Rattle.sf_value.specs.declared.value.Value.{Value}
 use Rattle.source_meaning.specs.declared.vars.Var.{Var}
 use Rattle.source_meaning.specs.World.{step, step_limit, with_value}
 use Rattle.source_meaning.specs.Evaluation.{value_of}
-use Rattle.source_meaning.specs.Here.{Ended, On, Gave, Broke, next_here, assign_here, act_here, act_all_here}
+use Rattle.source_meaning.specs.Here.{On, Gave, Broke, next_here, assign_here, act_here, act_all_here}
 
 -- a step that there is
 pub step_more : {A : Type 0} (n m : ℕ) (a : A) (f : ℕ → A) → n ≡ m + 1 → step n a f ≡ f m

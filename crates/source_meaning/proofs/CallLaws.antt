@@ -1,11 +1,10 @@
 -- Laws of arguments and declarations.
-use Rattle.std.proofs.Common.{◌≡◌, ◌<◌, ◌≤◌, ◌+◌, ℕ, zero, suc, List, [], ◌∷◌, ◌++◌, map, drop, get_or, length, slice_get, unwrap_or, Option, Some, None, refl, sym, ap, ◌∙◌, subst, append_assoc, append-nil, add-one, drop-cons, arith}
+use Rattle.std.proofs.Common.{◌≡◌, ◌<◌, ◌≤◌, ◌+◌, ℕ, zero, suc, List, [], ◌∷◌, drop, get_or, length, slice_get, unwrap_or, Some, None, refl, sym, ap, ◌∙◌, add-one, drop-cons, arith}
 use Rattle.std.proofs.lemmas.List.{drop_all}
 use Rattle.std.proofs.lemmas.Option.{slice_get_within, unwrap_or-slice_get}
 use Rattle.py_tree.specs.declared.program.Param.{Param}
 use Rattle.py_tree.specs.PlainProgram.{plain_param, plain_params, PlainParam}
 use Rattle.sf_value.specs.declared.value.Value.{Value}
-use Rattle.source_meaning.specs.declared.vars.Var.{Var}
 use Rattle.source_meaning.specs.Calls.{bound}
 
 params_from : (ps : List Param) (i : ℕ) (p : Param) → i < length ps → p ≡ get_or ps i p → plain_params (drop i ps) ≡ plain_param p ∷ plain_params (drop (i + 1) ps)

@@ -1,5 +1,5 @@
 -- Code that calls no other entity does on the whole state what it does on the own record.
-use Rattle.std.proofs.Common.{◌≡◌, ℕ, zero, suc, Bool, true, false, cond, List, [], Ok, Err, Option, Some, None, unwrap_or, refl, sym, ap, ◌∙◌, subst, true≢false}
+use Rattle.std.proofs.Common.{◌≡◌, ℕ, zero, suc, Bool, true, false, cond, List, [], Ok, Err, Some, None, unwrap_or, refl, sym, ap, ◌∙◌, subst, true≢false}
 use Rattle.std.specs.declared.result.Result.{Result}
 use Rattle.std.specs.declared.cmp.Ordering.{Ordering}
 use Rattle.std.specs.declared.cmp.Ordering.TheVariants.{Less, Equal, Greater}
@@ -8,7 +8,6 @@ use Rattle.std.proofs.lemmas.Cmp.{eq_by_cmp_equiv}
 use Rattle.std.specs.FinMap.{get, insert, get-insert, same_map}
 use Rattle.py_tree.specs.declared.stmt.Target.{Target}
 use Rattle.py_tree.specs.declared.stmt.Target.TheVariants as target
-use Rattle.py_tree.specs.PlainExpressions.{PlainExpr}
 use Rattle.py_tree.specs.PlainStatements.{PlainStmt, PlainStmts, PPass, PBreak, PContinue, PDo, PReturn, PRaise, PAssert, PAssign, PAugment, PIf, PWhile, PFor, PNoStmt, PStmt}
 use Rattle.sf_value.specs.Keys.{Key, key_cmp}
 use Rattle.sf_value.proofs.Maps.{key_total, key_exact}
@@ -16,9 +15,9 @@ use Rattle.sf_value.specs.declared.value.Value.{Value}
 use Rattle.sf_value.specs.declared.Failure.{Failure}
 use Rattle.source_meaning.specs.declared.vars.Var.{Var}
 use Rattle.source_meaning.specs.ClassTables.{Source, fields_of}
-use Rattle.source_meaning.specs.World.{State, World, Calls, Ends, Goes, Returns, Fails, step, step_limit, with_value, next, record_at, with_field, writing}
+use Rattle.source_meaning.specs.World.{State, World, Calls, Ends, Goes, Returns, Fails, with_value, next, record_at, with_field}
 use Rattle.source_meaning.specs.Evaluation.{value_of}
-use Rattle.source_meaning.specs.Execution.{act, act_all, assign, from_value}
+use Rattle.source_meaning.specs.Execution.{act, act_all, assign}
 use Rattle.source_meaning.specs.Here.{Ended, On, Gave, Broke, next_here, assign_here, act_here, act_all_here}
 
 is_equal : (r : Ordering) → is_eq r ≡ true → r ≡ Equal

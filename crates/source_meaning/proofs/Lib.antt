@@ -6,3 +6,4 @@ pub mod CallLaws
 pub mod DeclareLaws
 pub mod HereLaws
 pub mod RunLaws
+pub mod SerialLaws

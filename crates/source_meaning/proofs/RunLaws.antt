@@ -1,5 +1,5 @@
 -- What a request comes to, from what its body does on one record.
-use Rattle.std.proofs.Common.{◌≡◌, ℕ, Bool, true, false, true≢false, is_some, List, [], Ok, Err, Option, Some, None, cond, slice_get, refl, sym, ap, ◌∙◌, subst}
+use Rattle.std.proofs.Common.{◌≡◌, ℕ, true, false, true≢false, is_some, List, [], Ok, Err, Option, Some, None, cond, slice_get, refl, sym, ap, ◌∙◌, subst}
 use Rattle.std.specs.declared.result.Result.{Result}
 use Rattle.std.specs.FinMap.{get, insert}
 use Rattle.std.specs.FinSet as set
@@ -12,7 +12,7 @@ use Rattle.sf_value.specs.declared.Act.{Act}
 use Rattle.sf_value.specs.declared.Act.TheVariants as act
 use Rattle.sf_value.specs.declared.Outcome.TheVariants as outcome
 use Rattle.source_meaning.specs.ClassTables.{Source, fields_of, methods_of, init_of, body_of, params_of}
-use Rattle.source_meaning.specs.World.{State, World, Ends, Gives, Got, Fell, result_of, reading, no_entity, already_exists, size_limit}
+use Rattle.source_meaning.specs.World.{State, Ends, Fell, result_of, reading, no_entity, already_exists, size_limit}
 use Rattle.source_meaning.specs.Here.{Ended, act_all_here}
 use Rattle.source_meaning.specs.Calls.{bound, run_body, enter, call_at, create, make_at, made, Made, Built, Broke, declare_all, new_key, entity_of, if_there}
 use Rattle.source_meaning.specs.RequestRun.{Ran, at_first, begin, ended, run, is_too_heavy, steps_at_first}

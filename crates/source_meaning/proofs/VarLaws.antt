@@ -1,5 +1,5 @@
 -- Laws of look-ups by name.
-use Rattle.std.proofs.Common.{◌≡◌, ◌≤◌, ℕ, zero, suc, ◌+◌, Bool, not, cond, nat_eq, nat_lt, List, [], ◌∷◌, map, length, position, Some, None, slice_set, refl, ap, arith}
+use Rattle.std.proofs.Common.{◌≡◌, ◌≤◌, ℕ, zero, suc, nat_eq, List, [], ◌∷◌, map, length, position, slice_set, refl, ap, arith}
 use Rattle.py_tree.specs.declared.names.Name.{Name}
 use Rattle.py_tree.proofs.NameLaws.{position-map}
 

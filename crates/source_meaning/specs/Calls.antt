@@ -1,7 +1,6 @@
 -- Calls and creations.
-use Rattle.std.specs.Prelude.{ℕ, zero, suc, List, [], ◌∷◌, ◌++◌, Some, None, Ok, Err, slice_get}
+use Rattle.std.specs.Prelude.{ℕ, zero, suc, List, [], ◌∷◌, ◌++◌, Some, None, slice_get}
 use Rattle.std.specs.declared.option.Option.{Option}
-use Rattle.std.specs.declared.result.Result.{Result}
 use Rattle.std.specs.FinMap as map
 use Rattle.py_tree.specs.PlainStatements.{PlainStmt, stmts_of, PAssign}
 use Rattle.py_tree.specs.PlainProgram.{PlainParam, PlainMethod}

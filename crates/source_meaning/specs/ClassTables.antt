@@ -1,5 +1,5 @@
 -- What a program says of its classes: their methods, their fields in order, and where a key comes from.
-use Rattle.std.specs.Prelude.{ℕ, Bool, true, false, not, ◌&&◌, nat_eq, nat_lt, ◌^◌, List, [], ◌∷◌, Some, None, codes, filter, position, slice_get, option_and_then, if◌then◌else◌}
+use Rattle.std.specs.Prelude.{ℕ, Bool, false, not, ◌&&◌, nat_eq, nat_lt, ◌^◌, List, [], ◌∷◌, Some, None, codes, filter, position, slice_get, option_and_then, if◌then◌else◌}
 use Rattle.std.specs.declared.option.Option.{Option}
 use Rattle.std.specs.List.{position_from}
 use Rattle.py_tree.specs.NameTable.{place_of}

@@ -9,7 +9,7 @@ use Rattle.sf_value.specs.declared.value.Value.{Value}
 use Rattle.sf_value.specs.declared.value.Value.TheVariants as value
 use Rattle.sf_value.specs.declared.Failure.{Failure}
 use Rattle.source_meaning.specs.declared.vars.Var.{Var}
-use Rattle.source_meaning.specs.World.{overflow_error, size_limit, local_value, field_value, with_value}
+use Rattle.source_meaning.specs.World.{overflow_error, size_limit, local_value, field_value}
 
 -- an int goes from -2^127 to 2^127-1
 abbrev pub fits : ℤ → Bool

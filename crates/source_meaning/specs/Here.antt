@@ -1,5 +1,5 @@
 -- What code that calls no other entity does, on the locals and the own record.
-use Rattle.std.specs.Prelude.{ℕ, List, Some, None}
+use Rattle.std.specs.Prelude.{ℕ, List, Some}
 use Rattle.py_tree.specs.declared.stmt.Target.{Target}
 use Rattle.py_tree.specs.declared.stmt.Target.TheVariants as target
 use Rattle.py_tree.specs.PlainStatements.{PlainStmt, PlainStmts, PAssign, PReturn, PNoStmt, PStmt}

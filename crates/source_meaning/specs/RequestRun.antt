@@ -1,10 +1,8 @@
 -- The run of one request.
-use Rattle.std.specs.Prelude.{ℕ, ◌+◌, Bool, true, false, ◌||◌, nat_lt, List, [], ◌∷◌, length, if◌then◌else◌}
-use Rattle.std.specs.FinMap as map
+use Rattle.std.specs.Prelude.{ℕ, ◌+◌, Bool, ◌||◌, nat_lt, length, if◌then◌else◌}
 use Rattle.std.specs.FinSet as set
 use Rattle.std.specs.List.{list_any}
 use Rattle.std.specs.Str.{encode_utf8_all}
-use Rattle.sf_value.specs.Keys.{key_cmp}
 use Rattle.sf_value.specs.Weight.{weight_of}
 use Rattle.sf_value.specs.declared.value.Value.{Value}
 use Rattle.sf_value.specs.declared.Act.{Act}
@@ -12,7 +10,7 @@ use Rattle.sf_value.specs.declared.Act.TheVariants as act
 use Rattle.sf_value.specs.declared.Outcome.{Outcome}
 use Rattle.sf_value.specs.declared.Outcome.TheVariants as outcome
 use Rattle.source_meaning.specs.ClassTables.{Source}
-use Rattle.source_meaning.specs.World.{State, Keys, World, Gives, Got, Fell, failure, size_limit}
+use Rattle.source_meaning.specs.World.{State, Keys, World, Gives, Got, Fell, size_limit}
 use Rattle.source_meaning.specs.Calls.{call_at, make_at}
 
 -- what a run comes to, the next state, the entities read and written, and the steps left

@@ -1,5 +1,5 @@
 -- Requests run one after another, and what makes a history with its state sound.
-use Rattle.std.specs.Prelude.{◌≡◌, ℕ, Bool, true, not, List, [], ◌∷◌, map as over, IsTrue}
+use Rattle.std.specs.Prelude.{◌≡◌, ℕ, Bool, true, not, ◌&&◌, bytes_eq, List, [], ◌∷◌, map as over}
 use Rattle.std.specs.FinMap as map
 use Rattle.std.specs.List.{list_any}
 use Rattle.sf_value.specs.declared.Act.{Act}
@@ -34,5 +34,17 @@ acts_of = over (λ e. e.request.act)
 abbrev pub outcomes_of : List Entry → List Outcome
 outcomes_of = over (λ e. e.outcome)
 
-abbrev pub ids_of : List Entry → List (List ℕ)
-ids_of = over (λ e. e.request.id)
+-- a request with this id stands in the history
+abbrev pub is_committed : List Entry → List ℕ → Bool
+is_committed history id = list_any (λ e. bytes_eq id e.request.id) history
+
+-- no two entries have one id
+abbrev pub ids_differ : List Entry → Bool
+ids_differ [] = true
+ids_differ (e ∷ es) = not (is_committed es e.request.id) && ids_differ es
+
+-- the history is the serial run of its requests from the empty state, each id once, and the state is the one after it
+pub record IsSound (src : Source) (core : Core) : Type 0 where
+  pub outcomes : outcomes_of core.history ≡ serial_outcomes src no_state (acts_of core.history)
+  pub state : core.state ≡ serial_state src no_state (acts_of core.history)
+  pub ids : ids_differ core.history ≡ true

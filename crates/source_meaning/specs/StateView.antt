@@ -1,8 +1,8 @@
 -- The table of the interpreter, seen as the state.
-use Rattle.std.specs.Prelude.{ℕ, List, map as over}
+use Rattle.std.specs.Prelude.{List, map as over}
 use Rattle.std.specs.FinMap as map
 use Rattle.std.specs.Coded.{Coded, coded_ℕ, coded×, coded_list}
-use Rattle.sf_value.specs.Keys.{Key, key_cmp, key_of}
+use Rattle.sf_value.specs.Keys.{key_of}
 use Rattle.sf_value.specs.declared.value.Value.{Value}
 use Rattle.sf_value.specs.declared.value.Ref.{Ref}
 use Rattle.sf_value.specs.contracts.value.Value as row

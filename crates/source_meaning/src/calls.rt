@@ -12,8 +12,8 @@ ghost use Rattle.source_meaning.specs.Agrees.{Agrees, MakesAs, value_given, fiel
 
 use crate::Stop;
 use crate::evaluate::evaluate;
-use crate::failures::empty_text;
 use crate::execute::{Flow, execute_all, take_step};
+use crate::failures::empty_text;
 use crate::tables::{body, params};
 use crate::vars::{Var, Vars};
 use py_tree::{Method, Name, Param, Stmt, StmtKind};
@@ -31,7 +31,13 @@ fn bind(alloc: Global, params: &[Param], args: &Values) -> Result<Vars, AllocErr
             return Ok(vars);
         };
         let value = value.try_clone(alloc)?;
-        vars.push(alloc, Var { name: param.name, value })?;
+        vars.push(
+            alloc,
+            Var {
+                name: param.name,
+                value,
+            },
+        )?;
     }
     Ok(vars)
 }
@@ -135,11 +141,7 @@ fn text_in(alloc: Global, value: &Value) -> Result<Text, AllocError>
 }
 
 /// The text that gives a new entity's key.
-pub(crate) fn key_text(
-    alloc: Global,
-    args: &Values,
-    at: Option<usize>,
-) -> Result<Text, AllocError>
+pub(crate) fn key_text(alloc: Global, args: &Values, at: Option<usize>) -> Result<Text, AllocError>
     ensures { IfOk result (λ text. text ≡ text_of (value_at args.now at)) }
 {
     let Some(at) = at else {

@@ -13,11 +13,10 @@ mod tables;
 mod vars;
 
 pub use local::Local;
-pub use tables::{class_named, init_params, method_named, method_params};
-pub use vars::{Var, Vars};
-
 use sf_value::Failure;
 use std::alloc::{AllocError, AllocFailed};
+pub use tables::{class_named, init_params, method_named, method_params};
+pub use vars::{Var, Vars};
 
 /// Why a part of a run stops without a value.
 #[derive(Drop)]

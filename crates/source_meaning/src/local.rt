@@ -96,7 +96,14 @@ impl Local {
         let mut fields = held.try_clone(alloc)?;
         let mut steps = STEPS_LEFT;
         let method = called(program, names, at.class, number);
-        let value = run_body(alloc, field_names.as_slice(), method, args, &mut fields, &mut steps)?;
+        let value = run_body(
+            alloc,
+            field_names.as_slice(),
+            method,
+            args,
+            &mut fields,
+            &mut steps,
+        )?;
         self.put(at, fields)?;
         Ok(value)
     }
@@ -121,7 +128,14 @@ impl Local {
         let mut fields = Sequence::new(alloc);
         let mut steps = STEPS_LEFT;
         let init = init(program, names, class);
-        run_init(alloc, field_names.as_slice(), init, args, &mut fields, &mut steps)?;
+        run_init(
+            alloc,
+            field_names.as_slice(),
+            init,
+            args,
+            &mut fields,
+            &mut steps,
+        )?;
         let made = at.try_clone(alloc)?;
         self.put(at, fields)?;
         Ok(Value::Entity(made))

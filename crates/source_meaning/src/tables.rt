@@ -74,12 +74,7 @@ fn is_method(method: &Method, init: Option<Name>, key: Option<Name>) -> bool
 }
 
 /// The method of this number, counted without `__init__` and `__key__`.
-fn method(
-    members: &[Method],
-    init: Option<Name>,
-    key: Option<Name>,
-    number: u32,
-) -> Option<&Method>
+fn method(members: &[Method], init: Option<Name>, key: Option<Name>, number: u32) -> Option<&Method>
     ensures { option_map (λ m. plain_method m.now) result ≡ slice_get (filter (is_callable (option_map (λ x. x.0) init) (option_map (λ x. x.0) key)) (plain_methods members.now)) number }
 {
     let mut left = number;
@@ -320,7 +315,10 @@ pub(crate) fn class_fields(
 pub(crate) fn class_key(program: &Program, names: &Names, class: u32) -> Option<usize>
     ensures { result ≡ key_param_of (source_of (plain_program program.now) names.now) class }
 {
-    key_place(init(program, names, class), key_method(program, names, class))
+    key_place(
+        init(program, names, class),
+        key_method(program, names, class),
+    )
 }
 
 fn place_of_class(program: &Program, name: Name) -> Option<usize>

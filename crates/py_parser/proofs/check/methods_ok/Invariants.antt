@@ -4,4 +4,4 @@ use Rattle.py_parser.specs.SmallRules.{method_ok}
 use Rattle.py_parser.proofs.check.methods_ok.Given as goal
 
 abbrev pub invariant-loop-method : goal.invariant-loop-method
-invariant-loop-method l = list_all (method_ok l.class l.fields) (drop l.method-index l.methods) ≡ list_all (method_ok l.class l.fields) l.methods
+invariant-loop-method l = list_all (method_ok l.class l.fields l.key) (drop l.method-index l.methods) ≡ list_all (method_ok l.class l.fields l.key) l.methods

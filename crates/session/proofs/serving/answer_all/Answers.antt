@@ -1,8 +1,8 @@
-use Rattle.std.proofs.Common.{◌∙◌, ap, Ok, Err}
+use Rattle.std.proofs.Common.{◌∙◌, ap, Err}
 use Rattle.std.proofs.lemmas.Result.{err_from_is_err_and}
 use Rattle.py_tree.specs.PlainProgram.{plain_program}
 use Rattle.source_meaning.specs.Agrees.{source_of}
-use Rattle.session.proofs.ServeLaws.{Served-stopped, Served-end, Served-unended, Served-fault, Served-over}
+use Rattle.session.proofs.ServeLaws.{Served-stopped, Served-end, Served-unended, Served-over}
 use Rattle.session.proofs.serving.answer_all.Goals as goal
 
 pub returns-in_err-take_input-clause-served : goal.returns-in_err-take_input-clause-served

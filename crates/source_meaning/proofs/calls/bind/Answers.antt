@@ -1,4 +1,4 @@
-use Rattle.std.proofs.Common.{◌≡◌, ◌++◌, ◌+◌, ◌∷◌, [], drop, ap, sym, ◌∙◌, append-nil, append_assoc, List, Some}
+use Rattle.std.proofs.Common.{◌++◌, ◌+◌, drop, ap, sym, ◌∙◌, append-nil, append_assoc, List, Some}
 use Rattle.py_tree.specs.PlainProgram.{plain_params}
 use Rattle.source_meaning.specs.Calls.{bound}
 use Rattle.source_meaning.specs.declared.vars.Var.{Var}

@@ -1,4 +1,4 @@
-use Rattle.std.proofs.Common.{◌≡◌, ◌++◌, ◌+◌, [], ℕ, List, map, drop, ap, sym, ◌∙◌, append-nil}
+use Rattle.std.proofs.Common.{◌++◌, ◌+◌, ℕ, List, map, drop, ap, sym, ◌∙◌, append-nil}
 use Rattle.py_tree.specs.declared.names.Name.{Name}
 use Rattle.py_tree.specs.PlainStatements.{plain_stmts}
 use Rattle.source_meaning.specs.ClassTables.{declared_fields, behind}

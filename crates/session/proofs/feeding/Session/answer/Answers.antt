@@ -1,4 +1,4 @@
-use Rattle.std.proofs.Common.{◌≡◌, [], ◌∷◌, ◌∙◌, ap, sym, subst, Err, Ok, take}
+use Rattle.std.proofs.Common.{◌≡◌, [], ◌∷◌, ◌∙◌, ap, sym, subst, Err}
 use Rattle.std.proofs.lemmas.Result.{err_from_is_err_and}
 use Rattle.std.specs.Io.KnownBytes.{Appends}
 use Rattle.py_tree.specs.PlainProgram.{plain_program}
@@ -22,8 +22,8 @@ returns-in_err-write_line-clause-wrote g c =
     let src = (source_of (plain_program c.args.program.now) c.args.names.now) in
     let st = standing_of c.args.self.now.standing in
     let line_is : c.as_slice-2.result.now ∷ [] ≡ replies src st (line_of c.args.ended c.args.self.now.kept.items ∷ []) =
-        ap (λ l. l ∷ []) (c.as_slice-2.ensures ∙ c.in_ok-line.ensures.text ∙ ap (λ k. reply src st (line_of c.args.ended k)) c.as_slice.ensures.value)
-        ∙ sym (replies-one src st (line_of c.args.ended c.args.self.now.kept.items)) in
+    ap (λ l. l ∷ []) (c.as_slice-2.ensures ∙ c.in_ok-line.ensures.text ∙ ap (λ k. reply src st (line_of c.args.ended k)) c.as_slice.ensures.value)
+    ∙ sym (replies-one src st (line_of c.args.ended c.args.self.now.kept.items)) in
     subst (Wrote c.from_residual-in_err-write_line.result (g.K.Sink.held c.args.out.now) (g.K.Sink.held c.write_line.new.out)) line_is
     (Wrote-passed (Unit {0}) _ _ _ _ _ (p.1 ∙ ap Err p.2) c.in_err-write_line.ensures.wrote)
 
@@ -32,8 +32,8 @@ returns-clause-wrote g c =
     let src = (source_of (plain_program c.args.program.now) c.args.names.now) in
     let st = standing_of c.args.self.now.standing in
     let line_is : c.as_slice-2.result.now ∷ [] ≡ replies src st (line_of c.args.ended c.args.self.now.kept.items ∷ []) =
-        ap (λ l. l ∷ []) (c.as_slice-2.ensures ∙ c.in_ok-line.ensures.text ∙ ap (λ k. reply src st (line_of c.args.ended k)) c.as_slice.ensures.value)
-        ∙ sym (replies-one src st (line_of c.args.ended c.args.self.now.kept.items)) in
+    ap (λ l. l ∷ []) (c.as_slice-2.ensures ∙ c.in_ok-line.ensures.text ∙ ap (λ k. reply src st (line_of c.args.ended k)) c.as_slice.ensures.value)
+    ∙ sym (replies-one src st (line_of c.args.ended c.args.self.now.kept.items)) in
     subst (λ ls. Appends (g.K.Sink.held c.args.out.now) (g.K.Sink.held c.write_line.new.out) (joined ls)) line_is c.in_ok-write_line.ensures.wrote
 
 pub returns-clause-standing : goal.returns-clause-standing

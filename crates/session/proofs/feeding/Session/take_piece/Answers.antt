@@ -1,4 +1,4 @@
-use Rattle.std.proofs.Common.{◌∙◌, ◌+◌, ap, sym, Err, Ok, IsErr, is_err, arith, subst}
+use Rattle.std.proofs.Common.{◌∙◌, ◌+◌, ap, Err, Ok, is_err, arith, subst}
 use Rattle.std.proofs.lemmas.Result.{err_from_is_err_and}
 use Rattle.py_tree.specs.PlainProgram.{plain_program}
 use Rattle.source_meaning.specs.Agrees.{source_of}

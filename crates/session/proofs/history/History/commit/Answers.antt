@@ -1,6 +1,6 @@
 use Rattle.std.proofs.Common.{ap, ◌∙◌, ◌++◌, ◌∷◌, []}
-use Rattle.session.specs.HistoryView.{kept_entry, entries_of}
-use Rattle.session.specs.OutputText.{is_committed}
+use Rattle.session.specs.HistoryView.{entries_of}
+use Rattle.source_meaning.specs.Serial.{is_committed}
 use Rattle.session.proofs.HistoryLaws.{insert_new}
 use Rattle.session.proofs.history.History.commit.Goals as goal
 

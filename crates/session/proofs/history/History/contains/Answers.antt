@@ -1,5 +1,5 @@
 use Rattle.std.proofs.Common.{ap, ◌∙◌, is_some}
-use Rattle.session.specs.OutputText.{is_committed}
+use Rattle.source_meaning.specs.Serial.{is_committed}
 use Rattle.session.proofs.HistoryLaws.{found-committed, some_copied}
 use Rattle.session.proofs.history.History.contains.Goals as goal
 

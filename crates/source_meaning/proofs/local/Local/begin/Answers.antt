@@ -1,4 +1,4 @@
-use Rattle.std.proofs.Common.{◌≡◌, ap, sym, ◌∙◌, subst, refl}
+use Rattle.std.proofs.Common.{ap, sym, ◌∙◌, subst, refl}
 use Rattle.py_tree.specs.PlainProgram.{plain_program}
 use Rattle.sf_value.specs.declared.Act.TheVariants as act
 use Rattle.source_meaning.specs.World.{size_limit}

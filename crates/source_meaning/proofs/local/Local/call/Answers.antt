@@ -1,21 +1,14 @@
-use Rattle.std.proofs.Common.{◌≡◌, ℕ, List, Some, None, Option, Ok, Err, map, refl, sym, ap, ◌∙◌, slice_get, subst}
-use Rattle.std.specs.Option.{option_map}
-use Rattle.std.specs.FinMap.{get, insert}
+use Rattle.std.proofs.Common.{◌≡◌, Some, map, refl, sym, ap, ◌∙◌}
+use Rattle.std.specs.FinMap.{insert}
 use Rattle.std.proofs.lemmas.Result.{err_from_is_err_and}
 use Rattle.sf_list.proofs.CopyLaws.{same-AreCopies}
 use Rattle.py_tree.specs.declared.names.Name.{Name}
-use Rattle.py_tree.specs.PlainProgram.{plain_program, plain_method, PlainMethod}
-use Rattle.py_tree.specs.PlainStatements.{stmts_of}
-use Rattle.sf_value.specs.declared.value.Value.{Value}
-use Rattle.source_meaning.specs.ClassTables.{fields_of, methods_of, body_of, params_of}
+use Rattle.py_tree.specs.PlainProgram.{plain_program}
+use Rattle.source_meaning.specs.ClassTables.{fields_of}
 use Rattle.source_meaning.specs.World.{no_entity}
-use Rattle.source_meaning.specs.Here.{Ended, act_all_here}
-use Rattle.source_meaning.specs.Calls.{bound}
-use Rattle.source_meaning.specs.Agrees.{source_of, value_given, fields_given}
-use Rattle.source_meaning.proofs.RunLaws.{RanAs, call_missing, call_here, falls_as, stops_as, gives_as, RunsAs-passed}
+use Rattle.source_meaning.specs.Agrees.{source_of}
+use Rattle.source_meaning.proofs.RunLaws.{call_missing, call_here, falls_as, stops_as, gives_as, RunsAs-passed}
 use Rattle.sf_value.specs.Keys.{key_of}
-use Rattle.sf_value.specs.declared.Act.TheVariants as act
-use Rattle.source_meaning.specs.RequestRun.{begin, ended}
 use Rattle.source_meaning.proofs.local.Local.call.Goals as goal
 
 pub returns-in_default : goal.returns-in_default

@@ -1,4 +1,4 @@
-use Rattle.std.proofs.Common.{◌≡◌, ℕ, List, Err, Ok, map, refl, sym, ap, ◌∙◌, subst, []}
+use Rattle.std.proofs.Common.{◌≡◌, List, map, refl, sym, ap, ◌∙◌, subst}
 use Rattle.std.specs.Option.{option_map}
 use Rattle.std.proofs.lemmas.Result.{err_from_is_err_and}
 use Rattle.py_tree.specs.declared.names.Name.{Name}
@@ -8,7 +8,7 @@ use Rattle.sf_value.specs.declared.value.Value.{Value}
 use Rattle.sf_value.specs.declared.value.Ref.{Ref}
 use Rattle.source_meaning.specs.ClassTables.{fields_of, body_of, params_of}
 use Rattle.source_meaning.specs.World.{already_exists, value_at}
-use Rattle.source_meaning.specs.Calls.{bound, declare_all, new_key, text_of}
+use Rattle.source_meaning.specs.Calls.{bound, declare_all, text_of}
 use Rattle.sf_value.specs.declared.value.Value.TheVariants as value
 use Rattle.sf_value.specs.declared.Act.TheVariants as act
 use Rattle.source_meaning.specs.RequestRun.{begin, ended}

@@ -1,0 +1,150 @@
+-- What a session prints is what one serial run prints.
+use Rattle.std.proofs.Common.{◌≡◌, ℕ, suc, ◌+◌, Bool, true, false, cond, List, [], ◌∷◌, ◌++◌, length, take, drop, Some, Ok, Err, refl, sym, ap, ◌∙◌, subst, append_assoc, append-nil, arith}
+use Rattle.std.proofs.lemmas.List.{take_at, take-append-drop, length-append}
+use Rattle.std.specs.List.{slice_get, range_with_len}
+use Rattle.std.specs.declared.option.Option.{Option}
+use Rattle.std.specs.declared.result.Result.{Result}
+use Rattle.std.specs.Io.KnownBytes.{Appends}
+use Rattle.sf_value.specs.declared.Entry.{Entry}
+use Rattle.sf_value.specs.declared.Request.{Request}
+use Rattle.sf_outside.specs.Bytes.{AppendsPrefix}
+use Rattle.sf_outside.specs.Gains.{Wrote, joined}
+use Rattle.sf_outside.specs.declared.gains.WriteStop.{WriteStop}
+use Rattle.sf_outside.specs.declared.gains.WriteStop.TheVariants.{NoMemory, WriteFault}
+use Rattle.sf_outside.proofs.GainLaws.{joined-append}
+use Rattle.source_meaning.specs.ClassTables.{Source}
+use Rattle.source_meaning.specs.Serial.{Core, IsSound, is_committed}
+use Rattle.source_meaning.proofs.SerialLaws.{IsSound-empty, IsSound-more}
+use Rattle.request_json.specs.Actions.{Line, Action, Skip, Refuse, Ask, action_of}
+use Rattle.request_json.specs.ReplyLines.{reply_line}
+use Rattle.session.specs.declared.feeding.InputEnd.{InputEnd}
+use Rattle.session.specs.declared.feeding.InputEnd.TheVariants.{End, ReadFault, TooLong}
+use Rattle.session.specs.OutputText.{Standing, replies, after, step, start, commit, entry_of, refusal, after_action, reply_to}
+use Rattle.session.specs.Served.{Served}
+use Rattle.session.specs.SerialOutput.{Printed, Nothing, Refused, Reply, entry_at, text_of_entry, printed_text, printed_texts, places, IsNumbered, IsRefused, Fits, SerialLines, SerialRun}
+use Rattle.session.proofs.ServeLaws.{whole_prefix}
+
+-- the look-up of the entry that stands behind these
+seam : (es : List Entry) (e : Entry) (more : List Entry) → slice_get (es ++ e ∷ more) (length es) ≡ Some e
+seam [] e more = refl
+seam (x ∷ es) e more = seam es e more
+
+reply_there : (es : List Entry) (e : Entry) (more : List Entry) → printed_text (es ++ e ∷ more) (Reply (length es + 1)) ≡ reply_line e.request.id e.outcome (length es + 1)
+reply_there es e more =
+    let place : length es + 1 ≡ suc (length es) = omega arith in
+    ap (λ k. text_of_entry (entry_at (es ++ e ∷ more) k) (length es + 1)) place ∙ ap (λ o. text_of_entry o (length es + 1)) (seam es e more)
+
+-- these lines are answered from this core on, the first of them with this number: how the history grows, and what is printed
+record Goes (src : Source) (old new : Core) (number : ℕ) (lines : List Line) (texts : List (List ℕ)) : Type 0 where
+  sound : IsSound src new
+  added : List Entry
+  history : new.history ≡ old.history ++ added
+  printed : List Printed
+  counted : places printed ≡ range_with_len (length old.history + 1) (length added)
+  numbered : IsNumbered number printed
+  fits : Fits src old.history lines printed added
+  printed_are : texts ≡ printed_texts new.history printed
+
+module _ (src : Source) where
+  Goes-none : (core : Core) (number : ℕ) → IsSound src core → Goes src core core number [] []
+  Goes-none core number s = record { sound = s; added = []; history = sym (append-nil core.history); printed = []; counted = refl; numbered = tt; fits = tt; printed_are = refl }
+
+module _ (src : Source) (core new : Core) (number : ℕ) (line : Line) (lines : List Line) (texts : List (List ℕ)) where
+  Goes-nothing : action_of src line ≡ Skip → Goes src core new (number + 1) lines texts → Goes src core new number (line ∷ lines) ([] ∷ texts)
+  Goes-nothing is g = record {
+    sound = g.sound;
+    added = g.added;
+    history = g.history;
+    printed = Nothing ∷ g.printed;
+    counted = g.counted;
+    numbered = g.numbered;
+    fits = (is, g.fits);
+    printed_are = ap (λ ts. [] ∷ ts) g.printed_are;
+  }
+
+  Goes-refused : IsRefused core.history (action_of src line) → Goes src core new (number + 1) lines texts → Goes src core new number (line ∷ lines) (refusal number ∷ texts)
+  Goes-refused is g = record {
+    sound = g.sound;
+    added = g.added;
+    history = g.history;
+    printed = Refused number ∷ g.printed;
+    counted = g.counted;
+    numbered = (refl, g.numbered);
+    fits = (is, g.fits);
+    printed_are = ap (λ ts. refusal number ∷ ts) g.printed_are;
+  }
+
+  Goes-reply : (r : Request) → action_of src line ≡ Ask r → Goes src (commit src core r) new (number + 1) lines texts
+      → Goes src core new number (line ∷ lines) (reply_line r.id (entry_of src core r).outcome (length core.history + 1) ∷ texts)
+  Goes-reply r is g =
+      let e : Entry = entry_of src core r in
+      let longer : length (core.history ++ e ∷ []) ≡ length core.history + 1 = length-append core.history (e ∷ []) in
+      let grown : new.history ≡ core.history ++ e ∷ g.added = g.history ∙ append_assoc core.history (e ∷ []) g.added in
+      record {
+        sound = g.sound;
+        added = e ∷ g.added;
+        history = grown;
+        printed = Reply (length core.history + 1) ∷ g.printed;
+        counted = ap (λ ps. (length core.history + 1) ∷ ps) (g.counted ∙ ap (λ n. range_with_len (n + 1) (length g.added)) longer);
+        numbered = g.numbered;
+        fits = (is, g.fits);
+        printed_are = (λ i. sym (ap (λ h. printed_text h (Reply (length core.history + 1))) grown ∙ reply_there core.history e g.added) i ∷ g.printed_are i);
+      }
+
+  -- what a request does, by whether its id is committed
+  asked : (b : Bool) (r : Request) → action_of src line ≡ Ask r → is_committed core.history r.id ≡ b → IsSound src core
+      → (IsSound src (cond b core (commit src core r)) → Goes src (cond b core (commit src core r)) new (number + 1) lines texts)
+      → Goes src core new number (line ∷ lines) (cond b (refusal number) (reply_line r.id (entry_of src core r).outcome (length core.history + 1)) ∷ texts)
+  asked true r asks is s go = Goes-refused (subst (IsRefused core.history) (sym asks) is) (go s)
+  asked false r asks is s go = Goes-reply r asks (go (IsSound-more src core (entry_of src core r) s is refl))
+
+  acted : (action : Action) → action_of src line ≡ action → IsSound src core
+      → (IsSound src (after_action src core action) → Goes src (after_action src core action) new (number + 1) lines texts)
+      → Goes src core new number (line ∷ lines) (reply_to src core number action ∷ texts)
+  unfolding after_action reply_to
+  acted Skip asks s go = Goes-nothing asks (go s)
+  acted Refuse asks s go = Goes-refused (subst (IsRefused core.history) (sym asks) tt) (go s)
+  acted (Ask r) asks s go = asked (is_committed core.history r.id) r asks refl s go
+
+module _ (src : Source) where
+  goes : (lines : List Line) (s : Standing) → IsSound src s.core → Goes src s.core (after src s lines).core (s.lines + 1) lines (replies src s lines)
+  unfolding replies after
+  goes [] s sound = Goes-none src s.core (s.lines + 1) sound
+  goes (line ∷ lines) s sound = acted src s.core (after src (step src s line) lines).core (s.lines + 1) line lines (replies src (step src s line) lines) (action_of src line) refl sound (goes lines (step src s line))
+
+  -- the lines of every input are answered as one serial run
+  pub SerialLines-all : (lines : List Line) → SerialLines src lines
+  SerialLines-all lines =
+      let g = goes lines start (IsSound-empty src) in
+      record {
+        core = (after src start lines).core;
+        sound = g.sound;
+        printed = g.printed;
+        report = record { counted = g.counted ∙ ap (λ h. range_with_len 1 (length h)) (sym g.history); numbered = g.numbered };
+        fits = subst (Fits src [] lines g.printed) (sym g.history) g.fits;
+        texts = g.printed_are;
+      }
+
+-- the text of the first lines is a prefix of the text of all
+first_lines : (k : ℕ) (texts : List (List ℕ)) → joined (take k texts) ≡ take (length (joined (take k texts))) (joined texts)
+first_lines k texts =
+    sym (ap (take (length (joined (take k texts)))) (ap joined (sym (take-append-drop k texts)) ∙ joined-append (take k texts) (drop k texts)) ∙ take_at (joined (take k texts)) (joined (drop k texts)) (length (joined (take k texts))) refl)
+
+-- whatever the result, what was written is a prefix of the text
+pub prefix_written : {T : Type 0} (result : Result T WriteStop) (old new : Option (List ℕ)) (texts : List (List ℕ)) → Wrote result old new texts → AppendsPrefix old new (joined texts)
+prefix_written (Ok value) old new texts w = whole_prefix old new (joined texts) w
+prefix_written (Err NoMemory) old new texts w = (length (joined (take w.0 texts)), subst (Appends old new) (first_lines w.0 texts) w.1)
+prefix_written (Err WriteFault) old new texts w = w
+
+module _ (src : Source) where
+  run_of : {T : Type 0} (result : Result T WriteStop) (old new : Option (List ℕ)) (lines : List Line) → Wrote result old new (replies src start lines) → SerialRun src old new
+  run_of result old new lines w =
+      let s = SerialLines-all src lines in
+      record { core = s.core; sound = s.sound; printed = s.printed; report = s.report; wrote = subst (λ texts. AppendsPrefix old new (joined texts)) s.texts (prefix_written result old new (replies src start lines) w) }
+
+  -- what is served is what one serial run prints
+  pub Served-serial : (limit : ℕ) (left left' held held' : Option (List ℕ)) (result : Result InputEnd WriteStop) → Served src limit left left' held held' result → SerialRun src held held'
+  Served-serial limit left left' held held' (Ok End) p = run_of {T = InputEnd} (Ok End) held held' _ p.0.wrote
+  Served-serial limit left left' held held' (Ok ReadFault) p = run_of {T = InputEnd} (Ok ReadFault) held held' _ p.wrote
+  Served-serial limit left left' held held' (Ok TooLong) p = run_of {T = InputEnd} (Ok TooLong) held held' _ p.answered.wrote
+  Served-serial limit left left' held held' (Err stop) p = run_of {T = InputEnd} (Err stop) held held' _ p.answered.wrote

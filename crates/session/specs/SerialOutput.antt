@@ -1,0 +1,91 @@
+-- What a session prints, as the replies of one serial run.
+use Rattle.std.specs.Prelude.{◌≡◌, ℕ, zero, suc, ◌+◌, true, List, [], ◌∷◌, ◌++◌, map, length, ⊤, None, Some}
+use Rattle.std.specs.List.{slice_get, range_with_len}
+use Rattle.std.specs.declared.option.Option.{Option}
+use Rattle.sf_value.specs.declared.Entry.{Entry}
+use Rattle.sf_outside.specs.Bytes.{AppendsPrefix}
+use Rattle.sf_outside.specs.Gains.{joined}
+use Rattle.source_meaning.specs.ClassTables.{Source}
+use Rattle.source_meaning.specs.Serial.{Core, IsSound, is_committed}
+use Rattle.request_json.specs.Actions.{Line, Action, Skip, Refuse, Ask, action_of}
+use Rattle.request_json.specs.ReplyLines.{reply_line}
+use Rattle.session.specs.OutputText.{refusal, replies, start}
+
+-- what is printed for one line: nothing, the refusal of the line with this number, or the reply to the request at this
+-- place of the history; lines and places are counted from 1
+pub data Printed : Type 0 where
+  Nothing : Printed
+  Refused : (number : ℕ) → Printed
+  Reply : (place : ℕ) → Printed
+
+-- the entry at this place, if there is one
+abbrev pub entry_at : List Entry → ℕ → Option Entry
+entry_at history zero = None
+entry_at history (suc before) = slice_get history before
+
+-- the reply line of an entry at its place
+abbrev pub text_of_entry : Option Entry → ℕ → List ℕ
+text_of_entry None place = []
+text_of_entry (Some entry) place = reply_line entry.request.id entry.outcome place
+
+-- what is printed, where these entries are the history: a place outside of it has no text
+abbrev pub printed_text : List Entry → Printed → List ℕ
+printed_text history Nothing = []
+printed_text history (Refused number) = refusal number
+printed_text history (Reply place) = text_of_entry (entry_at history place) place
+
+-- and for these lines, one text for each
+abbrev pub printed_texts : List Entry → List Printed → List (List ℕ)
+printed_texts history = map (printed_text history)
+
+-- the places of the replies, in the order in which they are printed
+abbrev pub places : List Printed → List ℕ
+places [] = []
+places (Nothing ∷ printed) = places printed
+places (Refused number ∷ printed) = places printed
+places (Reply place ∷ printed) = place ∷ places printed
+
+-- each refusal has the number of its line, where the first line has this one
+abbrev pub IsNumbered : ℕ → List Printed → Type 0
+IsNumbered first [] = ⊤
+IsNumbered first (Nothing ∷ printed) = IsNumbered (first + 1) printed
+IsNumbered first (Refused number ∷ printed) = (number ≡ first) × IsNumbered (first + 1) printed
+IsNumbered first (Reply place ∷ printed) = IsNumbered (first + 1) printed
+
+-- each request of the history has one reply, in the order of the history, and each refusal names its line
+pub record IsReport (history : List Entry) (printed : List Printed) : Type 0 where
+  pub counted : places printed ≡ range_with_len 1 (length history)
+  pub numbered : IsNumbered 1 printed
+
+-- a line that asks this is refused after these entries: it can't be used, or its id is committed
+abbrev pub IsRefused : List Entry → Action → Type 0
+IsRefused before Skip = ⊥
+IsRefused before Refuse = ⊤
+IsRefused before (Ask request) = is_committed before request.id ≡ true
+
+-- what is printed for these lines fits what they ask, where these entries stand before and the lines add those: nothing
+-- for an empty line, a refusal as above, and the reply to the entry that the line's request adds
+abbrev pub Fits : Source → List Entry → List Line → List Printed → List Entry → Type 0
+Fits src before [] [] [] = ⊤
+Fits src before (line ∷ lines) (Nothing ∷ printed) added = (action_of src line ≡ Skip) × Fits src before lines printed added
+Fits src before (line ∷ lines) (Refused number ∷ printed) added = IsRefused before (action_of src line) × Fits src before lines printed added
+Fits src before (line ∷ lines) (Reply place ∷ printed) (entry ∷ added) = (action_of src line ≡ Ask entry.request) × Fits src (before ++ entry ∷ []) lines printed added
+Fits src before lines printed added = ⊥
+
+-- what these lines are answered is what a serial run prints: the replies to the requests of a sound history, which
+-- the lines asked, each at its place, and refusals between them
+pub record SerialLines (src : Source) (lines : List Line) : Type 0 where
+  pub core : Core
+  pub sound : IsSound src core
+  pub printed : List Printed
+  pub report : IsReport core.history printed
+  pub fits : Fits src [] lines printed core.history
+  pub texts : replies src start lines ≡ printed_texts core.history printed
+
+-- known bytes grew by what a serial run prints, or by a prefix of it
+pub record SerialRun (src : Source) (old new : Option (List ℕ)) : Type 0 where
+  pub core : Core
+  pub sound : IsSound src core
+  pub printed : List Printed
+  pub report : IsReport core.history printed
+  pub wrote : AppendsPrefix old new (joined (printed_texts core.history printed))

@@ -1,0 +1,21 @@
+//! What follows from the contract of a session: it prints what one serial run prints.
+
+ghost use Rattle.std.specs.Prelude.{List, ℕ};
+ghost use Rattle.std.specs.declared.option.Option.{Option};
+ghost use Rattle.std.specs.declared.result.Result.{Result};
+ghost use Rattle.sf_outside.specs.declared.gains.WriteStop.{WriteStop};
+ghost use Rattle.source_meaning.specs.ClassTables.{Source};
+ghost use Rattle.request_json.specs.Actions.{Line};
+ghost use Rattle.session.specs.declared.feeding.InputEnd.{InputEnd};
+ghost use Rattle.session.specs.Served.{Served};
+ghost use Rattle.session.specs.SerialOutput.{SerialLines, SerialRun};
+
+/// The replies to all lines are those of one serial run.
+pub fn replies_are_serial()
+    ensures { (src : Source) (lines : List Line) → SerialLines src lines }
+{}
+
+/// Whatever the result, a session wrote what one serial run prints, or a prefix of it.
+pub fn serves_serially()
+    ensures { (src : Source) (limit : ℕ) (left left' held held' : Option (List ℕ)) (result : Result InputEnd WriteStop) → Served src limit left left' held held' result → SerialRun src held held' }
+{}
