@@ -1,0 +1,33 @@
+//! The program: the top call on the standard streams and the files of the system.
+#![tactic(auto)]
+
+use stateflow_cli::{NamedFiles, Reading, Writing, stateflow};
+use std::env;
+use std::process::ExitCode;
+
+/// The status where memory runs out before the words are read.
+const NO_MEMORY: u8 = 8;
+
+fn main(rt: HostRuntime) -> ExitCode {
+    let alloc = rt.alloc();
+    let Ok(mut words) = env::args(&rt) else {
+        return ExitCode::from(NO_MEMORY);
+    };
+    let _program = words.next();
+    let Ok(words) = words.collect::<Vec<String>>(alloc) else {
+        return ExitCode::from(NO_MEMORY);
+    };
+    let mut files = NamedFiles::new(&rt);
+    let mut input = Reading::new(rt.stdin());
+    let mut out = Writing::new(rt.stdout());
+    let mut err = Writing::new(rt.stderr());
+    let status = stateflow(
+        rt.alloc(),
+        words.as_slice(),
+        &mut files,
+        &mut input,
+        &mut out,
+        &mut err,
+    );
+    ExitCode::from(status)
+}

@@ -1,0 +1,63 @@
+-- What the error stream gained, piece after piece.
+use Rattle.std.proofs.Common.{◌≡◌, ℕ, ◌+◌, ◌≤◌, Bool, true, false, ◌==◌, List, [], ◌++◌, length, take, min, Ok, Err, OnOk, OnErr, refl, sym, ap, ◌∙◌, subst, append-nil, arith}
+use Rattle.std.proofs.lemmas.List.{take_at}
+use Rattle.std.proofs.KnownBytes.{Appends-trans, Appends-nil, Appends-kept}
+use Rattle.std.specs.declared.option.Option.{Option}
+use Rattle.std.specs.declared.result.Result.{Result}
+use Rattle.std.specs.Io.KnownBytes.{Appends, Keeps}
+use Rattle.sf_outside.specs.Bytes.{AppendsPrefix}
+use Rattle.sf_outside.specs.Causes.{Rose, HasCause}
+use Rattle.stateflow_cli.specs.StatusLines.{write_fault_line}
+use Rattle.stateflow_cli.specs.Telling.{second_line, SaidInPart, Told, Part}
+use Rattle.sf_outside.proofs.Fronts.{take_into, take_first}
+
+-- all of it is a prefix
+pub prefix_whole : (a b : Option (List ℕ)) (xs : List ℕ) → Appends a b xs → AppendsPrefix a b xs
+prefix_whole a b xs p = (length xs, subst (Appends a b) (sym (take_at xs [] (length xs) refl) ∙ ap (take (length xs)) (append-nil xs)) p)
+
+pub prefix_none : (a : Option (List ℕ)) (xs : List ℕ) → AppendsPrefix a a xs
+prefix_none a xs = (0, Appends-nil a)
+
+-- a prefix of the first piece is one of the whole
+pub prefix_more : (a b : Option (List ℕ)) (xs ys : List ℕ) → AppendsPrefix a b xs → AppendsPrefix a b (xs ++ ys)
+prefix_more a b xs ys p = (min p.0 (length xs), subst (Appends a b) (sym (take_first xs ys p.0)) p.1)
+
+-- the first piece, and then a prefix of the next
+pub prefix_after : (a b c : Option (List ℕ)) (xs ys : List ℕ) → Appends a b xs → AppendsPrefix b c ys → AppendsPrefix a c (xs ++ ys)
+prefix_after a b c xs ys p q = (length xs + q.0, subst (Appends a c) (sym (take_into xs ys q.0)) (Appends-trans a b c xs (take q.0 ys) p q.1))
+
+-- three pieces, written one after another, each whole or, at a fault, in part
+module _ (a b c d : Option (List ℕ)) (xs ys zs : List ℕ) where
+  pub three_whole : Appends a b xs → Appends b c ys → Appends c d zs → Appends a d (xs ++ (ys ++ zs))
+  three_whole p q r = Appends-trans a b d xs (ys ++ zs) p (Appends-trans b c d ys zs q r)
+
+  pub three_last : Appends a b xs → Appends b c ys → AppendsPrefix c d zs → AppendsPrefix a d (xs ++ (ys ++ zs))
+  three_last p q r = prefix_after a b d xs (ys ++ zs) p (prefix_after b c d ys zs q r)
+
+pub three_second : (a b c : Option (List ℕ)) (xs ys zs : List ℕ) → Appends a b xs → AppendsPrefix b c ys → AppendsPrefix a c (xs ++ (ys ++ zs))
+three_second a b c xs ys zs p q = prefix_after a b c xs (ys ++ zs) p (prefix_more b c ys zs q)
+
+-- what is kept after a line was written whole is a prefix of it
+pub prefix_kept : (a b c : Option (List ℕ)) (xs : List ℕ) → Appends a b xs → Keeps b c → AppendsPrefix a c xs
+prefix_kept a b c xs p k = prefix_whole a c xs (Appends-kept a b c xs p k)
+
+-- whether a write was whole or not, a prefix was written
+pub prefix_written : {T E : Type 0} (r : Result T E) (a b : Option (List ℕ)) (xs : List ℕ) → OnOk r (Appends a b xs) → OnErr r (AppendsPrefix a b xs) → AppendsPrefix a b xs
+prefix_written (Ok x) a b xs p q = prefix_whole a b xs p
+prefix_written (Err e) a b xs p q = q
+
+chain : (x y z : ℕ) → x ≤ y → y ≤ z → x ≤ z
+chain x y z p q = omega (arith, p, q)
+
+pub Rose-later : (a b c : ℕ) → Rose a b → b ≤ c → Rose a c
+Rose-later a b c p q = chain _ b c p q
+
+-- the line failed, and it was that of a write fault
+pub Told-once : (line : List ℕ) (own : ℕ) (a b : Option (List ℕ)) (before after : ℕ) → own ≡ 4 → AppendsPrefix a b line → Rose before after → Told line own a b before after 4
+Told-once line own a b before after e p r = Part refl r (record { between = b; first = p; second = subst (λ n. AppendsPrefix b b (second_line n)) (sym e) (prefix_none b []) })
+
+-- the line failed, and that of a write fault was tried
+pub Told-twice : {T E : Type 0} (result : Result T E) (line : List ℕ) (own : ℕ) (a b c : Option (List ℕ)) (before between after : ℕ) → (own == 4) ≡ false → AppendsPrefix a b line → Rose before between
+    → OnOk result (Appends b c write_fault_line) → OnErr result (AppendsPrefix b c write_fault_line) → between ≤ after → Told line own a c before after 4
+Told-twice result line own a b c before between after e p r w x l =
+    Part refl (Rose-later before between after r l) (record { between = b; first = p; second = rw e (prefix_written result b c write_fault_line w x) })

@@ -1,0 +1,3 @@
+pub mod LoadLaws
+pub mod GainedLaws
+pub mod AnswerLaws

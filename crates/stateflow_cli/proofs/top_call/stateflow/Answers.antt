@@ -1,0 +1,14 @@
+use Rattle.stateflow_cli.proofs.AnswerLaws.{Answers-complete, Answers-serial, Answers-causes, Answers-undisturbed}
+use Rattle.stateflow_cli.proofs.top_call.stateflow.Goals as goal
+
+pub returns-clause-text : goal.returns-clause-text
+returns-clause-text g c = Answers-complete _ _ _ _ _ _ _ _ _ c.run_words.ensures.answers
+
+pub returns-clause-serial : goal.returns-clause-serial
+returns-clause-serial g c = Answers-serial _ _ _ _ _ _ _ _ _ c.run_words.ensures.answers
+
+pub returns-clause-causes : goal.returns-clause-causes
+returns-clause-causes g c = Answers-causes _ _ _ _ _ _ _ _ _ c.run_words.ensures.answers
+
+pub returns-clause-complete : goal.returns-clause-complete
+returns-clause-complete g c = Answers-undisturbed _ _ _ _ _ _ _ _ _ c.run_words.ensures.answers

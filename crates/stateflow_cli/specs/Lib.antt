@@ -1,0 +1,7 @@
+pub mod Words
+pub mod StatusLines
+pub mod Devices
+pub mod Loading
+pub mod Endings
+pub mod Telling
+pub mod Answers
