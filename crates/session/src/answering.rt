@@ -150,4 +150,3 @@ impl Standing {
         Ok(made)
     }
 }
-

@@ -81,7 +81,9 @@ impl Session {
         ensures standing { OnOk result (standing_of self.new.standing ≡ after (source_of (plain_program program.now) names.now) (standing_of self.old.standing) (line_of ended self.old.kept.items ∷ [])) }
         ensures kept { OnOk result (self.new.kept.items ≡ []) }
     {
-        let line = self.standing.answer(alloc, program, names, self.kept.as_slice(), ended)?;
+        let line = self
+            .standing
+            .answer(alloc, program, names, self.kept.as_slice(), ended)?;
         write_line(out, line.as_slice())?;
         self.kept.clear();
         Ok(())
