@@ -130,11 +130,7 @@ fn arg(alloc: Global, param: &Param, value: &Value) -> Result<Option<Arg>, Alloc
 }
 
 /// One argument for each parameter.
-fn args(
-    alloc: Global,
-    params: &[Param],
-    items: &[Value],
-) -> Result<Option<Values>, AllocError>
+fn args(alloc: Global, params: &[Param], items: &[Value]) -> Result<Option<Values>, AllocError>
     ensures { IfOk result (λ made. made ≡ args_of (plain_params params.now) (items_view items.now)) }
 {
     let mut made = Sequence::new(alloc);

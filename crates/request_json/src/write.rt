@@ -68,12 +68,7 @@ fn ok_json(alloc: Global, id: &Text, value: &Value, seq: u32) -> Result<Json, Al
     json!(in alloc; {"id": id, "ok": ok, "seq": seq})
 }
 
-fn error_json(
-    alloc: Global,
-    id: &Text,
-    failure: &Failure,
-    seq: u32,
-) -> Result<Json, AllocError>
+fn error_json(alloc: Global, id: &Text, failure: &Failure, seq: u32) -> Result<Json, AllocError>
     ensures { IfOk result (λ v. view v ≡ failure_reply id.now failure.now seq) }
 {
     let error = kind_text(failure.kind);
