@@ -6,6 +6,8 @@ mod loading;
 mod real_devices;
 mod running;
 mod telling;
+#[cfg(test)]
+mod tests;
 mod top_call;
 mod words;
 
