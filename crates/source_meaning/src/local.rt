@@ -96,14 +96,15 @@ impl Local {
         let mut fields = held.try_clone(alloc)?;
         let mut steps = STEPS_LEFT;
         let method = called(program, names, at.class, number);
-        let value = run_body(
+        let ended = run_body(
             alloc,
             field_names.as_slice(),
             method,
             args,
             &mut fields,
             &mut steps,
-        )?;
+        );
+        let value = ended?;
         self.put(at, fields)?;
         Ok(value)
     }

@@ -94,11 +94,7 @@ fn read_first<F: Files>(
 }
 
 /// Reads a file's program.
-pub(crate) fn load<F: Files>(
-    alloc: Global,
-    files: &mut F,
-    name: &str,
-) -> Result<Parsed, LoadStop>
+pub(crate) fn load<F: Files>(alloc: Global, files: &mut F, name: &str) -> Result<Parsed, LoadStop>
     ensures loads { IfOk result (λ parsed. Loads (F.content files.old name.now) (plain_program parsed.program) parsed.names) }
     ensures refused { result ≡ Err LoadStop.Unsupported → Refuses (F.content files.old name.now) }
     ensures cause { result ≡ Err LoadStop.FileFault → Rose (F.faults files.old name.now) (F.faults files.new name.now) }

@@ -105,12 +105,7 @@ impl<R: fs::Files> NamedFiles<R> {
     }
 }
 
-fn read_file_at<R: fs::Files>(
-    system: &R,
-    name: &str,
-    at: u64,
-    buf: &mut [u8],
-) -> io::Result<usize>
+fn read_file_at<R: fs::Files>(system: &R, name: &str, at: u64, buf: &mut [u8]) -> io::Result<usize>
     ensures bound { ReadsAtMost result buf.new }
 {
     let mut file = fs::open(system, name)?;

@@ -32,7 +32,14 @@ pub(crate) fn run_file<F: Files, S: Source, K: Sink>(
         Err(LoadStop::FileFault) => return Ending::FileFault,
         Err(LoadStop::NoMemory) => return Ending::NoMemory,
     };
-    match serve(alloc, LONGEST_INPUT, &parsed.program, &parsed.names, input, out) {
+    match serve(
+        alloc,
+        LONGEST_INPUT,
+        &parsed.program,
+        &parsed.names,
+        input,
+        out,
+    ) {
         Ok(end) => Ending::Served(end),
         Err(stop) => Ending::Stopped(stop),
     }

@@ -89,7 +89,10 @@ fn counter_answers_its_requests(rt: HostRuntime) -> Result<(), Fail> {
 #[test]
 fn failed_read_of_the_file_is_status_3(rt: HostRuntime) -> Result<(), Fail> {
     for call in [1, 2] {
-        let faults = Faults { file: &[call], ..NO_FAULTS };
+        let faults = Faults {
+            file: &[call],
+            ..NO_FAULTS
+        };
         let answer = run_counter(rt.alloc(), "1", faults)?;
         assert_eq!(rt; answer.status, 3);
         assert_eq!(rt; answer.out.bytes(), b"".as_slice());
@@ -101,7 +104,10 @@ fn failed_read_of_the_file_is_status_3(rt: HostRuntime) -> Result<(), Fail> {
 #[test]
 fn failed_read_of_the_input_leaves_whole_lines(rt: HostRuntime) -> Result<(), Fail> {
     for (call, replies) in [(1, b"".as_slice()), (2, REPLIES)] {
-        let faults = Faults { input: &[call], ..NO_FAULTS };
+        let faults = Faults {
+            input: &[call],
+            ..NO_FAULTS
+        };
         let answer = run_counter(rt.alloc(), "1", faults)?;
         assert_eq!(rt; answer.status, 3);
         assert_eq!(rt; answer.out.bytes(), replies);
@@ -113,7 +119,10 @@ fn failed_read_of_the_input_leaves_whole_lines(rt: HostRuntime) -> Result<(), Fa
 #[test]
 fn failed_write_leaves_the_lines_before(rt: HostRuntime) -> Result<(), Fail> {
     for (call, written) in [(1, 0), (2, 28), (3, 54), (4, 105), (5, 136), (6, 167)] {
-        let faults = Faults { out: &[call], ..NO_FAULTS };
+        let faults = Faults {
+            out: &[call],
+            ..NO_FAULTS
+        };
         let answer = run_counter(rt.alloc(), "1", faults)?;
         assert_eq!(rt; answer.status, 4);
         assert_eq!(rt; answer.out.bytes().len(), written);
@@ -125,11 +134,17 @@ fn failed_write_leaves_the_lines_before(rt: HostRuntime) -> Result<(), Fail> {
 
 #[test]
 fn failed_error_stream_is_status_4(rt: HostRuntime) -> Result<(), Fail> {
-    let once = Faults { err: &[1], ..NO_FAULTS };
+    let once = Faults {
+        err: &[1],
+        ..NO_FAULTS
+    };
     let answer = run_counter(rt.alloc(), "2", once)?;
     assert_eq!(rt; answer.status, 4);
     assert_eq!(rt; answer.err.bytes(), b"stateflow: write fault\n".as_slice());
-    let twice = Faults { err: &[1, 2], ..NO_FAULTS };
+    let twice = Faults {
+        err: &[1, 2],
+        ..NO_FAULTS
+    };
     let answer = run_counter(rt.alloc(), "2", twice)?;
     assert_eq!(rt; answer.status, 4);
     assert_eq!(rt; answer.err.bytes(), b"".as_slice());

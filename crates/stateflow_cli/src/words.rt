@@ -22,7 +22,11 @@ pub(crate) fn asked_file(words: &[String]) -> Option<&str>
         return None;
     };
     let file = file.as_str();
-    if run.as_str() == "run" && batch.as_str() == "--batch" && one.as_str() == "1" && is_file(file) {
+    if run.as_str() == "run"
+        && batch.as_str() == "--batch"
+        && one.as_str() == "1"
+        && is_file(file)
+    {
         Some(file)
     } else {
         None
