@@ -41,6 +41,11 @@ three_second a b c xs ys zs p q = prefix_after a b c xs (ys ++ zs) p (prefix_mor
 pub prefix_kept : (a b c : Option (List ℕ)) (xs : List ℕ) → Appends a b xs → Keeps b c → AppendsPrefix a c xs
 prefix_kept a b c xs p k = prefix_whole a c xs (Appends-kept a b c xs p k)
 
+-- a fact that follows from a success
+pub on_ok_weaker : {T E P Q : Type 0} (r : Result T E) → (P → Q) → OnOk r P → OnOk r Q
+on_ok_weaker (Ok x) f p = f p
+on_ok_weaker (Err e) f p = tt
+
 -- whether a write was whole or not, a prefix was written
 pub prefix_written : {T E : Type 0} (r : Result T E) (a b : Option (List ℕ)) (xs : List ℕ) → OnOk r (Appends a b xs) → OnErr r (AppendsPrefix a b xs) → AppendsPrefix a b xs
 prefix_written (Ok x) a b xs p q = prefix_whole a b xs p
