@@ -1,7 +1,7 @@
 -- Which record is behind a gate, from the bytes that were read.
-use Rattle.std.proofs.Common.{◌≡◌, inl, inr, ◌⊎◌, ℕ, ◌+◌, ◌-◌, ◌≤◌, ◌<◌, ◌^◌, List, [], ◌∷◌, ◌++◌, length, take, drop, Some, None, refl, sym, ap, ◌∙◌, subst, arith, IfSome, append-nil, take-append-drop, length-take}
+use Rattle.std.proofs.Common.{◌≡◌, inl, inr, ◌⊎◌, ℕ, ◌+◌, ◌-◌, ◌*◌, ◌≤◌, ◌<◌, ◌^◌, List, [], ◌∷◌, ◌++◌, length, get_or, take, drop, Some, None, refl, sym, ap, ◌∙◌, subst, arith, IfSome, append-nil, take-append-drop, length-take}
 use Rattle.std.specs.declared.option.Option.{Option}
-use Rattle.std.specs.Int.{w32, from_be_bytes}
+use Rattle.std.specs.Int.{w32, from_be_bytes, to_be_bytes}
 use Rattle.std.proofs.lemmas.List.{take_all, take-take}
 use Rattle.sf_bytes.specs.ByteForms.{number_bytes, batch_bytes}
 use Rattle.sf_bytes.specs.Reading.{batch_at}
@@ -9,8 +9,10 @@ use Rattle.sf_bytes.specs.Reads.{NoneBeginsAnother}
 use Rattle.sf_bytes.specs.Spelt.{IsReadBatch}
 use Rattle.sf_bytes.proofs.Fronts.{stands_apart}
 use Rattle.sf_bytes.proofs.RecordLaws.{batch_spells}
-use Rattle.sf_bytes.proofs.Wide.{wide32}
+use Rattle.sf_bytes.proofs.Wide.{IsBytes, IsBytes-rest, wide32}
 use Rattle.sf_outside.specs.Bytes.{CopiedAll}
+use Rattle.sf_outside.specs.DiskModel.{Image, of_file}
+use Rattle.sf_outside.specs.declared.store_disk.StoreFile.{StoreFile}
 use Rattle.sf_value.specs.declared.BatchRecord.{BatchRecord}
 use Rattle.request_log.specs.LogFile.{open_gate, gate_behind, StandsAt, OpenAt, RecordAt, IsBadAt, IsBatch}
 use Rattle.request_log.specs.Answers.{SaysFront, SaysBatch}
@@ -105,3 +107,37 @@ broken file at n buf five copied (inr says) =
     let some : 1 ≤ n = omega (arith, ap length says.0, length-take 1 (take n buf), length-take n buf) in
     let open_there : OpenAt file at = sym (take-take 1 n (drop at file) some) ∙ ap (take 1) (sym copied.bytes) ∙ says.0 in
     inr (open_there, λ batch there. absurd (omega (arith, five, copied.count, says.1, length-take n buf, there.next_gate)))
+
+-- ---- what the bytes that a read gives say
+
+-- an open gate and four bytes claim a number
+pub claims_front : (bytes : List ℕ) (len : ℕ) → length bytes ≡ 5 → IsBytes bytes → get_or bytes 0 0 ≡ open_gate
+    → len ≡ get_or bytes 1 0 * 16777216 + get_or bytes 2 0 * 65536 + get_or bytes 3 0 * 256 + get_or bytes 4 0 → bytes ≡ open_gate ∷ number_bytes len
+unfolding number_bytes
+claims_front [] len five are_bytes gate is = absurd (omega (arith, five))
+claims_front (first ∷ rest) len five are_bytes gate is =
+    let back : to_be_bytes w32 (from_be_bytes w32 rest) ≡ rest = wide32.back rest (omega (arith, five)) (IsBytes-rest (first ∷ []) rest are_bytes) in
+    let number : to_be_bytes w32 len ≡ rest = ap (to_be_bytes w32) is ∙ back in
+    λ i. gate i ∷ sym number i
+
+module _ (file : StoreFile) (seen : Option Image) (at len end count : ℕ) (buf : List ℕ) (short : len < 2 ^ 32) (claims : IfSome seen (λ now. StandsAt (of_file file now) at (open_gate ∷ number_bytes len)))
+    (ends : IfSome seen (λ now. end ≡ length (of_file file now))) (copied : IfSome seen (λ now. CopiedAll (of_file file now) (at + 5) count buf)) (long : length buf ≡ len) (all : len ≤ count) (room : len + 6 ≤ end - at) where
+  -- a gate that claims so many bytes, the end of the file, and the bytes that were copied
+  abbrev Told : Image → Type 0
+  Told now = (StandsAt (of_file file now) at (open_gate ∷ number_bytes len) × (end ≡ length (of_file file now))) × CopiedAll (of_file file now) (at + 5) count buf
+
+  told : IfSome seen Told
+  told = if_both seen (λ now. StandsAt (of_file file now) at (open_gate ∷ number_bytes len) × (end ≡ length (of_file file now))) (λ now. CopiedAll (of_file file now) (at + 5) count buf) Told (λ now a b. (a, b))
+      (if_both seen (λ now. StandsAt (of_file file now) at (open_gate ∷ number_bytes len)) (λ now. end ≡ length (of_file file now)) (λ now. StandsAt (of_file file now) at (open_gate ∷ number_bytes len) × (end ≡ length (of_file file now))) (λ now a b. (a, b)) claims ends)
+      copied
+
+  stands_there : (now : Image) → Told now → StandsAt (of_file file now) (at + 5) buf
+  stands_there now is = copied_stands (of_file file now) (at + 5) count buf is.1 (omega (arith, long, all))
+
+  pub seen_record : (batch : BatchRecord) → IsBatch buf batch → IfSome seen (λ now. RecordAt (of_file file now) at batch)
+  seen_record batch whole = if_both seen Told Told (λ now. RecordAt (of_file file now) at batch)
+      (λ now is same. record_found (of_file file now) at len short is.0.0 buf (stands_there now is) long batch (omega (arith, room, is.0.1)) whole) told told
+
+  pub seen_bad : SaysBatch buf None → IfSome seen (λ now. IsBadAt (of_file file now) at)
+  seen_bad none = if_both seen Told Told (λ now. IsBadAt (of_file file now) at)
+      (λ now is same. none_found (of_file file now) at len short is.0.0 buf (stands_there now is) long none) told told
