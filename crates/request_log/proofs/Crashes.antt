@@ -1,14 +1,14 @@
 -- What a crash leaves while a record is put behind a closed gate, and while that gate is opened.
-use Rattle.std.proofs.Common.{◌≡◌, ◌⊎◌, inl, inr, ℕ, ◌+◌, ◌≤◌, ◌<◌, ◌^◌, List, [], ◌∷◌, length, get_or, take, drop, min, Some, None, refl, sym, ap, ◌∙◌, subst, arith, IsSomeAnd, IfSome, IsSome, true≢false, length-take}
+use Rattle.std.proofs.Common.{◌≡◌, inl, inr, ℕ, ◌+◌, ◌≤◌, ◌<◌, ◌^◌, List, [], ◌∷◌, length, get_or, take, min, Some, None, refl, sym, ap, ◌∙◌, subst, arith, IsSomeAnd, IfSome, IsSome, true≢false, length-take}
 use Rattle.std.specs.declared.option.Option.{Option}
 use Rattle.std.proofs.lemmas.Bool.{cases_eq}
 use Rattle.sf_outside.specs.declared.store_disk.StoreFile.{StoreFile}
-use Rattle.sf_outside.specs.DiskModel.{Image, DiskFacts, of_file, with_file, Torn, TornFile, LeavesOnly, SeenWritten, IsDurable}
-use Rattle.sf_outside.proofs.DiskLaws.{of_file-same, with_file-same, with_file-again, TornFile-torn, LeavesOnly-start, LeavesOnly-then, LeavesOnly-weaker}
+use Rattle.sf_outside.specs.DiskModel.{Image, DiskFacts, of_file, with_file, Torn, TornFile, LeavesOnly, Elapses, ImagesTorn, SeenWritten, IsDurable}
+use Rattle.sf_outside.proofs.DiskLaws.{of_file-same, with_file-same, with_file-again, TornFile-torn, LeavesOnly-start, LeavesOnly-write, LeavesOnly-then, LeavesOnly-weaker}
 use Rattle.sf_outside.proofs.Writes.{Torn-front}
 use Rattle.request_log.specs.LogFile.{open_gate, StandsAt, ClosedAt}
-use Rattle.request_log.specs.Appends.{behind_gate, record_bytes, StaysClosed, HasRecord, StaysOrHasRecord, ComesBy}
-use Rattle.request_log.proofs.Stands.{front-shorter, Stands-length, Stands-same, Stands-byte, Stands-both}
+use Rattle.request_log.specs.Appends.{behind_gate, HasRecord, StaysOrHasRecord, ComesBy}
+use Rattle.request_log.proofs.Stands.{front-shorter, Stands-same, Stands-byte, Stands-both}
 use Rattle.request_log.proofs.Logs.{Closed-length, stays_closed, has_record}
 use Rattle.request_log.proofs.Steps.{seen_has, written_stands}
 
@@ -54,7 +54,7 @@ module _ (file : StoreFile) (at : ℕ) (old : DiskFacts) (closed : (image : Imag
       }
 
   -- no write yet
-  pub staged_start : LeavesOnly old old Staged
+  staged_start : LeavesOnly old old Staged
   staged_start = LeavesOnly-start old Staged (λ image left. record { before = image; left = left; step = refl; others = sym (with_file-same file image) })
 
   -- one write more behind the gate
@@ -62,6 +62,17 @@ module _ (file : StoreFile) (at : ℕ) (old : DiskFacts) (closed : (image : Imag
   staged_then mid new p n behind so_far more =
       LeavesOnly-then old mid new Staged so_far
       (LeavesOnly-weaker mid new (TornBy file p n mid) Staged more (λ image torn. staged_torn p n torn.0 image behind (left_now old mid Staged so_far torn.0 torn.1) torn.2))
+
+  staged_write : (mid new : DiskFacts) (p n : ℕ) → at + 1 ≤ p → LeavesOnly old mid Staged → Elapses mid new → ImagesTorn file p n mid new → LeavesOnly old new Staged
+  staged_write mid new p n behind so_far time images = staged_then mid new p n behind so_far (LeavesOnly-write file p n mid new time images)
+
+  -- the length was written, whole or not
+  pub staged_length : (first : DiskFacts) (n : ℕ) → Elapses old first → ImagesTorn file (at + 1) n old first → LeavesOnly old first Staged
+  staged_length first n time images = staged_write old first (at + 1) n (omega arith) staged_start time images
+
+  -- and then the body
+  pub staged_body : (first second : DiskFacts) (n m : ℕ) → Elapses old first → ImagesTorn file (at + 1) n old first → Elapses first second → ImagesTorn file (at + 5) m first second → LeavesOnly old second Staged
+  staged_body first second n m time images later more = staged_write first second (at + 5) m (omega arith) (staged_length first n time images) later more
 
   -- what a read gives reaches past the gate
   pub seen_reaches : IfSome old.seen (λ now. at + 1 ≤ length (of_file file now))

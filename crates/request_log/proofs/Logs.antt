@@ -1,10 +1,10 @@
 -- Records and logs in files that share a front.
-use Rattle.std.proofs.Common.{◌≡◌, ◌≢◌, ℕ, ◌+◌, ◌≤◌, ◌<◌, ◌^◌, List, [], ◌∷◌, ◌++◌, length, take, refl, sym, ap, ◌∙◌, subst, arith, append_assoc, append-nil, length-append}
+use Rattle.std.proofs.Common.{◌≡◌, ℕ, ◌+◌, ◌≤◌, ◌<◌, ◌^◌, List, [], ◌∷◌, ◌++◌, length, take, refl, sym, subst, arith, append-nil, length-append}
 use Rattle.sf_bytes.specs.ByteForms.{number_bytes, batch_bytes}
 use Rattle.sf_bytes.specs.Spelt.{IsReadBatch}
 use Rattle.sf_value.specs.declared.BatchRecord.{BatchRecord}
 use Rattle.request_log.specs.LogFile.{open_gate, gate_behind, StandsAt, ClosedAt, RecordAt, IsBatch, LogFrom}
-use Rattle.request_log.specs.Appends.{behind_gate, record_bytes, StaysClosed, HasRecord}
+use Rattle.request_log.specs.Appends.{record_bytes, StaysClosed, HasRecord}
 use Rattle.request_log.proofs.Stands.{Stands-length, Stands-same, Stands-front, Stands-behind}
 
 pub number-length : (n : ℕ) → length (number_bytes n) ≡ 4

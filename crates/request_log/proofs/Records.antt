@@ -1,5 +1,5 @@
 -- Which record is behind a gate, from the bytes that were read.
-use Rattle.std.proofs.Common.{◌≡◌, inl, inr, ◌⊎◌, ℕ, ◌+◌, ◌-◌, ◌*◌, ◌≤◌, ◌<◌, ◌^◌, List, [], ◌∷◌, ◌++◌, length, get_or, take, drop, Some, None, refl, sym, ap, ◌∙◌, subst, arith, IfSome, append-nil, take-append-drop, length-take}
+use Rattle.std.proofs.Common.{◌≡◌, inl, inr, ℕ, ◌+◌, ◌-◌, ◌*◌, ◌≤◌, ◌<◌, ◌^◌, List, [], ◌∷◌, ◌++◌, length, get_or, take, drop, Some, None, sym, ap, ◌∙◌, subst, arith, IfSome, append-nil, take-append-drop, length-take}
 use Rattle.std.specs.declared.option.Option.{Option}
 use Rattle.std.specs.Int.{w32, from_be_bytes, to_be_bytes}
 use Rattle.std.proofs.lemmas.List.{take_all, take-take}
@@ -34,7 +34,7 @@ pub other_batch : (bytes : List ℕ) (found : BatchRecord) (count : ℕ) → IsR
 other_batch bytes found count is_read front less batch is =
     let apart : NoneBeginsAnother batch_bytes IsReadBatch = stands_apart batch_at batch_bytes IsReadBatch batch_spells in
     let whole : batch_bytes found ++ drop count bytes ≡ batch_bytes batch ++ [] =
-        ap (λ l. l ++ drop count bytes) (sym front) ∙ take-append-drop count bytes ∙ sym is.1 ∙ sym (append-nil (batch_bytes batch)) in
+    ap (λ l. l ++ drop count bytes) (sym front) ∙ take-append-drop count bytes ∙ sym is.1 ∙ sym (append-nil (batch_bytes batch)) in
     let same : found ≡ batch = apart found batch (drop count bytes) [] is_read is.0 whole in
     absurd (omega (arith, less, ap length front, length-take count bytes, ap (λ b. length (batch_bytes b)) same, ap length is.1))
 
@@ -67,12 +67,15 @@ module _ (file : List ℕ) (at len : ℕ) (short : len < 2 ^ 32) (claims : Stand
   module _ (body : List ℕ) (behind : StandsAt file (at + 5) body) (all : length body ≡ len) where
     -- what is behind is no batch
     pub none_found : SaysBatch body None → IsBadAt file at
-    none_found none = inr (is_open, λ batch there.
-        let n = length (batch_bytes batch) in
-        let place : at + length (open_gate ∷ number_bytes n) ≡ at + 5 = omega (arith, number-length n) in
-        let here : StandsAt file (at + 5) (batch_bytes batch) = subst (λ p. StandsAt file p (batch_bytes batch)) place (Stands-behind file at (open_gate ∷ number_bytes n) (batch_bytes batch) there.stands) in
-        let same : n ≡ length body = claimed batch there ∙ sym all in
-        none batch (there.read, sym here ∙ ap (λ k. take k (drop (at + 5) file)) same ∙ behind))
+    none_found none = inr (
+      is_open,
+      λ batch there.
+          let n = length (batch_bytes batch) in
+          let place : at + length (open_gate ∷ number_bytes n) ≡ at + 5 = omega (arith, number-length n) in
+          let here : StandsAt file (at + 5) (batch_bytes batch) = subst (λ p. StandsAt file p (batch_bytes batch)) place (Stands-behind file at (open_gate ∷ number_bytes n) (batch_bytes batch) there.stands) in
+          let same : n ≡ length body = claimed batch there ∙ sym all in
+          none batch (there.read, sym here ∙ ap (λ k. take k (drop (at + 5) file)) same ∙ behind),
+    )
 
     record_at : (batch : BatchRecord) → gate_behind at len < length file → IsBatch body batch → RecordAt file at batch
     record_at batch reaches is =

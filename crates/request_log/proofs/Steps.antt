@@ -1,8 +1,8 @@
 -- What a read gives after one write and then another.
-use Rattle.std.proofs.Common.{◌≡◌, ℕ, ◌+◌, ◌≤◌, List, [], ◌∷◌, ◌++◌, length, Some, None, Result, Ok, Err, OnOk, sym, ap, ◌∙◌, subst, arith, length-append, IsSomeAnd, IfSome}
+use Rattle.std.proofs.Common.{◌≡◌, ℕ, ◌+◌, ◌≤◌, List, [], ◌∷◌, ◌++◌, length, Some, None, Result, Ok, Err, OnOk, sym, ap, ◌∙◌, subst, arith, length-append, IsSome, IsSomeAnd, IfSome, true≢false}
 use Rattle.std.specs.declared.option.Option.{Option}
 use Rattle.sf_outside.specs.declared.store_disk.StoreFile.{StoreFile}
-use Rattle.sf_outside.specs.DiskModel.{Image, DiskFacts, of_file, with_file, written, KnownStep, SeenWritten}
+use Rattle.sf_outside.specs.DiskModel.{Image, DiskFacts, of_file, with_file, written, KnownStep, SeenWritten, ImagesTorn, Stays, IsDurable}
 use Rattle.sf_outside.proofs.DiskLaws.{of_file-same, with_file-again}
 use Rattle.sf_bytes.specs.ByteForms.{number_bytes}
 use Rattle.request_log.specs.LogFile.{open_gate, StandsAt}
@@ -70,7 +70,7 @@ seen_behind file at body header old first second new is reaches a b c =
     let Fits = λ (f : List ℕ). p ≤ length f in
     let start = subst (λ bytes. SeenWritten file p bytes old first) is a in
     let two = seen_then file Fits p (at + 5) p number body (number ++ body)
-        (λ f within. ap (λ q. written (written f p number) q body) (omega (arith, number-length (length body))) ∙ written-then f p number body within) old first second reaches start b in
+    (λ f within. ap (λ q. written (written f p number) q body) (omega (arith, number-length (length body))) ∙ written-then f p number body within) old first second reaches start b in
     seen_then file Fits p (at + 5 + length body) p (number ++ body) (0 ∷ []) (behind_gate body)
     (λ f within. ap (λ q. written (written f p (number ++ body)) q (0 ∷ [])) (omega (arith, number-length (length body), length-append number body)) ∙ written-then f p (number ++ body) (0 ∷ []) within) old second new reaches two c
 
@@ -79,3 +79,14 @@ pub seen_record : (file : StoreFile) (at : ℕ) (body : List ℕ) (old mid new :
     → SeenWritten file (at + 1) (behind_gate body) old mid → SeenWritten file at (open_gate ∷ []) mid new → SeenWritten file at (record_bytes body) old new
 seen_record file at body old mid new reaches behind gate =
     seen_then file (λ f. at + 1 ≤ length f) (at + 1) at at (behind_gate body) (open_gate ∷ []) (record_bytes body) (λ f within. written-before f at open_gate (behind_gate body) within) old mid new reaches behind gate
+
+-- a file that is safe after a write holds what was written, in each image
+pub safe_stands : (file : StoreFile) (bytes : List ℕ) (old mid new : DiskFacts) → SeenWritten file 0 bytes old mid → ImagesTorn file 0 (length bytes) old mid → Stays mid new → IsDurable file new
+    → (image : Image) → new.may_leave image → StandsAt (of_file file image) 0 bytes
+safe_stands file bytes old mid new written_there torn stays durable image left =
+    let from = torn image (stays.images image left) in
+    written_stands file 0 bytes old.seen new.seen image (all_reach old.seen (old.told from.0 from.1)) (subst (KnownStep (Writes file 0 bytes) old.seen) (sym stays.seen) written_there) (durable image left)
+  where
+    all_reach : (seen : Option Image) → IsSome seen → IsSomeAnd seen (λ now. 0 ≤ length (of_file file now))
+    all_reach None is = absurd (true≢false (sym is))
+    all_reach (Some now) is = omega arith

@@ -1,5 +1,5 @@
 -- What reading a record answers.
-use Rattle.std.specs.Prelude.{ℕ, ◌≡◌, ◌≢◌, ◌⊎◌, ◌<◌, List, [], ◌∷◌, ◌++◌, length, take, Option, Some, None, Result, Ok, Err}
+use Rattle.std.specs.Prelude.{ℕ, ◌≡◌, ◌≢◌, ◌⊎◌, ◌<◌, List, [], ◌∷◌, length, take, Option, Some, None, Result, Ok, Err}
 use Rattle.sf_bytes.specs.ByteForms.{number_bytes, batch_bytes}
 use Rattle.sf_bytes.specs.Spelt.{IsReadBatch}
 use Rattle.sf_value.specs.declared.BatchRecord.{BatchRecord}

@@ -1,5 +1,5 @@
 -- What a record that is added makes of a log, and what a crash meanwhile leaves.
-use Rattle.std.specs.Prelude.{ℕ, ◌≡◌, ◌⊎◌, ◌+◌, List, [], ◌∷◌, ◌++◌, length, take}
+use Rattle.std.specs.Prelude.{ℕ, ◌≡◌, ◌⊎◌, List, [], ◌∷◌, ◌++◌, length, take}
 use Rattle.sf_bytes.specs.ByteForms.{number_bytes}
 use Rattle.sf_outside.specs.declared.store_disk.StoreFile.{StoreFile}
 use Rattle.sf_outside.specs.DiskModel.{Image, DiskFacts, of_file, with_file}

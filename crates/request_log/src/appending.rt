@@ -16,12 +16,7 @@ const END: u64 = 1 << 62;
 /// Adds the record of a batch whose bytes these are, and gives the place of the gate behind it.
 ///
 /// After a fault the disk may go on to leave the log with the record or without it.
-pub fn append<D: Disk>(
-    disk: &mut D,
-    file: StoreFile,
-    at: u64,
-    body: &[u8],
-) -> Result<u64, Failed>
+pub fn append<D: Disk>(disk: &mut D, file: StoreFile, at: u64, body: &[u8]) -> Result<u64, Failed>
     requires closed { (image : Image) → (D.facts disk.old).may_leave image → ClosedAt (of_file file image) at }
     requires body { (batch : BatchRecord) × IsBatch body.now batch }
     requires short { length body.now < 2 ^ 32 }
@@ -68,12 +63,7 @@ fn put_behind_gate<D: Disk>(
 }
 
 /// Writes, and makes it safe.
-fn put_synced<D: Disk>(
-    disk: &mut D,
-    file: StoreFile,
-    at: u64,
-    bytes: &[u8],
-) -> Result<(), Failed>
+fn put_synced<D: Disk>(disk: &mut D, file: StoreFile, at: u64, bytes: &[u8]) -> Result<(), Failed>
     requires { at + length bytes.now ≤ 2 ^ 62 }
     ensures durable { OnOk result (IsDurable file (D.facts disk.new)) }
     ensures seen { OnOk result (SeenWritten file at bytes.now (D.facts disk.old) (D.facts disk.new)) }

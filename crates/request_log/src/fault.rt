@@ -12,9 +12,7 @@ pub enum LogFault {
     /// The disk answered with a fault.
     Failed,
     /// No gate is in the file at this place, or no record is behind the open gate there.
-    Bad {
-        at: u64,
-    },
+    Bad { at: u64 },
     NoMemory,
 }
 

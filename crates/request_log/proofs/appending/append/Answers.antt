@@ -1,7 +1,4 @@
-use Rattle.std.proofs.Common.{◌≡◌, length, ◌+◌, ◌∷◌, [], arith}
-use Rattle.sf_outside.specs.DiskModel.{SeenWritten, IsDurable}
 use Rattle.sf_outside.proofs.DiskLaws.{LeavesOnly-weaker}
-use Rattle.request_log.specs.LogFile.{open_gate}
 use Rattle.request_log.proofs.Crashes.{Staged, Either, staged_either, seen_reaches, all_either, all_have}
 use Rattle.request_log.proofs.Steps.{seen_record}
 use Rattle.request_log.proofs.appending.append.Goals as goal

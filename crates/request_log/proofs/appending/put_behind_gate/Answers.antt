@@ -1,30 +1,19 @@
 use Rattle.std.proofs.Common.{◌≡◌, length, ◌+◌, ◌∷◌, [], rules, arith}
 use Rattle.sf_bytes.specs.ByteForms.{number_bytes}
 use Rattle.sf_outside.specs.DiskModel.{SeenWritten}
-use Rattle.sf_outside.proofs.DiskLaws.{LeavesOnly-write}
 use Rattle.request_log.specs.Appends.{behind_gate}
-use Rattle.request_log.proofs.Crashes.{staged_start, staged_then, seen_reaches}
+use Rattle.request_log.proofs.Crashes.{staged_length, staged_body, staged_then, seen_reaches}
 use Rattle.request_log.proofs.Steps.{on_ok, seen_behind}
 use Rattle.request_log.proofs.appending.put_behind_gate.Goals as goal
 
 pub returns-in_err-write_at-clause-moments : goal.returns-in_err-write_at-clause-moments
 returns-in_err-write_at-clause-moments g c =
-    let old = g.D.Disk.facts c.args.disk.now in
-    let first = g.D.Disk.facts c.write_at.new.self in
-    let n = length c.to_be_bytes.result in
-    staged_then c.args.file c.args.at old c.requires.closed old first (c.args.at + 1) n (omega arith) (staged_start c.args.file c.args.at old c.requires.closed)
-    (LeavesOnly-write c.args.file (c.args.at + 1) n old first c.write_at.ensures.time c.write_at.ensures.images)
+    staged_length c.args.file c.args.at (g.D.Disk.facts c.args.disk.now) c.requires.closed (g.D.Disk.facts c.write_at.new.self) (length c.to_be_bytes.result) c.write_at.ensures.time c.write_at.ensures.images
 
 pub returns-in_err-write_at-2-clause-moments : goal.returns-in_err-write_at-2-clause-moments
 returns-in_err-write_at-2-clause-moments g c =
-    let old = g.D.Disk.facts c.args.disk.now in
-    let first = g.D.Disk.facts c.write_at.new.self in
-    let second = g.D.Disk.facts c.write_at-2.new.self in
-    let n = length c.to_be_bytes.result in
-    let so_far = staged_then c.args.file c.args.at old c.requires.closed old first (c.args.at + 1) n (omega arith) (staged_start c.args.file c.args.at old c.requires.closed)
-        (LeavesOnly-write c.args.file (c.args.at + 1) n old first c.write_at.ensures.time c.write_at.ensures.images) in
-    staged_then c.args.file c.args.at old c.requires.closed first second (c.args.at + 5) (length c.args.body.now) (omega arith) so_far
-    (LeavesOnly-write c.args.file (c.args.at + 5) (length c.args.body.now) first second c.write_at-2.ensures.time c.write_at-2.ensures.images)
+    staged_body c.args.file c.args.at (g.D.Disk.facts c.args.disk.now) c.requires.closed (g.D.Disk.facts c.write_at.new.self) (g.D.Disk.facts c.write_at-2.new.self) (length c.to_be_bytes.result) (length c.args.body.now)
+    c.write_at.ensures.time c.write_at.ensures.images c.write_at-2.ensures.time c.write_at-2.ensures.images
 
 pub returns-clause-seen : goal.returns-clause-seen
 unfolding number_bytes
@@ -42,12 +31,7 @@ returns-clause-seen g c =
 pub returns-clause-moments : goal.returns-clause-moments
 returns-clause-moments g c =
     let old = g.D.Disk.facts c.args.disk.now in
-    let first = g.D.Disk.facts c.write_at.new.self in
     let second = g.D.Disk.facts c.write_at-2.new.self in
-    let new = g.D.Disk.facts c.put_synced.new.disk in
-    let n = length c.to_be_bytes.result in
-    let so_far = staged_then c.args.file c.args.at old c.requires.closed old first (c.args.at + 1) n (omega arith) (staged_start c.args.file c.args.at old c.requires.closed)
-        (LeavesOnly-write c.args.file (c.args.at + 1) n old first c.write_at.ensures.time c.write_at.ensures.images) in
-    let further = staged_then c.args.file c.args.at old c.requires.closed first second (c.args.at + 5) (length c.args.body.now) (omega arith) so_far
-        (LeavesOnly-write c.args.file (c.args.at + 5) (length c.args.body.now) first second c.write_at-2.ensures.time c.write_at-2.ensures.images) in
-    staged_then c.args.file c.args.at old c.requires.closed second new (c.args.at + 5 + length c.args.body.now) 1 (omega arith) further c.put_synced.ensures.moments
+    let so_far = staged_body c.args.file c.args.at old c.requires.closed (g.D.Disk.facts c.write_at.new.self) second (length c.to_be_bytes.result) (length c.args.body.now)
+    c.write_at.ensures.time c.write_at.ensures.images c.write_at-2.ensures.time c.write_at-2.ensures.images in
+    staged_then c.args.file c.args.at old c.requires.closed second (g.D.Disk.facts c.put_synced.new.disk) (c.args.at + 5 + length c.args.body.now) 1 (omega arith) so_far c.put_synced.ensures.moments

@@ -1,6 +1,5 @@
 use Rattle.std.proofs.Common.{length}
 use Rattle.sf_outside.proofs.DiskLaws.{LeavesOnly-write, LeavesOnly-next}
-use Rattle.request_log.proofs.Logs.{has_record}
 use Rattle.request_log.proofs.appending.put_synced.Goals as goal
 
 pub returns-in_err-write_at-clause-moments : goal.returns-in_err-write_at-clause-moments
