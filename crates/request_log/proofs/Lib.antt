@@ -1,0 +1,5 @@
+pub mod Crashes
+pub mod Logs
+pub mod Records
+pub mod Stands
+pub mod Steps

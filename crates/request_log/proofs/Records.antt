@@ -1,0 +1,146 @@
+-- Which record is behind a gate, from the bytes that were read.
+use Rattle.std.proofs.Common.{◌≡◌, inl, inr, ℕ, ◌+◌, ◌-◌, ◌*◌, ◌≤◌, ◌<◌, ◌^◌, List, [], ◌∷◌, ◌++◌, length, get_or, take, drop, Some, None, sym, ap, ◌∙◌, subst, arith, IfSome, append-nil, take-append-drop, length-take}
+use Rattle.std.specs.declared.option.Option.{Option}
+use Rattle.std.specs.Int.{w32, from_be_bytes, to_be_bytes}
+use Rattle.std.proofs.lemmas.List.{take_all, take-take}
+use Rattle.sf_bytes.specs.ByteForms.{number_bytes, batch_bytes}
+use Rattle.sf_bytes.specs.Reading.{batch_at}
+use Rattle.sf_bytes.specs.Reads.{NoneBeginsAnother}
+use Rattle.sf_bytes.specs.Spelt.{IsReadBatch}
+use Rattle.sf_bytes.proofs.Fronts.{stands_apart}
+use Rattle.sf_bytes.proofs.RecordLaws.{batch_spells}
+use Rattle.sf_bytes.proofs.Wide.{IsBytes, IsBytes-rest, wide32}
+use Rattle.sf_outside.specs.Bytes.{CopiedAll}
+use Rattle.sf_outside.specs.DiskModel.{Image, of_file}
+use Rattle.sf_outside.specs.declared.store_disk.StoreFile.{StoreFile}
+use Rattle.sf_value.specs.declared.BatchRecord.{BatchRecord}
+use Rattle.request_log.specs.LogFile.{open_gate, gate_behind, StandsAt, OpenAt, RecordAt, IsBadAt, IsBatch}
+use Rattle.request_log.specs.Answers.{SaysFront, SaysBatch}
+use Rattle.request_log.specs.declared.reading.Front.TheVariants.{Broken}
+use Rattle.request_log.proofs.Stands.{Stands-front, Stands-behind, Stands-both}
+use Rattle.request_log.proofs.Logs.{number-length}
+
+-- what follows from two facts of a value, where there is one
+pub if_both : {A : Type 0} (some : Option A) (P Q R : A → Type 0) → ((x : A) → P x → Q x → R x) → IfSome some P → IfSome some Q → IfSome some R
+if_both None P Q R follows p q = tt
+if_both (Some x) P Q R follows p q = follows x p q
+
+-- ---- whole batches
+
+pub no_batch : (bytes : List ℕ) → ((batch : BatchRecord) (count : ℕ) → IsReadBatch batch → (count ≤ length bytes) × (take count bytes ≡ batch_bytes batch) → ⊥) → SaysBatch bytes None
+no_batch bytes none batch is = none batch (length bytes) is.0 (omega arith, take_all (length bytes) bytes (omega arith) ∙ sym is.1)
+
+pub other_batch : (bytes : List ℕ) (found : BatchRecord) (count : ℕ) → IsReadBatch found → take count bytes ≡ batch_bytes found → count < length bytes → SaysBatch bytes None
+other_batch bytes found count is_read front less batch is =
+    let apart : NoneBeginsAnother batch_bytes IsReadBatch = stands_apart batch_at batch_bytes IsReadBatch batch_spells in
+    let whole : batch_bytes found ++ drop count bytes ≡ batch_bytes batch ++ [] =
+    ap (λ l. l ++ drop count bytes) (sym front) ∙ take-append-drop count bytes ∙ sym is.1 ∙ sym (append-nil (batch_bytes batch)) in
+    let same : found ≡ batch = apart found batch (drop count bytes) [] is_read is.0 whole in
+    absurd (omega (arith, less, ap length front, length-take count bytes, ap (λ b. length (batch_bytes b)) same, ap length is.1))
+
+pub whole_is : (bytes : List ℕ) (found : BatchRecord) (count : ℕ) → IsReadBatch found → take count bytes ≡ batch_bytes found → length bytes ≤ count → IsBatch bytes found
+whole_is bytes found count is_read front all = (is_read, sym front ∙ take_all count bytes all)
+
+-- ---- records
+
+-- two numbers with the same bytes
+number-same : (m n : ℕ) → m < 2 ^ 32 → n < 2 ^ 32 → number_bytes m ≡ number_bytes n → m ≡ n
+unfolding number_bytes
+number-same m n short-m short-n same = sym (wide32.again m short-m) ∙ ap (from_be_bytes w32) same ∙ wide32.again n short-n
+
+module _ (file : List ℕ) (at len : ℕ) (short : len < 2 ^ 32) (claims : StandsAt file at (open_gate ∷ number_bytes len)) where
+  is_open : OpenAt file at
+  is_open = Stands-front file at (open_gate ∷ []) (number_bytes len) claims
+
+  -- a record there has as many bytes as are claimed
+  claimed : (batch : BatchRecord) → RecordAt file at batch → length (batch_bytes batch) ≡ len
+  claimed batch there =
+      let n = length (batch_bytes batch) in
+      let front : StandsAt file at (open_gate ∷ number_bytes n) = Stands-front file at (open_gate ∷ number_bytes n) (batch_bytes batch) there.stands in
+      let five : length (open_gate ∷ number_bytes n) ≡ length (open_gate ∷ number_bytes len) = omega (arith, number-length n, number-length len) in
+      number-same n len there.short short (ap (drop 1) (sym front ∙ ap (λ k. take k (drop at file)) five ∙ claims))
+
+  -- the file ends before the next gate
+  pub too_short : length file - at < len + 6 → IsBadAt file at
+  too_short less = inr (is_open, λ batch there. absurd (omega (arith, less, there.next_gate, claimed batch there)))
+
+  module _ (body : List ℕ) (behind : StandsAt file (at + 5) body) (all : length body ≡ len) where
+    -- what is behind is no batch
+    pub none_found : SaysBatch body None → IsBadAt file at
+    none_found none = inr (
+      is_open,
+      λ batch there.
+          let n = length (batch_bytes batch) in
+          let place : at + length (open_gate ∷ number_bytes n) ≡ at + 5 = omega (arith, number-length n) in
+          let here : StandsAt file (at + 5) (batch_bytes batch) = subst (λ p. StandsAt file p (batch_bytes batch)) place (Stands-behind file at (open_gate ∷ number_bytes n) (batch_bytes batch) there.stands) in
+          let same : n ≡ length body = claimed batch there ∙ sym all in
+          none batch (there.read, sym here ∙ ap (λ k. take k (drop (at + 5) file)) same ∙ behind),
+    )
+
+    record_at : (batch : BatchRecord) → gate_behind at len < length file → IsBatch body batch → RecordAt file at batch
+    record_at batch reaches is =
+        let n = length (batch_bytes batch) in
+        let same : len ≡ n = sym all ∙ ap length (sym is.1) in
+        let front : StandsAt file at (open_gate ∷ number_bytes n) = subst (λ k. StandsAt file at (open_gate ∷ number_bytes k)) same claims in
+        let place : at + 5 ≡ at + length (open_gate ∷ number_bytes n) = omega (arith, number-length n) in
+        let here : StandsAt file (at + 5) (batch_bytes batch) = subst (StandsAt file (at + 5)) (sym is.1) behind in
+        record {
+          stands = Stands-both file at (open_gate ∷ number_bytes n) (batch_bytes batch) front (subst (λ p. StandsAt file p (batch_bytes batch)) place here);
+          next_gate = omega (arith, reaches, same);
+          short = omega (arith, short, same);
+          read = is.0;
+        }
+
+    -- and here it is one
+    pub record_found : (batch : BatchRecord) → len + 6 ≤ length file - at → IsBatch body batch → RecordAt file at batch
+    record_found batch room is = record_at batch (omega (arith, room)) is
+
+-- ---- what was copied
+
+-- a whole copy stands there
+pub copied_stands : (file : List ℕ) (at n : ℕ) (buf : List ℕ) → CopiedAll file at n buf → length buf ≤ n → StandsAt file at buf
+copied_stands file at n buf copied all =
+    let same : n ≡ length buf = omega (arith, copied.count, all) in
+    ap (λ k. take k (drop at file)) (sym same) ∙ sym copied.bytes ∙ take_all n buf all
+
+-- five bytes were asked for, and they say that no record is there
+pub broken : (file : List ℕ) (at n : ℕ) (buf : List ℕ) → length buf ≡ 5 → CopiedAll file at n buf → SaysFront (take n buf) Broken → IsBadAt file at
+broken file at n buf five copied (inl none) = inl (omega (arith, five, copied.count, ap length none, length-take n buf))
+broken file at n buf five copied (inr says) =
+    let some : 1 ≤ n = omega (arith, ap length says.0, length-take 1 (take n buf), length-take n buf) in
+    let open_there : OpenAt file at = sym (take-take 1 n (drop at file) some) ∙ ap (take 1) (sym copied.bytes) ∙ says.0 in
+    inr (open_there, λ batch there. absurd (omega (arith, five, copied.count, says.1, length-take n buf, there.next_gate)))
+
+-- ---- what the bytes that a read gives say
+
+-- an open gate and four bytes claim a number
+pub claims_front : (bytes : List ℕ) (len : ℕ) → length bytes ≡ 5 → IsBytes bytes → get_or bytes 0 0 ≡ open_gate
+    → len ≡ get_or bytes 1 0 * 16777216 + get_or bytes 2 0 * 65536 + get_or bytes 3 0 * 256 + get_or bytes 4 0 → bytes ≡ open_gate ∷ number_bytes len
+unfolding number_bytes
+claims_front [] len five are_bytes gate is = absurd (omega (arith, five))
+claims_front (first ∷ rest) len five are_bytes gate is =
+    let back : to_be_bytes w32 (from_be_bytes w32 rest) ≡ rest = wide32.back rest (omega (arith, five)) (IsBytes-rest (first ∷ []) rest are_bytes) in
+    let number : to_be_bytes w32 len ≡ rest = ap (to_be_bytes w32) is ∙ back in
+    λ i. gate i ∷ sym number i
+
+module _ (file : StoreFile) (seen : Option Image) (at len end count : ℕ) (buf : List ℕ) (short : len < 2 ^ 32) (claims : IfSome seen (λ now. StandsAt (of_file file now) at (open_gate ∷ number_bytes len)))
+    (ends : IfSome seen (λ now. end ≡ length (of_file file now))) (copied : IfSome seen (λ now. CopiedAll (of_file file now) (at + 5) count buf)) (long : length buf ≡ len) (all : len ≤ count) (room : len + 6 ≤ end - at) where
+  -- a gate that claims so many bytes, the end of the file, and the bytes that were copied
+  abbrev Told : Image → Type 0
+  Told now = (StandsAt (of_file file now) at (open_gate ∷ number_bytes len) × (end ≡ length (of_file file now))) × CopiedAll (of_file file now) (at + 5) count buf
+
+  told : IfSome seen Told
+  told = if_both seen (λ now. StandsAt (of_file file now) at (open_gate ∷ number_bytes len) × (end ≡ length (of_file file now))) (λ now. CopiedAll (of_file file now) (at + 5) count buf) Told (λ now a b. (a, b))
+      (if_both seen (λ now. StandsAt (of_file file now) at (open_gate ∷ number_bytes len)) (λ now. end ≡ length (of_file file now)) (λ now. StandsAt (of_file file now) at (open_gate ∷ number_bytes len) × (end ≡ length (of_file file now))) (λ now a b. (a, b)) claims ends)
+      copied
+
+  stands_there : (now : Image) → Told now → StandsAt (of_file file now) (at + 5) buf
+  stands_there now is = copied_stands (of_file file now) (at + 5) count buf is.1 (omega (arith, long, all))
+
+  pub seen_record : (batch : BatchRecord) → IsBatch buf batch → IfSome seen (λ now. RecordAt (of_file file now) at batch)
+  seen_record batch whole = if_both seen Told Told (λ now. RecordAt (of_file file now) at batch)
+      (λ now is same. record_found (of_file file now) at len short is.0.0 buf (stands_there now is) long batch (omega (arith, room, is.0.1)) whole) told told
+
+  pub seen_bad : SaysBatch buf None → IfSome seen (λ now. IsBadAt (of_file file now) at)
+  seen_bad none = if_both seen Told Told (λ now. IsBadAt (of_file file now) at)
+      (λ now is same. none_found (of_file file now) at len short is.0.0 buf (stands_there now is) long none) told told

@@ -1,0 +1,45 @@
+-- The file of a log. A record is a gate, the length of a batch's bytes, these bytes, and then the next gate.
+use Rattle.std.specs.Prelude.{ℕ, ◌≡◌, ◌≢◌, ◌⊎◌, ◌+◌, ◌≤◌, ◌<◌, ◌^◌, List, [], ◌∷◌, ◌++◌, length, take, drop}
+use Rattle.sf_bytes.specs.ByteForms.{number_bytes, batch_bytes}
+use Rattle.sf_bytes.specs.Spelt.{IsReadBatch}
+use Rattle.sf_value.specs.declared.BatchRecord.{BatchRecord}
+
+-- the byte of an open gate; any other byte is a closed one
+abbrev pub open_gate : ℕ
+open_gate = 165
+
+-- these bytes stand in the file at this place
+abbrev pub StandsAt : List ℕ → ℕ → List ℕ → Type 0
+StandsAt file at bytes = take (length bytes) (drop at file) ≡ bytes
+
+-- a closed gate is in the file at this place
+abbrev pub ClosedAt : List ℕ → ℕ → Type 0
+ClosedAt file at = (gate : ℕ) × (gate ≢ open_gate) × StandsAt file at (gate ∷ [])
+
+-- an open one is
+abbrev pub OpenAt : List ℕ → ℕ → Type 0
+OpenAt file at = StandsAt file at (open_gate ∷ [])
+
+-- these are the bytes of the batch and nothing else
+abbrev pub IsBatch : List ℕ → BatchRecord → Type 0
+IsBatch body batch = IsReadBatch batch × (batch_bytes batch ≡ body)
+
+-- where the gate behind a record is whose batch has so many bytes
+abbrev pub gate_behind : ℕ → ℕ → ℕ
+gate_behind at len = at + 5 + len
+
+-- an open gate with the length and the bytes of this batch behind it, and then the next gate in the file
+pub record RecordAt (file : List ℕ) (at : ℕ) (batch : BatchRecord) : Type 0 where
+  pub stands : StandsAt file at (open_gate ∷ number_bytes (length (batch_bytes batch)) ++ batch_bytes batch)
+  pub next_gate : gate_behind at (length (batch_bytes batch)) < length file
+  pub short : length (batch_bytes batch) < 2 ^ 32
+  pub read : IsReadBatch batch
+
+-- from this place on there are records of these batches, and behind them the first closed gate is at the last place
+abbrev pub LogFrom : List ℕ → ℕ → List BatchRecord → ℕ → Type 0
+LogFrom file at [] end = (at ≡ end) × ClosedAt file at
+LogFrom file at (batch ∷ batches) end = RecordAt file at batch × LogFrom file (gate_behind at (length (batch_bytes batch))) batches end
+
+-- no gate is in the file at this place, or an open one with no record
+abbrev pub IsBadAt : List ℕ → ℕ → Type 0
+IsBadAt file at = (length file ≤ at) ⊎ (OpenAt file at × ((batch : BatchRecord) → RecordAt file at batch → ⊥))
