@@ -2,3 +2,4 @@ pub mod CopyLaws
 pub mod NameLaws
 pub mod ProgramCopies
 pub mod Views
+mod StringExamples

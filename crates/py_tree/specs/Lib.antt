@@ -3,3 +3,5 @@ pub mod PlainTypes
 pub mod PlainExpressions
 pub mod PlainStatements
 pub mod PlainProgram
+pub mod Tokens
+pub mod StringText

@@ -1,0 +1,5 @@
+pub mod Cursor
+pub mod Columns
+pub mod OpenColumns
+pub mod LogicalLines
+pub mod Views
