@@ -4,3 +4,4 @@ pub mod SignLaws
 pub mod Rules
 pub mod ColumnLaws
 pub mod LineRules
+pub mod SpanLaws

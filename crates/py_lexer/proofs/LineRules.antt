@@ -9,7 +9,7 @@ use Rattle.py_lexer.specs.declared.fault.LexKind.TheVariants.{TooLong, NotUtf8, 
 use Rattle.py_lexer.specs.declared.fault.LexFault.{LexFault}
 use Rattle.py_lexer.specs.declared.fault.LexError.{LexError}
 use Rattle.py_lexer.specs.declared.fault.LexError.TheVariants.{Fault, NoMemory}
-use Rattle.py_lexer.specs.Cursor.{At, start, at_end, byte, ends, moved, past_line, is_broken, fault_at, spaces}
+use Rattle.py_lexer.specs.Cursor.{At, start, at_end, byte, ends, moved, past_line, is_broken, fault_at, is_hash, spaces}
 use Rattle.py_lexer.specs.LogicalLines.{Outcome, found, stops, Nothing, reaches, led_by, IsToken, IsGap, open_behind, innermost, open_bracket, IsTokens, tokens_stop, tokens_gap, tokens_end, tokens_open, tokens_more, IsComment, IsBare, bare_ends, bare_comment, unblanked, unspaced, has_tab, has_token, IsColumn, column_tab, column_broken, column_dedent, column_is, IsLine, line_misplaced, line_stops, line_is, IsLines, lines_end, lines_bare, lines_bare_stops, lines_stop, lines_more, IsText, has_fault, text_too_long, text_stops, text_lines}
 use Rattle.py_lexer.specs.OpenColumns.{AreOpen, is_bad_dedent}
 use Rattle.py_lexer.proofs.ColumnLaws.{bad_is, good_is, none_open, opens}
@@ -56,10 +56,10 @@ tokens_gap_fails view start b c now behind mid new items x (Fault f) g t s p = g
 pub ruleset tokens_rules = (tokens_begin, tokens_pass, tokens_closed)
 
 -- lines without a token
-pub bare_past : (i : At) (r : Result Nothing LexError) (mid new : At) → ends i ≡ false → mid ≡ moved 1 i → Comes (λ (u : Nothing). u) (IsComment mid) r new → Comes (λ (u : Nothing). u) (IsBare i) r new
-bare_past i (Ok u) mid new e m h = bare_comment e (subst (λ j. IsComment j (found u new)) m h)
-bare_past i (Err NoMemory) mid new e m h = tt
-bare_past i (Err (Fault f)) mid new e m h = bare_comment e (subst (λ j. IsComment j (stops f)) m h)
+pub bare_past : (i : At) (r : Result Nothing LexError) (mid new : At) → ends i ≡ false → is_hash (byte i) ≡ true → mid ≡ moved 1 i → Comes (λ (u : Nothing). u) (IsComment mid) r new → Comes (λ (u : Nothing). u) (IsBare i) r new
+bare_past i (Ok u) mid new e b m h = bare_comment e b (subst (λ j. IsComment j (found u new)) m h)
+bare_past i (Err NoMemory) mid new e b m h = tt
+bare_past i (Err (Fault f)) mid new e b m h = bare_comment e b (subst (λ j. IsComment j (stops f)) m h)
 
 pub ruleset bare_rules = (bare_ends, bare_past)
 

@@ -3,22 +3,27 @@ use Rattle.std.proofs.Common.{◌≡◌, ◌≢◌, ℕ, ◌+◌, Bool, true, fa
 use Rattle.std.specs.Prelude.{unwrap_or, option_map}
 use Rattle.std.specs.Prelude.{IsUtf8}
 use Rattle.std.specs.Str.Lossy.{utf8_valid_len}
+use Rattle.std.proofs.Common.{take}
+use Rattle.std.proofs.Math.Seq.{take-length}
 use Rattle.std.proofs.lemmas.Str.{utf8_valid_len-IsUtf8}
 use Rattle.py_tree.specs.StringText.{escape}
 use Rattle.py_lexer.specs.declared.strings.Quote.{Quote}
 use Rattle.py_lexer.specs.declared.fault.LexKind.{LexKind}
-use Rattle.py_lexer.specs.declared.fault.LexKind.TheVariants.{OpenString, BadEscape, BadCharacter}
+use Rattle.py_lexer.specs.declared.fault.LexKind.TheVariants.{NotUtf8, OpenString, BadEscape, BadCharacter}
 use Rattle.py_lexer.specs.declared.fault.LexFault.{LexFault}
 use Rattle.py_lexer.specs.declared.fault.LexError.{LexError}
 use Rattle.py_lexer.specs.declared.fault.LexError.TheVariants.{Fault, NoMemory}
 use Rattle.py_lexer.specs.Cursor.{At, byte, moved, is_line_end, past_line, at_end, ends, rest, stray, fault_at, is_broken, is_letter, is_digit, is_quote, is_backslash, is_hash, is_blank, digits, sign}
-use Rattle.py_lexer.specs.LogicalLines.{Outcome, found, stops, Nothing, reaches, joins, passes_line, IsComment, comment_ends, comment_stops, comment_more, IsGap, gap_blank, gap_comment, gap_stops, gap_line, gap_join, gap_ends, closes, quote_len, IsPiece, piece_stops, piece_byte, piece_escape, piece_bad, IsBody, body_open, body_closed, body_cut, body_line, body_stops, body_more, quote_at, token, sign_len, is_number, value_of, behind_word, behind_digits, IsNumber, number_bad, number_wide, number_is, IsString, string_stops, string_is, IsSign, sign_is, sign_none, IsToken, token_broken, token_word, token_number, token_string, token_sign}
+use Rattle.py_lexer.specs.LogicalLines.{Outcome, found, stops, Nothing, reaches, joins, passes_line, IsComment, comment_ends, comment_stops, comment_more, IsGap, gap_blank, gap_comment, gap_stops, gap_line, gap_join, gap_ends, closes, quote_len, IsPiece, piece_stops, piece_byte, piece_escape, piece_bad, IsBody, body_open, body_broken, body_closed, body_cut, body_line, body_stops, body_more, quote_at, token, sign_len, is_number, value_of, behind_word, behind_digits, IsNumber, number_bad, number_wide, number_is, IsString, string_stops, string_is, IsSign, sign_is, sign_none, IsToken, token_broken, token_word, token_number, token_string, token_sign}
 use Rattle.py_tree.specs.Tokens.{PlainToken, LStr, LSign}
 use Rattle.py_lexer.specs.declared.token.Token.{Token}
 use Rattle.py_lexer.specs.Views.{Comes}
 
 pub whole_is_valid : (bs : List ℕ) → IsUtf8 bs → length bs ≡ utf8_valid_len bs
 whole_is_valid bs u = sym (utf8_valid_len-IsUtf8 bs u)
+
+pub whole_is_utf8 : (bs : List ℕ) → IsUtf8 bs → IsUtf8 (take (length bs) bs)
+whole_is_utf8 bs u = subst IsUtf8 (sym (take-length bs)) u
 
 -- what follows one place follows another
 abbrev pub LeadsOn : (At → Outcome Nothing → Type 0) → At → At → Type 0
@@ -73,26 +78,29 @@ piece_strays i k s = piece_stops (sym s)
 
 pub ruleset piece_rules = (piece_strays, piece_byte, piece_escaped, piece_unescaped)
 
-pub body_passes_line : (q : Quote) (s start now mid : At) → LeadsOn (IsBody q s) start now → at_end now ≡ false → closes q now ≡ false → is_line_end now ≡ true → q.is_triple ≡ true → mid ≡ past_line now → LeadsOn (IsBody q s) start mid
-body_passes_line q s start now mid g a b c t m o h = g o (body_line a b c t (subst (λ i. IsBody q s i o) m h))
+pub body_passes_line : (q : Quote) (s start now mid : At) → LeadsOn (IsBody q s) start now → at_end now ≡ false → is_broken now ≡ false → closes q now ≡ false → is_line_end now ≡ true → q.is_triple ≡ true → mid ≡ past_line now → LeadsOn (IsBody q s) start mid
+body_passes_line q s start now mid g a z b c t m o h = g o (body_line a z b c t (subst (λ i. IsBody q s i o) m h))
 
-pub body_passes : (q : Quote) (s start now mid : At) → LeadsOn (IsBody q s) start now → at_end now ≡ false → closes q now ≡ false → is_line_end now ≡ false → IsPiece now (reaches mid) → LeadsOn (IsBody q s) start mid
-body_passes q s start now mid g a b c p o h = g o (body_more a b c p h)
+pub body_passes : (q : Quote) (s start now mid : At) → LeadsOn (IsBody q s) start now → at_end now ≡ false → is_broken now ≡ false → closes q now ≡ false → is_line_end now ≡ false → IsPiece now (reaches mid) → LeadsOn (IsBody q s) start mid
+body_passes q s start now mid g a z b c p o h = g o (body_more a z b c p h)
 
-pub body_done : (q : Quote) (s start now : At) → LeadsOn (IsBody q s) start now → at_end now ≡ false → closes q now ≡ true → IsBody q s start (reaches (moved (quote_len q) now))
-body_done q s start now g a c = g (reaches (moved (quote_len q) now)) (body_closed a c)
+pub body_done : (q : Quote) (s start now : At) → LeadsOn (IsBody q s) start now → at_end now ≡ false → is_broken now ≡ false → closes q now ≡ true → IsBody q s start (reaches (moved (quote_len q) now))
+body_done q s start now g a z c = g (reaches (moved (quote_len q) now)) (body_closed a z c)
 
-pub body_is_cut : (q : Quote) (s start now : At) → LeadsOn (IsBody q s) start now → at_end now ≡ false → closes q now ≡ false → is_line_end now ≡ true → q.is_triple ≡ false → IsBody q s start (stops (fault_at OpenString s))
-body_is_cut q s start now g a b c t = g (stops (fault_at OpenString s)) (body_cut a b c t)
+pub body_is_cut : (q : Quote) (s start now : At) → LeadsOn (IsBody q s) start now → at_end now ≡ false → is_broken now ≡ false → closes q now ≡ false → is_line_end now ≡ true → q.is_triple ≡ false → IsBody q s start (stops (fault_at OpenString s))
+body_is_cut q s start now g a z b c t = g (stops (fault_at OpenString s)) (body_cut a z b c t)
 
 pub body_is_open : (q : Quote) (s start now : At) → LeadsOn (IsBody q s) start now → at_end now ≡ true → IsBody q s start (stops (fault_at OpenString s))
 body_is_open q s start now g a = g (stops (fault_at OpenString s)) (body_open a)
 
-pub body_fails : (q : Quote) (s start now mid new : At) (e : LexError) → LeadsOn (IsBody q s) start now → at_end now ≡ false → closes q now ≡ false → is_line_end now ≡ false → Comes (λ (u : Nothing). u) (IsPiece now) (Err e) mid → Comes (λ (u : Nothing). u) (IsBody q s start) (Err e) new
-body_fails q s start now mid new NoMemory g a b c p = tt
-body_fails q s start now mid new (Fault f) g a b c p = g (stops f) (body_stops a b c p)
+pub body_fails : (q : Quote) (s start now mid new : At) (e : LexError) → LeadsOn (IsBody q s) start now → at_end now ≡ false → is_broken now ≡ false → closes q now ≡ false → is_line_end now ≡ false → Comes (λ (u : Nothing). u) (IsPiece now) (Err e) mid → Comes (λ (u : Nothing). u) (IsBody q s start) (Err e) new
+body_fails q s start now mid new NoMemory g a z b c p = tt
+body_fails q s start now mid new (Fault f) g a z b c p = g (stops f) (body_stops a z b c p)
 
-pub ruleset body_rules = (body_passes_line, body_passes, body_done, body_is_cut, body_is_open, body_fails)
+pub body_is_broken : (q : Quote) (s start now : At) → LeadsOn (IsBody q s) start now → at_end now ≡ false → is_broken now ≡ true → IsBody q s start (stops (fault_at NotUtf8 now))
+body_is_broken q s start now g a z = g (stops (fault_at NotUtf8 now)) (body_broken a z)
+
+pub ruleset body_rules = (body_passes_line, body_passes, body_done, body_is_cut, body_is_open, body_fails, body_is_broken)
 
 -- tokens
 pub ruleset number_rules = (number_bad, number_wide, number_is)

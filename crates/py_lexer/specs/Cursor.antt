@@ -66,11 +66,11 @@ past_line i = if is_line_end i then next_line (line_end i) i else i
 unfoldable pub ends : At → Bool
 ends i = at_end i || is_line_end i
 
--- the bytes from here on aren't UTF-8, or some before weren't
+-- bytes that aren't UTF-8 begin here, or have begun before
 unfoldable pub is_broken : At → Bool
 is_broken i = not (at_end i) && nat_le (utf8_valid_len i.text) i.at
 
--- what no line holds, in strings and comments too: bytes that aren't UTF-8, a zero byte, and a CR that ends no line
+-- what no line holds, in strings and comments too, but at its end: bytes that aren't UTF-8, a zero byte and a CR
 unfoldable pub stray : At → Option LexKind
 stray i =
     if is_broken i then Some NotUtf8

@@ -3,3 +3,4 @@ pub mod Columns
 pub mod OpenColumns
 pub mod LogicalLines
 pub mod Views
+pub mod Spans

@@ -73,11 +73,12 @@ pub data IsPiece : At → Outcome Nothing → Type 0 where
 -- the rest of a string that began at s, up to behind its closing quotes
 pub data IsBody : Quote → At → At → Outcome Nothing → Type 0 where
   body_open : {q : Quote} {s i : At} → at_end i ≡ true → IsBody q s i (stops (fault_at OpenString s))
-  body_closed : {q : Quote} {s i : At} → at_end i ≡ false → closes q i ≡ true → IsBody q s i (reaches (moved (quote_len q) i))
-  body_cut : {q : Quote} {s i : At} → at_end i ≡ false → closes q i ≡ false → is_line_end i ≡ true → q.is_triple ≡ false → IsBody q s i (stops (fault_at OpenString s))
-  body_line : {q : Quote} {s i : At} {o : Outcome Nothing} → at_end i ≡ false → closes q i ≡ false → is_line_end i ≡ true → q.is_triple ≡ true → IsBody q s (past_line i) o → IsBody q s i o
-  body_stops : {q : Quote} {s i : At} {f : LexFault} → at_end i ≡ false → closes q i ≡ false → is_line_end i ≡ false → IsPiece i (stops f) → IsBody q s i (stops f)
-  body_more : {q : Quote} {s i m : At} {o : Outcome Nothing} → at_end i ≡ false → closes q i ≡ false → is_line_end i ≡ false → IsPiece i (reaches m) → IsBody q s m o → IsBody q s i o
+  body_broken : {q : Quote} {s i : At} → at_end i ≡ false → is_broken i ≡ true → IsBody q s i (stops (fault_at NotUtf8 i))
+  body_closed : {q : Quote} {s i : At} → at_end i ≡ false → is_broken i ≡ false → closes q i ≡ true → IsBody q s i (reaches (moved (quote_len q) i))
+  body_cut : {q : Quote} {s i : At} → at_end i ≡ false → is_broken i ≡ false → closes q i ≡ false → is_line_end i ≡ true → q.is_triple ≡ false → IsBody q s i (stops (fault_at OpenString s))
+  body_line : {q : Quote} {s i : At} {o : Outcome Nothing} → at_end i ≡ false → is_broken i ≡ false → closes q i ≡ false → is_line_end i ≡ true → q.is_triple ≡ true → IsBody q s (past_line i) o → IsBody q s i o
+  body_stops : {q : Quote} {s i : At} {f : LexFault} → at_end i ≡ false → is_broken i ≡ false → closes q i ≡ false → is_line_end i ≡ false → IsPiece i (stops f) → IsBody q s i (stops f)
+  body_more : {q : Quote} {s i m : At} {o : Outcome Nothing} → at_end i ≡ false → is_broken i ≡ false → closes q i ≡ false → is_line_end i ≡ false → IsPiece i (reaches m) → IsBody q s m o → IsBody q s i o
 
 -- digits, with at most one underscore between two of them; the test is whether a digit came before
 abbrev pub are_digits : Bool → List ℕ → Bool
@@ -195,7 +196,7 @@ has_token i = not (ends i) && not (is_hash (byte i))
 -- what is left of a line without a token, behind its spaces and tabs
 pub data IsBare : At → Outcome Nothing → Type 0 where
   bare_ends : {i : At} → ends i ≡ true → IsBare i (reaches i)
-  bare_comment : {i : At} {o : Outcome Nothing} → ends i ≡ false → IsComment (moved 1 i) o → IsBare i o
+  bare_comment : {i : At} {o : Outcome Nothing} → ends i ≡ false → is_hash (byte i) ≡ true → IsComment (moved 1 i) o → IsBare i o
 
 -- the column of a line with a token, behind lines with these columns, and the place of that token
 pub data IsColumn : List ℕ → At → Outcome ℕ → Type 0 where

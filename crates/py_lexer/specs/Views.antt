@@ -1,7 +1,6 @@
--- Tokens and lines as the definitions see them, and what is known of where they stand in their text.
-use Rattle.std.specs.Prelude.{◌≡◌, ℕ, ◌<◌, ◌≤◌, List, [], ◌∷◌, Option, Some, None, length, map, slice_range, Result, Ok, Err, All, IsUtf8}
+-- Tokens and lines as the definitions see them, and what reading comes to.
+use Rattle.std.specs.Prelude.{◌≡◌, ℕ, List, Option, Some, None, map, slice_range, Result, Ok, Err}
 use Rattle.py_tree.specs.declared.names.Place.{Place}
-use Rattle.py_tree.specs.StringText.{enclosed}
 use Rattle.py_tree.specs.Tokens.{Lexeme, LWord, LInt, LStr, LSign, PlainToken, PlainLine}
 use Rattle.py_lexer.specs.declared.token.TokenKind.{TokenKind}
 use Rattle.py_lexer.specs.declared.token.TokenKind.TheVariants.{Word, Int, Str, Sign}
@@ -44,19 +43,3 @@ abbrev pub Lexes : List ℕ → Result (List Line) LexError → Type 0
 Lexes text (Ok lines) = IsText text (has_lines (map (plain_line text) lines))
 Lexes text (Err NoMemory) = Unit {0}
 Lexes text (Err (Fault f)) = IsText text (has_fault f)
-
--- a token spans bytes of its text, and what a string encloses is UTF-8
-pub record IsOf (text : List ℕ) (t : Token) : Type 0 where
-  pub some : t.start < t.end
-  pub within : t.end ≤ length text
-  pub utf8 : t.kind ≡ Str → IsUtf8 (enclosed (bytes_of text t))
-
--- tokens of this text, each behind the one before, from a place up to another
-pub data Rise (text : List ℕ) : ℕ → List Token → ℕ → Type 0 where
-  risen : {from upto : ℕ} → from ≤ upto → Rise text from [] upto
-  rise : {from upto : ℕ} {t : Token} {ts : List Token} → from ≤ t.start → IsOf text t → Rise text t.end ts upto → Rise text from (t ∷ ts) upto
-
--- the same for the tokens of lines
-pub data LinesRise (text : List ℕ) : ℕ → List Line → ℕ → Type 0 where
-  lines_risen : {from upto : ℕ} → from ≤ upto → LinesRise text from [] upto
-  lines_rise : {from mid upto : ℕ} {l : Line} {ls : List Line} → Rise text from l.tokens mid → LinesRise text mid ls upto → LinesRise text from (l ∷ ls) upto

@@ -1,7 +1,7 @@
 //! A place in a text.
 #![tactic(auto, unfolding(crate::specs::Cursor::at_end, crate::specs::Cursor::byte, crate::specs::Cursor::rest, crate::specs::Cursor::place, crate::specs::Cursor::moved, crate::specs::Cursor::next_line, crate::specs::Cursor::bytes_left, crate::specs::Cursor::line_end, crate::specs::Cursor::is_line_end, crate::specs::Cursor::past_line, crate::specs::Cursor::ends, crate::specs::Cursor::is_broken, crate::specs::Cursor::stray, crate::specs::Cursor::fault_at, crate::specs::Cursor::word_len, crate::specs::Cursor::digits, crate::specs::Cursor::blanks, crate::specs::Cursor::spaces))]
 
-ghost use Rattle.std.specs.Prelude.{◌≡◌, ◌+◌, ◌<◌, ◌≤◌, max, false, length, IsTrue};
+ghost use Rattle.std.specs.Prelude.{◌≡◌, ◌+◌, ◌<◌, ◌≤◌, max, false, length, take, IsUtf8, IsTrue};
 ghost use Rattle.std.specs.Str.Lossy.{utf8_valid_len};
 ghost use Rattle.py_lexer.specs.Cursor as spec;
 ghost use Rattle.py_lexer.specs.declared.fault.LexError.TheVariants.{Fault};
@@ -23,7 +23,7 @@ pub struct Cursor<'a> {
 }
 
 impl<'a> Model for Cursor<'a> {
-    ghost use Rattle.std.specs.Prelude.{◌≡◌};
+    ghost use Rattle.std.specs.Prelude.{◌≡◌, take, IsUtf8};
     ghost use Rattle.std.specs.Str.Lossy.{utf8_valid_len};
     ghost use Rattle.py_lexer.specs.Cursor.{At, IsWithin};
     ghost use Rattle.py_lexer.specs.declared.cursor.Cursor.TheInside.{Inside};
@@ -32,13 +32,14 @@ impl<'a> Model for Cursor<'a> {
 
     ghost view = { λ c. record { text = c.text.now; at = c.at; line = c.line; col = c.col } };
 
-    ghost invariant = { λ c. IsWithin c.text.now c.at c.line c.col × (c.valid ≡ utf8_valid_len c.text.now) };
+    ghost invariant = { λ c. IsWithin c.text.now c.at c.line c.col × (c.valid ≡ utf8_valid_len c.text.now) × IsUtf8 (take c.valid c.text.now) };
 }
 
 /// How many bytes the text begins with that are UTF-8.
-#[tactic(auto, using(crate::proofs::Rules::whole_is_valid))]
+#[tactic(auto, using(crate::proofs::Rules::whole_is_valid, crate::proofs::Rules::whole_is_utf8))]
 fn valid_len(text: &[u8]) -> usize
-    ensures { result ≡ utf8_valid_len text.now }
+    ensures valid { result ≡ utf8_valid_len text.now }
+    ensures utf8 { IsUtf8 (take result text.now) }
 {
     match std::str::from_utf8(text) {
         Ok(_) => text.len(),
@@ -75,6 +76,7 @@ impl<'a> Cursor<'a> {
 
     pub fn is_at_end(&self) -> bool
         ensures ends { result ≡ spec.at_end self.now }
+        ensures within { self.now.at ≤ length self.now.text }
         ensures some { result ≡ false → 0 < spec.bytes_left self.now }
     {
         self.text.len() <= self.at
@@ -130,8 +132,11 @@ impl<'a> Cursor<'a> {
         self.is_at_end() || self.is_line_end()
     }
 
+    /// Whether the bytes here aren't UTF-8. Those before are.
     pub fn is_broken(&self) -> bool
-        ensures { result ≡ spec.is_broken self.now }
+        ensures broken { result ≡ spec.is_broken self.now }
+        ensures within { 0 < spec.bytes_left self.now → result ≡ false → self.now.at < utf8_valid_len self.now.text }
+        ensures utf8 { IsUtf8 (take (utf8_valid_len self.now.text) self.now.text) }
     {
         self.at < self.text.len() && self.valid <= self.at
     }
@@ -169,7 +174,8 @@ impl<'a> Cursor<'a> {
 
     /// How many bytes stand before this place.
     pub fn offset(&self) -> u32
-        ensures { result ≡ self.now.at }
+        ensures value { result ≡ self.now.at }
+        ensures within { self.now.at ≤ length self.now.text }
     {
         self.at as u32
     }
@@ -229,6 +235,7 @@ impl<'a> Cursor<'a> {
         requires { n ≤ spec.bytes_left self.old }
         ensures moved { self.new ≡ spec.moved n self.old }
         ensures left { spec.bytes_left self.new + n ≡ spec.bytes_left self.old }
+        ensures forward { self.new.at ≡ self.old.at + n }
         ensures same_text { self.new.text ≡ self.old.text }
     {
         self.at += n;
@@ -239,6 +246,7 @@ impl<'a> Cursor<'a> {
     pub fn pass_line(&mut self)
         ensures past { self.new ≡ spec.past_line self.old }
         ensures no_longer { spec.bytes_left self.new ≤ spec.bytes_left self.old }
+        ensures forward { self.old.at ≤ self.new.at }
         ensures shorter { IsTrue (spec.is_line_end self.old) → spec.bytes_left self.new < spec.bytes_left self.old }
         ensures ended { IsTrue (spec.ends self.old) → spec.bytes_left self.new < max 1 (spec.bytes_left self.old) }
         ensures same_text { self.new.text ≡ self.old.text }

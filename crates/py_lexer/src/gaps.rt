@@ -15,6 +15,7 @@ use crate::words::{is_backslash, is_blank, is_hash};
 pub fn pass_comment(text: &mut Cursor<'_>) -> Result<(), LexError>
     ensures comes { Comes (λ u. u) (IsComment text.old) result text.new }
     ensures no_longer { OnOk result (at.bytes_left text.new ≤ at.bytes_left text.old) }
+    ensures forward { text.old.at ≤ text.new.at }
     ensures ends { OnOk result (IsTrue (at.ends text.new)) }
     ensures same_text { text.new.text ≡ text.old.text }
 {
@@ -53,6 +54,7 @@ fn passes_line(depth: usize, text: &Cursor<'_>) -> bool
 pub fn pass_gap(depth: usize, text: &mut Cursor<'_>) -> Result<(), LexError>
     ensures comes { Comes (λ u. u) (IsGap depth text.old) result text.new }
     ensures no_longer { OnOk result (at.bytes_left text.new ≤ at.bytes_left text.old) }
+    ensures forward { text.old.at ≤ text.new.at }
     ensures same_text { text.new.text ≡ text.old.text }
 {
     'gap: loop {

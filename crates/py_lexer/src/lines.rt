@@ -5,6 +5,7 @@ ghost use Rattle.py_lexer.specs.Cursor as at;
 ghost use Rattle.py_lexer.specs.LogicalLines.{IsBare, IsColumn, IsLine, IsLines};
 ghost use Rattle.py_lexer.specs.LogicalLines as spec;
 ghost use Rattle.py_lexer.specs.OpenColumns.{AreOpen};
+ghost use Rattle.py_lexer.specs.Spans.{Rise, LinesRise};
 ghost use Rattle.py_lexer.specs.Views.{plain_line, Comes, Lexes};
 
 use crate::columns::{is_bad_dedent, open_column};
@@ -26,6 +27,7 @@ const LONGEST: usize = 1_048_576;
 fn pass_blanks(text: &mut Cursor<'_>)
     ensures unblanked { text.new ≡ spec.unblanked text.old }
     ensures no_longer { at.bytes_left text.new ≤ at.bytes_left text.old }
+    ensures forward { text.old.at ≤ text.new.at }
     ensures same_text { text.new.text ≡ text.old.text }
 {
     text.pass(text.blanks());
@@ -46,6 +48,7 @@ fn pass_bare(text: &mut Cursor<'_>) -> Result<(), LexError>
     ensures comes { Comes (λ u. u) (IsBare text.old) result text.new }
     ensures no_longer { OnOk result (at.bytes_left text.new ≤ at.bytes_left text.old) }
     ensures ends { OnOk result (IsTrue (at.ends text.new)) }
+    ensures forward { text.old.at ≤ text.new.at }
     ensures same_text { text.new.text ≡ text.old.text }
 {
     if text.ends() {
@@ -103,6 +106,7 @@ fn logical_line(
     requires { text.old ≡ spec.unblanked begin.now }
     ensures comes { (before : List ℕ) → AreOpen kept.old.items before → Comes (plain_line text.old.text) (IsLine before begin.now) result text.new }
     ensures opens { (before : List ℕ) → AreOpen kept.old.items before → IfOk result (λ l. AreOpen kept.new.items (before ++ l.column ∷ [])) }
+    ensures rise { IfOk result (λ l. Rise text.old.text text.old.at l.tokens text.new.at) }
     ensures shorter { OnOk result (at.bytes_left text.new < at.bytes_left text.old) }
     ensures same_text { text.new.text ≡ text.old.text }
 {
@@ -113,9 +117,11 @@ fn logical_line(
 }
 
 /// The logical lines up to the text's end.
-#[tactic(auto, using(crate::proofs::LineRules::lines_rules))]
+#[tactic(auto, using(crate::proofs::LineRules::lines_rules, crate::proofs::SpanLaws::rise_rules))]
 fn lines(alloc: Global, text: &mut Cursor<'_>) -> Result<Lines, LexError>
-    ensures { Comes (map (plain_line text.old.text)) (IsLines [] text.old) result text.new }
+    ensures comes { Comes (map (plain_line text.old.text)) (IsLines [] text.old) result text.new }
+    ensures rise { IfOk result (λ ls. LinesRise text.old.text text.old.at ls (length text.old.text)) }
+
 {
     let mut items = Sequence::new(alloc);
     let mut kept = Vec::new(alloc);
@@ -138,6 +144,7 @@ fn lines(alloc: Global, text: &mut Cursor<'_>) -> Result<Lines, LexError>
 #[tactic(auto, using(crate::proofs::LineRules::text_rules))]
 pub fn lex(alloc: Global, text: &[u8]) -> Result<Lines, LexError>
     ensures lines { Lexes text.now result }
+    ensures spans { IfOk result (λ ls. LinesRise text.now 0 ls (length text.now)) }
 {
     if text.len() > LONGEST {
         return Err(LexError::Fault(LexFault {

@@ -1,10 +1,12 @@
 //! Tokens, one after another, up to the end of a logical line.
 
-ghost use Rattle.std.specs.Prelude.{◌≡◌, ◌+◌, ◌<◌, ◌≤◌, ◌^◌, ℕ, List, [], map, length, IsTrue, IfOk, OnOk};
+ghost use Rattle.std.specs.Prelude.{◌≡◌, ◌<◌, ◌≤◌, ◌^◌, ℕ, List, [], map, length, take, IsUtf8, IsTrue, IfOk, OnOk};
+ghost use Rattle.std.specs.Str.Lossy.{utf8_valid_len};
 ghost use Rattle.py_tree.specs.Tokens.{LWord};
 ghost use Rattle.py_lexer.specs.Cursor as at;
 ghost use Rattle.py_lexer.specs.LogicalLines.{IsNumber, IsString, IsSign, IsToken, IsTokens};
 ghost use Rattle.py_lexer.specs.LogicalLines as spec;
+ghost use Rattle.py_lexer.specs.Spans.{IsOf, Rise};
 ghost use Rattle.py_lexer.specs.Views.{plain_kind, plain_token, Closes, Comes};
 
 use crate::cursor::Cursor;
@@ -22,6 +24,10 @@ use std::alloc::{AllocError, Global};
 #[tactic(auto, unfolding(crate::specs::LogicalLines::token))]
 fn token(kind: TokenKind, start: &Cursor<'_>, end: &Cursor<'_>) -> Token
     ensures token { plain_token start.now.text result ≡ spec.token (plain_kind kind) start.now end.now }
+    ensures kind { result.kind ≡ kind }
+    ensures start { result.start ≡ start.now.at }
+    ensures end { result.end ≡ end.now.at }
+    ensures within { result.end ≤ length end.now.text }
 {
     Token {
         kind,
@@ -32,11 +38,14 @@ fn token(kind: TokenKind, start: &Cursor<'_>, end: &Cursor<'_>) -> Token
 }
 
 /// A word.
-#[tactic(auto, unfolding(crate::specs::LogicalLines::behind_word))]
+#[tactic(auto, using(crate::proofs::SpanLaws::of_rules), unfolding(crate::specs::LogicalLines::behind_word))]
 fn word(text: &mut Cursor<'_>) -> Token
     requires { IsTrue (at.is_letter (at.byte text.old)) }
     ensures token { plain_token text.old.text result ≡ spec.token LWord text.old (spec.behind_word text.old) }
     ensures behind { text.new ≡ spec.behind_word text.old }
+    ensures of { IsOf text.old.text result }
+    ensures start { result.start ≡ text.old.at }
+    ensures end { result.end ≡ text.new.at }
     ensures shorter { at.bytes_left text.new < at.bytes_left text.old }
     ensures same_text { text.new.text ≡ text.old.text }
 {
@@ -46,10 +55,12 @@ fn word(text: &mut Cursor<'_>) -> Token
 }
 
 /// A number.
-#[tactic(auto, using(crate::proofs::Rules::number_rules), unfolding(crate::specs::LogicalLines::behind_digits, crate::specs::LogicalLines::is_number))]
+#[tactic(auto, using(crate::proofs::Rules::number_rules, crate::proofs::SpanLaws::of_rules), unfolding(crate::specs::LogicalLines::behind_digits, crate::specs::LogicalLines::is_number))]
 fn number(text: &mut Cursor<'_>) -> Result<Token, LexError>
     requires { IsTrue (at.is_digit (at.byte text.old)) }
     ensures comes { Comes (plain_token text.old.text) (IsNumber text.old) result text.new }
+    ensures of { IfOk result (λ t. IsOf text.old.text t) }
+    ensures spans { IfOk result (λ t. (t.start ≡ text.old.at) × (t.end ≡ text.new.at)) }
     ensures shorter { OnOk result (at.bytes_left text.new < at.bytes_left text.old) }
     ensures same_text { text.new.text ≡ text.old.text }
 {
@@ -68,8 +79,12 @@ fn number(text: &mut Cursor<'_>) -> Result<Token, LexError>
 /// A string.
 #[tactic(auto, using(crate::proofs::Rules::string_rules))]
 fn string(text: &mut Cursor<'_>) -> Result<Token, LexError>
-    requires { 0 < at.byte text.old }
+    requires some { 0 < at.byte text.old }
+    requires ascii { at.byte text.old < 128 }
+    requires utf8 { IsUtf8 (take (utf8_valid_len text.old.text) text.old.text) }
     ensures comes { Comes (plain_token text.old.text) (IsString text.old) result text.new }
+    ensures of { IfOk result (λ t. IsOf text.old.text t) }
+    ensures spans { IfOk result (λ t. (t.start ≡ text.old.at) × (t.end ≡ text.new.at)) }
     ensures shorter { OnOk result (at.bytes_left text.new < at.bytes_left text.old) }
     ensures same_text { text.new.text ≡ text.old.text }
 {
@@ -81,9 +96,11 @@ fn string(text: &mut Cursor<'_>) -> Result<Token, LexError>
 }
 
 /// A sign.
-#[tactic(auto, using(crate::proofs::Rules::sign_rules), unfolding(crate::specs::Cursor::sign))]
+#[tactic(auto, using(crate::proofs::Rules::sign_rules, crate::proofs::SpanLaws::of_rules), unfolding(crate::specs::Cursor::sign))]
 fn sign(text: &mut Cursor<'_>) -> Result<Token, LexError>
     ensures comes { Comes (plain_token text.old.text) (IsSign text.old) result text.new }
+    ensures of { IfOk result (λ t. IsOf text.old.text t) }
+    ensures spans { IfOk result (λ t. (t.start ≡ text.old.at) × (t.end ≡ text.new.at)) }
     ensures shorter { OnOk result (at.bytes_left text.new < at.bytes_left text.old) }
     ensures same_text { text.new.text ≡ text.old.text }
 {
@@ -99,6 +116,8 @@ fn sign(text: &mut Cursor<'_>) -> Result<Token, LexError>
 #[tactic(auto, using(crate::proofs::Rules::token_rules))]
 fn one_token(text: &mut Cursor<'_>) -> Result<Token, LexError>
     ensures comes { Comes (plain_token text.old.text) (IsToken text.old) result text.new }
+    ensures of { IfOk result (λ t. IsOf text.old.text t) }
+    ensures spans { IfOk result (λ t. (t.start ≡ text.old.at) × (t.end ≡ text.new.at)) }
     ensures shorter { OnOk result (at.bytes_left text.new < at.bytes_left text.old) }
     ensures same_text { text.new.text ≡ text.old.text }
 {
@@ -150,9 +169,10 @@ fn closed(items: Tokens, brackets: &[Place]) -> Result<Tokens, LexError>
 }
 
 /// The tokens of the logical line that begins here.
-#[tactic(auto, using(crate::proofs::LineRules::tokens_rules))]
+#[tactic(auto, using(crate::proofs::LineRules::tokens_rules, crate::proofs::SpanLaws::rise_rules))]
 pub fn tokens(alloc: Global, text: &mut Cursor<'_>) -> Result<Tokens, LexError>
     ensures comes { Comes (map (plain_token text.old.text)) (IsTokens [] text.old) result text.new }
+    ensures rise { IfOk result (λ ts. Rise text.old.text text.old.at ts text.new.at) }
     ensures shorter { OnOk result (at.bytes_left text.new < at.bytes_left text.old) }
     ensures same_text { text.new.text ≡ text.old.text }
 {

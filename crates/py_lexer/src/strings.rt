@@ -6,6 +6,7 @@ ghost use Rattle.py_tree.specs.StringText.{escape, hex_digit as HexDigit, hex_va
 ghost use Rattle.py_lexer.specs.Cursor as at;
 ghost use Rattle.py_lexer.specs.LogicalLines.{IsBody, IsPiece, quote_len, stands_thrice as StandsThrice};
 ghost use Rattle.py_lexer.specs.LogicalLines as spec;
+ghost use Rattle.py_lexer.specs.Spans.{ClosedBetween};
 ghost use Rattle.py_lexer.specs.Views.{Comes};
 
 use crate::cursor::Cursor;
@@ -30,6 +31,7 @@ impl Quote {
 /// Whether this quote stands three times here.
 fn stands_thrice(mark: u8, text: &Cursor<'_>) -> bool
     ensures thrice { result ≡ StandsThrice mark text.now }
+    ensures mark { IsTrue result → at.byte text.now ≡ mark }
     ensures within { 0 < mark → IsTrue result → 3 ≤ at.bytes_left text.now }
 {
     text.byte() == mark && text.byte_after(1) == mark && text.byte_after(2) == mark
@@ -51,6 +53,7 @@ pub fn quote_at(text: &Cursor<'_>) -> Quote
 /// Whether the quotes that end the string stand here.
 fn closes(quote: Quote, text: &Cursor<'_>) -> bool
     ensures closes { result ≡ spec.closes quote text.now }
+    ensures mark { IsTrue result → at.byte text.now ≡ quote.mark }
     ensures within { 0 < quote.mark → IsTrue result → quote_len quote ≤ at.bytes_left text.now }
 {
     if quote.is_triple {
@@ -123,6 +126,7 @@ fn pass_piece(text: &mut Cursor<'_>) -> Result<(), LexError>
     requires { 0 < at.bytes_left text.old }
     ensures comes { Comes (λ u. u) (IsPiece text.old) result text.new }
     ensures shorter { OnOk result (at.bytes_left text.new < at.bytes_left text.old) }
+    ensures forward { text.old.at ≤ text.new.at }
     ensures same_text { text.new.text ≡ text.old.text }
 {
     if let Some(kind) = text.stray() {
@@ -149,9 +153,13 @@ pub fn pass_body(
     requires { 0 < quote.mark }
     ensures comes { Comes (λ u. u) (IsBody quote start.now text.old) result text.new }
     ensures no_longer { OnOk result (at.bytes_left text.new ≤ at.bytes_left text.old) }
+    ensures closed { OnOk result (ClosedBetween quote text.old text.new) }
     ensures same_text { text.new.text ≡ text.old.text }
 {
     'body: while !text.is_at_end() {
+        if text.is_broken() {
+            return Err(text.fault(LexKind::NotUtf8));
+        }
         if closes(quote, text) {
             text.pass(quote.len());
             return Ok(());

@@ -52,6 +52,7 @@ pub fn is_backslash(b: u8) -> bool
 pub fn is_quote(b: u8) -> bool
     ensures quote { result ≡ spec.is_quote b }
     ensures some { IsTrue result → 0 < b }
+    ensures ascii { IsTrue result → b < 128 }
 {
     b == b'\'' || b == b'"'
 }
