@@ -57,11 +57,12 @@ bad_is c kept before o e =
     record {
       deeper = subst (λ n. c < n) o.last t.0;
       closed = λ open_so. elim open_so as (λ _. ⊥) [
-          inl zero_is ↦ t.1 zero_is
+        | inl zero_is ↦ t.1 zero_is
         | inr since ↦
             let at = o.complete c since in
             let i = found_at c at.0 kept before o at.1 at.2 in
-            true_is_no_false (sym (stands-back c kept (subst (λ k. k < length kept) (sym i) at.1) (subst (λ k. get_or kept k 0 ≡ c) (sym i) at.2)) ∙ t.2) ];
+            true_is_no_false (sym (stands-back c kept (subst (λ k. k < length kept) (sym i) at.1) (subst (λ k. get_or kept k 0 ≡ c) (sym i) at.2)) ∙ t.2)
+      ];
     }
 
 pub good_is : (c : ℕ) (kept before : List ℕ) → AreOpen kept before → is_bad_dedent c kept ≡ false → IsBadDedent c before → ⊥
@@ -98,8 +99,9 @@ is_last later c before within = grind (arith, length-append before (c ∷ []))
 
 still-no_less : (x c later : ℕ) (before : List ℕ) → (later < length before → x ≤ get_or before later 0) → x ≤ c → later < length (before ++ c ∷ []) → x ≤ get_or (before ++ c ∷ []) later 0
 still-no_less x c later before h le within = elim (is_last later c before within) as (λ _. x ≤ get_or (before ++ c ∷ []) later 0) [
-    inl lt ↦ rw (get_or_append_left before (c ∷ []) 0 later lt) (h lt)
-  | inr same ↦ subst (λ k. x ≤ get_or (before ++ c ∷ []) k 0) (sym same) (rw (last_of c before) le) ]
+  | inl lt ↦ rw (get_or_append_left before (c ∷ []) 0 later lt) (h lt)
+  | inr same ↦ subst (λ k. x ≤ get_or (before ++ c ∷ []) k 0) (sym same) (rw (last_of c before) le)
+]
 
 since_more : (x c : ℕ) (before : List ℕ) → HasSince x before → x ≤ c → HasSince x (before ++ c ∷ [])
 since_more x c before h le = record {
@@ -120,13 +122,17 @@ since_now c before = record {
 -- what was open before, or the new one
 since_before : (x c : ℕ) (before : List ℕ) → HasSince x (before ++ c ∷ []) → (HasSince x before × (x ≤ c)) ⊎ (x ≡ c)
 since_before x c before h = elim (is_last h.line c before h.earlier) as (λ _. (HasSince x before × (x ≤ c)) ⊎ (x ≡ c)) [
-    inl lt ↦ inl (record {
-        line = h.line;
-        earlier = lt;
-        has = sym (get_or_append_left before (c ∷ []) 0 h.line lt) ∙ h.has;
-        since = λ later from within. subst (λ n. x ≤ n) (get_or_append_left before (c ∷ []) 0 later within) (h.since later from (omega (arith, within, length-append before (c ∷ []))));
-      }, subst (λ n. x ≤ n) (last_of c before) (h.since (length before) (omega (arith, lt)) (omega (arith, length-append before (c ∷ [])))))
-  | inr same ↦ inr (sym h.has ∙ (ap (λ k. get_or (before ++ c ∷ []) k 0) same ∙ last_of c before)) ]
+  | inl lt ↦ inl (
+    record {
+      line = h.line;
+      earlier = lt;
+      has = sym (get_or_append_left before (c ∷ []) 0 h.line lt) ∙ h.has;
+      since = λ later from within. subst (λ n. x ≤ n) (get_or_append_left before (c ∷ []) 0 later within) (h.since later from (omega (arith, within, length-append before (c ∷ []))));
+    },
+    subst (λ n. x ≤ n) (last_of c before) (h.since (length before) (omega (arith, lt)) (omega (arith, length-append before (c ∷ [])))),
+  )
+  | inr same ↦ inr (sym h.has ∙ (ap (λ k. get_or (before ++ c ∷ []) k 0) same ∙ last_of c before))
+]
 
 -- a place among the new columns is the last, or an old one
 is_new : (i c : ℕ) (kept : List ℕ) → i < length (opened c kept) → (i < outer c kept) ⊎ (i ≡ outer c kept)
@@ -136,13 +142,15 @@ opened-rising : (c : ℕ) (kept before : List ℕ) → AreOpen kept before → (
 opened-rising c kept before o i j lt within =
     let i_old : i < outer c kept = omega (arith, lt, within, new_len c kept) in
     elim (is_new j c kept within) as (λ _. get_or (opened c kept) i 0 < get_or (opened c kept) j 0) [
-        inl j_old ↦ rw (old_at c i kept i_old) (rw (old_at c j kept j_old) (o.rising i j lt (omega (arith, j_old, outer-le c kept))))
-      | inr same ↦ rw (old_at c i kept i_old) (subst (λ k. get_or kept i 0 < get_or (opened c kept) k 0) (sym same) (rw (new_at c kept) (below c i kept i_old))) ]
+      | inl j_old ↦ rw (old_at c i kept i_old) (rw (old_at c j kept j_old) (o.rising i j lt (omega (arith, j_old, outer-le c kept))))
+      | inr same ↦ rw (old_at c i kept i_old) (subst (λ k. get_or kept i 0 < get_or (opened c kept) k 0) (sym same) (rw (new_at c kept) (below c i kept i_old)))
+    ]
 
 opened-sound : (c : ℕ) (kept before : List ℕ) → AreOpen kept before → (i : ℕ) → i < length (opened c kept) → HasSince (get_or (opened c kept) i 0) (before ++ c ∷ [])
 opened-sound c kept before o i within = elim (is_new i c kept within) as (λ _. HasSince (get_or (opened c kept) i 0) (before ++ c ∷ [])) [
-    inl old ↦ rw (old_at c i kept old) (since_more (get_or kept i 0) c before (o.sound i (omega (arith, old, outer-le c kept))) (omega (arith, below c i kept old)))
-  | inr same ↦ subst (λ k. HasSince (get_or (opened c kept) k 0) (before ++ c ∷ [])) (sym same) (rw (new_at c kept) (since_now c before)) ]
+  | inl old ↦ rw (old_at c i kept old) (since_more (get_or kept i 0) c before (o.sound i (omega (arith, old, outer-le c kept))) (omega (arith, below c i kept old)))
+  | inr same ↦ subst (λ k. HasSince (get_or (opened c kept) k 0) (before ++ c ∷ [])) (sym same) (rw (new_at c kept) (since_now c before))
+]
 
 Stands : ℕ → List ℕ → Type 0
 Stands x kept = (i : ℕ) × (i < length kept) × (get_or kept i 0 ≡ x)
@@ -155,9 +163,9 @@ stands_last c kept = (outer c kept, omega (arith, new_len c kept), new_at c kept
 by_place : (x c : ℕ) (kept before : List ℕ) → AreOpen kept before → (i : ℕ) → i < length kept → get_or kept i 0 ≡ x → x < c → i < outer c kept
 by_place x c kept before o i within e lt =
     let not_behind : (outer c kept ≤ i → ⊥) = λ le.
-        let first : outer c kept < length kept = omega (arith, le, within) in
-        let same : (outer c kept ≡ i → ⊥) = λ q. omega (arith, no_less c kept first, ap (λ k. get_or kept k 0) q, e, lt) in
-        omega (arith, no_less c kept first, o.rising (outer c kept) i (omega (arith, le, same)) within, e, lt) in
+    let first : outer c kept < length kept = omega (arith, le, within) in
+    let same : (outer c kept ≡ i → ⊥) = λ q. omega (arith, no_less c kept first, ap (λ k. get_or kept k 0) q, e, lt) in
+    omega (arith, no_less c kept first, o.rising (outer c kept) i (omega (arith, le, same)) within, e, lt) in
     omega (arith, not_behind)
 
 less_or_same : (x c : ℕ) → x ≤ c → (x < c) ⊎ (x ≡ c)
@@ -172,19 +180,21 @@ stands_still x c kept before o h lt =
 
 opened-complete : (c : ℕ) (kept before : List ℕ) → AreOpen kept before → (x : ℕ) → HasSince x (before ++ c ∷ []) → Stands x (opened c kept)
 opened-complete c kept before o x h = elim (since_before x c before h) as (λ _. Stands x (opened c kept)) [
-    inl old ↦ elim (less_or_same x c old.1) as (λ _. Stands x (opened c kept)) [
-        inl lt ↦ stands_still x c kept before o old.0 lt
-      | inr same ↦ subst (λ k. Stands k (opened c kept)) (sym same) (stands_last c kept) ]
-  | inr same ↦ subst (λ k. Stands k (opened c kept)) (sym same) (stands_last c kept) ]
+  | inl old ↦ elim (less_or_same x c old.1) as (λ _. Stands x (opened c kept)) [
+    | inl lt ↦ stands_still x c kept before o old.0 lt
+    | inr same ↦ subst (λ k. Stands k (opened c kept)) (sym same) (stands_last c kept)
+  ]
+  | inr same ↦ subst (λ k. Stands k (opened c kept)) (sym same) (stands_last c kept)
+]
 
 pub opens : (c : ℕ) (kept before : List ℕ) → AreOpen kept before → AreOpen (opened c kept) (before ++ c ∷ [])
 unfolding Stands
 opens c kept before o =
-  let kept_last : length (opened c kept) - 1 ≡ outer c kept = omega (arith, new_len c kept) in
-  let before_last : length before ≡ length (before ++ c ∷ []) - 1 = omega (arith, length-append before (c ∷ [])) in
-  record {
-  last = ap (λ n. get_or (opened c kept) n 0) kept_last ∙ (new_at c kept ∙ (sym (last_of c before) ∙ ap (λ n. get_or (before ++ c ∷ []) n 0) before_last));
-  rising = opened-rising c kept before o;
-  sound = opened-sound c kept before o;
-  complete = opened-complete c kept before o;
-}
+    let kept_last : length (opened c kept) - 1 ≡ outer c kept = omega (arith, new_len c kept) in
+    let before_last : length before ≡ length (before ++ c ∷ []) - 1 = omega (arith, length-append before (c ∷ [])) in
+    record {
+      last = ap (λ n. get_or (opened c kept) n 0) kept_last ∙ (new_at c kept ∙ (sym (last_of c before) ∙ ap (λ n. get_or (before ++ c ∷ []) n 0) before_last));
+      rising = opened-rising c kept before o;
+      sound = opened-sound c kept before o;
+      complete = opened-complete c kept before o;
+    }

@@ -5,3 +5,5 @@ pub mod Rules
 pub mod ColumnLaws
 pub mod LineRules
 pub mod SpanLaws
+pub mod TextLaws
+pub mod OneOutcome

@@ -41,8 +41,9 @@ pub tokens_closed : (view : Token → PlainToken) (start : At) (b c : List Place
 tokens_closed view start b c now behind mid items all x r g t s p e a k =
     let q : IsGap (length (open_behind b (view x))) behind (reaches mid) = subst (λ d. IsGap (length d) behind (reaches mid)) s p in
     let by_case : (o : Option Place) → innermost c ≡ o → Closes o all r → Comes (map view) (IsTokens [] start) r mid = λ o. elim o as (λ z. innermost c ≡ z → Closes z all r → Comes (map view) (IsTokens [] start) r mid) [
-        None ↦ λ n k. subst (λ z. Comes (map view) (IsTokens [] start) z mid) (sym k) (subst (λ ys. IsTokens [] start (found ys mid)) (sym (ap (map view) a ∙ map-append view items (x ∷ []))) (g (found (view x ∷ []) mid) (tokens_end t q e (ap innermost (sym s) ∙ n))))
-      | Some place ↦ λ n k. subst (λ z. Comes (map view) (IsTokens [] start) z mid) (sym k) (g (stops (open_bracket place)) (tokens_open t q e (ap innermost (sym s) ∙ n))) ] in
+      | None ↦ λ n k. subst (λ z. Comes (map view) (IsTokens [] start) z mid) (sym k) (subst (λ ys. IsTokens [] start (found ys mid)) (sym (ap (map view) a ∙ map-append view items (x ∷ []))) (g (found (view x ∷ []) mid) (tokens_end t q e (ap innermost (sym s) ∙ n))))
+      | Some place ↦ λ n k. subst (λ z. Comes (map view) (IsTokens [] start) z mid) (sym k) (g (stops (open_bracket place)) (tokens_open t q e (ap innermost (sym s) ∙ n)))
+    ] in
     by_case (innermost c) refl k
 
 pub tokens_fail : (view : Token → PlainToken) (start : At) (b : List Place) (now mid new : At) (items : List Token) (e : LexError) → TokensGoOn view start b now items → Comes view (IsToken now) (Err e) mid → Comes (map view) (IsTokens [] start) (Err e) new
@@ -128,6 +129,9 @@ pub too_long : (text : List ℕ) → 1048576 < length text → IsText text (has_
 too_long text n = text_too_long n
 
 pub ruleset column_rules = (tab_stops, broken_stops, dedent_stops, column_found)
+
 pub ruleset line_rules = (line_misplaced_by, line_fails, line_is, opens)
+
 pub ruleset lines_rules = (lines_begin, lines_pass_bare, lines_pass, lines_done, none_open)
+
 pub ruleset text_rules = (text_fits, too_long)

@@ -127,18 +127,20 @@ with_len = option_map (λ k. (k, sign_len k))
 pub sign_found : (i mid : At) (n len : ℕ) → ◌≡◌ {A = Option (ℕ × ℕ)} (Some (n, len)) (with_len (sign i)) → mid ≡ moved len i → IsSign i (found (token (LSign n) i mid) mid)
 sign_found i mid n len e m =
     let by_sign : (s : Option ℕ) → sign i ≡ s → ◌≡◌ {A = Option (ℕ × ℕ)} (Some (n, len)) (with_len s) → IsSign i (found (token (LSign n) i mid) mid) = λ s. elim s as (λ z. sign i ≡ z → ◌≡◌ {A = Option (ℕ × ℕ)} (Some (n, len)) (with_len z) → IsSign i (found (token (LSign n) i mid) mid)) [
-        None ↦ λ at paired. absurd (no_pair paired)
+      | None ↦ λ at paired. absurd (no_pair paired)
       | Some k ↦ λ at paired.
           let p = unpaired (n, len) (k, sign_len k) paired in
           let same : mid ≡ moved (sign_len k) i = m ∙ ap (λ l. moved l i) (ap (λ q. q.1) p) in
-          subst (λ j. IsSign i (found (token (LSign j) i mid) mid)) (sym (ap (λ q. q.0) p)) (subst (λ j. IsSign i (found (token (LSign k) i j) j)) (sym same) (sign_is at)) ] in
+          subst (λ j. IsSign i (found (token (LSign j) i mid) mid)) (sym (ap (λ q. q.0) p)) (subst (λ j. IsSign i (found (token (LSign k) i j) j)) (sym same) (sign_is at))
+    ] in
     by_sign (sign i) refl e
 
 pub sign_missing : (i : At) → None ≡ with_len (sign i) → IsSign i (stops (fault_at BadCharacter i))
 sign_missing i e =
     let by_sign : (s : Option ℕ) → sign i ≡ s → None ≡ with_len s → IsSign i (stops (fault_at BadCharacter i)) = λ s. elim s as (λ z. sign i ≡ z → None ≡ with_len z → IsSign i (stops (fault_at BadCharacter i))) [
-        None ↦ λ at paired. sign_none at
-      | Some k ↦ λ at paired. absurd (no_pair (sym paired)) ] in
+      | None ↦ λ at paired. sign_none at
+      | Some k ↦ λ at paired. absurd (no_pair (sym paired))
+    ] in
     by_sign (sign i) refl e
 
 pub ruleset sign_rules = (sign_found, sign_missing)

@@ -121,9 +121,9 @@ quotes_of i n true e within =
 quotes_of i n false e within =
     let len = literal-len i.text i.at 1 n within in
     single_quotes (literal i.text i.at 1 n) (λ size a b.
-      let at = λ (k : ℕ) (small : k < 6). literal-at i.text i.at 1 n k (omega (arith, small, size, len)) in
-      let first : slice_index i.text (i.at + 1) ≡ slice_index i.text i.at = sym (at 1 (omega arith)) ∙ (sym a ∙ (at 0 (omega arith) ∙ zero_on i)) in
-      not_thrice i e first (sym (at 2 (omega arith)) ∙ (sym b ∙ (at 1 (omega arith) ∙ first))))
+    let at = λ (k : ℕ) (small : k < 6). literal-at i.text i.at 1 n k (omega (arith, small, size, len)) in
+    let first : slice_index i.text (i.at + 1) ≡ slice_index i.text i.at = sym (at 1 (omega arith)) ∙ (sym a ∙ (at 0 (omega arith) ∙ zero_on i)) in
+    not_thrice i e first (sym (at 2 (omega arith)) ∙ (sym b ∙ (at 1 (omega arith) ∙ first))))
 
 -- the last of the quotes that begin a string is its mark
 opening : (i : At) (triple : Bool) → stands_thrice (byte i) i ≡ triple → slice_index i.text (i.at + width triple - 1) ≡ slice_index i.text i.at
@@ -153,6 +153,18 @@ enclosed_utf8 i triple quotes_at upto v e ascii behind ends valid within whole m
     let spelt : enclosed (literal i.text i.at w n) ≡ take n (drop (i.at + w) i.text) = encloses i.text i.at w n fits (quotes_of i n triple e fits) in
     subst (λ p. IsUtf8 (enclosed (take p (drop i.at i.text)))) (sym size) (subst IsUtf8 (sym spelt) inner)
 
+-- a literal has its quotes twice
+has_quotes : (i : At) (triple : Bool) (quotes_at upto : ℕ) → stands_thrice (byte i) i ≡ triple → i.at + width triple ≤ quotes_at → upto ≡ quotes_at + width triple → upto ≤ length i.text → quotes (slice_range i.text i.at upto) + quotes (slice_range i.text i.at upto) ≤ length (slice_range i.text i.at upto)
+unfolding literal
+has_quotes i triple quotes_at upto e behind ends whole =
+    let w : ℕ = width triple in
+    let n : ℕ = quotes_at - (i.at + w) in
+    let size : upto - i.at ≡ w + (n + w) = omega (arith, ends, behind) in
+    let fits : i.at + (w + (n + w)) ≤ length i.text = omega (arith, ends, behind, whole) in
+    let len = literal-len i.text i.at w n fits in
+    let twice : quotes (literal i.text i.at w n) + quotes (literal i.text i.at w n) ≤ length (literal i.text i.at w n) = omega (arith, quotes_of i n triple e fits, len) in
+    subst (λ p. quotes (take p (drop i.at i.text)) + quotes (take p (drop i.at i.text)) ≤ length (take p (drop i.at i.text))) (sym size) twice
+
 width_is : (triple : Bool) → if triple then 3 else 1 ≡ width triple
 width_is true = refl
 width_is false = refl
@@ -164,16 +176,18 @@ string_is_of i m q mid t quote some ascii at closed utf8 within starts ends =
     let triple : Bool = stands_thrice (byte i) i in
     let w : quote_len (quote_at i) ≡ width triple = width_is triple in
     let c : ClosedBetween (quote_at i) (moved (quote_len (quote_at i)) i) m = subst (λ p. ClosedBetween p (moved (quote_len p) i) m) quote (subst (λ j. ClosedBetween q j m) at closed) in
-    let inner : IsUtf8 (enclosed (slice_range i.text i.at m.at)) = enclosed_utf8 i triple c.quotes m.at (utf8_valid_len i.text) refl ascii (omega (arith, c.behind, w)) (c.ends ∙ ap (λ n. c.quotes + n) w) c.valid (utf8_valid_len_le i.text) within c.mark utf8 in
+    let inner : IsUtf8 (enclosed (slice_range i.text i.at m.at)) = enclosed_utf8 i triple c.quotes_at m.at (utf8_valid_len i.text) refl ascii (omega (arith, c.behind, w)) (c.ends ∙ ap (λ n. c.quotes_at + n) w) c.valid (utf8_valid_len_le i.text) within c.mark utf8 in
+    let quoted : quotes (slice_range i.text i.at m.at) + quotes (slice_range i.text i.at m.at) ≤ length (slice_range i.text i.at m.at) = has_quotes i triple c.quotes_at m.at refl (omega (arith, c.behind, w)) (c.ends ∙ ap (λ n. c.quotes_at + n) w) within in
     record {
       some = omega (arith, starts, ends, c.behind, c.ends, w, width_some triple);
       within = omega (arith, ends, within);
+      quoted = λ _. subst (λ a. quotes (slice_range i.text a t.end) + quotes (slice_range i.text a t.end) ≤ length (slice_range i.text a t.end)) (sym starts) (subst (λ b. quotes (slice_range i.text i.at b) + quotes (slice_range i.text i.at b) ≤ length (slice_range i.text i.at b)) (sym ends) quoted);
       utf8 = λ _. subst (λ a. IsUtf8 (enclosed (slice_range i.text a t.end))) (sym starts) (subst (λ b. IsUtf8 (enclosed (slice_range i.text i.at b))) (sym ends) inner);
     }
 
 -- a token of another kind
 pub other_is_of : (text : List ℕ) (t : Token) → (t.kind ≡ Str → ⊥) → t.start < t.end → t.end ≤ length text → IsOf text t
-other_is_of text t other some within = record { some = some; within = within; utf8 = λ e. absurd (other e) }
+other_is_of text t other some within = record { some = some; within = within; quoted = λ e. absurd (other e); utf8 = λ e. absurd (other e) }
 
 pub word_other : (t : Token) → t.kind ≡ Word → t.kind ≡ Str → ⊥
 word_other t a b = cc

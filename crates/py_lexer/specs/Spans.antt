@@ -1,7 +1,7 @@
 -- Where tokens stand in their text.
 use Rattle.std.specs.Prelude.{◌≡◌, ℕ, ◌+◌, ◌<◌, ◌≤◌, List, [], ◌∷◌, length, slice_index, IsUtf8}
 use Rattle.std.specs.Str.Lossy.{utf8_valid_len}
-use Rattle.py_tree.specs.StringText.{enclosed}
+use Rattle.py_tree.specs.StringText.{quotes, enclosed}
 use Rattle.py_lexer.specs.declared.strings.Quote.{Quote}
 use Rattle.py_lexer.specs.declared.token.TokenKind.TheVariants.{Str}
 use Rattle.py_lexer.specs.declared.token.Token.{Token}
@@ -12,16 +12,17 @@ use Rattle.py_lexer.specs.Views.{bytes_of}
 
 -- the closing quotes stand before the second place and no earlier than the first, and all before them is UTF-8
 pub record ClosedBetween (q : Quote) (from upto : At) : Type 0 where
-  pub quotes : ℕ
-  pub behind : from.at ≤ quotes
-  pub ends : upto.at ≡ quotes + quote_len q
-  pub valid : quotes < utf8_valid_len from.text
-  pub mark : slice_index from.text quotes ≡ q.mark
+  pub quotes_at : ℕ
+  pub behind : from.at ≤ quotes_at
+  pub ends : upto.at ≡ quotes_at + quote_len q
+  pub valid : quotes_at < utf8_valid_len from.text
+  pub mark : slice_index from.text quotes_at ≡ q.mark
 
--- a token spans bytes of its text, and what a string encloses is UTF-8
+-- a token spans bytes of its text; a string has its quotes, and what it encloses is UTF-8
 pub record IsOf (text : List ℕ) (t : Token) : Type 0 where
   pub some : t.start < t.end
   pub within : t.end ≤ length text
+  pub quoted : t.kind ≡ Str → quotes (bytes_of text t) + quotes (bytes_of text t) ≤ length (bytes_of text t)
   pub utf8 : t.kind ≡ Str → IsUtf8 (enclosed (bytes_of text t))
 
 -- tokens of this text, each behind the one before, from a place up to another

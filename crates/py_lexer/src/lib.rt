@@ -10,14 +10,17 @@ mod columns;
 mod cursor;
 mod fault;
 mod gaps;
-
-mod strings;
+mod laws;
 mod lines;
 mod scan;
 mod signs;
+mod strings;
+mod text;
 mod token;
 mod words;
 
 pub use fault::{LexError, LexFault, LexKind};
+pub use laws::has_one_outcome;
 pub use lines::lex;
+pub use text::str_text;
 pub use token::{Line, Lines, Token, TokenKind, Tokens};

@@ -121,7 +121,6 @@ fn logical_line(
 fn lines(alloc: Global, text: &mut Cursor<'_>) -> Result<Lines, LexError>
     ensures comes { Comes (map (plain_line text.old.text)) (IsLines [] text.old) result text.new }
     ensures rise { IfOk result (λ ls. LinesRise text.old.text text.old.at ls (length text.old.text)) }
-
 {
     let mut items = Sequence::new(alloc);
     let mut kept = Vec::new(alloc);

@@ -137,8 +137,11 @@ fn one_token(text: &mut Cursor<'_>) -> Result<Token, LexError>
 }
 
 const OPEN_PAREN: u8 = 11;
+
 const CLOSE_PAREN: u8 = 12;
+
 const OPEN_BRACKET: u8 = 13;
+
 const CLOSE_BRACKET: u8 = 14;
 
 /// What a token makes of the open brackets.

@@ -8,8 +8,8 @@ ghost use Rattle.py_lexer.specs.LogicalLines as spec;
 
 /// The signs by their numbers. None begins a later one, so the first that fits is the longest.
 const SIGNS: [&str; 27] = [
-    "//=", "->", "==", "!=", "<=", ">=", "//", "+=", "-=", "*=", "%=", "(", ")", "[", "]", ":", ",",
-    ";", ".", "=", "<", ">", "+", "-", "*", "%", "@",
+    "//=", "->", "==", "!=", "<=", ">=", "//", "+=", "-=", "*=", "%=", "(", ")", "[", "]", ":",
+    ",", ";", ".", "=", "<", ">", "+", "-", "*", "%", "@",
 ];
 
 /// The place of the first of the texts that the bytes begin with.

@@ -1,7 +1,8 @@
 //! String literals: where they end, and what they stand for.
 #![tactic(auto, unfolding(crate::specs::LogicalLines::quote_at, crate::specs::LogicalLines::closes))]
 
-ghost use Rattle.std.specs.Prelude.{◌≡◌, ◌+◌, ◌<◌, ◌≤◌, false, length, IfSome, OnOk, IsTrue};
+ghost use Rattle.std.specs.Prelude.{◌≡◌, ◌+◌, ◌<◌, ◌≤◌, ◌-◌, false, length, slice_index, IfSome, OnOk, IsTrue};
+ghost use Rattle.std.specs.Char.{IsScalar};
 ghost use Rattle.py_tree.specs.StringText.{escape, hex_digit as HexDigit, hex_value};
 ghost use Rattle.py_lexer.specs.Cursor as at;
 ghost use Rattle.py_lexer.specs.LogicalLines.{IsBody, IsPiece, quote_len, stands_thrice as StandsThrice};
@@ -67,6 +68,7 @@ fn closes(quote: Quote, text: &Cursor<'_>) -> bool
 fn hex_digit(b: u8) -> Option<u32>
     ensures value { result ≡ HexDigit b }
     ensures small { IfSome result (λ d. d < 16) }
+    ensures ascii { IfSome result (λ d. b < 128) }
 {
     match b {
         b'0'..=b'9' => Some(u32::from(b - 48)),
@@ -80,6 +82,7 @@ fn hex_digit(b: u8) -> Option<u32>
 fn two_digits(bytes: &[u8]) -> Option<u32>
     ensures value { result ≡ hex_value 2 0 bytes.now }
     ensures small { IfSome result (λ c. c < 256) }
+    ensures last { IfSome result (λ c. slice_index bytes.now 1 < 128) }
 {
     match bytes {
         [a, b, ..] => Some(16 * hex_digit(*a)? + hex_digit(*b)?),
@@ -91,6 +94,7 @@ fn two_digits(bytes: &[u8]) -> Option<u32>
 fn four_digits(bytes: &[u8]) -> Option<u32>
     ensures value { result ≡ hex_value 4 0 bytes.now }
     ensures small { IfSome result (λ c. c < 65536) }
+    ensures last { IfSome result (λ c. slice_index bytes.now 3 < 128) }
 {
     match bytes {
         [a, b, c, d, ..] => {
@@ -102,9 +106,11 @@ fn four_digits(bytes: &[u8]) -> Option<u32>
 }
 
 /// What a backslash before these bytes begins: a character, and how many of the bytes spell it.
-fn escape_of(bytes: &[u8]) -> Option<(u32, usize)>
+pub fn escape_of(bytes: &[u8]) -> Option<(u32, usize)>
     ensures value { result ≡ escape bytes.now }
     ensures within { IfSome result (λ e. e.1 ≤ length bytes.now) }
+    ensures character { IfSome result (λ e. IsScalar e.0) }
+    ensures last { IfSome result (λ e. slice_index bytes.now (e.1 - 1) < 128) }
 {
     match bytes {
         [b @ (b'\\' | b'\'' | b'"'), ..] => Some((u32::from(*b), 1)),
@@ -145,11 +151,7 @@ fn pass_piece(text: &mut Cursor<'_>) -> Result<(), LexError>
 
 /// Passes the bytes of a string that begins at `start`, and its closing quotes.
 #[tactic(auto, using(crate::proofs::Rules::body_rules))]
-pub fn pass_body(
-    quote: Quote,
-    start: &Cursor<'_>,
-    text: &mut Cursor<'_>,
-) -> Result<(), LexError>
+pub fn pass_body(quote: Quote, start: &Cursor<'_>, text: &mut Cursor<'_>) -> Result<(), LexError>
     requires { 0 < quote.mark }
     ensures comes { Comes (λ u. u) (IsBody quote start.now text.old) result text.new }
     ensures no_longer { OnOk result (at.bytes_left text.new ≤ at.bytes_left text.old) }

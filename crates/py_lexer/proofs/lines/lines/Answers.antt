@@ -18,7 +18,7 @@ pub returns-in_err-line-clause-comes : goal.returns-in_err-line-clause-comes
 returns-in_err-line-clause-comes c =
     let p = err_from_is_err_and c.from_residual-in_err-line.result c.from_residual-in_err-line.ensures.1 in
     rw (p.1, p.2) (lines_fail (plain_line c.args.text.now.text) c.args.text.now c.lines.text c.pass_blanks.new.text c.logical_line.new.text c.logical_line.new.text c.lines.items c.in_err-line.field-0.0 c.lines.invariant.so_far (sym c.lines-test.ensures.ends) c.pass_blanks.ensures.unblanked (sym c.if-not-has_token.ensures)
-      (subst (λ i. Comes (plain_line c.args.text.now.text) (IsLine (columns_of c.lines.items) i) (Err c.in_err-line.field-0.0) c.logical_line.new.text) c.copy-begin.ensures (subst (λ w. Comes (plain_line w) (IsLine (columns_of c.lines.items) c.copy-begin.result) (Err c.in_err-line.field-0.0) c.logical_line.new.text) (c.pass_blanks.ensures.same_text ∙ c.lines.invariant.same_text) (c.in_err-line.ensures.comes (columns_of c.lines.items) c.lines.invariant.columns))))
+    (subst (λ i. Comes (plain_line c.args.text.now.text) (IsLine (columns_of c.lines.items) i) (Err c.in_err-line.field-0.0) c.logical_line.new.text) c.copy-begin.ensures (subst (λ w. Comes (plain_line w) (IsLine (columns_of c.lines.items) c.copy-begin.result) (Err c.in_err-line.field-0.0) c.logical_line.new.text) (c.pass_blanks.ensures.same_text ∙ c.lines.invariant.same_text) (c.in_err-line.ensures.comes (columns_of c.lines.items) c.lines.invariant.columns))))
 
 pub lines-preserved : goal.lines-preserved
 lines-preserved c = record {

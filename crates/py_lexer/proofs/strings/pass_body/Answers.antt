@@ -7,7 +7,7 @@ use Rattle.py_lexer.proofs.strings.pass_body.Goals as goal
 pub returns-then-closes-clause-closed : goal.returns-then-closes-clause-closed
 unfolding byte
 returns-then-closes-clause-closed c = record {
-  quotes = c.body.text.at;
+  quotes_at = c.body.text.at;
   behind = c.body.invariant.forward;
   ends = c.pass.ensures.forward ∙ ap (λ n. c.body.text.at + n) c.len.ensures;
   valid = subst (λ w. c.body.text.at < utf8_valid_len w) c.body.invariant.same_text (c.if-is_broken.ensures.within (c.body-test.ensures.some refl) refl);
