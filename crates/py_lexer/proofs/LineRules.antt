@@ -1,12 +1,11 @@
 -- The loops over tokens and over lines, and their rules as the check tries them.
-use Rattle.std.proofs.Common.{◌≡◌, ◌≤◌, ◌<◌, ℕ, Bool, true, false, List, [], ◌∷◌, ◌++◌, length, map, Option, Some, None, Result, Ok, Err, refl, sym, ap, subst, ◌∙◌, append_assoc}
+use Rattle.std.proofs.Common.{◌≡◌, ◌≤◌, ◌<◌, ℕ, true, false, List, [], ◌∷◌, ◌++◌, length, map, Option, Some, None, Result, Ok, Err, refl, sym, ap, subst, ◌∙◌, append_assoc}
 use Rattle.std.proofs.lemmas.List.{append-nil, map-append}
 use Rattle.py_tree.specs.declared.names.Place.{Place}
 use Rattle.py_tree.specs.Tokens.{PlainToken, PlainLine}
 use Rattle.py_lexer.specs.declared.token.Token.{Token}
 use Rattle.py_lexer.specs.declared.token.Line.{Line}
 use Rattle.py_lexer.specs.declared.fault.LexKind.TheVariants.{TooLong, NotUtf8, TabIndent, BadDedent}
-use Rattle.py_lexer.specs.declared.fault.LexFault.{LexFault}
 use Rattle.py_lexer.specs.declared.fault.LexError.{LexError}
 use Rattle.py_lexer.specs.declared.fault.LexError.TheVariants.{Fault, NoMemory}
 use Rattle.py_lexer.specs.Cursor.{At, start, at_end, byte, ends, moved, past_line, is_broken, fault_at, is_hash, spaces}

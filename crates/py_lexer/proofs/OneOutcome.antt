@@ -1,17 +1,14 @@
 -- A text has one outcome at most: its lines, or its first fault. One clause for each pair of rules.
-use Rattle.std.proofs.Common.{◌≡◌, ℕ, ◌+◌, ◌<◌, ◌≤◌, ◌^◌, Bool, true, false, List, [], ◌∷◌, ◌++◌, length, Option, Some, None, refl, sym, ap, subst, arith}
+use Rattle.std.proofs.Common.{◌≡◌, ℕ, true, List, [], ◌∷◌, ◌++◌, length, refl, sym, ap, subst, arith}
 use mathlib.Core.Logic.{◌⊎◌, inl, inr}
 use Rattle.std.proofs.lemmas.Bool.Decides.{nat_tests}
-use Rattle.std.specs.Prelude.{nat_lt, ◌==◌, ◌&&◌}
+use Rattle.std.specs.Prelude.{◌==◌}
 use Rattle.py_tree.specs.declared.names.Place.{Place}
-use Rattle.py_tree.specs.StringText.{escape}
-use Rattle.py_tree.specs.Tokens.{PlainToken, PlainLine, LStr, LSign}
+use Rattle.py_tree.specs.Tokens.{PlainToken, PlainLine}
 use Rattle.py_lexer.specs.declared.strings.Quote.{Quote}
-use Rattle.py_lexer.specs.declared.fault.LexKind.{LexKind}
-use Rattle.py_lexer.specs.declared.fault.LexFault.{LexFault}
 use Rattle.py_lexer.specs.Columns.{IsBadDedent}
-use Rattle.py_lexer.specs.Cursor.{At, byte, rest, moved, start, line_end, is_line_end, past_line, is_blank, is_hash, is_backslash, digits, spaces, sign}
-use Rattle.py_lexer.specs.LogicalLines.{Outcome, found, stops, Nothing, reaches, IsComment, comment_ends, comment_stops, comment_more, joins, passes_line, IsGap, gap_blank, gap_comment, gap_stops, gap_line, gap_join, gap_ends, quote_at, quote_len, IsPiece, piece_stops, piece_byte, piece_escape, piece_bad, IsBody, body_open, body_broken, body_closed, body_cut, body_line, body_stops, body_more, value_of, behind_digits, behind_word, token, sign_len, IsNumber, number_bad, number_wide, number_is, IsString, string_stops, string_is, IsSign, sign_is, sign_none, IsToken, token_broken, token_word, token_number, token_string, token_sign, open_behind, innermost, IsTokens, tokens_stop, tokens_gap, tokens_end, tokens_open, tokens_more, unblanked, unspaced, IsBare, bare_ends, bare_comment, IsColumn, column_tab, column_broken, column_dedent, column_is, IsLine, line_misplaced, line_stops, line_is, IsLines, lines_end, lines_bare, lines_bare_stops, lines_stop, lines_more, Lexed, has_lines, has_fault, IsText, text_too_long, text_stops, text_lines}
+use Rattle.py_lexer.specs.Cursor.{At, byte, moved, start, line_end, is_line_end, past_line, is_blank, is_hash, digits, spaces}
+use Rattle.py_lexer.specs.LogicalLines.{Outcome, Nothing, IsComment, comment_ends, comment_stops, comment_more, joins, passes_line, IsGap, gap_blank, gap_comment, gap_stops, gap_line, gap_join, gap_ends, quote_at, quote_len, IsPiece, piece_stops, piece_byte, piece_escape, piece_bad, IsBody, body_open, body_broken, body_closed, body_cut, body_line, body_stops, body_more, value_of, IsNumber, number_bad, number_wide, number_is, IsString, string_stops, string_is, IsSign, sign_is, sign_none, IsToken, token_broken, token_word, token_number, token_string, token_sign, open_behind, IsTokens, tokens_stop, tokens_gap, tokens_end, tokens_open, tokens_more, unblanked, IsBare, bare_ends, bare_comment, IsColumn, column_tab, column_broken, column_dedent, column_is, IsLine, line_misplaced, line_stops, line_is, IsLines, lines_end, lines_bare, lines_bare_stops, lines_stop, lines_more, Lexed, IsText, text_too_long, text_stops, text_lines}
 
 -- what separates tokens begins with bytes that differ
 blank_hash : (i : At) → is_blank (byte i) ≡ true → is_hash (byte i) ≡ true → ⊥

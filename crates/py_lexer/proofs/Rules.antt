@@ -1,5 +1,5 @@
 -- The lexical rules, as the check tries them.
-use Rattle.std.proofs.Common.{◌≡◌, ◌≢◌, ℕ, ◌+◌, Bool, true, false, List, [], ◌∷◌, ◌++◌, length, Option, Some, None, Result, Ok, Err, refl, sym, ap, subst, ◌∙◌}
+use Rattle.std.proofs.Common.{◌≡◌, ℕ, ◌+◌, true, false, List, length, Option, Some, None, Result, Ok, Err, refl, sym, ap, subst, ◌∙◌}
 use Rattle.std.specs.Prelude.{unwrap_or, option_map}
 use Rattle.std.specs.Prelude.{IsUtf8}
 use Rattle.std.specs.Str.Lossy.{utf8_valid_len}
@@ -10,10 +10,9 @@ use Rattle.py_tree.specs.StringText.{escape}
 use Rattle.py_lexer.specs.declared.strings.Quote.{Quote}
 use Rattle.py_lexer.specs.declared.fault.LexKind.{LexKind}
 use Rattle.py_lexer.specs.declared.fault.LexKind.TheVariants.{NotUtf8, OpenString, BadEscape, BadCharacter}
-use Rattle.py_lexer.specs.declared.fault.LexFault.{LexFault}
 use Rattle.py_lexer.specs.declared.fault.LexError.{LexError}
 use Rattle.py_lexer.specs.declared.fault.LexError.TheVariants.{Fault, NoMemory}
-use Rattle.py_lexer.specs.Cursor.{At, byte, moved, is_line_end, past_line, at_end, ends, rest, stray, fault_at, is_broken, is_letter, is_digit, is_quote, is_backslash, is_hash, is_blank, digits, sign}
+use Rattle.py_lexer.specs.Cursor.{At, byte, moved, is_line_end, past_line, at_end, ends, rest, stray, fault_at, is_broken, is_letter, is_digit, is_quote, is_backslash, is_hash, is_blank, sign}
 use Rattle.py_lexer.specs.LogicalLines.{Outcome, found, stops, Nothing, reaches, joins, passes_line, IsComment, comment_ends, comment_stops, comment_more, IsGap, gap_blank, gap_comment, gap_stops, gap_line, gap_join, gap_ends, closes, quote_len, IsPiece, piece_stops, piece_byte, piece_escape, piece_bad, IsBody, body_open, body_broken, body_closed, body_cut, body_line, body_stops, body_more, quote_at, token, sign_len, is_number, value_of, behind_word, behind_digits, IsNumber, number_bad, number_wide, number_is, IsString, string_stops, string_is, IsSign, sign_is, sign_none, IsToken, token_broken, token_word, token_number, token_string, token_sign}
 use Rattle.py_tree.specs.Tokens.{PlainToken, LStr, LSign}
 use Rattle.py_lexer.specs.declared.token.Token.{Token}

@@ -1,5 +1,5 @@
 -- Signs stand in what they begin, and have bytes.
-use Rattle.std.proofs.Common.{◌≡◌, ℕ, ◌<◌, ◌≤◌, ◌+◌, Bool, true, false, List, [], ◌∷◌, ◌++◌, length, drop, get_or, Option, Some, None, refl, sym, ap, ◌∙◌, subst, arith}
+use Rattle.std.proofs.Common.{◌≡◌, ℕ, ◌<◌, ◌≤◌, Bool, true, false, List, [], length, drop, get_or, Some, refl, sym, ap, ◌∙◌, arith}
 use Rattle.std.proofs.lemmas.List.{length-append}
 use Rattle.std.specs.Prelude.{nat_eq, nat_lt, position}
 use Rattle.std.specs.List.{starts_with, list_all}
@@ -9,8 +9,6 @@ use Rattle.std.proofs.lemmas.List.Quantifiers.{position-Some}
 use Rattle.std.proofs.lemmas.List.Folds.{list_all_at}
 use Rattle.std.proofs.lemmas.Slice.Eq.{starts_is}
 use Rattle.py_tree.specs.Tokens.{signs}
-use Rattle.py_lexer.specs.Cursor.{At, sign, rest}
-use Rattle.py_lexer.specs.LogicalLines.{sign_len}
 
 -- a sign that the bytes begin with is no longer than they are
 pub sign_fits : (bs : List ℕ) (n : ℕ) → position (starts_with nat_eq bs) signs ≡ Some n → length (get_or signs n []) ≤ length bs

@@ -1,5 +1,5 @@
 -- Tokens rise, and what a string encloses is UTF-8.
-use Rattle.std.proofs.Common.{◌≡◌, ◌≢◌, ◌⊎◌, ℕ, ◌+◌, ◌-◌, ◌<◌, ◌≤◌, Bool, true, false, List, [], ◌∷◌, ◌++◌, length, take, drop, get_or, refl, sym, ap, subst, ◌∙◌, arith, length-take}
+use Rattle.std.proofs.Common.{◌≡◌, ℕ, ◌+◌, ◌-◌, ◌<◌, ◌≤◌, Bool, true, false, List, [], ◌∷◌, ◌++◌, length, take, drop, refl, sym, ap, subst, ◌∙◌, arith, length-take}
 use Rattle.std.specs.Prelude.{slice_range, slice_index, IsUtf8}
 use Rattle.std.specs.Str.Lossy.{utf8_valid_len}
 use Rattle.std.specs.Prelude.{IsCharBoundary, if◌then◌else◌, ℤ}
@@ -11,8 +11,9 @@ use Rattle.py_tree.specs.StringText.{quotes, enclosed}
 use Rattle.py_lexer.specs.declared.strings.Quote.{Quote}
 use Rattle.py_lexer.specs.Cursor.{At, byte, moved}
 use Rattle.py_lexer.specs.LogicalLines.{stands_thrice, quote_at, quote_len}
-use Rattle.std.proofs.Common.{Option, Some, None, Result, Ok, Err}
-use Rattle.std.specs.Prelude.{IfOk}
+use Rattle.std.proofs.Common.{Option, Some, None, Result}
+use Rattle.std.proofs.Common.{zero, suc}
+use Rattle.std.specs.Prelude.{IfOk, slice_get, unwrap_or}
 use Rattle.py_tree.specs.declared.names.Place.{Place}
 use Rattle.py_lexer.specs.declared.fault.LexError.{LexError}
 use Rattle.py_lexer.specs.Views.{Closes}
@@ -206,3 +207,20 @@ pub ruleset of_rules = (other_is_of, word_other, int_other, sign_other)
 pub closed_rise : (text : List ℕ) (from upto : ℕ) (items : List Token) (o : Option Place) (r : Result (List Token) LexError) → Rise text from items upto → Closes o items r → IfOk r (λ ts. Rise text from ts upto)
 closed_rise text from upto items None r rises e = subst (λ z. IfOk z (λ ts. Rise text from ts upto)) (sym e) rises
 closed_rise text from upto items (Some p) r rises e = subst (λ z. IfOk z (λ ts. Rise text from ts upto)) (sym e) tt
+
+not_there : {A : Type 0} {x : A} → None ≡ Some x → ⊥
+not_there e = cc
+
+same_some : {A : Type 0} {x y : A} → Some x ≡ Some y → x ≡ y
+same_some {x = x} e = ap (λ o. unwrap_or o x) e
+
+-- each token among those that rise is one of its text
+pub one_of : (text : List ℕ) (from upto : ℕ) (ts : List Token) (i : ℕ) (t : Token) → Rise text from ts upto → slice_get ts i ≡ Some t → IsOf text t
+one_of text from upto ts i t (risen le) e = absurd (not_there e)
+one_of text from upto ts zero t (rise le is more) e = subst (IsOf text) (same_some e) is
+one_of text from upto ts (suc i) t (rise le is more) e = one_of text _ upto _ i t more e
+
+pub one_of_line : (text : List ℕ) (from upto : ℕ) (ls : List Line) (i k : ℕ) (l : Line) (t : Token) → LinesRise text from ls upto → slice_get ls i ≡ Some l → slice_get l.tokens k ≡ Some t → IsOf text t
+one_of_line text from upto ls i k l t (lines_risen le) e f = absurd (not_there e)
+one_of_line text from upto ls zero k l t (lines_rise {mid = mid} is more) e f = one_of text from mid l.tokens k t (subst (λ m. Rise text from m.tokens mid) (same_some e) is) f
+one_of_line text from upto ls (suc i) k l t (lines_rise is more) e f = one_of_line text _ upto _ i k l t more e f

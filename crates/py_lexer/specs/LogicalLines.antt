@@ -1,6 +1,6 @@
 -- The logical lines of a text, or its first fault (Python Language Reference, lexical analysis). Reading from a place
 -- comes to what is found there and the place behind it, or stops with a fault.
-use Rattle.std.specs.Prelude.{◌≡◌, ◌≢◌, ℕ, ◌+◌, ◌*◌, ◌-◌, ◌<◌, ◌≤◌, ◌^◌, pos, Bool, true, false, not, ◌||◌, ◌&&◌, ◌==◌, nat_lt, if◌then◌else◌, List, [], ◌∷◌, ◌++◌, length, take, slice_get, slice_index_or, slice_range, Option, Some, None}
+use Rattle.std.specs.Prelude.{◌≡◌, ℕ, ◌+◌, ◌*◌, ◌-◌, ◌<◌, ◌≤◌, ◌^◌, pos, Bool, true, false, not, ◌||◌, ◌&&◌, ◌==◌, nat_lt, if◌then◌else◌, List, [], ◌∷◌, ◌++◌, length, take, slice_get, slice_index_or, slice_range, Option, Some, None}
 use Rattle.py_tree.specs.declared.names.Place.{Place}
 use Rattle.py_tree.specs.StringText.{escape}
 use Rattle.py_tree.specs.Tokens.{Lexeme, LWord, LInt, LStr, LSign, PlainToken, PlainLine, signs}
@@ -8,7 +8,7 @@ use Rattle.py_lexer.specs.declared.fault.LexKind.{LexKind}
 use Rattle.py_lexer.specs.declared.fault.LexKind.TheVariants.{TooLong, NotUtf8, TabIndent, BadDedent, BadEscape, OpenString, BadNumber, LiteralTooWide, BadCharacter, OpenBracket}
 use Rattle.py_lexer.specs.declared.fault.LexFault.{LexFault}
 use Rattle.py_lexer.specs.declared.strings.Quote.{Quote}
-use Rattle.py_lexer.specs.Cursor.{At, start, at_end, byte, rest, place, moved, line_end, is_line_end, past_line, ends, is_broken, stray, fault_at, is_letter, is_digit, is_backslash, is_hash, is_quote, is_blank, word_len, digits, blanks, spaces, sign}
+use Rattle.py_lexer.specs.Cursor.{At, start, at_end, byte, rest, place, moved, is_line_end, past_line, ends, is_broken, stray, fault_at, is_letter, is_digit, is_backslash, is_hash, is_quote, is_blank, word_len, digits, blanks, spaces, sign}
 use Rattle.py_lexer.specs.Columns.{IsBadDedent}
 
 pub data Outcome (A : Type 0) : Type 0 where

@@ -9,7 +9,7 @@ use Rattle.py_lexer.specs.declared.token.Line.{Line}
 use Rattle.py_lexer.specs.declared.fault.LexError.{LexError}
 use Rattle.py_lexer.specs.declared.fault.LexError.TheVariants.{Fault, NoMemory}
 use Rattle.py_lexer.specs.Cursor.{At}
-use Rattle.py_lexer.specs.LogicalLines.{Outcome, found, stops, Lexed, has_lines, has_fault, open_bracket, IsText}
+use Rattle.py_lexer.specs.LogicalLines.{Outcome, found, stops, has_lines, has_fault, open_bracket, IsText}
 
 abbrev pub plain_kind : TokenKind → Lexeme
 plain_kind Word = LWord

@@ -15,6 +15,8 @@ mod lines;
 mod scan;
 mod signs;
 mod strings;
+#[cfg(test)]
+mod tests;
 mod text;
 mod token;
 mod words;

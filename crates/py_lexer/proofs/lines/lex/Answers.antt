@@ -1,6 +1,5 @@
 use Rattle.std.proofs.Common.{[], map, subst, arith, length}
 use Rattle.std.specs.Prelude.{IfOk}
-use Rattle.py_lexer.specs.Cursor.{start}
 use Rattle.py_lexer.specs.LogicalLines.{IsLines}
 use Rattle.py_lexer.specs.Spans.{LinesRise}
 use Rattle.py_lexer.specs.Views.{plain_line, Comes}

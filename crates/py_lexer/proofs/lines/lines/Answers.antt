@@ -1,7 +1,7 @@
-use Rattle.std.proofs.Common.{◌≡◌, ◌∙◌, [], ◌∷◌, ◌++◌, ◌≤◌, length, Err, Ok, ap, map, sym, subst}
+use Rattle.std.proofs.Common.{◌∙◌, [], ◌∷◌, ◌≤◌, length, Err, ap, sym, subst}
 use Rattle.std.proofs.lemmas.List.{map-append}
 use Rattle.std.proofs.lemmas.Result.{err_from_is_err_and}
-use Rattle.py_lexer.specs.LogicalLines.{found, IsBare, IsLine, unblanked, Nothing}
+use Rattle.py_lexer.specs.LogicalLines.{found, IsLine}
 use Rattle.py_lexer.specs.OpenColumns.{AreOpen}
 use Rattle.py_lexer.specs.Views.{plain_line, Comes}
 use Rattle.py_lexer.specs.Spans.{Rise, LinesRise}

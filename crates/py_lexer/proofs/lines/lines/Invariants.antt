@@ -1,4 +1,4 @@
-use Rattle.std.proofs.Common.{◌≡◌, ◌≤◌}
+use Rattle.std.proofs.Common.{◌≡◌}
 use Rattle.py_lexer.specs.Cursor.{bytes_left}
 use Rattle.py_lexer.specs.OpenColumns.{AreOpen}
 use Rattle.py_lexer.specs.Spans.{LinesRise}

@@ -1,8 +1,8 @@
-use Rattle.std.proofs.Common.{◌≡◌, [], List, map, Err, subst, sym}
+use Rattle.std.proofs.Common.{map, subst, sym}
 use Rattle.std.proofs.lemmas.Result.{err_from_is_err_and}
-use Rattle.py_lexer.specs.LogicalLines.{IsColumn, IsTokens, found, unblanked}
-use Rattle.py_lexer.specs.OpenColumns.{AreOpen, opened}
-use Rattle.py_lexer.specs.Views.{plain_line, plain_token, Comes}
+use Rattle.py_lexer.specs.LogicalLines.{IsColumn, found}
+use Rattle.py_lexer.specs.OpenColumns.{AreOpen}
+use Rattle.py_lexer.specs.Views.{plain_line, plain_token}
 use Rattle.py_lexer.proofs.ColumnLaws.{opens}
 use Rattle.py_lexer.proofs.LineRules.{line_misplaced_by, line_fails}
 use Rattle.py_lexer.proofs.lines.logical_line.Goals as goal

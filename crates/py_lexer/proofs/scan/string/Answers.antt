@@ -1,5 +1,5 @@
 use Rattle.std.proofs.Common.{◌∙◌, ◌≤◌, length, ap, subst, arith}
-use Rattle.py_lexer.specs.Cursor.{At, byte, moved}
+use Rattle.py_lexer.specs.Cursor.{byte, moved}
 use Rattle.py_lexer.proofs.SpanLaws.{string_is_of}
 use Rattle.std.proofs.lemmas.Result.{err_from_is_err_and}
 use Rattle.py_lexer.specs.Views.{plain_token}

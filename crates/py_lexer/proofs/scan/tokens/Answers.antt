@@ -1,6 +1,6 @@
-use Rattle.std.proofs.Common.{[], length, Err, arith, subst, sym, ◌∙◌}
+use Rattle.std.proofs.Common.{Err, arith, subst, sym, ◌∙◌}
 use Rattle.std.proofs.lemmas.Result.{err_from_is_err_and}
-use Rattle.py_lexer.specs.LogicalLines.{found, stops, reaches, Nothing, IsToken, IsGap, innermost}
+use Rattle.py_lexer.specs.LogicalLines.{found, reaches, Nothing, IsToken, IsGap, innermost}
 use Rattle.py_lexer.specs.Views.{plain_token, Closes, Comes}
 use Rattle.py_lexer.specs.Spans.{IsOf, Rise}
 use Rattle.py_lexer.proofs.SpanLaws.{rise_more, closed_rise}

@@ -1,4 +1,4 @@
-use Rattle.std.proofs.Common.{◌≡◌, ◌<◌, ◌+◌, ◌∙◌, ap, refl, sym, subst}
+use Rattle.std.proofs.Common.{◌<◌, ◌+◌, ◌∙◌, ap, refl, sym, subst}
 use Rattle.std.specs.Prelude.{slice_index}
 use Rattle.std.specs.Str.Lossy.{utf8_valid_len}
 use Rattle.py_lexer.specs.Cursor.{byte}

@@ -1,4 +1,4 @@
-use Rattle.std.proofs.Common.{◌≡◌, ◌∙◌, sym, ap}
+use Rattle.std.proofs.Common.{◌∙◌, sym, ap}
 use Rattle.py_tree.specs.StringText.{escape}
 use Rattle.py_lexer.specs.Cursor.{is_backslash}
 use Rattle.py_lexer.proofs.Rules.{piece_escaped}

@@ -1,8 +1,7 @@
-use Rattle.std.proofs.Common.{◌≡◌, ◌∙◌, true, ap, sym, subst, arith, length, drop, ◌+◌, ◌-◌, ◌≤◌}
+use Rattle.std.proofs.Common.{◌≡◌, ◌∙◌, ap, sym, subst, arith, length, drop, ◌+◌, ◌-◌, ◌≤◌}
 use Rattle.std.proofs.lemmas.List.{length-drop}
 use Rattle.py_tree.specs.StringText.{escaped}
 use Rattle.std.specs.Prelude.{◌<◌, slice_index, IsUtf8, ◌++◌}
-use Rattle.py_lexer.specs.Cursor.{is_backslash}
 use Rattle.py_lexer.proofs.TextLaws.{escape_read, escaped_utf8, cr_read, left_out_utf8, is_ascii}
 use Rattle.py_lexer.proofs.text.unescaped.Goals as goal
 
