@@ -1,9 +1,8 @@
-use Rattle.std.proofs.Common.{◌≡◌, ◌≢◌, rules, SFits, pos, ◌-ℤ◌, ap, int_rem, int_div, refl}
+use Rattle.std.proofs.Common.{◌≢◌, rules, SFits, pos, ◌-ℤ◌, ap, int_div, refl}
 use Rattle.std.specs.Int.{w128, cast_unsigned}
 use Rattle.std.proofs.lemmas.Int.{to_z-of_z}
 use Rattle.std.proofs.lemmas.Bool.{false≢true}
 use Rattle.sf_value.proofs.Quotients.{mod_kept, mod_corrected}
-use Rattle.sf_value.specs.Arithmetic.{HaveOppositeSigns}
 use Rattle.sf_value.proofs.arithmetic.floor_mod.Goals as goal
 
 pub returns-then-have_opposite_signs-clause-value : goal.returns-then-have_opposite_signs-clause-value
