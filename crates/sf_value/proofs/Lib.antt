@@ -1,3 +1,4 @@
+pub mod Quotients
 pub mod Weights
 pub mod Maps
 pub mod Variants

@@ -1,5 +1,5 @@
 //! Values, and what is asked and answered with them: entities, records, requests, outcomes, replies,
-//! and what a log and a snapshot hold.
+//! and what a log and a snapshot hold; and the division of whole numbers.
 //!
 //! A value holds no pointer of its own, so contracts see it as it stands, and a copy is equal to its
 //! original.
@@ -7,10 +7,12 @@
 
 ghost use Rattle.std.specs.Prelude.{◌≡◌, ◌↔◌, IfOk, IsTrue};
 
+mod arithmetic;
 mod text;
 mod value;
 mod weighing;
 
+pub use arithmetic::{floor_div, floor_mod, has_one_quotient};
 use sf_list::{Sequence, TryClone};
 use std::alloc::{AllocError, Global};
 pub use text::Text;

@@ -1,5 +1,5 @@
 -- From an ending that was told to what its status says.
-use Rattle.std.proofs.Common.{◌≡◌, ℕ, ◌+◌, ◌≤◌, ◌<◌, ◌⊎◌, inl, inr, List, [], ◌++◌, length, Some, None, Ok, Err, refl, sym, ap, ◌∙◌, subst, arith}
+use Rattle.std.proofs.Common.{◌≡◌, ℕ, ◌<◌, ◌⊎◌, inl, inr, List, length, Some, None, Ok, Err, refl, sym, ap, ◌∙◌, subst, arith}
 use Rattle.std.proofs.lemmas.List.{length-append}
 use Rattle.std.specs.declared.option.Option.{Option}
 use Rattle.std.specs.Io.KnownBytes.{Consumes, IsAtEnd}
@@ -12,10 +12,10 @@ use Rattle.session.specs.declared.feeding.InputEnd.TheVariants as input
 use Rattle.session.specs.Served.{Answered, AnsweredOver}
 use Rattle.session.proofs.SerialOutputLaws.{Served-serial}
 use Rattle.source_meaning.specs.ClassTables.{Source}
-use Rattle.request_json.specs.Actions.{whole_lines, all_lines}
+use Rattle.request_json.specs.Actions.{all_lines}
 use Rattle.stateflow_cli.specs.Devices.{Devices, Untouched}
 use Rattle.stateflow_cli.specs.Loading.{MayHold, Refuses, source_in}
-use Rattle.stateflow_cli.specs.Endings.{EndsOn, Ends, Ran}
+use Rattle.stateflow_cli.specs.Endings.{EndsOn, Ends}
 use Rattle.stateflow_cli.specs.StatusLines.{status_of, line_of}
 use Rattle.stateflow_cli.specs.Telling.{Told, Whole, Part}
 use Rattle.stateflow_cli.specs.Answers.{Answers, Completes, PrintsSerially, IsRefused, FileRose, IsLonger, IsWithin, HasCauses, IsUndisturbed, RunsOut}

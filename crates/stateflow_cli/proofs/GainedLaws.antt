@@ -1,14 +1,14 @@
 -- What the error stream gained, piece after piece.
-use Rattle.std.proofs.Common.{◌≡◌, ℕ, ◌+◌, ◌≤◌, Bool, true, false, ◌==◌, List, [], ◌++◌, length, take, min, Ok, Err, OnOk, OnErr, refl, sym, ap, ◌∙◌, subst, append-nil, arith}
+use Rattle.std.proofs.Common.{◌≡◌, ℕ, ◌+◌, ◌≤◌, false, ◌==◌, List, [], ◌++◌, length, take, min, Ok, Err, OnOk, OnErr, refl, sym, ap, ◌∙◌, subst, append-nil, arith}
 use Rattle.std.proofs.lemmas.List.{take_at}
 use Rattle.std.proofs.KnownBytes.{Appends-trans, Appends-nil, Appends-kept}
 use Rattle.std.specs.declared.option.Option.{Option}
 use Rattle.std.specs.declared.result.Result.{Result}
 use Rattle.std.specs.Io.KnownBytes.{Appends, Keeps}
 use Rattle.sf_outside.specs.Bytes.{AppendsPrefix}
-use Rattle.sf_outside.specs.Causes.{Rose, HasCause}
+use Rattle.sf_outside.specs.Causes.{Rose}
 use Rattle.stateflow_cli.specs.StatusLines.{write_fault_line}
-use Rattle.stateflow_cli.specs.Telling.{second_line, SaidInPart, Told, Part}
+use Rattle.stateflow_cli.specs.Telling.{second_line, Told, Part}
 use Rattle.sf_outside.proofs.Fronts.{take_into, take_first}
 
 -- all of it is a prefix

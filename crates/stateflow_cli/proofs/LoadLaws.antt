@@ -1,5 +1,5 @@
 -- Reading the first bytes of a file piece by piece.
-use Rattle.std.proofs.Common.{◌≡◌, ℕ, ◌+◌, ◌≤◌, ◌<◌, List, [], ◌++◌, length, take, drop, Some, None, Ok, Err, refl, sym, ap, ◌∙◌, subst, arith}
+use Rattle.std.proofs.Common.{◌≡◌, ℕ, ◌+◌, ◌≤◌, ◌<◌, List, [], ◌++◌, length, take, Some, None, Ok, Err, refl, sym, ap, ◌∙◌, subst, arith}
 use Rattle.std.proofs.Math.Seq.{take-add}
 use Rattle.std.proofs.lemmas.List.{take_all, length-take, length-take-le, length-append, take-append-le}
 use Rattle.std.specs.declared.option.Option.{Option}
@@ -11,7 +11,7 @@ use Rattle.py_parser.specs.declared.fault.SmallError.{SmallError}
 use Rattle.py_parser.specs.declared.fault.SmallError.TheVariants as small
 use Rattle.stateflow_cli.specs.declared.loading.LoadStop.{LoadStop}
 use Rattle.stateflow_cli.specs.declared.loading.LoadStop.TheVariants.{Unsupported, NoMemory}
-use Rattle.stateflow_cli.specs.Loading.{MayHold, MayBegin, Loads, Refuses, stop_of}
+use Rattle.stateflow_cli.specs.Loading.{MayBegin, Loads, Refuses, stop_of}
 
 pub MayBegin-none : (content : Option (List ℕ)) → MayBegin content 0 []
 MayBegin-none None = tt

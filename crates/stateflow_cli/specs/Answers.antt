@@ -5,7 +5,6 @@ use Rattle.std.specs.Io.KnownBytes.{Keeps}
 use Rattle.sf_outside.specs.Causes.{Rose}
 use Rattle.py_tree.specs.PlainProgram.{PlainProgram}
 use Rattle.py_parser.specs.SmallProgram.{IsSmall}
-use Rattle.session.specs.declared.feeding.InputEnd.{InputEnd}
 use Rattle.session.specs.declared.feeding.InputEnd.TheVariants.{End}
 use Rattle.session.specs.SerialOutput.{SerialRun}
 use Rattle.stateflow_cli.specs.Devices.{Devices, Untouched}

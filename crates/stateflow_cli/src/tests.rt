@@ -1,7 +1,10 @@
 //! The top call over forms in memory: one run, and each call of a device failing in turn.
 
+mod bounds;
+mod order;
+
 use crate::stateflow;
-use sf_outside::{MemFiles, MemSink, MemSource};
+use sf_outside::{MemFiles, MemSink, MemSource, Source};
 use std::alloc::{AllocError, Global};
 use std::test::Fail;
 
@@ -56,25 +59,42 @@ struct Answer {
     err: MemSink,
 }
 
-/// Runs the counter on its requests, with this word for the size of a batch.
-fn run_counter(alloc: Global, size: &str, faults: Faults<'_>) -> Result<Answer, AllocError> {
+/// The words that run the counter's file, with this one for the size of a batch.
+fn run_words(alloc: Global, size: &str) -> Result<Vec<String>, AllocError> {
     let mut words = Vec::new(alloc);
     for word in ["run", "counter.py", "--batch", size] {
         words.push(String::from_str(alloc, word)?)?;
     }
-    let mut files = MemFiles::new(alloc, &["counter.py"], &[COUNTER], faults.file)?;
-    let mut input = MemSource::new(alloc, REQUESTS, faults.input)?;
+    Ok(words)
+}
+
+/// Runs a text as the counter's file on an input, with this word for the size of a batch.
+fn run_text<S: Source>(
+    alloc: Global,
+    size: &str,
+    text: &[u8],
+    input: &mut S,
+    faults: Faults<'_>,
+) -> Result<Answer, AllocError> {
+    let words = run_words(alloc, size)?;
+    let mut files = MemFiles::new(alloc, &["counter.py"], &[text], faults.file)?;
     let mut out = MemSink::new(alloc, 1000, faults.out)?;
     let mut err = MemSink::new(alloc, 1000, faults.err)?;
     let status = stateflow(
         alloc,
         words.as_slice(),
         &mut files,
-        &mut input,
+        input,
         &mut out,
         &mut err,
     );
     Ok(Answer { status, out, err })
+}
+
+/// Runs the counter on its requests, with this word for the size of a batch.
+fn run_counter(alloc: Global, size: &str, faults: Faults<'_>) -> Result<Answer, AllocError> {
+    let mut input = MemSource::new(alloc, REQUESTS, faults.input)?;
+    run_text(alloc, size, COUNTER, &mut input, faults)
 }
 
 #[test]

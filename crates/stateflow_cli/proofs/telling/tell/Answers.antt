@@ -1,6 +1,6 @@
-use Rattle.std.proofs.Common.{◌==◌, arith}
+use Rattle.std.proofs.Common.{arith}
 use Rattle.std.proofs.lemmas.Bool.Decides.{nat_tests}
-use Rattle.stateflow_cli.proofs.GainedLaws.{Told-twice, Told-once}
+use Rattle.stateflow_cli.proofs.GainedLaws.{Told-twice}
 use Rattle.stateflow_cli.proofs.telling.tell.Goals as goal
 
 pub returns-then-status-ne-WRITE_FAULT : goal.returns-then-status-ne-WRITE_FAULT

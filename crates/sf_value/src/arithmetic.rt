@@ -1,0 +1,69 @@
+//! Floor division and modulo of whole numbers.
+
+ghost use Rattle.std.specs.Prelude.{◌≡◌, ◌≢◌, ◌↔◌, ℤ, pos, IfSome, IsNone, IsTrue};
+ghost use Rattle.sf_value.specs.Arithmetic.{HaveOppositeSigns, FloorDivides, HasOneQuotient, HasNoQuotient};
+
+/// A divisor other than 0 gives one quotient and one remainder.
+pub fn has_one_quotient()
+    ensures { (x y : ℤ) → y ≢ pos 0 → HasOneQuotient x y }
+{}
+
+/// Whether a division towards zero that left this remainder rounded up.
+fn have_opposite_signs(remainder: i128, divisor: i128) -> bool
+    ensures { IsTrue result ↔ HaveOppositeSigns remainder divisor }
+{
+    (remainder > 0 && divisor < 0) || (remainder < 0 && divisor > 0)
+}
+
+/// `x // y`, where it is a number of 128 bits.
+pub fn floor_div(x: i128, y: i128) -> Option<i128>
+    ensures value { IfSome result (λ q. (r : ℤ) × FloorDivides x y q r) }
+    ensures none { IsNone result ↔ HasNoQuotient x y }
+{
+    let towards_zero = x.checked_div(y)?;
+    if have_opposite_signs(x.wrapping_rem(y), y) {
+        Some(towards_zero - 1)
+    } else {
+        Some(towards_zero)
+    }
+}
+
+/// `x % y`. It is a number of 128 bits for each divisor other than 0.
+pub fn floor_mod(x: i128, y: i128) -> Option<i128>
+    ensures value { IfSome result (λ r. (q : ℤ) × FloorDivides x y q r) }
+    ensures none { IsNone result ↔ (y ≡ pos 0) }
+{
+    if y == 0 {
+        return None;
+    }
+    let towards_zero = x.wrapping_rem(y);
+    if have_opposite_signs(towards_zero, y) {
+        Some(towards_zero + y)
+    } else {
+        Some(towards_zero)
+    }
+}
+
+#[cfg(test)]
+mod tests {
+    use super::{floor_div, floor_mod};
+
+    #[test]
+    fn quotients_are_rounded_down(rt: HostRuntime) {
+        for (x, y, quotient, remainder) in [
+            (7, 2, Some(3), Some(1)),
+            (-7, 2, Some(-4), Some(1)),
+            (7, -2, Some(-4), Some(-1)),
+            (-7, -2, Some(3), Some(-1)),
+            (-6, 2, Some(-3), Some(0)),
+            (1, 0, None, None),
+            (7, 0, None, None),
+            (i128::MIN, -1, None, Some(0)),
+            (i128::MIN, 1, Some(i128::MIN), Some(0)),
+            (i128::MIN, i128::MAX, Some(-2), Some(i128::MAX - 1)),
+        ] {
+            assert_eq!(rt; floor_div(x, y), quotient, "{x} // {y}");
+            assert_eq!(rt; floor_mod(x, y), remainder, "{x} % {y}");
+        }
+    }
+}
