@@ -4,20 +4,21 @@ use Rattle.std.specs.declared.option.Option.{Option}
 use Rattle.std.specs.Int.{w32, from_be_bytes, to_be_bytes}
 use Rattle.std.proofs.lemmas.List.{take_all, take-take}
 use Rattle.sf_bytes.specs.ByteForms.{number_bytes, batch_bytes}
+use Rattle.sf_bytes.specs.Gates.{open_gate, StandsAt, OpenAt}
 use Rattle.sf_bytes.specs.Reading.{batch_at}
 use Rattle.sf_bytes.specs.Reads.{NoneBeginsAnother}
 use Rattle.sf_bytes.specs.Spelt.{IsReadBatch}
 use Rattle.sf_bytes.proofs.Fronts.{stands_apart}
 use Rattle.sf_bytes.proofs.RecordLaws.{batch_spells}
+use Rattle.sf_bytes.proofs.Stands.{Stands-front, Stands-behind, Stands-both}
 use Rattle.sf_bytes.proofs.Wide.{IsBytes, IsBytes-rest, wide32}
 use Rattle.sf_outside.specs.Bytes.{CopiedAll}
 use Rattle.sf_outside.specs.DiskModel.{Image, of_file}
 use Rattle.sf_outside.specs.declared.store_disk.StoreFile.{StoreFile}
 use Rattle.sf_value.specs.declared.BatchRecord.{BatchRecord}
-use Rattle.request_log.specs.LogFile.{open_gate, gate_behind, StandsAt, OpenAt, RecordAt, IsBadAt, IsBatch}
+use Rattle.request_log.specs.LogFile.{gate_behind, RecordAt, IsBadAt, IsBatch}
 use Rattle.request_log.specs.Answers.{SaysFront, SaysBatch}
 use Rattle.request_log.specs.declared.reading.Front.TheVariants.{Broken}
-use Rattle.request_log.proofs.Stands.{Stands-front, Stands-behind, Stands-both}
 use Rattle.request_log.proofs.Logs.{number-length}
 
 -- what follows from two facts of a value, where there is one

@@ -1,0 +1,5 @@
+pub mod Checkpoints
+pub mod Epochs
+pub mod Fillings
+pub mod Gates
+pub mod Slots
