@@ -11,3 +11,4 @@ pub mod Fields
 pub mod RecordLaws
 pub mod Light
 pub mod Stands
+pub mod Wholes

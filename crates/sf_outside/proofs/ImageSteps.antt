@@ -12,6 +12,15 @@ pub on_ok : {T E : Type 0} (result : Result T E) (P Q : Type 0) → (P → Q) �
 on_ok (Ok x) P Q follows here = follows here
 on_ok (Err e) P Q follows here = tt
 
+pub on_ok_both : {T E : Type 0} (result : Result T E) (P Q R : Type 0) → (P → Q → R) → OnOk result P → OnOk result Q → OnOk result R
+on_ok_both (Ok x) P Q R follows p q = follows p q
+on_ok_both (Err e) P Q R follows p q = tt
+
+-- what follows from two facts of a value, where there is one
+pub if_both : {A : Type 0} (some : Option A) (P Q R : A → Type 0) → ((x : A) → P x → Q x → R x) → IfSome some P → IfSome some Q → IfSome some R
+if_both None P Q R follows p q = tt
+if_both (Some x) P Q R follows p q = follows x p q
+
 -- each image that a crash left by the end of a run has what all had that it left meanwhile
 pub left_now : (old new : DiskFacts) (P : Image → Type 0) → LeavesOnly old new P → (image : Image) → new.may_leave image → P image
 left_now old new P leaves image left = leaves.each image (new.counts_now old.moment image leaves.later left)
@@ -32,14 +41,19 @@ torn_others file at n between image earlier came torn =
     let there : torn.bytes ≡ of_file file image = sym (ap (of_file file) torn.image ∙ of_file-same file torn.bytes between) in
     torn.image ∙ ap (with_file file torn.bytes) came ∙ with_file-again file (of_file file between) torn.bytes earlier ∙ ap (λ f. with_file file f earlier) there
 
--- an image that comes torn comes by a step that each torn write makes
-pub comes_torn : (file : StoreFile) (at n : ℕ) (Step : List ℕ → List ℕ → Type 0) (old : DiskFacts) (image : Image) → ((before now : List ℕ) → Torn at n before now → Step before now) → ComesTorn file at n old image → ComesBy file Step old image
-comes_torn file at n Step old image follows torn = record {
+-- an image that comes torn comes by a step that its torn write makes
+pub comes_torn_at : (file : StoreFile) (at n : ℕ) (Step : List ℕ → List ℕ → Type 0) (old : DiskFacts) (image : Image) (torn : ComesTorn file at n old image)
+    → (Torn at n (of_file file torn.0) (of_file file image) → Step (of_file file torn.0) (of_file file image)) → ComesBy file Step old image
+comes_torn_at file at n Step old image torn follows = record {
   before = torn.0;
   left = torn.1;
-  step = follows (of_file file torn.0) (of_file file image) (TornFile-torn file at n torn.0 image torn.2);
+  step = follows (TornFile-torn file at n torn.0 image torn.2);
   others = torn.2.image ∙ ap (λ f. with_file file f torn.0) (sym (ap (of_file file) torn.2.image ∙ of_file-same file torn.2.bytes torn.0));
 }
+
+-- and by one that each torn write makes
+pub comes_torn : (file : StoreFile) (at n : ℕ) (Step : List ℕ → List ℕ → Type 0) (old : DiskFacts) (image : Image) → ((before now : List ℕ) → Torn at n before now → Step before now) → ComesTorn file at n old image → ComesBy file Step old image
+comes_torn file at n Step old image follows torn = comes_torn_at file at n Step old image torn (follows (of_file file torn.0) (of_file file image))
 
 -- and by a weaker step
 pub comes_weaker : (file : StoreFile) (Step Weaker : List ℕ → List ℕ → Type 0) (old : DiskFacts) (image : Image) → (came : ComesBy file Step old image) → Weaker (of_file file came.before) (of_file file image) → ComesBy file Weaker old image

@@ -1,6 +1,7 @@
--- What stands in a file after one write, and after two.
+-- What stands in a file after one write, and after two, and where a read copied it from.
 use Rattle.std.proofs.Common.{◌≡◌, ℕ, ◌+◌, ◌≤◌, List, [], ◌∷◌, ◌++◌, length, take, drop, refl, sym, ap, ◌∙◌, arith, add-zero, append-nil, append_assoc, length-append}
-use Rattle.std.proofs.lemmas.List.{take-take, drop-drop, length-take-le, take-append-le, take_at, drop_at}
+use Rattle.std.proofs.lemmas.List.{take_all, take-take, drop-drop, length-take-le, take-append-le, take_at, drop_at}
+use Rattle.sf_outside.specs.Bytes.{CopiedAll}
 use Rattle.sf_outside.specs.DiskModel.{written}
 use Rattle.sf_outside.proofs.Writes.{front, length-front, written-within}
 
@@ -52,3 +53,9 @@ written-before file at byte b within =
     ∙ ap (λ l. l ++ rest) (append_assoc (take at file) (byte ∷ []) b)
     ∙ ap (λ k. (take at file ++ byte ∷ b) ++ drop k file) (omega arith)
     ∙ sym (written-within file at (byte ∷ b) (omega (arith, within)))
+
+-- a whole copy stands where it was read
+pub copied-stands : (file : List ℕ) (at n : ℕ) (buf : List ℕ) → CopiedAll file at n buf → length buf ≤ n → take (length buf) (drop at file) ≡ buf
+copied-stands file at n buf copied all =
+    let same : n ≡ length buf = omega (arith, copied.count, all) in
+    ap (λ k. take k (drop at file)) (sym same) ∙ sym copied.bytes ∙ take_all n buf all

@@ -1,5 +1,5 @@
 -- What the writes behind a gate make of a slot, and what a crash meanwhile leaves.
-use Rattle.std.proofs.Common.{◌≡◌, ℕ, ◌+◌, ◌≤◌, List, [], ◌∷◌, ◌++◌, length, min, Some, None, ap, ◌∙◌, subst, arith, IfSome, length-append}
+use Rattle.std.proofs.Common.{◌≡◌, ℕ, ◌+◌, ◌≤◌, List, [], ◌∷◌, ◌++◌, length, min, Some, None, refl, ap, ◌∙◌, subst, arith, IfSome, length-append}
 use Rattle.std.specs.declared.option.Option.{Option}
 use Rattle.sf_bytes.specs.ByteForms.{long_bytes}
 use Rattle.sf_bytes.proofs.Stands.{Stands-length, Stands-same}
@@ -51,10 +51,12 @@ module _ (slot : StoreFile) where
       let any = λ (some : Option Image). is_any some in
       let here = subst (λ bytes. SeenWritten slot 1 bytes old first) is_first a in
       let next = subst (λ bytes. SeenWritten slot 9 bytes first second) is_second b in
+      let nine : 9 ≡ 1 + length one = omega (arith, long-length epoch) in
+      let seventeen : 17 ≡ 1 + length (one ++ two) = omega (arith, long-length epoch, long-length (length body), length-append one two) in
       let both = seen_then slot Any 1 9 1 one two (one ++ two)
-      (λ f fits. ap (λ q. written (written f 1 one) q two) (omega (arith, long-length epoch)) ∙ written-then f 1 one two) old first second (any old.seen) here next in
+      (λ f fits. ap (λ q. written (written f 1 one) q two) nine ∙ written-then f 1 one two) old first second (any old.seen) here next in
       seen_then slot Any 1 17 1 (one ++ two) body (behind_gate epoch body)
-      (λ f fits. ap (λ q. written (written f 1 (one ++ two)) q body) (omega (arith, long-length epoch, long-length (length body), length-append one two)) ∙ written-then f 1 (one ++ two) body) old second new (any old.seen) both c
+      (λ f fits. ap (λ q. written (written f 1 (one ++ two)) q body) seventeen ∙ written-then f 1 (one ++ two) body) old second new (any old.seen) both c
     where
       is_any : (some : Option Image) → IfSome some (λ now. Unit {0})
       is_any None = tt

@@ -8,7 +8,7 @@ use Rattle.sf_outside.specs.declared.store_disk.StoreFile.{StoreFile}
 use Rattle.sf_outside.specs.DiskModel.{Image, DiskFacts, of_file, Torn, Elapses, LeavesOnly, ImagesTorn, SeenWritten, Stays, IsDurable}
 use Rattle.sf_outside.specs.ImageSteps.{ComesTorn, ComesBy}
 use Rattle.sf_outside.proofs.DiskLaws.{TornFile-torn, LeavesOnly-stays, LeavesOnly-then, LeavesOnly-weaker}
-use Rattle.sf_outside.proofs.ImageSteps.{left_now, comes_torn, comes_weaker, comes_earlier, comes_same, written_stands}
+use Rattle.sf_outside.proofs.ImageSteps.{left_now, comes_torn, comes_torn_at, comes_weaker, comes_earlier, comes_same, written_stands}
 use Rattle.sf_outside.proofs.Writes.{Torn-length}
 use Rattle.snapshot_store.specs.SlotFile.{IsClosedSlot, IsOpenSlot}
 use Rattle.snapshot_store.specs.SlotSteps.{GateChanges, StaysOrCloses, Closes, Opens}
@@ -112,12 +112,9 @@ module _ (file : StoreFile) (old mid : DiskFacts) (stays : Stays old mid) where
     pub close_moments : (new : DiskFacts) → IfSome old.seen (λ now. MayClose (of_file file now)) → LeavesOnly mid new (ComesTorn file 0 1 mid) → LeavesOnly old new (ComesBy file StaysOrCloses old)
     close_moments new may more =
         let there = subst (λ seen. IfSome seen (λ now. MayClose (of_file file now))) (sym stays.seen) may in
-        then_moments new (
-          LeavesOnly-weaker mid new (ComesTorn file 0 1 mid) (ComesBy file StaysOrCloses mid) more (λ image torn.
-              let came = comes_torn file 0 1 GateChanges mid image gate_torn torn in
-              comes_weaker file GateChanges StaysOrCloses mid image came
-              (torn_closes (of_file file torn.0) (of_file file image) (TornFile-torn file 0 1 torn.0 image torn.2) (may_close mid.seen torn.0 there (durable torn.0 torn.1)))),
-        )
+        let each = λ (image : Image) (torn : ComesTorn file 0 1 mid image).
+            comes_torn_at file 0 1 StaysOrCloses mid image torn (λ t. torn_closes (of_file file torn.0) (of_file file image) t (may_close mid.seen torn.0 there (durable torn.0 torn.1))) in
+        then_moments new (LeavesOnly-weaker mid new (ComesTorn file 0 1 mid) (ComesBy file StaysOrCloses mid) more each)
 
     -- a closed gate that was read is safe
     pub closed_now : IfSome old.seen (λ now. ClosedAt (of_file file now) 0) → (image : Image) → mid.may_leave image → ComesBy file Closes old image

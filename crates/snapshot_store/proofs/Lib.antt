@@ -1,4 +1,4 @@
-pub mod Checkpoints
+pub mod CheckpointSteps
 pub mod Epochs
 pub mod Fillings
 pub mod Gates

@@ -59,7 +59,7 @@ slot_bytes epoch body = open_gate ∷ behind_gate epoch body
 -- the slot of this number is open with an epoch of its own and a snapshot; what is behind the snapshot doesn't count
 pub record HoldsAt (number : ℕ) (file : List ℕ) (epoch : ℕ) (kept : Snapshot) : Type 0 where
   pub stands : StandsAt file 0 (slot_bytes epoch (snapshot_bytes kept))
-  pub epoch : IsEpoch epoch
+  pub in_range : IsEpoch epoch
   pub own : number_of epoch ≡ number
   pub countable : length (snapshot_bytes kept) < 2 ^ 64
   pub read : IsReadSnapshot kept

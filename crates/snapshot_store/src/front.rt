@@ -1,6 +1,7 @@
 //! What a slot begins with.
 
-ghost use Rattle.std.specs.Prelude.{◌≡◌, IfOk, IfSome};
+ghost use Rattle.std.specs.Prelude.{◌≡◌, length, IfOk, IfSome};
+ghost use Rattle.sf_bytes.specs.ByteForms.{long_bytes};
 ghost use Rattle.sf_outside.specs.Causes.{HasCause};
 ghost use Rattle.sf_outside.specs.DiskModel.{of_file, Stays};
 ghost use Rattle.snapshot_store.specs.Answers.{SaysGate, SaysNumber};
@@ -53,5 +54,16 @@ pub(crate) fn number_at<D: Disk>(
     if count < 8 {
         return Ok(None);
     }
-    Ok(Some(u64::from_be_bytes(bytes)))
+    Ok(Some(number_of(&bytes)))
+}
+
+/// The number whose bytes these are.
+#[tactic(auto, unfolding(sf_bytes::specs::ByteForms::long_bytes))]
+fn number_of(bytes: &[u8]) -> u64
+    requires { length bytes.now ≡ 8 }
+    ensures { long_bytes result ≡ bytes.now }
+{
+    u64::from_be_bytes([
+        bytes[0], bytes[1], bytes[2], bytes[3], bytes[4], bytes[5], bytes[6], bytes[7],
+    ])
 }

@@ -1,0 +1,2 @@
+-- A whole checkpoint, step by step.
+use Rattle.std.proofs.Common.{◌≡◌}

@@ -1,0 +1,140 @@
+-- Which snapshot a slot keeps, from the bytes that were read.
+use Rattle.std.proofs.Common.{◌≡◌, inl, inr, ℕ, zero, suc, ◌+◌, ◌-◌, ◌≤◌, ◌<◌, ◌^◌, List, [], ◌∷◌, ◌++◌, length, take, drop, Some, None, refl, sym, ap, ◌∙◌, subst, arith, IfSome, length-append}
+use Rattle.std.specs.declared.option.Option.{Option}
+use Rattle.std.specs.Int.{w64, from_be_bytes}
+use Rattle.std.proofs.lemmas.List.{take_all}
+use Rattle.sf_bytes.specs.ByteForms.{long_bytes, snapshot_bytes}
+use Rattle.sf_bytes.specs.Gates.{open_gate, StandsAt, OpenAt}
+use Rattle.sf_bytes.specs.Reading.{snapshot_at}
+use Rattle.sf_bytes.specs.Spelt.{IsReadSnapshot}
+use Rattle.sf_bytes.proofs.Fronts.{stands_apart}
+use Rattle.sf_bytes.proofs.RecordLaws.{snapshot_spells}
+use Rattle.sf_bytes.proofs.Stands.{Stands-length, Stands-front, Stands-behind, Stands-both}
+use Rattle.sf_bytes.proofs.Wholes.{part_only}
+use Rattle.sf_bytes.proofs.Wide.{wide64}
+use Rattle.sf_outside.specs.Bytes.{CopiedAll}
+use Rattle.sf_outside.specs.DiskModel.{Image, of_file}
+use Rattle.sf_outside.specs.declared.store_disk.StoreFile.{StoreFile}
+use Rattle.sf_outside.proofs.ImageSteps.{if_both}
+use Rattle.sf_outside.proofs.WrittenBytes.{copied-stands}
+use Rattle.sf_value.specs.declared.Snapshot.{Snapshot}
+use Rattle.snapshot_store.specs.Answers.{SaysNumber, SaysSnapshot}
+use Rattle.snapshot_store.specs.SlotFile.{IsEpoch, number_of, IsOpenSlot, IsSnapshot, behind_gate, slot_bytes, HoldsAt, IsBadSlot}
+use Rattle.snapshot_store.proofs.Fillings.{long-length}
+
+-- what follows from a fact of a value, where there is one
+pub if_one : {A : Type 0} (some : Option A) (P Q : A → Type 0) → ((x : A) → P x → Q x) → IfSome some P → IfSome some Q
+if_one None P Q follows p = tt
+if_one (Some x) P Q follows p = follows x p
+
+-- ---- whole snapshots
+
+pub no_snapshot : (bytes : List ℕ) → ((kept : Snapshot) (count : ℕ) → IsReadSnapshot kept → (count ≤ length bytes) × (take count bytes ≡ snapshot_bytes kept) → ⊥) → SaysSnapshot bytes None
+no_snapshot bytes none kept is = none kept (length bytes) is.0 (omega arith, take_all (length bytes) bytes (omega arith) ∙ sym is.1)
+
+pub other_snapshot : (bytes : List ℕ) (found : Snapshot) (count : ℕ) → IsReadSnapshot found → take count bytes ≡ snapshot_bytes found → count < length bytes → SaysSnapshot bytes None
+other_snapshot bytes found count is_read front less kept is = part_only snapshot_bytes IsReadSnapshot (stands_apart snapshot_at snapshot_bytes IsReadSnapshot snapshot_spells) bytes found count is_read front less kept is.0 is.1
+
+-- ---- numbers
+
+-- a number whose bytes were copied stands there
+pub seen_number : (file : StoreFile) (seen : Option Image) (at count : ℕ) (buf : List ℕ) (n : ℕ) → length buf ≤ count → IfSome seen (λ now. CopiedAll (of_file file now) at count buf) → long_bytes n ≡ buf → IfSome seen (λ now. SaysNumber (of_file file now) at (Some n))
+seen_number file seen at count buf n all copied is =
+    if_one seen (λ now. CopiedAll (of_file file now) at count buf) (λ now. SaysNumber (of_file file now) at (Some n))
+    (λ now c. subst (StandsAt (of_file file now) at) (sym is) (copied-stands (of_file file now) at count buf c all)) copied
+
+-- two numbers with the same bytes
+long-same : (m n : ℕ) → m < 2 ^ 64 → n < 2 ^ 64 → long_bytes m ≡ long_bytes n → m ≡ n
+unfolding long_bytes
+long-same m n short-m short-n same = sym (wide64.again m short-m) ∙ ap (from_be_bytes w64) same ∙ wide64.again n short-n
+
+-- ---- open slots
+
+-- what stands in a slot that keeps a snapshot, part by part
+module _ (number : ℕ) (file : List ℕ) (epoch : ℕ) (kept : Snapshot) (holds : HoldsAt number file epoch kept) where
+  behind : StandsAt file 1 (behind_gate epoch (snapshot_bytes kept))
+  behind = Stands-behind file 0 (open_gate ∷ []) (behind_gate epoch (snapshot_bytes kept)) holds.stands
+
+  pub held_epoch : StandsAt file 1 (long_bytes epoch)
+  held_epoch = Stands-front file 1 (long_bytes epoch) (long_bytes (length (snapshot_bytes kept))) (Stands-front file 1 (long_bytes epoch ++ long_bytes (length (snapshot_bytes kept))) (snapshot_bytes kept) behind)
+
+  pub held_length : StandsAt file 9 (long_bytes (length (snapshot_bytes kept)))
+  held_length =
+      let nine : 1 + length (long_bytes epoch) ≡ 9 = omega (arith, long-length epoch) in
+      subst (λ at. StandsAt file at (long_bytes (length (snapshot_bytes kept)))) nine
+      (Stands-behind file 1 (long_bytes epoch) (long_bytes (length (snapshot_bytes kept))) (Stands-front file 1 (long_bytes epoch ++ long_bytes (length (snapshot_bytes kept))) (snapshot_bytes kept) behind))
+
+  pub held_body : StandsAt file 17 (snapshot_bytes kept)
+  held_body =
+      let two = long_bytes epoch ++ long_bytes (length (snapshot_bytes kept)) in
+      let place : 1 + length two ≡ 17 = omega (arith, long-length epoch, long-length (length (snapshot_bytes kept)), length-append (long_bytes epoch) (long_bytes (length (snapshot_bytes kept)))) in
+      subst (λ at. StandsAt file at (snapshot_bytes kept)) place (Stands-behind file 1 two (snapshot_bytes kept) behind)
+
+  -- the file reaches to its end
+  pub held_reach : 17 + length (snapshot_bytes kept) ≤ length file
+  held_reach =
+      let one = long_bytes epoch in
+      let two = long_bytes (length (snapshot_bytes kept)) in
+      let all = slot_bytes epoch (snapshot_bytes kept) in
+      omega (arith, Stands-length file 0 all holds.stands (omega arith), long-length epoch, long-length (length (snapshot_bytes kept)), length-append one two, length-append (one ++ two) (snapshot_bytes kept))
+
+  short : epoch < 2 ^ 64
+  short = omega (arith, holds.in_range.1)
+
+  -- an epoch whose bytes stand there is this one
+  pub same_epoch : (claimed : ℕ) → claimed < 2 ^ 64 → StandsAt file 1 (long_bytes claimed) → claimed ≡ epoch
+  same_epoch claimed small stands =
+      let eight : length (long_bytes claimed) ≡ length (long_bytes epoch) = long-length claimed ∙ sym (long-length epoch) in
+      long-same claimed epoch small short (sym stands ∙ ap (λ k. take k (drop 1 file)) eight ∙ held_epoch)
+
+  pub same_length : (claimed : ℕ) → claimed < 2 ^ 64 → StandsAt file 9 (long_bytes claimed) → claimed ≡ length (snapshot_bytes kept)
+  same_length claimed small stands =
+      let n = length (snapshot_bytes kept) in
+      let eight : length (long_bytes claimed) ≡ length (long_bytes n) = long-length claimed ∙ sym (long-length n) in
+      long-same claimed n small holds.countable (sym stands ∙ ap (λ k. take k (drop 9 file)) eight ∙ held_length)
+
+-- a slot that ends within its epoch or its length is bad
+pub too_short : (number : ℕ) (file : List ℕ) → IsOpenSlot file → length file < 17 → IsBadSlot number file
+too_short number file is_open less = (is_open, λ epoch kept holds. absurd (omega (arith, less, held_reach number file epoch kept holds)))
+
+-- so is one with an epoch that isn't its own
+pub other_epoch : (number : ℕ) (file : List ℕ) (claimed : ℕ) → claimed < 2 ^ 64 → IsOpenSlot file → StandsAt file 1 (long_bytes claimed) → (IsEpoch claimed → number_of claimed ≡ number → ⊥) → IsBadSlot number file
+other_epoch number file claimed small is_open stands other = (is_open, λ epoch kept holds.
+    let same = same_epoch number file epoch kept holds claimed small stands in
+    other (subst IsEpoch (sym same) holds.in_range) (ap number_of same ∙ holds.own))
+
+module _ (number : ℕ) (file : List ℕ) (epoch len : ℕ) (small : len < 2 ^ 64) (is_open : IsOpenSlot file) (claims : StandsAt file 1 (long_bytes epoch ++ long_bytes len)) where
+  length_stands : StandsAt file 9 (long_bytes len)
+  length_stands =
+      let nine : 1 + length (long_bytes epoch) ≡ 9 = omega (arith, long-length epoch) in
+      subst (λ at. StandsAt file at (long_bytes len)) nine (Stands-behind file 1 (long_bytes epoch) (long_bytes len) claims)
+
+  -- so is one that ends within its body
+  pub body_cut : length file - 17 < len → IsBadSlot number file
+  body_cut less = (is_open, λ e kept holds. absurd (omega (arith, less, held_reach number file e kept holds, same_length number file e kept holds len small length_stands)))
+
+  module _ (buf : List ℕ) (behind_it : StandsAt file 17 buf) (all : length buf ≡ len) where
+    -- and one whose body is no snapshot
+    pub body_other : SaysSnapshot buf None → IsBadSlot number file
+    body_other none = (is_open, λ e kept holds.
+        let same = same_length number file e kept holds len small length_stands in
+        let count : length (snapshot_bytes kept) ≡ length buf = sym same ∙ sym all in
+        none kept (holds.read, sym (held_body number file e kept holds) ∙ ap (λ k. take k (drop 17 file)) count ∙ behind_it))
+
+    -- else it keeps that snapshot
+    pub body_found : IsEpoch epoch → number_of epoch ≡ number → (kept : Snapshot) → IsSnapshot buf kept → HoldsAt number file epoch kept
+    body_found in_range own kept is =
+        let body = snapshot_bytes kept in
+        let same : len ≡ length body = sym all ∙ ap length (sym is.1) in
+        let two = long_bytes epoch ++ long_bytes len in
+        let place : 17 ≡ 1 + length two = omega (arith, long-length epoch, long-length len, length-append (long_bytes epoch) (long_bytes len)) in
+        let there : StandsAt file (1 + length two) body = subst (λ at. StandsAt file at body) place (subst (StandsAt file 17) (sym is.1) behind_it) in
+        let behind_gate_there : StandsAt file 1 (two ++ body) = Stands-both file 1 two body claims there in
+        let whole : StandsAt file 0 (open_gate ∷ two ++ body) = Stands-both file 0 (open_gate ∷ []) (two ++ body) is_open.1 behind_gate_there in
+        record {
+          stands = subst (λ n. StandsAt file 0 (open_gate ∷ (long_bytes epoch ++ long_bytes n) ++ body)) same whole;
+          in_range = in_range;
+          own = own;
+          countable = subst (λ n. n < 2 ^ 64) same small;
+          read = is.0;
+        }
