@@ -9,8 +9,8 @@ use Rattle.sf_outside.specs.ImageSteps.{ComesBy}
 use Rattle.sf_outside.proofs.DiskLaws.{LeavesOnly-then, LeavesOnly-weaker}
 use Rattle.sf_outside.proofs.ImageSteps.{comes_other}
 use Rattle.sf_value.specs.declared.Snapshot.{Snapshot}
-use Rattle.snapshot_store.specs.SlotFile.{IsEpoch, number_of, slot_file, slot_of, log_of, IsClosedSlot, IsSnapshot, behind_gate, slot_bytes, HoldsAt, IsOlder, IsNewest, IsNew, IsNext}
-use Rattle.snapshot_store.specs.SlotSteps.{GateChanges, StaysOrCloses, Closes, Opens, KeepsGate, Fills, IsCheckpoint, StaysAt, CheckpointStep, CheckpointDone, ComesBeside}
+use Rattle.snapshot_store.specs.SlotFile.{IsEpoch, number_of, slot_file, log_file, slot_of, log_of, IsClosedSlot, IsSnapshot, behind_gate, slot_bytes, HoldsAt, IsOlder, IsNewest, IsNew, IsNext}
+use Rattle.snapshot_store.specs.SlotSteps.{GateChanges, StaysOrCloses, Closes, Opens, KeepsGate, Fills, IsCheckpoint, StaysAt, CheckpointStep, CheckpointDone, ComesBeside, KeepsNewest, IsKept, KeepsOrIsKept}
 use Rattle.snapshot_store.proofs.Epochs.{slot_differs, log_differs, other_slot-slot, other_slot-log, other_log-slot, other_log-log}
 use Rattle.snapshot_store.proofs.Gates.{gate_cases}
 
@@ -21,7 +21,13 @@ new_slot : (image : Image) → IsNew image → (n : ℕ) → IsClosedSlot (of_fi
 new_slot image is_new zero = is_new.0
 new_slot image is_new (suc n) = is_new.1
 
--- is closed, or open with a smaller epoch
+both_closed : (image : Image) (m n : ℕ) → m + n ≡ 1 → IsClosedSlot (of_file (slot_file m) image) → IsClosedSlot (of_file (slot_file n) image) → IsNew image
+both_closed image zero zero both here other = absurd (omega (arith, both))
+both_closed image zero (suc n) both here other = (here, other)
+both_closed image (suc m) zero both here other = (other, here)
+both_closed image (suc m) (suc n) both here other = absurd (omega (arith, both))
+
+-- the other slot is closed, or open with a smaller epoch
 pub other_older : (epoch : ℕ) (image : Image) → IsNext epoch image → IsOlder epoch (number_of (epoch + 1)) (of_file (slot_of (epoch + 1)) image)
 other_older epoch image (inl first) = inl (new_slot image first.0 (number_of (epoch + 1)))
 other_older epoch image (inr next) =
@@ -160,13 +166,6 @@ module _ (epoch : ℕ) where
       pub is_done : (old : DiskFacts) (image : Image) → Staged Whole Shut old image → ComesBeside epoch (CheckpointDone epoch body) old image
       is_done old image staged = record { before = staged.before; left = staged.left; step = is_checkpoint image staged.step.0 staged.step.1; other_slot = staged.other_slot; other_log = staged.other_log }
 
-      -- and keeps the newest snapshot
-      pub is_newest : (old : DiskFacts) → ((image : Image) → old.may_leave image → IsNext epoch image) → (image : Image) → ComesBeside epoch (CheckpointDone epoch body) old image → (kept : Snapshot) → IsSnapshot body kept → IsNewest image epoch kept
-      is_newest old next image done kept is = record {
-        here = done.step.holds kept is;
-        other = subst (IsOlder epoch (number_of (epoch + 1))) (sym done.other_slot) (other_older epoch done.before (next done.before done.left));
-      }
-
       -- the gate is opened, or torn
       abbrev AfterGate : List ℕ → Type 0
       AfterGate file = Whole file ⊎ Shut file
@@ -193,3 +192,69 @@ module _ (epoch : ℕ) where
       opening old mid new before so_far moments =
           LeavesOnly-then old mid new (Meanwhile old) before (LeavesOnly-weaker mid new (ComesBy (slot_of epoch) GateChanges mid) (Meanwhile old) moments
           (λ image came. opening_step old image (slot_then old mid Filled Shut so_far GateChanges AfterGate image torn_gate came)))
+
+-- ---- what that makes of the newest snapshot
+
+module _ (epoch : ℕ) (body : List ℕ) (old : DiskFacts) (next : (image : Image) → old.may_leave image → IsNext epoch image) where
+  kept_there : (before image : Image) → old.may_leave before → of_file (slot_of (epoch + 1)) image ≡ of_file (slot_of (epoch + 1)) before → IsCheckpoint epoch body image → IsKept epoch body image
+  kept_there before image left same done = record {
+    newest = λ kept is. record {
+      here = done.holds kept is;
+      other = subst (IsOlder epoch (number_of (epoch + 1))) (sym same) (other_older epoch before (next before left));
+    };
+    log = done.log;
+  }
+
+  pub is_kept : (image : Image) → ComesBeside epoch (CheckpointDone epoch body) old image → IsKept epoch body image
+  is_kept image came = kept_there came.before image came.left came.other_slot came.step
+
+  -- the slot of the epoch is as it was, or closed
+  abbrev Quiet : Image → Image → Type 0
+  Quiet before image = (of_file (slot_of epoch) image ≡ of_file (slot_of epoch) before) ⊎ IsClosedSlot (of_file (slot_of epoch) image)
+
+  -- so it is closed where it was
+  closed_still : (before image : Image) → Quiet before image → IsClosedSlot (of_file (slot_of epoch) before) → IsClosedSlot (of_file (slot_of epoch) image)
+  closed_still before image (inl same) was = subst IsClosedSlot (sym same) was
+  closed_still before image (inr closed) was = closed
+
+  older_still : (newest : ℕ) (before image : Image) → Quiet before image → IsOlder newest (number_of epoch) (of_file (slot_of epoch) before) → IsOlder newest (number_of epoch) (of_file (slot_of epoch) image)
+  older_still newest before image (inl same) was = subst (IsOlder newest (number_of epoch)) (sym same) was
+  older_still newest before image (inr closed) was = inl closed
+
+  -- both slots of a new image
+  new_still : (image : Image) → IsClosedSlot (of_file (slot_of epoch) image) → IsClosedSlot (of_file (slot_of (epoch + 1)) image) → IsNew image
+  new_still image here other = both_closed image (number_of epoch) (number_of (epoch + 1)) (omega arith) here other
+
+  keeps : (before image : Image) → old.may_leave before → Quiet before image → of_file (slot_of (epoch + 1)) image ≡ of_file (slot_of (epoch + 1)) before → of_file (log_of (epoch + 1)) image ≡ of_file (log_of (epoch + 1)) before
+      → IsNext epoch before → KeepsNewest before image
+  keeps before image left quiet same_slot same_log (inl first) = inl (
+    first.0,
+    new_still image (closed_still before image quiet (new_slot before first.0 (number_of epoch))) (subst IsClosedSlot (sym same_slot) (new_slot before first.0 (number_of (epoch + 1)))),
+  )
+  keeps before image left quiet same_slot same_log (inr after) =
+      let newest = after.0 in
+      let number : number_of (epoch + 1) ≡ number_of newest = omega (arith, after.3) in
+      let behind : number_of (newest + 1) ≡ number_of epoch = omega (arith, after.3) in
+      let was : HoldsAt (number_of newest) (of_file (slot_of newest) before) newest after.1 = after.2.here in
+      let slots = subst (λ n. of_file (slot_file n) image ≡ of_file (slot_file n) before) number same_slot in
+      let logs = subst (λ n. of_file (log_file n) image ≡ of_file (log_file n) before) number same_log in
+      let older = subst (λ n. IsOlder newest n (of_file (slot_file n) before)) behind after.2.other in
+      let older_now = older_still newest before image quiet older in
+      inr (
+        newest,
+        after.1,
+        after.2,
+        record {
+          here = subst (λ file. HoldsAt (number_of newest) file newest after.1) (sym slots) was;
+          other = subst (λ n. IsOlder newest n (of_file (slot_file n) image)) (sym behind) older_now;
+        },
+        logs,
+      )
+
+  stands_at : (image : Image) → (came : ComesBeside epoch (CheckpointStep epoch body) old image) → CheckpointStep epoch body came.before image → KeepsOrIsKept epoch body old image
+  stands_at image came (inl stays) = (came.before, came.left, inl (keeps came.before image came.left (inl stays.slot) came.other_slot came.other_log (next came.before came.left)))
+  stands_at image came (inr (inl closed)) = (came.before, came.left, inl (keeps came.before image came.left (inr closed) came.other_slot came.other_log (next came.before came.left)))
+  stands_at image came (inr (inr done)) = (came.before, came.left, inr (kept_there came.before image came.left came.other_slot done))
+
+  pub stands : (new : DiskFacts) → LeavesOnly old new (ComesBeside epoch (CheckpointStep epoch body) old) → LeavesOnly old new (KeepsOrIsKept epoch body old)
+  stands new moments = LeavesOnly-weaker old new (ComesBeside epoch (CheckpointStep epoch body) old) (KeepsOrIsKept epoch body old) moments (λ image came. stands_at image came came.step)

@@ -1,8 +1,10 @@
 -- Which snapshot a slot keeps, from the bytes that were read.
-use Rattle.std.proofs.Common.{◌≡◌, inl, inr, ℕ, zero, suc, ◌+◌, ◌-◌, ◌≤◌, ◌<◌, ◌^◌, List, [], ◌∷◌, ◌++◌, length, take, drop, Some, None, refl, sym, ap, ◌∙◌, subst, arith, IfSome, length-append}
+use Rattle.std.proofs.Common.{◌≡◌, inl, inr, ℕ, zero, suc, ◌+◌, ◌-◌, ◌≤◌, ◌<◌, ◌^◌, List, [], ◌∷◌, ◌++◌, length, take, drop, Bool, true, false, cond, Some, None, Ok, refl, sym, ap, ◌∙◌, subst, arith, IfSome, length-append}
 use Rattle.std.specs.declared.option.Option.{Option}
 use Rattle.std.specs.Int.{w64, from_be_bytes}
+use Rattle.std.proofs.lemmas.Bool.{ltb-true, ltb-false}
 use Rattle.std.proofs.lemmas.List.{take_all}
+use Rattle.std.specs.Prelude.{nat_lt}
 use Rattle.sf_bytes.specs.ByteForms.{long_bytes, snapshot_bytes}
 use Rattle.sf_bytes.specs.Gates.{open_gate, StandsAt, OpenAt}
 use Rattle.sf_bytes.specs.Reading.{snapshot_at}
@@ -18,8 +20,9 @@ use Rattle.sf_outside.specs.declared.store_disk.StoreFile.{StoreFile}
 use Rattle.sf_outside.proofs.ImageSteps.{if_both}
 use Rattle.sf_outside.proofs.WrittenBytes.{copied-stands}
 use Rattle.sf_value.specs.declared.Snapshot.{Snapshot}
-use Rattle.snapshot_store.specs.Answers.{SaysNumber, SaysSnapshot}
-use Rattle.snapshot_store.specs.SlotFile.{IsEpoch, number_of, IsOpenSlot, IsSnapshot, behind_gate, slot_bytes, HoldsAt, IsBadSlot}
+use Rattle.snapshot_store.specs.declared.reading.Kept.{Kept}
+use Rattle.snapshot_store.specs.Answers.{Answers, AnswersSlot, SaysNumber, SaysSnapshot, newer_of}
+use Rattle.snapshot_store.specs.SlotFile.{IsEpoch, number_of, slot_file, IsOpenSlot, IsSnapshot, behind_gate, slot_bytes, HoldsAt, IsBadSlot, IsOlder, IsNewest}
 use Rattle.snapshot_store.proofs.Fillings.{long-length}
 
 -- what follows from a fact of a value, where there is one
@@ -138,3 +141,77 @@ module _ (number : ℕ) (file : List ℕ) (epoch len : ℕ) (small : len < 2 ^ 6
           countable = subst (λ n. n < 2 ^ 64) same small;
           read = is.0;
         }
+
+-- ---- what the bytes that a read gives say
+
+module _ (file : StoreFile) (seen : Option Image) (number : ℕ) (opens : IfSome seen (λ now. IsOpenSlot (of_file file now))) where
+  pub seen_short : (at : ℕ) → at ≤ 9 → IfSome seen (λ now. SaysNumber (of_file file now) at None) → IfSome seen (λ now. IsBadSlot number (of_file file now))
+  seen_short at within none =
+      if_both seen (λ now. IsOpenSlot (of_file file now)) (λ now. SaysNumber (of_file file now) at None) (λ now. IsBadSlot number (of_file file now))
+      (λ now is_open less. too_short number (of_file file now) is_open (omega (arith, less, within))) opens none
+
+  pub seen_foreign : (claimed : ℕ) → claimed < 2 ^ 64 → (IsEpoch claimed → number_of claimed ≡ number → ⊥) → IfSome seen (λ now. SaysNumber (of_file file now) 1 (Some claimed)) → IfSome seen (λ now. IsBadSlot number (of_file file now))
+  seen_foreign claimed small other there =
+      if_both seen (λ now. IsOpenSlot (of_file file now)) (λ now. SaysNumber (of_file file now) 1 (Some claimed)) (λ now. IsBadSlot number (of_file file now))
+      (λ now is_open stands. other_epoch number (of_file file now) claimed small is_open stands other) opens there
+
+  module _ (epoch len end : ℕ) (small : len < 2 ^ 64) (claims : IfSome seen (λ now. StandsAt (of_file file now) 1 (long_bytes epoch ++ long_bytes len))) where
+    abbrev Claims : Image → Type 0
+    Claims now = IsOpenSlot (of_file file now) × StandsAt (of_file file now) 1 (long_bytes epoch ++ long_bytes len)
+
+    claims_there : IfSome seen Claims
+    claims_there = if_both seen (λ now. IsOpenSlot (of_file file now)) (λ now. StandsAt (of_file file now) 1 (long_bytes epoch ++ long_bytes len)) Claims (λ now a b. (a, b)) opens claims
+
+    pub seen_cut : IfSome seen (λ now. end ≡ length (of_file file now)) → end - 17 < len → IfSome seen (λ now. IsBadSlot number (of_file file now))
+    seen_cut ends less =
+        if_both seen Claims (λ now. end ≡ length (of_file file now)) (λ now. IsBadSlot number (of_file file now))
+        (λ now there is. body_cut number (of_file file now) epoch len small there.0 there.1 (omega (arith, is, less))) claims_there ends
+
+    module _ (count : ℕ) (buf : List ℕ) (copied : IfSome seen (λ now. CopiedAll (of_file file now) 17 count buf)) (long : length buf ≡ len) (all : len ≤ count) where
+      stands_there : (now : Image) → CopiedAll (of_file file now) 17 count buf → StandsAt (of_file file now) 17 buf
+      stands_there now c = copied-stands (of_file file now) 17 count buf c (omega (arith, long, all))
+
+      pub seen_other : SaysSnapshot buf None → IfSome seen (λ now. IsBadSlot number (of_file file now))
+      seen_other none =
+          if_both seen Claims (λ now. CopiedAll (of_file file now) 17 count buf) (λ now. IsBadSlot number (of_file file now))
+          (λ now there c. body_other number (of_file file now) epoch len small there.0 there.1 buf (stands_there now c) long none) claims_there copied
+
+      pub seen_found : IsEpoch epoch → number_of epoch ≡ number → (kept : Snapshot) → IsSnapshot buf kept → IfSome seen (λ now. HoldsAt number (of_file file now) epoch kept)
+      seen_found in_range own kept is =
+          if_both seen Claims (λ now. CopiedAll (of_file file now) 17 count buf) (λ now. HoldsAt number (of_file file now) epoch kept)
+          (λ now there c. body_found number (of_file file now) epoch len small there.0 there.1 buf (stands_there now c) long in_range own kept is) claims_there copied
+
+-- two numbers, one behind the other
+pub seen_claims : (file : StoreFile) (seen : Option Image) (epoch len : ℕ) → IfSome seen (λ now. SaysNumber (of_file file now) 1 (Some epoch)) → IfSome seen (λ now. SaysNumber (of_file file now) 9 (Some len))
+    → IfSome seen (λ now. StandsAt (of_file file now) 1 (long_bytes epoch ++ long_bytes len))
+seen_claims file seen epoch len first second =
+    let nine : 9 ≡ 1 + length (long_bytes epoch) = omega (arith, long-length epoch) in
+    if_both seen (λ now. SaysNumber (of_file file now) 1 (Some epoch)) (λ now. SaysNumber (of_file file now) 9 (Some len)) (λ now. StandsAt (of_file file now) 1 (long_bytes epoch ++ long_bytes len))
+    (λ now a b. Stands-both (of_file file now) 1 (long_bytes epoch) (long_bytes len) a (subst (λ at. StandsAt (of_file file now) at (long_bytes len)) nine b)) first second
+
+-- ---- both slots
+
+module _ (image : Image) where
+  newest_at : (m n : ℕ) → m + n ≡ 1 → (epoch : ℕ) (kept : Snapshot) → HoldsAt m (of_file (slot_file m) image) epoch kept → IsOlder epoch n (of_file (slot_file n) image) → IsNewest image epoch kept
+  newest_at m n both epoch kept holds older =
+      let other : n ≡ number_of (epoch + 1) = omega (arith, both, holds.own) in
+      record {
+        here = subst (λ x. HoldsAt x (of_file (slot_file x) image) epoch kept) (sym holds.own) holds;
+        other = subst (λ x. IsOlder epoch x (of_file (slot_file x) image)) other older;
+      }
+
+  pub both_slots : (first second : Option Kept) → AnswersSlot 0 image.snap0 (Ok first) → AnswersSlot 1 image.snap1 (Ok second) → Answers image (Ok (newer_of first second))
+  both_slots None None a b = (a, b)
+  both_slots None (Some second) a b = newest_at 1 0 (omega arith) second.epoch second.kept b (inl a)
+  both_slots (Some first) None a b = newest_at 0 1 (omega arith) first.epoch first.kept a (inl b)
+  both_slots (Some first) (Some second) a b = newer (nat_lt second.epoch first.epoch) refl
+    where
+      newer : (less : Bool) → nat_lt second.epoch first.epoch ≡ less → Answers image (Ok (cond less (Some first) (Some second)))
+      newer true is = newest_at 0 1 (omega arith) first.epoch first.kept a (inr (second.epoch, second.kept, ltb-true second.epoch first.epoch is, b))
+      newer false is =
+          let less : first.epoch < second.epoch = omega (arith, ltb-false second.epoch first.epoch is, a.own, b.own) in
+          newest_at 1 0 (omega arith) second.epoch second.kept b (inr (first.epoch, first.kept, less, a))
+
+pub seen_both : (seen : Option Image) (first second : Option Kept) → IfSome seen (λ now. AnswersSlot 0 now.snap0 (Ok first)) → IfSome seen (λ now. AnswersSlot 1 now.snap1 (Ok second)) → IfSome seen (λ now. Answers now (Ok (newer_of first second)))
+seen_both seen first second a b =
+    if_both seen (λ now. AnswersSlot 0 now.snap0 (Ok first)) (λ now. AnswersSlot 1 now.snap1 (Ok second)) (λ now. Answers now (Ok (newer_of first second))) (λ now. both_slots now first second) a b

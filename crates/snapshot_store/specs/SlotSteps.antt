@@ -3,7 +3,7 @@ use Rattle.std.specs.Prelude.{ℕ, ◌≡◌, ◌⊎◌, ◌+◌, ◌≤◌, Lis
 use Rattle.sf_bytes.specs.Gates.{StandsAt, ClosedAt, OpenAt}
 use Rattle.sf_outside.specs.DiskModel.{Image, DiskFacts, of_file}
 use Rattle.sf_value.specs.declared.Snapshot.{Snapshot}
-use Rattle.snapshot_store.specs.SlotFile.{slot_of, log_of, number_of, IsClosedSlot, IsSnapshot, behind_gate, slot_bytes, HoldsAt, IsNewest}
+use Rattle.snapshot_store.specs.SlotFile.{slot_of, log_of, number_of, IsClosedSlot, IsSnapshot, behind_gate, slot_bytes, HoldsAt, IsNewest, IsNew}
 
 -- ---- one file
 
@@ -64,3 +64,16 @@ pub record ComesBeside (epoch : ℕ) (Step : Image → Image → Type 0) (old : 
   pub step : Step before image
   pub other_slot : of_file (slot_of (epoch + 1)) image ≡ of_file (slot_of (epoch + 1)) before
   pub other_log : of_file (log_of (epoch + 1)) image ≡ of_file (log_of (epoch + 1)) before
+
+-- the image is new as it was, or its newest snapshot is the one that it was, with the same log
+abbrev pub KeepsNewest : Image → Image → Type 0
+KeepsNewest before now = (IsNew before × IsNew now) ⊎ ((epoch : ℕ) × (kept : Snapshot) × IsNewest before epoch kept × IsNewest now epoch kept × (of_file (log_of epoch) now ≡ of_file (log_of epoch) before))
+
+-- the snapshot of this body is the newest, and its log begins with a closed gate
+pub record IsKept (epoch : ℕ) (body : List ℕ) (image : Image) : Type 0 where
+  pub newest : (kept : Snapshot) → IsSnapshot body kept → IsNewest image epoch kept
+  pub log : ClosedAt (of_file (log_of epoch) image) 0
+
+-- an image that comes from an earlier one whose newest it has still, or one that has the new snapshot
+abbrev pub KeepsOrIsKept : ℕ → List ℕ → DiskFacts → Image → Type 0
+KeepsOrIsKept epoch body old image = (before : Image) × old.may_leave before × (KeepsNewest before image ⊎ IsKept epoch body image)

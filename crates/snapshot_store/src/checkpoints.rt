@@ -5,8 +5,8 @@ ghost use Rattle.sf_outside.specs.Causes.{HasCause, Rose};
 ghost use Rattle.sf_outside.specs.DiskModel.{Image, of_file, LeavesOnly, SeenWritten, IsDurable};
 ghost use Rattle.sf_outside.specs.ImageSteps.{ComesBy, OthersStayDurable};
 ghost use Rattle.sf_value.specs.declared.Snapshot.{Snapshot};
-ghost use Rattle.snapshot_store.specs.SlotFile.{IsEpoch, IsNext, IsNewest, IsOpenSlot, IsSnapshot, slot_of, log_of, behind_gate};
-ghost use Rattle.snapshot_store.specs.SlotSteps.{GateChanges, StaysOrCloses, Closes, Opens, KeepsGate, Fills, ComesBeside, CheckpointStep, CheckpointDone};
+ghost use Rattle.snapshot_store.specs.SlotFile.{IsEpoch, IsNext, IsOpenSlot, IsSnapshot, slot_of, log_of, behind_gate};
+ghost use Rattle.snapshot_store.specs.SlotSteps.{GateChanges, StaysOrCloses, Closes, Opens, KeepsGate, Fills, ComesBeside, CheckpointStep, CheckpointDone, IsKept, KeepsOrIsKept};
 
 use crate::OPEN;
 use crate::files::{log_of, slot_of};
@@ -24,10 +24,11 @@ pub fn checkpoint<D: Disk>(disk: &mut D, epoch: u64, body: &[u8]) -> Result<(), 
     requires body { (kept : Snapshot) × IsSnapshot body.now kept }
     requires next { (image : Image) → (D.facts disk.old).may_leave image → IsNext epoch image }
     ensures now { OnOk result ((image : Image) → (D.facts disk.new).may_leave image → ComesBeside epoch (CheckpointDone epoch body.now) (D.facts disk.old) image) }
-    ensures newest { OnOk result ((image : Image) → (D.facts disk.new).may_leave image → (kept : Snapshot) → IsSnapshot body.now kept → IsNewest image epoch kept) }
+    ensures kept { OnOk result ((image : Image) → (D.facts disk.new).may_leave image → IsKept epoch body.now image) }
     ensures slot { OnOk result (IsDurable (slot_of epoch) (D.facts disk.new)) }
     ensures log { OnOk result (IsDurable (log_of epoch) (D.facts disk.new)) }
     ensures moments { LeavesOnly (D.facts disk.old) (D.facts disk.new) (ComesBeside epoch (CheckpointStep epoch body.now) (D.facts disk.old)) }
+    ensures stands { LeavesOnly (D.facts disk.old) (D.facts disk.new) (KeepsOrIsKept epoch body.now (D.facts disk.old)) }
     ensures past_end { 2 ^ 62 < 17 + length body.now → IsErr result × (disk.new ≡ disk.old) }
     ensures later { D.faults disk.old ≤ D.faults disk.new }
     ensures cause { OnErr result (Rose (D.faults disk.old) (D.faults disk.new) ⊎ (2 ^ 62 < 17 + length body.now)) }

@@ -1,6 +1,6 @@
 //! Reading which snapshot is the newest.
 
-ghost use Rattle.std.specs.Prelude.{◌≡◌, ◌≤◌, ◌++◌, IfOk, IfSome, IsErrOf};
+ghost use Rattle.std.specs.Prelude.{◌≡◌, ◌↔◌, ◌≤◌, ◌++◌, IfOk, IfSome, IsErrOf, IsTrue};
 ghost use Rattle.sf_bytes.specs.ByteForms.{long_bytes};
 ghost use Rattle.sf_bytes.specs.Gates.{StandsAt};
 ghost use Rattle.sf_outside.specs.Causes.{Rose};
@@ -12,7 +12,7 @@ use crate::fault::SnapFault;
 use crate::files::slot_file;
 use crate::front::{Gate, gate_of, number_at};
 use sf_bytes::read_snapshot;
-use sf_outside::Disk;
+use sf_outside::{Disk, StoreFile};
 use sf_value::Snapshot;
 use std::alloc::{AllocError, Global};
 
@@ -66,59 +66,73 @@ fn kept_in<D: Disk>(alloc: Global, disk: &mut D, slot: u32) -> Result<Option<Kep
     ensures cause { IsErrOf result SnapFault.Failed → Rose (D.faults disk.old) (D.faults disk.new) }
     ensures mounts { D.mounts disk.new ≡ D.mounts disk.old }
 {
-    match gate_of(disk, slot_file(slot))? {
+    let file = slot_file(slot);
+    match gate_of(disk, file)? {
         Gate::Alone | Gate::Closed => Ok(None),
-        Gate::Open => kept_open(alloc, disk, slot),
+        Gate::Open => kept_open(alloc, disk, file, slot),
     }
 }
 
-/// What an open slot keeps.
-fn kept_open<D: Disk>(alloc: Global, disk: &mut D, slot: u32) -> Result<Option<Kept>, SnapFault>
-    requires { IfSome (D.facts disk.old).seen (λ now. IsOpenSlot (of_file (slot_file slot) now)) }
-    ensures answer { IfSome (D.facts disk.old).seen (λ now. AnswersSlot slot (of_file (slot_file slot) now) result) }
+/// What the open slot of this number keeps.
+fn kept_open<D: Disk>(
+    alloc: Global,
+    disk: &mut D,
+    file: StoreFile,
+    slot: u32,
+) -> Result<Option<Kept>, SnapFault>
+    requires { IfSome (D.facts disk.old).seen (λ now. IsOpenSlot (of_file file now)) }
+    ensures answer { IfSome (D.facts disk.old).seen (λ now. AnswersSlot slot (of_file file now) result) }
     ensures placed { IsPlacedSlot slot result }
     ensures stays { Stays (D.facts disk.old) (D.facts disk.new) }
     ensures later { D.faults disk.old ≤ D.faults disk.new }
     ensures cause { IsErrOf result SnapFault.Failed → Rose (D.faults disk.old) (D.faults disk.new) }
     ensures mounts { D.mounts disk.new ≡ D.mounts disk.old }
 {
-    let Some(epoch) = number_at(disk, slot_file(slot), 1)? else {
+    let Some(epoch) = number_at(disk, file, 1)? else {
         return Err(SnapFault::Bad { slot });
     };
-    let Some(len) = number_at(disk, slot_file(slot), 9)? else {
+    let Some(len) = number_at(disk, file, 9)? else {
         return Err(SnapFault::Bad { slot });
     };
-    if epoch == 0 || epoch > LAST || epoch % 2 != slot as u64 {
+    if !is_own(epoch, slot) {
         return Err(SnapFault::Bad { slot });
     }
-    kept_behind(alloc, disk, slot, epoch, len)
+    kept_behind(alloc, disk, file, slot, epoch, len)
 }
 
-/// What an open slot keeps that claims this epoch and so many bytes for a snapshot.
+/// Whether the slot of this number is that of the epoch.
+fn is_own(epoch: u64, slot: u32) -> bool
+    ensures { IsTrue result ↔ (IsEpoch epoch × (number_of epoch ≡ slot)) }
+{
+    epoch > 0 && epoch <= LAST && epoch % 2 == slot as u64
+}
+
+/// What the open slot of this number keeps, which claims this epoch and so many bytes for a snapshot.
 fn kept_behind<D: Disk>(
     alloc: Global,
     disk: &mut D,
+    file: StoreFile,
     slot: u32,
     epoch: u64,
     len: u64,
 ) -> Result<Option<Kept>, SnapFault>
-    requires open { IfSome (D.facts disk.old).seen (λ now. IsOpenSlot (of_file (slot_file slot) now)) }
-    requires claims { IfSome (D.facts disk.old).seen (λ now. StandsAt (of_file (slot_file slot) now) 1 (long_bytes epoch ++ long_bytes len)) }
+    requires open { IfSome (D.facts disk.old).seen (λ now. IsOpenSlot (of_file file now)) }
+    requires claims { IfSome (D.facts disk.old).seen (λ now. StandsAt (of_file file now) 1 (long_bytes epoch ++ long_bytes len)) }
     requires epoch { IsEpoch epoch }
     requires own { number_of epoch ≡ slot }
-    ensures answer { IfSome (D.facts disk.old).seen (λ now. AnswersSlot slot (of_file (slot_file slot) now) result) }
+    ensures answer { IfSome (D.facts disk.old).seen (λ now. AnswersSlot slot (of_file file now) result) }
     ensures placed { IsPlacedSlot slot result }
     ensures stays { Stays (D.facts disk.old) (D.facts disk.new) }
     ensures later { D.faults disk.old ≤ D.faults disk.new }
     ensures cause { IsErrOf result SnapFault.Failed → Rose (D.faults disk.old) (D.faults disk.new) }
     ensures mounts { D.mounts disk.new ≡ D.mounts disk.old }
 {
-    let end = disk.len(slot_file(slot))?;
+    let end = disk.len(file)?;
     if end.saturating_sub(17) < len {
         return Err(SnapFault::Bad { slot });
     }
     let mut body = vec![in alloc; 0; len as usize]?;
-    let count = disk.read_at(slot_file(slot), 17, &mut body)?;
+    let count = disk.read_at(file, 17, &mut body)?;
     if count < body.len() {
         return Err(SnapFault::Bad { slot });
     }
