@@ -1,10 +1,9 @@
 -- What a crash leaves while a record is put behind a closed gate, and while that gate is opened.
-use Rattle.std.proofs.Common.{◌≡◌, inl, inr, ℕ, ◌+◌, ◌≤◌, ◌<◌, ◌^◌, List, [], ◌∷◌, length, get_or, take, min, Some, None, refl, sym, ap, ◌∙◌, subst, arith, IsSomeAnd, IfSome, IsSome, true≢false, length-take}
-use Rattle.std.specs.declared.option.Option.{Option}
+use Rattle.std.proofs.Common.{◌≡◌, inl, inr, ℕ, ◌+◌, ◌≤◌, ◌<◌, ◌^◌, List, [], ◌∷◌, length, get_or, take, min, refl, sym, ap, ◌∙◌, subst, arith, IfSome, length-take}
 use Rattle.std.proofs.lemmas.Bool.{cases_eq}
 use Rattle.sf_outside.specs.declared.store_disk.StoreFile.{StoreFile}
-use Rattle.sf_outside.specs.DiskModel.{Image, DiskFacts, of_file, with_file, Torn, TornFile, LeavesOnly, Elapses, ImagesTorn, SeenWritten, IsDurable}
-use Rattle.sf_outside.proofs.DiskLaws.{of_file-same, with_file-same, with_file-again, TornFile-torn, LeavesOnly-start, LeavesOnly-write, LeavesOnly-then, LeavesOnly-weaker}
+use Rattle.sf_outside.specs.DiskModel.{Image, DiskFacts, of_file, Torn, TornFile, LeavesOnly, Elapses, ImagesTorn, SeenWritten, IsDurable}
+use Rattle.sf_outside.proofs.DiskLaws.{with_file-same, TornFile-torn, LeavesOnly-start, LeavesOnly-write, LeavesOnly-then, LeavesOnly-weaker}
 use Rattle.sf_outside.proofs.Writes.{Torn-front}
 use Rattle.sf_outside.specs.ImageSteps.{ComesTorn, ComesBy}
 use Rattle.sf_outside.proofs.ImageSteps.{left_now, seen_has, torn_others, written_stands}

@@ -1,16 +1,13 @@
 -- A checkpoint, one call after another.
-use Rattle.std.proofs.Common.{◌≡◌, ◌⊎◌, inl, inr, ℕ, zero, suc, ◌+◌, ◌≤◌, ◌<◌, ◌^◌, List, [], ◌∷◌, ◌++◌, length, take, drop, refl, sym, ap, ◌∙◌, subst, arith}
-use Rattle.sf_bytes.specs.ByteForms.{snapshot_bytes}
+use Rattle.std.proofs.Common.{◌≡◌, ◌⊎◌, inl, inr, ℕ, zero, suc, ◌+◌, ◌<◌, ◌^◌, List, [], ◌∷◌, length, take, refl, sym, ap, ◌∙◌, subst, arith}
 use Rattle.sf_bytes.specs.Gates.{open_gate, StandsAt, ClosedAt, OpenAt}
 use Rattle.sf_bytes.proofs.Stands.{Stands-both, Closed-length}
-use Rattle.sf_outside.specs.declared.store_disk.StoreFile.{StoreFile}
 use Rattle.sf_outside.specs.DiskModel.{Image, DiskFacts, of_file, LeavesOnly}
 use Rattle.sf_outside.specs.ImageSteps.{ComesBy}
 use Rattle.sf_outside.proofs.DiskLaws.{LeavesOnly-then, LeavesOnly-weaker}
 use Rattle.sf_outside.proofs.ImageSteps.{comes_other}
-use Rattle.sf_value.specs.declared.Snapshot.{Snapshot}
-use Rattle.snapshot_store.specs.SlotFile.{IsEpoch, number_of, slot_file, log_file, slot_of, log_of, IsClosedSlot, IsSnapshot, behind_gate, slot_bytes, HoldsAt, IsOlder, IsNewest, IsNew, IsNext}
-use Rattle.snapshot_store.specs.SlotSteps.{GateChanges, StaysOrCloses, Closes, Opens, KeepsGate, Fills, IsCheckpoint, StaysAt, CheckpointStep, CheckpointDone, ComesBeside, KeepsNewest, IsKept, KeepsOrIsKept}
+use Rattle.snapshot_store.specs.SlotFile.{IsEpoch, number_of, slot_file, log_file, slot_of, log_of, IsClosedSlot, behind_gate, slot_bytes, HoldsAt, IsOlder, IsNew, IsNext}
+use Rattle.snapshot_store.specs.SlotSteps.{GateChanges, StaysOrCloses, Closes, Opens, KeepsGate, Fills, IsCheckpoint, CheckpointStep, CheckpointDone, ComesBeside, KeepsNewest, IsKept, KeepsOrIsKept}
 use Rattle.snapshot_store.proofs.Epochs.{slot_differs, log_differs, other_slot-slot, other_slot-log, other_log-slot, other_log-log}
 use Rattle.snapshot_store.proofs.Gates.{gate_cases}
 

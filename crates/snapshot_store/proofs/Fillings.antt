@@ -4,7 +4,7 @@ use Rattle.std.specs.declared.option.Option.{Option}
 use Rattle.sf_bytes.specs.ByteForms.{long_bytes}
 use Rattle.sf_bytes.proofs.Stands.{Stands-length, Stands-same}
 use Rattle.sf_outside.specs.declared.store_disk.StoreFile.{StoreFile}
-use Rattle.sf_outside.specs.DiskModel.{Image, DiskFacts, of_file, written, Torn, Elapses, LeavesOnly, ImagesTorn, SeenWritten, IsDurable}
+use Rattle.sf_outside.specs.DiskModel.{Image, DiskFacts, written, Torn, Elapses, LeavesOnly, ImagesTorn, SeenWritten, IsDurable}
 use Rattle.sf_outside.specs.ImageSteps.{ComesTorn, ComesBy}
 use Rattle.sf_outside.proofs.DiskLaws.{LeavesOnly-write, LeavesOnly-then, LeavesOnly-weaker}
 use Rattle.sf_outside.proofs.ImageSteps.{left_now, comes_torn, comes_weaker, comes_then, seen_then, written_stands}

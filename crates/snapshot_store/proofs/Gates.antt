@@ -1,16 +1,16 @@
 -- What a write of a gate makes of a file, whole or torn.
-use Rattle.std.proofs.Common.{◌≡◌, ◌⊎◌, inl, inr, ℕ, ◌+◌, ◌≤◌, ◌<◌, List, [], ◌∷◌, ◌++◌, length, get_or, take, drop, min, Some, None, refl, sym, ap, ◌∙◌, subst, arith, take-append-drop, IsSome, IsSomeAnd, IfSome}
+use Rattle.std.proofs.Common.{◌≡◌, ◌⊎◌, inl, inr, ℕ, ◌≤◌, ◌<◌, List, [], ◌∷◌, ◌++◌, length, get_or, take, drop, Some, None, refl, sym, ap, ◌∙◌, subst, arith, take-append-drop, IsSomeAnd, IfSome}
 use Rattle.std.specs.declared.option.Option.{Option}
 use Rattle.std.proofs.lemmas.Bool.{cases_eq}
 use Rattle.sf_bytes.specs.Gates.{open_gate, StandsAt, ClosedAt, OpenAt}
-use Rattle.sf_bytes.proofs.Stands.{Stands-length, Stands-same, Stands-byte}
+use Rattle.sf_bytes.proofs.Stands.{Stands-byte}
 use Rattle.sf_outside.specs.declared.store_disk.StoreFile.{StoreFile}
-use Rattle.sf_outside.specs.DiskModel.{Image, DiskFacts, of_file, Torn, Elapses, LeavesOnly, ImagesTorn, SeenWritten, Stays, IsDurable}
+use Rattle.sf_outside.specs.DiskModel.{Image, DiskFacts, of_file, Torn, LeavesOnly, SeenWritten, Stays, IsDurable}
 use Rattle.sf_outside.specs.ImageSteps.{ComesTorn, ComesBy}
-use Rattle.sf_outside.proofs.DiskLaws.{TornFile-torn, LeavesOnly-stays, LeavesOnly-then, LeavesOnly-weaker}
+use Rattle.sf_outside.proofs.DiskLaws.{LeavesOnly-stays, LeavesOnly-then, LeavesOnly-weaker}
 use Rattle.sf_outside.proofs.ImageSteps.{left_now, comes_torn, comes_torn_at, comes_weaker, comes_earlier, comes_same, written_stands}
 use Rattle.sf_outside.proofs.Writes.{Torn-length}
-use Rattle.snapshot_store.specs.SlotFile.{IsClosedSlot, IsOpenSlot}
+use Rattle.snapshot_store.specs.SlotFile.{IsOpenSlot}
 use Rattle.snapshot_store.specs.SlotSteps.{GateChanges, StaysOrCloses, Closes, Opens}
 
 -- ---- one file
@@ -113,7 +113,7 @@ module _ (file : StoreFile) (old mid : DiskFacts) (stays : Stays old mid) where
     close_moments new may more =
         let there = subst (λ seen. IfSome seen (λ now. MayClose (of_file file now))) (sym stays.seen) may in
         let each = λ (image : Image) (torn : ComesTorn file 0 1 mid image).
-            comes_torn_at file 0 1 StaysOrCloses mid image torn (λ t. torn_closes (of_file file torn.0) (of_file file image) t (may_close mid.seen torn.0 there (durable torn.0 torn.1))) in
+        comes_torn_at file 0 1 StaysOrCloses mid image torn (λ t. torn_closes (of_file file torn.0) (of_file file image) t (may_close mid.seen torn.0 there (durable torn.0 torn.1))) in
         then_moments new (LeavesOnly-weaker mid new (ComesTorn file 0 1 mid) (ComesBy file StaysOrCloses mid) more each)
 
     -- a closed gate that was read is safe

@@ -1,12 +1,12 @@
 -- Which snapshot a slot keeps, from the bytes that were read.
-use Rattle.std.proofs.Common.{◌≡◌, inl, inr, ℕ, zero, suc, ◌+◌, ◌-◌, ◌≤◌, ◌<◌, ◌^◌, List, [], ◌∷◌, ◌++◌, length, take, drop, Bool, true, false, cond, Some, None, Ok, refl, sym, ap, ◌∙◌, subst, arith, IfSome, length-append}
+use Rattle.std.proofs.Common.{◌≡◌, inl, inr, ℕ, ◌+◌, ◌-◌, ◌≤◌, ◌<◌, ◌^◌, List, [], ◌∷◌, ◌++◌, length, take, drop, Bool, true, false, cond, Some, None, Ok, refl, sym, ap, ◌∙◌, subst, arith, IfSome, length-append}
 use Rattle.std.specs.declared.option.Option.{Option}
 use Rattle.std.specs.Int.{w64, from_be_bytes}
 use Rattle.std.proofs.lemmas.Bool.{ltb-true, ltb-false}
 use Rattle.std.proofs.lemmas.List.{take_all}
 use Rattle.std.specs.Prelude.{nat_lt}
 use Rattle.sf_bytes.specs.ByteForms.{long_bytes, snapshot_bytes}
-use Rattle.sf_bytes.specs.Gates.{open_gate, StandsAt, OpenAt}
+use Rattle.sf_bytes.specs.Gates.{open_gate, StandsAt}
 use Rattle.sf_bytes.specs.Reading.{snapshot_at}
 use Rattle.sf_bytes.specs.Spelt.{IsReadSnapshot}
 use Rattle.sf_bytes.proofs.Fronts.{stands_apart}
@@ -102,9 +102,12 @@ too_short number file is_open less = (is_open, λ epoch kept holds. absurd (omeg
 
 -- so is one with an epoch that isn't its own
 pub other_epoch : (number : ℕ) (file : List ℕ) (claimed : ℕ) → claimed < 2 ^ 64 → IsOpenSlot file → StandsAt file 1 (long_bytes claimed) → (IsEpoch claimed → number_of claimed ≡ number → ⊥) → IsBadSlot number file
-other_epoch number file claimed small is_open stands other = (is_open, λ epoch kept holds.
-    let same = same_epoch number file epoch kept holds claimed small stands in
-    other (subst IsEpoch (sym same) holds.in_range) (ap number_of same ∙ holds.own))
+other_epoch number file claimed small is_open stands other = (
+  is_open,
+  λ epoch kept holds.
+      let same = same_epoch number file epoch kept holds claimed small stands in
+      other (subst IsEpoch (sym same) holds.in_range) (ap number_of same ∙ holds.own),
+)
 
 module _ (number : ℕ) (file : List ℕ) (epoch len : ℕ) (small : len < 2 ^ 64) (is_open : IsOpenSlot file) (claims : StandsAt file 1 (long_bytes epoch ++ long_bytes len)) where
   length_stands : StandsAt file 9 (long_bytes len)
@@ -119,10 +122,13 @@ module _ (number : ℕ) (file : List ℕ) (epoch len : ℕ) (small : len < 2 ^ 6
   module _ (buf : List ℕ) (behind_it : StandsAt file 17 buf) (all : length buf ≡ len) where
     -- and one whose body is no snapshot
     pub body_other : SaysSnapshot buf None → IsBadSlot number file
-    body_other none = (is_open, λ e kept holds.
-        let same = same_length number file e kept holds len small length_stands in
-        let count : length (snapshot_bytes kept) ≡ length buf = sym same ∙ sym all in
-        none kept (holds.read, sym (held_body number file e kept holds) ∙ ap (λ k. take k (drop 17 file)) count ∙ behind_it))
+    body_other none = (
+      is_open,
+      λ e kept holds.
+          let same = same_length number file e kept holds len small length_stands in
+          let count : length (snapshot_bytes kept) ≡ length buf = sym same ∙ sym all in
+          none kept (holds.read, sym (held_body number file e kept holds) ∙ ap (λ k. take k (drop 17 file)) count ∙ behind_it),
+    )
 
     -- else it keeps that snapshot
     pub body_found : IsEpoch epoch → number_of epoch ≡ number → (kept : Snapshot) → IsSnapshot buf kept → HoldsAt number file epoch kept

@@ -13,7 +13,9 @@ use std::alloc::Global;
 use std::test::Fail;
 
 /// The program `a`, and nothing else.
-const FIRST: [u8; 21] = [0, 0, 0, 1, b'a', 0, 0, 0, 0, 0, 0, 0, 0, 0, 0, 0, 0, 0, 0, 0, 0];
+const FIRST: [u8; 21] = [
+    0, 0, 0, 1, b'a', 0, 0, 0, 0, 0, 0, 0, 0, 0, 0, 0, 0, 0, 0, 0, 0,
+];
 
 /// No program.
 const SECOND: [u8; 20] = [0; 20];
@@ -56,7 +58,10 @@ fn the_first_snapshot_takes_slot_1(rt: HostRuntime) -> Result<(), Fail> {
     assert_eq!(rt; keep(alloc, &mut disk, 1, &FIRST), Ok(()));
     let mut slot = [9; 40];
     assert_eq!(rt; disk.read_at(StoreFile::Snap1, 0, &mut slot), Ok(38));
-    assert_eq!(rt; &slot[..17], [0xA5, 0, 0, 0, 0, 0, 0, 0, 1, 0, 0, 0, 0, 0, 0, 0, 21].as_slice());
+    assert_eq!(rt;
+        &slot[..17],
+        [0xA5, 0, 0, 0, 0, 0, 0, 0, 1, 0, 0, 0, 0, 0, 0, 0, 21].as_slice()
+    );
     assert_eq!(rt; &slot[17..38], FIRST.as_slice());
     let mut log = [9; 2];
     assert_eq!(rt; disk.read_at(StoreFile::Log1, 0, &mut log), Ok(1));
@@ -81,7 +86,10 @@ fn the_second_takes_slot_0(rt: HostRuntime) -> Result<(), Fail> {
 fn an_open_slot_of_zeros_is_bad(rt: HostRuntime) -> Result<(), Fail> {
     let alloc = rt.alloc();
     let mut disk = new_disk(alloc)?;
-    assert_eq!(rt; disk.write_at(StoreFile::Snap1, 0, &[0xA5, 0, 0, 0, 0, 0]), Ok(()));
+    assert_eq!(rt;
+        disk.write_at(StoreFile::Snap1, 0, &[0xA5, 0, 0, 0, 0, 0]),
+        Ok(())
+    );
     let found = newest(alloc, &mut disk);
     assert!(rt; matches!(found, Err(SnapFault::Bad { slot: 1 })));
     Ok(())

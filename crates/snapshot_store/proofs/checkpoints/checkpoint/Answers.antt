@@ -1,5 +1,5 @@
 use Rattle.std.proofs.Common.{◌<◌, ◌^◌, length, arith}
-use Rattle.sf_outside.specs.DiskModel.{Image, DiskFacts, LeavesOnly}
+use Rattle.sf_outside.specs.DiskModel.{Image}
 use Rattle.sf_outside.specs.ImageSteps.{ComesBy}
 use Rattle.sf_outside.proofs.ImageSteps.{on_ok}
 use Rattle.snapshot_store.specs.SlotFile.{slot_of}

@@ -16,7 +16,7 @@ returns-in-Alone-clause-now g c =
     let slot = c.slot_of-slot.result in
     let Now = λ (file : StoreFile). (image : Image) → new.may_leave image → ComesBy file Closes old image in
     let here : OnOk c.close_gate.result (Now slot) =
-        on_ok c.close_gate.result ((image : Image) → new.may_leave image → ComesBy slot Closes mid image) (Now slot) (then_now slot old mid c.gate_of.ensures.stays new) c.close_gate.ensures.now in
+    on_ok c.close_gate.result ((image : Image) → new.may_leave image → ComesBy slot Closes mid image) (Now slot) (then_now slot old mid c.gate_of.ensures.stays new) c.close_gate.ensures.now in
     subst (λ file. OnOk c.close_gate.result (Now file)) c.slot_of-slot.ensures here
 
 pub returns-in-Alone-clause-moments : goal.returns-in-Alone-clause-moments

@@ -16,7 +16,7 @@ returns-clause-now g c =
     let body = c.args.body.now in
     let Now = λ (slot : StoreFile). (image : Image) → new.may_leave image → ComesBy slot (Fills c.args.epoch body) old image in
     let here : OnOk c.put_behind_gate.result (Now c.slot_of.result) =
-        on_ok_both c.put_behind_gate.result (IsDurable c.slot_of.result new) (SeenWritten c.slot_of.result 1 (behind_gate c.args.epoch body) old new) (Now c.slot_of.result)
-        (λ durable seen. filled_now c.slot_of.result c.args.epoch body old new c.put_behind_gate.ensures.moments seen durable)
-        c.put_behind_gate.ensures.durable c.put_behind_gate.ensures.seen in
+    on_ok_both c.put_behind_gate.result (IsDurable c.slot_of.result new) (SeenWritten c.slot_of.result 1 (behind_gate c.args.epoch body) old new) (Now c.slot_of.result)
+    (λ durable seen. filled_now c.slot_of.result c.args.epoch body old new c.put_behind_gate.ensures.moments seen durable)
+    c.put_behind_gate.ensures.durable c.put_behind_gate.ensures.seen in
     subst (λ slot. OnOk c.put_behind_gate.result (Now slot)) c.slot_of.ensures here

@@ -1,5 +1,4 @@
 use Rattle.std.proofs.Common.{◌≡◌, length, arith}
-use Rattle.sf_outside.specs.DiskModel.{of_file}
 use Rattle.snapshot_store.proofs.Slots.{seen_number}
 use Rattle.snapshot_store.proofs.front.number_at.Goals as goal
 
