@@ -1,9 +1,10 @@
 //! Keeping a snapshot: the slot of its epoch is closed, its log is cleared, the slot is filled, and then it is opened.
 
-ghost use Rattle.std.specs.Prelude.{◌≡◌, ◌⊎◌, ◌+◌, ◌^◌, ◌<◌, ◌≤◌, [], ◌∷◌, length, IfSome, OnOk, OnErr, IsErr};
+ghost use Rattle.std.specs.Prelude.{◌≡◌, ◌≢◌, ◌⊎◌, ◌+◌, ◌^◌, ◌<◌, ◌≤◌, [], ◌∷◌, length, IfSome, OnOk, OnErr, IsErr};
 ghost use Rattle.sf_outside.specs.Causes.{HasCause, Rose};
 ghost use Rattle.sf_outside.specs.DiskModel.{Image, of_file, LeavesOnly, SeenWritten, IsDurable};
 ghost use Rattle.sf_outside.specs.ImageSteps.{ComesBy, OthersStayDurable};
+ghost use Rattle.sf_outside.specs.declared.store_disk.StoreFile.{StoreFile};
 ghost use Rattle.sf_value.specs.declared.Snapshot.{Snapshot};
 ghost use Rattle.snapshot_store.specs.SlotFile.{IsEpoch, IsNext, IsOpenSlot, IsSnapshot, slot_of, log_of, behind_gate};
 ghost use Rattle.snapshot_store.specs.SlotSteps.{GateChanges, StaysOrCloses, Closes, Opens, KeepsGate, Fills, ComesBeside, CheckpointStep, CheckpointDone, IsKept, KeepsOrIsKept};
@@ -27,6 +28,7 @@ pub fn checkpoint<D: Disk>(disk: &mut D, epoch: u64, body: &[u8]) -> Result<(), 
     ensures kept { OnOk result ((image : Image) → (D.facts disk.new).may_leave image → IsKept epoch body.now image) }
     ensures slot { OnOk result (IsDurable (slot_of epoch) (D.facts disk.new)) }
     ensures log { OnOk result (IsDurable (log_of epoch) (D.facts disk.new)) }
+    ensures others { (other : StoreFile) → other ≢ slot_of epoch → other ≢ log_of epoch → IsDurable other (D.facts disk.old) → IsDurable other (D.facts disk.new) }
     ensures moments { LeavesOnly (D.facts disk.old) (D.facts disk.new) (ComesBeside epoch (CheckpointStep epoch body.now) (D.facts disk.old)) }
     ensures stands { LeavesOnly (D.facts disk.old) (D.facts disk.new) (KeepsOrIsKept epoch body.now (D.facts disk.old)) }
     ensures past_end { 2 ^ 62 < 17 + length body.now → IsErr result × (disk.new ≡ disk.old) }

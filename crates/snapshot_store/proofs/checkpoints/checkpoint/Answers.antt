@@ -104,3 +104,13 @@ returns-in_err-fill_slot-clause-stands g c =
 
 pub returns-clause-stands : goal.returns-clause-stands
 returns-clause-stands g c = stands c.args.epoch c.args.body.now (g.D.Disk.facts c.args.disk.now) c.requires.next (g.D.Disk.facts c.open_slot.new.disk) (returns-clause-moments g c)
+
+-- ---- the other files
+
+pub returns-in_err-fill_slot-clause-others : goal.returns-in_err-fill_slot-clause-others
+returns-in_err-fill_slot-clause-others g c = λ other slot log durable.
+    c.fill_slot.ensures.others other slot (c.clear_log.ensures.others other log (c.close_slot.ensures.others other slot durable))
+
+pub returns-clause-others : goal.returns-clause-others
+returns-clause-others g c = λ other slot log durable.
+    c.open_slot.ensures.others other slot (c.fill_slot.ensures.others other slot (c.clear_log.ensures.others other log (c.close_slot.ensures.others other slot durable)))
