@@ -1,7 +1,7 @@
 -- What reading the slots answers.
 use Rattle.std.specs.Prelude.{ℕ, ◌≡◌, ◌+◌, ◌<◌, List, length, Option, Some, None, Result, Ok, Err, nat_lt, if◌then◌else◌}
 use Rattle.sf_bytes.specs.ByteForms.{long_bytes}
-use Rattle.sf_bytes.specs.Gates.{StandsAt, ClosedAt}
+use Rattle.sf_bytes.specs.Gates.{StandsAt}
 use Rattle.sf_bytes.specs.Spelt.{IsReadSnapshot}
 use Rattle.sf_outside.specs.DiskModel.{Image}
 use Rattle.sf_value.specs.declared.Snapshot.{Snapshot}
@@ -10,7 +10,7 @@ use Rattle.snapshot_store.specs.declared.fault.SnapFault.TheVariants.{Failed, Ba
 use Rattle.snapshot_store.specs.declared.front.Gate.{Gate}
 use Rattle.snapshot_store.specs.declared.front.Gate.TheVariants.{Alone, Closed, Open}
 use Rattle.snapshot_store.specs.declared.reading.Kept.{Kept}
-use Rattle.snapshot_store.specs.SlotFile.{IsEpoch, IsClosedSlot, IsOpenSlot, IsSnapshot, HoldsAt, IsBadSlot, IsNewest, IsNew, IsFirstBad}
+use Rattle.snapshot_store.specs.SlotFile.{IsEpoch, IsClosedSlot, IsOpenSlot, IsShutSlot, IsSnapshot, HoldsAt, IsBadSlot, IsNewest, IsNew, IsFirstBad}
 
 -- the newest snapshot with its epoch, nothing where the store is new, and bad with the first bad slot
 abbrev pub Answers : Image → Result (Option Kept) SnapFault → Type 0
@@ -48,7 +48,7 @@ IsPlacedSlot number (Err NoMemory) = Unit {0}
 -- at most one byte; or a closed gate and more; or an open gate and more
 abbrev pub SaysGate : List ℕ → Gate → Type 0
 SaysGate file Alone = length file < 2
-SaysGate file Closed = ClosedAt file 0
+SaysGate file Closed = IsShutSlot file
 SaysGate file Open = IsOpenSlot file
 
 -- the number whose eight bytes stand there, or nothing where the file ends before

@@ -11,6 +11,7 @@ use Rattle.sf_value.specs.declared.Snapshot.{Snapshot}
 
 -- ---- epochs
 
+-- what an epoch can be
 abbrev pub IsEpoch : ℕ → Type 0
 IsEpoch epoch = (1 ≤ epoch) × (epoch < 2 ^ 63)
 
@@ -43,6 +44,10 @@ IsClosedSlot file = (length file ≤ 1) ⊎ ClosedAt file 0
 -- an open gate, and more than that
 abbrev pub IsOpenSlot : List ℕ → Type 0
 IsOpenSlot file = (1 < length file) × OpenAt file 0
+
+-- a closed gate, and more than that
+abbrev pub IsShutSlot : List ℕ → Type 0
+IsShutSlot file = (1 < length file) × ClosedAt file 0
 
 -- these are the bytes of the snapshot and nothing else
 abbrev pub IsSnapshot : List ℕ → Snapshot → Type 0

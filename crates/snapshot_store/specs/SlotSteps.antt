@@ -12,7 +12,7 @@ pub record GateChanges (before now : List ℕ) : Type 0 where
   pub behind : drop 1 now ≡ drop 1 before
   pub no_shorter : length before ≤ length now
 
--- that, and what was open is as it was or closed
+-- that, and the slot is as it was, or closed
 pub record StaysOrCloses (before now : List ℕ) : Type 0 where
   pub gate : GateChanges before now
   pub slot : (now ≡ before) ⊎ IsClosedSlot now

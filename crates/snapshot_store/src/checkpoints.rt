@@ -2,11 +2,11 @@
 
 ghost use Rattle.std.specs.Prelude.{◌≡◌, ◌≢◌, ◌⊎◌, ◌+◌, ◌^◌, ◌<◌, ◌≤◌, [], ◌∷◌, length, IfSome, OnOk, OnErr, IsErr};
 ghost use Rattle.sf_outside.specs.Causes.{HasCause, Rose};
-ghost use Rattle.sf_outside.specs.DiskModel.{Image, of_file, LeavesOnly, SeenWritten, IsDurable};
+ghost use Rattle.sf_outside.specs.DiskModel.{Image, of_file, LeavesOnly, SeenWritten, IsDurable, Stays};
 ghost use Rattle.sf_outside.specs.ImageSteps.{ComesBy, OthersStayDurable};
 ghost use Rattle.sf_outside.specs.declared.store_disk.StoreFile.{StoreFile};
 ghost use Rattle.sf_value.specs.declared.Snapshot.{Snapshot};
-ghost use Rattle.snapshot_store.specs.SlotFile.{IsEpoch, IsNext, IsOpenSlot, IsSnapshot, slot_of, log_of, behind_gate};
+ghost use Rattle.snapshot_store.specs.SlotFile.{IsEpoch, IsNext, IsOpenSlot, IsShutSlot, IsSnapshot, slot_of, log_of, behind_gate};
 ghost use Rattle.snapshot_store.specs.SlotSteps.{GateChanges, StaysOrCloses, Closes, Opens, KeepsGate, Fills, ComesBeside, CheckpointStep, CheckpointDone, IsKept, KeepsOrIsKept};
 
 use crate::OPEN;
@@ -50,6 +50,9 @@ pub fn close_slot<D: Disk>(disk: &mut D, epoch: u64) -> Result<(), Failed>
     requires { IsEpoch epoch }
     ensures now { OnOk result ((image : Image) → (D.facts disk.new).may_leave image → ComesBy (slot_of epoch) Closes (D.facts disk.old) image) }
     ensures durable { OnOk result (IsDurable (slot_of epoch) (D.facts disk.new)) }
+    // A slot that is shut isn't written. In any other the first byte becomes 0.
+    ensures unwritten { IfSome (D.facts disk.old).seen (λ now. IsShutSlot (of_file (slot_of epoch) now) → Stays (D.facts disk.old) (D.facts disk.new)) }
+    ensures written { OnOk result (IfSome (D.facts disk.old).seen (λ now. (IsShutSlot (of_file (slot_of epoch) now) → ⊥) → SeenWritten (slot_of epoch) 0 (0 ∷ []) (D.facts disk.old) (D.facts disk.new))) }
     ensures moments { LeavesOnly (D.facts disk.old) (D.facts disk.new) (ComesBy (slot_of epoch) StaysOrCloses (D.facts disk.old)) }
     ensures others { OthersStayDurable (slot_of epoch) (D.facts disk.old) (D.facts disk.new) }
     ensures cause { HasCause (D.faults disk.old) (D.faults disk.new) result }
@@ -70,6 +73,7 @@ fn close_gate<D: Disk>(disk: &mut D, slot: StoreFile) -> Result<(), Failed>
     requires { IfSome (D.facts disk.old).seen (λ now. (length (of_file slot now) < 2) ⊎ IsOpenSlot (of_file slot now)) }
     ensures now { OnOk result ((image : Image) → (D.facts disk.new).may_leave image → ComesBy slot Closes (D.facts disk.old) image) }
     ensures durable { OnOk result (IsDurable slot (D.facts disk.new)) }
+    ensures seen { OnOk result (SeenWritten slot 0 (0 ∷ []) (D.facts disk.old) (D.facts disk.new)) }
     ensures moments { LeavesOnly (D.facts disk.old) (D.facts disk.new) (ComesBy slot StaysOrCloses (D.facts disk.old)) }
     ensures others { OthersStayDurable slot (D.facts disk.old) (D.facts disk.new) }
     ensures cause { HasCause (D.faults disk.old) (D.faults disk.new) result }
