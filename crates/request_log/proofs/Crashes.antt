@@ -1,24 +1,16 @@
 -- What a crash leaves while a record is put behind a closed gate, and while that gate is opened.
-use Rattle.std.proofs.Common.{◌≡◌, inl, inr, ℕ, ◌+◌, ◌≤◌, ◌<◌, ◌^◌, List, [], ◌∷◌, length, get_or, take, min, Some, None, refl, sym, ap, ◌∙◌, subst, arith, IsSomeAnd, IfSome, IsSome, true≢false, length-take}
-use Rattle.std.specs.declared.option.Option.{Option}
+use Rattle.std.proofs.Common.{◌≡◌, inl, inr, ℕ, ◌+◌, ◌≤◌, ◌<◌, ◌^◌, List, [], ◌∷◌, length, get_or, take, min, refl, sym, ap, ◌∙◌, subst, arith, IfSome, length-take}
 use Rattle.std.proofs.lemmas.Bool.{cases_eq}
 use Rattle.sf_outside.specs.declared.store_disk.StoreFile.{StoreFile}
-use Rattle.sf_outside.specs.DiskModel.{Image, DiskFacts, of_file, with_file, Torn, TornFile, LeavesOnly, Elapses, ImagesTorn, SeenWritten, IsDurable}
-use Rattle.sf_outside.proofs.DiskLaws.{of_file-same, with_file-same, with_file-again, TornFile-torn, LeavesOnly-start, LeavesOnly-write, LeavesOnly-then, LeavesOnly-weaker}
+use Rattle.sf_outside.specs.DiskModel.{Image, DiskFacts, of_file, Torn, TornFile, LeavesOnly, Elapses, ImagesTorn, SeenWritten, IsDurable}
+use Rattle.sf_outside.proofs.DiskLaws.{with_file-same, TornFile-torn, LeavesOnly-start, LeavesOnly-write, LeavesOnly-then, LeavesOnly-weaker}
 use Rattle.sf_outside.proofs.Writes.{Torn-front}
-use Rattle.request_log.specs.LogFile.{open_gate, StandsAt, ClosedAt}
-use Rattle.request_log.specs.Appends.{behind_gate, HasRecord, StaysOrHasRecord, ComesBy}
-use Rattle.request_log.proofs.Stands.{front-shorter, Stands-same, Stands-byte, Stands-both}
-use Rattle.request_log.proofs.Logs.{Closed-length, stays_closed, has_record}
-use Rattle.request_log.proofs.Steps.{seen_has, written_stands}
-
--- each image that a crash left by the end of a run has what all had that it left meanwhile
-pub left_now : (old new : DiskFacts) (P : Image → Type 0) → LeavesOnly old new P → (image : Image) → new.may_leave image → P image
-left_now old new P leaves image left = leaves.each image (new.counts_now old.moment image leaves.later left)
-
--- an image that a write has torn
-abbrev pub TornBy : StoreFile → ℕ → ℕ → DiskFacts → Image → Type 0
-TornBy file at n facts image = (before : Image) × facts.may_leave before × TornFile file at n before image
+use Rattle.sf_outside.specs.ImageSteps.{ComesTorn, ComesBy}
+use Rattle.sf_outside.proofs.ImageSteps.{left_now, seen_has, torn_others, written_stands}
+use Rattle.sf_bytes.specs.Gates.{open_gate, StandsAt, ClosedAt}
+use Rattle.sf_bytes.proofs.Stands.{front-shorter, Stands-same, Stands-byte, Stands-both, Closed-length}
+use Rattle.request_log.specs.Appends.{behind_gate, HasRecord, StaysOrHasRecord}
+use Rattle.request_log.proofs.Logs.{stays_closed, has_record}
 
 -- two files with the same bytes up to here
 abbrev pub SameUpTo : ℕ → List ℕ → List ℕ → Type 0
@@ -36,12 +28,6 @@ module _ (file : StoreFile) (at : ℕ) (old : DiskFacts) (closed : (image : Imag
   reaches image staged =
       omega (arith, before-reaches image staged, ap length staged.step, length-take (at + 1) (of_file file image), length-take (at + 1) (of_file file staged.before))
 
-  -- a torn file comes from where the file came from
-  others : (at' n : ℕ) (between image : Image) (earlier : Image) → between ≡ with_file file (of_file file between) earlier → TornFile file at' n between image → image ≡ with_file file (of_file file image) earlier
-  others at' n between image earlier came torn =
-      let there : torn.bytes ≡ of_file file image = sym (ap (of_file file) torn.image ∙ of_file-same file torn.bytes between) in
-      torn.image ∙ ap (with_file file torn.bytes) came ∙ with_file-again file (of_file file between) torn.bytes earlier ∙ ap (λ f. with_file file f earlier) there
-
   staged_torn : (p n : ℕ) (between image : Image) → at + 1 ≤ p → Staged between → TornFile file p n between image → Staged image
   staged_torn p n between image behind staged torn =
       let f = of_file file between in
@@ -50,7 +36,7 @@ module _ (file : StoreFile) (at : ℕ) (old : DiskFacts) (closed : (image : Imag
         before = staged.before;
         left = staged.left;
         step = front-shorter f (of_file file image) (min p (length f)) (at + 1) t.before (omega (arith, behind, reaches between staged)) ∙ staged.step;
-        others = others p n between image staged.before staged.others torn;
+        others = torn_others file p n between image staged.before staged.others torn;
       }
 
   -- no write yet
@@ -58,10 +44,10 @@ module _ (file : StoreFile) (at : ℕ) (old : DiskFacts) (closed : (image : Imag
   staged_start = LeavesOnly-start old Staged (λ image left. record { before = image; left = left; step = refl; others = sym (with_file-same file image) })
 
   -- one write more behind the gate
-  pub staged_then : (mid new : DiskFacts) (p n : ℕ) → at + 1 ≤ p → LeavesOnly old mid Staged → LeavesOnly mid new (TornBy file p n mid) → LeavesOnly old new Staged
+  pub staged_then : (mid new : DiskFacts) (p n : ℕ) → at + 1 ≤ p → LeavesOnly old mid Staged → LeavesOnly mid new (ComesTorn file p n mid) → LeavesOnly old new Staged
   staged_then mid new p n behind so_far more =
       LeavesOnly-then old mid new Staged so_far
-      (LeavesOnly-weaker mid new (TornBy file p n mid) Staged more (λ image torn. staged_torn p n torn.0 image behind (left_now old mid Staged so_far torn.0 torn.1) torn.2))
+      (LeavesOnly-weaker mid new (ComesTorn file p n mid) Staged more (λ image torn. staged_torn p n torn.0 image behind (left_now old mid Staged so_far torn.0 torn.1) torn.2))
 
   staged_write : (mid new : DiskFacts) (p n : ℕ) → at + 1 ≤ p → LeavesOnly old mid Staged → Elapses mid new → ImagesTorn file p n mid new → LeavesOnly old new Staged
   staged_write mid new p n behind so_far time images = staged_then mid new p n behind so_far (LeavesOnly-write file p n mid new time images)
@@ -93,18 +79,14 @@ module _ (file : StoreFile) (at : ℕ) (old : DiskFacts) (closed : (image : Imag
         record { before = staged.before; left = staged.left; step = inl (stays_closed at before now same here); others = staged.others }
 
     module _ (mid : DiskFacts) (so_far : LeavesOnly old mid Staged) (durable : IsDurable file mid) (seen : SeenWritten file (at + 1) (behind_gate body) old mid) where
-      was_seen : (some : Option Image) → IsSome some → IfSome some (λ now. at + 1 ≤ length (of_file file now)) → IsSomeAnd some (λ now. at + 1 ≤ length (of_file file now))
-      was_seen None is within = absurd (true≢false (sym is))
-      was_seen (Some now) is within = within
-
       -- all of the record but its gate stands in each image
       stands_behind : (image : Image) → mid.may_leave image → StandsAt (of_file file image) (at + 1) (behind_gate body)
       stands_behind image left =
           let staged = left_now old mid Staged so_far image left in
-          written_stands file (at + 1) (behind_gate body) old.seen mid.seen image (was_seen old.seen (old.told staged.before staged.left) seen_reaches) seen (durable image left)
+          written_stands file (at + 1) (behind_gate body) old.seen mid.seen image (old.told staged.before staged.left) seen (durable image left)
 
       -- and still does where the write of the gate is torn, with any byte as the gate
-      module _ (image : Image) (torn : TornBy file at 1 mid image) where
+      module _ (image : Image) (torn : ComesTorn file at 1 mid image) where
         staged : Staged torn.0
         staged = left_now old mid Staged so_far torn.0 torn.1
 
@@ -123,7 +105,7 @@ module _ (file : StoreFile) (at : ℕ) (old : DiskFacts) (closed : (image : Imag
         behind = ap (take (length (behind_gate body))) t.after ∙ stands_behind torn.0 torn.1
 
         from_before : {Step : List ℕ → List ℕ → Type 0} → Step (of_file file staged.before) (of_file file image) → ComesBy file Step old image
-        from_before step = record { before = staged.before; left = staged.left; step = step; others = others at 1 torn.0 image staged.before staged.others torn.2 }
+        from_before step = record { before = staged.before; left = staged.left; step = step; others = torn_others file at 1 torn.0 image staged.before staged.others torn.2 }
 
         open_record : length body < 2 ^ 32 → StandsAt (of_file file image) at (open_gate ∷ []) → HasRecord at body (of_file file staged.before) (of_file file image)
         open_record short gate = has_record at body (of_file file staged.before) (of_file file image) short same_front (Stands-both (of_file file image) at (open_gate ∷ []) (behind_gate body) gate behind)
@@ -138,20 +120,15 @@ module _ (file : StoreFile) (at : ℕ) (old : DiskFacts) (closed : (image : Imag
               | inr not ↦ from_before (inl (stays_closed at (of_file file staged.before) now same_front (byte, not, here)))
             ]
 
-      module _ (new : DiskFacts) (short : length body < 2 ^ 32) (gates : LeavesOnly mid new (TornBy file at 1 mid)) where
+      module _ (new : DiskFacts) (short : length body < 2 ^ 32) (gates : LeavesOnly mid new (ComesTorn file at 1 mid)) where
         -- at each moment
         pub all_either : LeavesOnly old new Either
         all_either =
             LeavesOnly-then old mid new Either (LeavesOnly-weaker old mid Staged Either so_far staged_either)
-            (LeavesOnly-weaker mid new (TornBy file at 1 mid) Either gates (λ image torn. gate_either image torn short))
-
-        mid_reaches : (some : Option Image) (image : Image) → at + 1 ≤ length (of_file file image) → IsSomeAnd some (λ now. of_file file image ≡ of_file file now) → IsSomeAnd some (λ now. at ≤ length (of_file file now))
-        mid_reaches None image within same = absurd same
-        mid_reaches (Some now) image within same = omega (arith, within, ap length same)
+            (LeavesOnly-weaker mid new (ComesTorn file at 1 mid) Either gates (λ image torn. gate_either image torn short))
 
         -- and once the gate is safe
         pub all_have : IsDurable file new → SeenWritten file at (open_gate ∷ []) mid new → (image : Image) → new.may_leave image → ComesBy file (HasRecord at body) old image
         all_have safe opened image left =
-            let torn = left_now mid new (TornBy file at 1 mid) gates image left in
-            let within = mid_reaches mid.seen torn.0 (reaches torn.0 (left_now old mid Staged so_far torn.0 torn.1)) (durable torn.0 torn.1) in
-            from_before image torn (open_record image torn short (written_stands file at (open_gate ∷ []) mid.seen new.seen image within opened (safe image left)))
+            let torn = left_now mid new (ComesTorn file at 1 mid) gates image left in
+            from_before image torn (open_record image torn short (written_stands file at (open_gate ∷ []) mid.seen new.seen image (mid.told torn.0 torn.1) opened (safe image left)))

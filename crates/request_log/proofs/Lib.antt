@@ -1,5 +1,4 @@
 pub mod Crashes
 pub mod Logs
 pub mod Records
-pub mod Stands
 pub mod Steps

@@ -1,11 +1,12 @@
 -- Records and logs in files that share a front.
 use Rattle.std.proofs.Common.{◌≡◌, ℕ, ◌+◌, ◌≤◌, ◌<◌, ◌^◌, List, [], ◌∷◌, ◌++◌, length, take, refl, sym, subst, arith, append-nil, length-append}
 use Rattle.sf_bytes.specs.ByteForms.{number_bytes, batch_bytes}
+use Rattle.sf_bytes.specs.Gates.{open_gate, StandsAt, ClosedAt}
 use Rattle.sf_bytes.specs.Spelt.{IsReadBatch}
+use Rattle.sf_bytes.proofs.Stands.{Stands-length, Stands-same, Stands-front, Stands-behind, Closed-length}
 use Rattle.sf_value.specs.declared.BatchRecord.{BatchRecord}
-use Rattle.request_log.specs.LogFile.{open_gate, gate_behind, StandsAt, ClosedAt, RecordAt, IsBatch, LogFrom}
+use Rattle.request_log.specs.LogFile.{gate_behind, RecordAt, IsBatch, LogFrom}
 use Rattle.request_log.specs.Appends.{record_bytes, StaysClosed, HasRecord}
-use Rattle.request_log.proofs.Stands.{Stands-length, Stands-same, Stands-front, Stands-behind}
 
 pub number-length : (n : ℕ) → length (number_bytes n) ≡ 4
 unfolding number_bytes
@@ -38,9 +39,6 @@ Log-goes_on a b end front reaches at [] more last log rest = subst (λ place. Lo
 Log-goes_on a b end front reaches at (batch ∷ batches) more last log rest =
     let next = gate_behind at (length (batch_bytes batch)) in
     (Record-same a b end at batch front reaches (Log-end a next batches end log.1) log.0, Log-goes_on a b end front reaches next batches more last log.1 rest)
-
-pub Closed-length : (file : List ℕ) (at : ℕ) → ClosedAt file at → at + 1 ≤ length file
-Closed-length file at closed = Stands-length file at (closed.0 ∷ []) closed.2 (omega arith)
 
 pub stays_closed : (at : ℕ) (before now : List ℕ) → take at now ≡ take at before → ClosedAt now at → StaysClosed at before now
 stays_closed at before now front closed = record {

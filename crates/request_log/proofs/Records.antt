@@ -1,29 +1,27 @@
 -- Which record is behind a gate, from the bytes that were read.
-use Rattle.std.proofs.Common.{◌≡◌, inl, inr, ℕ, ◌+◌, ◌-◌, ◌*◌, ◌≤◌, ◌<◌, ◌^◌, List, [], ◌∷◌, ◌++◌, length, get_or, take, drop, Some, None, sym, ap, ◌∙◌, subst, arith, IfSome, append-nil, take-append-drop, length-take}
+use Rattle.std.proofs.Common.{◌≡◌, inl, inr, ℕ, ◌+◌, ◌-◌, ◌*◌, ◌≤◌, ◌<◌, ◌^◌, List, [], ◌∷◌, length, get_or, take, drop, None, sym, ap, ◌∙◌, subst, arith, IfSome, length-take}
 use Rattle.std.specs.declared.option.Option.{Option}
 use Rattle.std.specs.Int.{w32, from_be_bytes, to_be_bytes}
 use Rattle.std.proofs.lemmas.List.{take_all, take-take}
 use Rattle.sf_bytes.specs.ByteForms.{number_bytes, batch_bytes}
+use Rattle.sf_bytes.specs.Gates.{open_gate, StandsAt, OpenAt}
 use Rattle.sf_bytes.specs.Reading.{batch_at}
-use Rattle.sf_bytes.specs.Reads.{NoneBeginsAnother}
 use Rattle.sf_bytes.specs.Spelt.{IsReadBatch}
 use Rattle.sf_bytes.proofs.Fronts.{stands_apart}
+use Rattle.sf_bytes.proofs.Wholes.{part_only}
 use Rattle.sf_bytes.proofs.RecordLaws.{batch_spells}
+use Rattle.sf_bytes.proofs.Stands.{Stands-front, Stands-behind, Stands-both}
 use Rattle.sf_bytes.proofs.Wide.{IsBytes, IsBytes-rest, wide32}
 use Rattle.sf_outside.specs.Bytes.{CopiedAll}
 use Rattle.sf_outside.specs.DiskModel.{Image, of_file}
 use Rattle.sf_outside.specs.declared.store_disk.StoreFile.{StoreFile}
+use Rattle.sf_outside.proofs.ImageSteps.{if_both}
+use Rattle.sf_outside.proofs.WrittenBytes.{copied-stands}
 use Rattle.sf_value.specs.declared.BatchRecord.{BatchRecord}
-use Rattle.request_log.specs.LogFile.{open_gate, gate_behind, StandsAt, OpenAt, RecordAt, IsBadAt, IsBatch}
+use Rattle.request_log.specs.LogFile.{gate_behind, RecordAt, IsBadAt, IsBatch}
 use Rattle.request_log.specs.Answers.{SaysFront, SaysBatch}
 use Rattle.request_log.specs.declared.reading.Front.TheVariants.{Broken}
-use Rattle.request_log.proofs.Stands.{Stands-front, Stands-behind, Stands-both}
 use Rattle.request_log.proofs.Logs.{number-length}
-
--- what follows from two facts of a value, where there is one
-pub if_both : {A : Type 0} (some : Option A) (P Q R : A → Type 0) → ((x : A) → P x → Q x → R x) → IfSome some P → IfSome some Q → IfSome some R
-if_both None P Q R follows p q = tt
-if_both (Some x) P Q R follows p q = follows x p q
 
 -- ---- whole batches
 
@@ -31,12 +29,7 @@ pub no_batch : (bytes : List ℕ) → ((batch : BatchRecord) (count : ℕ) → I
 no_batch bytes none batch is = none batch (length bytes) is.0 (omega arith, take_all (length bytes) bytes (omega arith) ∙ sym is.1)
 
 pub other_batch : (bytes : List ℕ) (found : BatchRecord) (count : ℕ) → IsReadBatch found → take count bytes ≡ batch_bytes found → count < length bytes → SaysBatch bytes None
-other_batch bytes found count is_read front less batch is =
-    let apart : NoneBeginsAnother batch_bytes IsReadBatch = stands_apart batch_at batch_bytes IsReadBatch batch_spells in
-    let whole : batch_bytes found ++ drop count bytes ≡ batch_bytes batch ++ [] =
-    ap (λ l. l ++ drop count bytes) (sym front) ∙ take-append-drop count bytes ∙ sym is.1 ∙ sym (append-nil (batch_bytes batch)) in
-    let same : found ≡ batch = apart found batch (drop count bytes) [] is_read is.0 whole in
-    absurd (omega (arith, less, ap length front, length-take count bytes, ap (λ b. length (batch_bytes b)) same, ap length is.1))
+other_batch bytes found count is_read front less batch is = part_only batch_bytes IsReadBatch (stands_apart batch_at batch_bytes IsReadBatch batch_spells) bytes found count is_read front less batch is.0 is.1
 
 pub whole_is : (bytes : List ℕ) (found : BatchRecord) (count : ℕ) → IsReadBatch found → take count bytes ≡ batch_bytes found → length bytes ≤ count → IsBatch bytes found
 whole_is bytes found count is_read front all = (is_read, sym front ∙ take_all count bytes all)
@@ -97,12 +90,6 @@ module _ (file : List ℕ) (at len : ℕ) (short : len < 2 ^ 32) (claims : Stand
 
 -- ---- what was copied
 
--- a whole copy stands there
-pub copied_stands : (file : List ℕ) (at n : ℕ) (buf : List ℕ) → CopiedAll file at n buf → length buf ≤ n → StandsAt file at buf
-copied_stands file at n buf copied all =
-    let same : n ≡ length buf = omega (arith, copied.count, all) in
-    ap (λ k. take k (drop at file)) (sym same) ∙ sym copied.bytes ∙ take_all n buf all
-
 -- five bytes were asked for, and they say that no record is there
 pub broken : (file : List ℕ) (at n : ℕ) (buf : List ℕ) → length buf ≡ 5 → CopiedAll file at n buf → SaysFront (take n buf) Broken → IsBadAt file at
 broken file at n buf five copied (inl none) = inl (omega (arith, five, copied.count, ap length none, length-take n buf))
@@ -135,7 +122,7 @@ module _ (file : StoreFile) (seen : Option Image) (at len end count : ℕ) (buf 
       copied
 
   stands_there : (now : Image) → Told now → StandsAt (of_file file now) (at + 5) buf
-  stands_there now is = copied_stands (of_file file now) (at + 5) count buf is.1 (omega (arith, long, all))
+  stands_there now is = copied-stands (of_file file now) (at + 5) count buf is.1 (omega (arith, long, all))
 
   pub seen_record : (batch : BatchRecord) → IsBatch buf batch → IfSome seen (λ now. RecordAt (of_file file now) at batch)
   seen_record batch whole = if_both seen Told Told (λ now. RecordAt (of_file file now) at batch)

@@ -1,6 +1,7 @@
 -- What reading a record answers.
 use Rattle.std.specs.Prelude.{ℕ, ◌≡◌, ◌≢◌, ◌⊎◌, ◌<◌, List, [], ◌∷◌, length, take, Option, Some, None, Result, Ok, Err}
 use Rattle.sf_bytes.specs.ByteForms.{number_bytes, batch_bytes}
+use Rattle.sf_bytes.specs.Gates.{open_gate, ClosedAt}
 use Rattle.sf_bytes.specs.Spelt.{IsReadBatch}
 use Rattle.sf_value.specs.declared.BatchRecord.{BatchRecord}
 use Rattle.request_log.specs.declared.fault.LogFault.{LogFault}
@@ -8,7 +9,7 @@ use Rattle.request_log.specs.declared.fault.LogFault.TheVariants.{Failed, Bad, N
 use Rattle.request_log.specs.declared.reading.Found.{Found}
 use Rattle.request_log.specs.declared.reading.Front.{Front}
 use Rattle.request_log.specs.declared.reading.Front.TheVariants.{Closed, Claims, Broken}
-use Rattle.request_log.specs.LogFile.{open_gate, gate_behind, ClosedAt, RecordAt, IsBadAt, IsBatch}
+use Rattle.request_log.specs.LogFile.{gate_behind, RecordAt, IsBadAt, IsBatch}
 
 -- a record where there is one, nothing where a gate is closed, and bad where neither is
 abbrev pub Answers : List ℕ → ℕ → Result (Option Found) LogFault → Type 0

@@ -1,10 +1,9 @@
 -- What a record that is added makes of a log, and what a crash meanwhile leaves.
 use Rattle.std.specs.Prelude.{ℕ, ◌≡◌, ◌⊎◌, List, [], ◌∷◌, ◌++◌, length, take}
 use Rattle.sf_bytes.specs.ByteForms.{number_bytes}
-use Rattle.sf_outside.specs.declared.store_disk.StoreFile.{StoreFile}
-use Rattle.sf_outside.specs.DiskModel.{Image, DiskFacts, of_file, with_file}
+use Rattle.sf_bytes.specs.Gates.{open_gate, StandsAt, ClosedAt}
 use Rattle.sf_value.specs.declared.BatchRecord.{BatchRecord}
-use Rattle.request_log.specs.LogFile.{open_gate, gate_behind, StandsAt, ClosedAt, IsBatch, LogFrom}
+use Rattle.request_log.specs.LogFile.{gate_behind, IsBatch, LogFrom}
 
 -- what stands behind a record's gate: the length, the bytes of a batch and a closed gate
 abbrev pub behind_gate : List ℕ → List ℕ
@@ -30,10 +29,3 @@ pub record HasRecord (at : ℕ) (body before now : List ℕ) : Type 0 where
 -- one of the two
 abbrev pub StaysOrHasRecord : ℕ → List ℕ → List ℕ → List ℕ → Type 0
 StaysOrHasRecord at body before now = StaysClosed at before now ⊎ HasRecord at body before now
-
--- an image that comes from an earlier one by such a step of this file, the other files being the same
-pub record ComesBy (file : StoreFile) (Step : List ℕ → List ℕ → Type 0) (old : DiskFacts) (image : Image) : Type 0 where
-  pub before : Image
-  pub left : old.may_leave before
-  pub step : Step (of_file file before) (of_file file image)
-  pub others : image ≡ with_file file (of_file file image) before

@@ -1,24 +1,9 @@
 -- The file of a log. A record is a gate, the length of a batch's bytes, these bytes, and then the next gate.
-use Rattle.std.specs.Prelude.{ℕ, ◌≡◌, ◌≢◌, ◌⊎◌, ◌+◌, ◌≤◌, ◌<◌, ◌^◌, List, [], ◌∷◌, ◌++◌, length, take, drop}
+use Rattle.std.specs.Prelude.{ℕ, ◌≡◌, ◌⊎◌, ◌+◌, ◌≤◌, ◌<◌, ◌^◌, List, [], ◌∷◌, ◌++◌, length}
 use Rattle.sf_bytes.specs.ByteForms.{number_bytes, batch_bytes}
+use Rattle.sf_bytes.specs.Gates.{open_gate, StandsAt, ClosedAt, OpenAt}
 use Rattle.sf_bytes.specs.Spelt.{IsReadBatch}
 use Rattle.sf_value.specs.declared.BatchRecord.{BatchRecord}
-
--- the byte of an open gate; any other byte is a closed one
-abbrev pub open_gate : ℕ
-open_gate = 165
-
--- these bytes stand in the file at this place
-abbrev pub StandsAt : List ℕ → ℕ → List ℕ → Type 0
-StandsAt file at bytes = take (length bytes) (drop at file) ≡ bytes
-
--- a closed gate is in the file at this place
-abbrev pub ClosedAt : List ℕ → ℕ → Type 0
-ClosedAt file at = (gate : ℕ) × (gate ≢ open_gate) × StandsAt file at (gate ∷ [])
-
--- an open one is
-abbrev pub OpenAt : List ℕ → ℕ → Type 0
-OpenAt file at = StandsAt file at (open_gate ∷ [])
 
 -- these are the bytes of the batch and nothing else
 abbrev pub IsBatch : List ℕ → BatchRecord → Type 0

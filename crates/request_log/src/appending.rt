@@ -1,14 +1,16 @@
 //! Adding a record at the closed gate where the log ends.
 
 ghost use Rattle.std.specs.Prelude.{◌≡◌, ◌⊎◌, ◌+◌, ◌^◌, ◌<◌, ◌≤◌, ◌∷◌, [], length, take, IfOk, OnOk, OnErr, IsErr};
+ghost use Rattle.sf_bytes.specs.Gates.{open_gate, ClosedAt};
 ghost use Rattle.sf_outside.specs.Causes.{HasCause, Rose};
-ghost use Rattle.sf_outside.specs.DiskModel.{Image, of_file, TornFile, LeavesOnly, SeenWritten, IsDurable};
+ghost use Rattle.sf_outside.specs.DiskModel.{Image, of_file, LeavesOnly, SeenWritten, IsDurable};
+ghost use Rattle.sf_outside.specs.ImageSteps.{ComesBy};
 ghost use Rattle.sf_value.specs.declared.BatchRecord.{BatchRecord};
-ghost use Rattle.request_log.specs.LogFile.{open_gate, gate_behind, ClosedAt, IsBatch};
-ghost use Rattle.request_log.specs.Appends.{behind_gate, record_bytes, HasRecord, StaysOrHasRecord, ComesBy};
+ghost use Rattle.request_log.specs.LogFile.{gate_behind, IsBatch};
+ghost use Rattle.request_log.specs.Appends.{behind_gate, record_bytes, HasRecord, StaysOrHasRecord};
 
 use crate::OPEN;
-use sf_outside::{Disk, Failed, StoreFile};
+use sf_outside::{Disk, Failed, StoreFile, put_synced};
 
 /// No write to a store ends past this place.
 const END: u64 = 1 << 62;
@@ -60,17 +62,4 @@ fn put_behind_gate<D: Disk>(
     disk.write_at(file, at + 1, &count.to_be_bytes())?;
     disk.write_at(file, at + 5, body)?;
     put_synced(disk, file, at + 5 + body.len() as u64, &[0])
-}
-
-/// Writes, and makes it safe.
-fn put_synced<D: Disk>(disk: &mut D, file: StoreFile, at: u64, bytes: &[u8]) -> Result<(), Failed>
-    requires { at + length bytes.now ≤ 2 ^ 62 }
-    ensures durable { OnOk result (IsDurable file (D.facts disk.new)) }
-    ensures seen { OnOk result (SeenWritten file at bytes.now (D.facts disk.old) (D.facts disk.new)) }
-    ensures moments { LeavesOnly (D.facts disk.old) (D.facts disk.new) (λ image. (before : Image) × (D.facts disk.old).may_leave before × TornFile file at (length bytes.now) before image) }
-    ensures cause { HasCause (D.faults disk.old) (D.faults disk.new) result }
-    ensures mounts { D.mounts disk.new ≡ D.mounts disk.old }
-{
-    disk.write_at(file, at, bytes)?;
-    disk.sync(file)
 }

@@ -2,12 +2,13 @@
 
 ghost use Rattle.std.specs.Prelude.{◌≡◌, ◌+◌, ◌≤◌, ◌^◌, ◌<◌, ◌∷◌, length, IfOk, IfSome, IfErr, IsErrOf, Option, Some, None, Result, Ok, Err};
 ghost use Rattle.sf_bytes.specs.ByteForms.{number_bytes, batch_bytes};
+ghost use Rattle.sf_bytes.specs.Gates.{open_gate, StandsAt};
 ghost use Rattle.sf_bytes.specs.Spelt.{IsReadBatch};
 ghost use Rattle.sf_outside.specs.Causes.{Rose};
 ghost use Rattle.sf_outside.specs.DiskModel.{of_file, Stays};
 ghost use Rattle.sf_value.specs.declared.BatchRecord.{BatchRecord};
 ghost use Rattle.request_log.specs.declared.fault.LogFault.TheVariants.{Failed as DiskFailed, Bad};
-ghost use Rattle.request_log.specs.LogFile.{open_gate, gate_behind, StandsAt, IsBatch};
+ghost use Rattle.request_log.specs.LogFile.{gate_behind, IsBatch};
 ghost use Rattle.request_log.specs.Answers.{Answers, SaysFront, SaysBatch, IsPlaced};
 
 use crate::OPEN;

@@ -10,3 +10,5 @@ pub mod Fronts
 pub mod Fields
 pub mod RecordLaws
 pub mod Light
+pub mod Stands
+pub mod Wholes

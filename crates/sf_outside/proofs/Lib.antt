@@ -5,8 +5,10 @@ pub mod DiskSteps
 pub mod FileRooms
 pub mod Fronts
 pub mod GainLaws
+pub mod ImageSteps
 pub mod LogLaws
 pub mod NamedFiles
 pub mod NamedValues
 pub mod Refusals
 pub mod Writes
+pub mod WrittenBytes

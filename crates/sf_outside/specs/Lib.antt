@@ -7,6 +7,7 @@ pub mod DiskFiles
 pub mod DiskModel
 pub mod DiskState
 pub mod Gains
+pub mod ImageSteps
 pub mod LogState
 pub mod Memory
 pub mod MountState

@@ -17,6 +17,7 @@ mod memory_sink;
 mod memory_source;
 mod mount_book;
 mod store_disk;
+mod synced;
 
 pub use devices::{Failed, Files, Sink, Source};
 pub use gains::{WriteStop, write_line};
@@ -26,6 +27,7 @@ pub use memory_sink::MemSink;
 pub use memory_source::MemSource;
 pub use mount_book::MountBook;
 pub use store_disk::{Disk, MountFault, StoreFile};
+pub use synced::put_synced;
 
 #[cfg(test)]
 mod tests;

@@ -3,7 +3,8 @@ use Rattle.sf_bytes.specs.ByteForms.{number_bytes}
 use Rattle.sf_outside.specs.DiskModel.{SeenWritten}
 use Rattle.request_log.specs.Appends.{behind_gate}
 use Rattle.request_log.proofs.Crashes.{staged_length, staged_body, staged_then, seen_reaches}
-use Rattle.request_log.proofs.Steps.{on_ok, seen_behind}
+use Rattle.sf_outside.proofs.ImageSteps.{on_ok}
+use Rattle.request_log.proofs.Steps.{seen_behind}
 use Rattle.request_log.proofs.appending.put_behind_gate.Goals as goal
 
 pub returns-in_err-write_at-clause-moments : goal.returns-in_err-write_at-clause-moments

@@ -1,5 +1,5 @@
 use Rattle.std.proofs.Common.{◌≡◌, get_or, arith}
-use Rattle.request_log.specs.LogFile.{open_gate}
+use Rattle.sf_bytes.specs.Gates.{open_gate}
 use Rattle.request_log.proofs.Records.{claims_front}
 use Rattle.request_log.proofs.reading.front_of.Goals as goal
 

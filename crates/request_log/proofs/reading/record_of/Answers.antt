@@ -3,9 +3,11 @@ use Rattle.std.proofs.lemmas.List.{take_at}
 use Rattle.sf_bytes.specs.ByteForms.{number_bytes}
 use Rattle.sf_outside.specs.Bytes.{CopiedAll}
 use Rattle.sf_outside.specs.DiskModel.{of_file}
+use Rattle.sf_outside.proofs.ImageSteps.{if_both}
 use Rattle.request_log.specs.Answers.{SaysBatch}
-use Rattle.request_log.specs.LogFile.{open_gate, StandsAt, IsBadAt}
-use Rattle.request_log.proofs.Records.{if_both, too_short, seen_record, seen_bad}
+use Rattle.sf_bytes.specs.Gates.{open_gate, StandsAt}
+use Rattle.request_log.specs.LogFile.{IsBadAt}
+use Rattle.request_log.proofs.Records.{too_short, seen_record, seen_bad}
 use Rattle.request_log.proofs.reading.record_of.Goals as goal
 
 pub returns-then-saturating_sub-len-clause-answer : goal.returns-then-saturating_sub-len-clause-answer

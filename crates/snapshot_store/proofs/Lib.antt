@@ -1,0 +1,6 @@
+pub mod CheckpointSteps
+pub mod Epochs
+pub mod Fillings
+pub mod Gates
+pub mod OneNewest
+pub mod Slots

@@ -1,0 +1,22 @@
+//! The snapshots of a store: in which of two slots the newest is, and how the next one takes the other.
+//!
+//! A slot counts once its gate is open, and the gate is opened only when all behind it is on the
+//! disk, and the log that goes with it is empty. Until then the other slot counts, which isn't
+//! touched. So a crash leaves the snapshot from before or the new one.
+#![tactic(auto)]
+
+mod checkpoints;
+mod fault;
+mod files;
+mod front;
+mod reading;
+
+pub use checkpoints::{checkpoint, clear_log, close_slot, fill_slot, open_slot};
+pub use fault::SnapFault;
+pub use reading::{Kept, newest};
+
+/// The byte of an open gate. Any other byte is a closed one.
+const OPEN: u8 = 0xA5;
+
+#[cfg(test)]
+mod tests;
