@@ -1,6 +1,7 @@
 //! The top call over forms in memory: one run, and each call of a device failing in turn.
 
 mod bounds;
+mod lexing;
 mod order;
 
 use crate::stateflow;
