@@ -1,5 +1,5 @@
 -- String literals and escapes, read by their definitions.
-use Rattle.std.proofs.Common.{◌≡◌, ℕ, List, [], Option, Some, None, refl}
+use Rattle.std.proofs.Common.{◌≡◌, [], Some, None, refl}
 use Rattle.std.specs.Prelude.{codes}
 use Rattle.std.specs.Str.{chars}
 use Rattle.py_tree.specs.StringText.{escape, string_text}

@@ -1,5 +1,5 @@
 -- What a string literal stands for (Python Language Reference, string and bytes literals).
-use Rattle.std.specs.Prelude.{ℕ, zero, suc, ◌+◌, ◌*◌, ◌-◌, ◌≤◌, Bool, ◌||◌, ◌&&◌, ◌==◌, nat_le, if◌then◌else◌, List, [], ◌∷◌, ◌++◌, length, drop, slice_index, slice_range, Option, Some, None, option_map, option_and_then, unwrap_or, encode_utf8, chars}
+use Rattle.std.specs.Prelude.{ℕ, zero, suc, ◌+◌, ◌*◌, ◌-◌, Bool, ◌||◌, ◌&&◌, ◌==◌, nat_le, if◌then◌else◌, List, [], ◌∷◌, ◌++◌, length, slice_index, slice_range, Option, Some, None, option_map, option_and_then, unwrap_or, encode_utf8, chars}
 
 -- the value of a hexadecimal digit, of either case
 abbrev pub hex_digit : ℕ → Option ℕ
