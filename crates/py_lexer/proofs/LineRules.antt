@@ -5,6 +5,7 @@ use Rattle.py_tree.specs.declared.names.Place.{Place}
 use Rattle.py_tree.specs.Tokens.{PlainToken, PlainLine}
 use Rattle.py_lexer.specs.declared.token.Token.{Token}
 use Rattle.py_lexer.specs.declared.token.Line.{Line}
+use Rattle.py_lexer.specs.declared.fault.LexFault.{LexFault}
 use Rattle.py_lexer.specs.declared.fault.LexKind.TheVariants.{TooLong, NotUtf8, TabIndent, BadDedent}
 use Rattle.py_lexer.specs.declared.fault.LexError.{LexError}
 use Rattle.py_lexer.specs.declared.fault.LexError.TheVariants.{Fault, NoMemory}
@@ -12,7 +13,7 @@ use Rattle.py_lexer.specs.Cursor.{At, start, at_end, byte, ends, moved, past_lin
 use Rattle.py_lexer.specs.LogicalLines.{Outcome, found, stops, Nothing, reaches, led_by, IsToken, IsGap, open_behind, innermost, open_bracket, IsTokens, tokens_stop, tokens_gap, tokens_end, tokens_open, tokens_more, IsComment, IsBare, bare_ends, bare_comment, unblanked, unspaced, has_tab, has_token, IsColumn, column_tab, column_broken, column_dedent, column_is, IsLine, line_misplaced, line_stops, line_is, IsLines, lines_end, lines_bare, lines_bare_stops, lines_stop, lines_more, IsText, has_fault, text_too_long, text_stops, text_lines}
 use Rattle.py_lexer.specs.OpenColumns.{AreOpen, is_bad_dedent}
 use Rattle.py_lexer.proofs.ColumnLaws.{bad_is, good_is, none_open, opens}
-use Rattle.py_lexer.specs.Views.{plain_line, Closes, Comes, Lexes}
+use Rattle.py_lexer.specs.Views.{plain_line, Closes, Comes, Meets, Lexes}
 
 -- items before what follows
 abbrev pub with_front : {A : Type 0} → List A → Outcome (List A) → Outcome (List A)
@@ -45,21 +46,18 @@ tokens_closed view start b c now behind mid items all x r g t s p e a k =
     ] in
     by_case (innermost c) refl k
 
-pub tokens_fail : (view : Token → PlainToken) (start : At) (b : List Place) (now mid new : At) (items : List Token) (e : LexError) → TokensGoOn view start b now items → Comes view (IsToken now) (Err e) mid → Comes (map view) (IsTokens [] start) (Err e) new
-tokens_fail view start b now mid new items NoMemory g t = tt
-tokens_fail view start b now mid new items (Fault f) g t = g (stops f) (tokens_stop t)
+pub tokens_fail : (view : Token → PlainToken) (start : At) (b : List Place) (now : At) (items : List Token) (f : LexFault) → TokensGoOn view start b now items → IsToken now (stops f) → IsTokens [] start (stops f)
+tokens_fail view start b now items f g t = g (stops f) (tokens_stop t)
 
-pub tokens_gap_fails : (view : Token → PlainToken) (start : At) (b c : List Place) (now behind mid new : At) (items : List Token) (x : Token) (e : LexError) → TokensGoOn view start b now items → IsToken now (found (view x) behind) → c ≡ open_behind b (view x) → Comes (λ (u : Nothing). u) (IsGap (length c) behind) (Err e) mid → Comes (map view) (IsTokens [] start) (Err e) new
-tokens_gap_fails view start b c now behind mid new items x NoMemory g t s p = tt
-tokens_gap_fails view start b c now behind mid new items x (Fault f) g t s p = g (stops f) (tokens_gap t (subst (λ d. IsGap (length d) behind (stops f)) s p))
+pub tokens_gap_fails : (view : Token → PlainToken) (start : At) (b c : List Place) (now behind : At) (items : List Token) (x : Token) (f : LexFault) → TokensGoOn view start b now items → IsToken now (found (view x) behind) → c ≡ open_behind b (view x) → IsGap (length c) behind (stops f) → IsTokens [] start (stops f)
+tokens_gap_fails view start b c now behind items x f g t s p = g (stops f) (tokens_gap t (subst (λ d. IsGap (length d) behind (stops f)) s p))
 
 pub ruleset tokens_rules = (tokens_begin, tokens_pass, tokens_closed)
 
 -- lines without a token
-pub bare_past : (i : At) (r : Result Nothing LexError) (mid new : At) → ends i ≡ false → is_hash (byte i) ≡ true → mid ≡ moved 1 i → Comes (λ (u : Nothing). u) (IsComment mid) r new → Comes (λ (u : Nothing). u) (IsBare i) r new
+pub bare_past : (i : At) (r : Result Nothing LexFault) (mid new : At) → ends i ≡ false → is_hash (byte i) ≡ true → mid ≡ moved 1 i → Meets (λ (u : Nothing). u) (IsComment mid) r new → Meets (λ (u : Nothing). u) (IsBare i) r new
 bare_past i (Ok u) mid new e b m h = bare_comment e b (subst (λ j. IsComment j (found u new)) m h)
-bare_past i (Err NoMemory) mid new e b m h = tt
-bare_past i (Err (Fault f)) mid new e b m h = bare_comment e b (subst (λ j. IsComment j (stops f)) m h)
+bare_past i (Err f) mid new e b m h = bare_comment e b (subst (λ j. IsComment j (stops f)) m h)
 
 pub ruleset bare_rules = (bare_ends, bare_past)
 
@@ -77,9 +75,8 @@ pub column_found : (kept before : List ℕ) (i mid : At) (c : ℕ) → AreOpen k
 column_found kept before i mid c o t m b n d = subst (λ j. IsColumn before i (found c j)) (sym m) (subst (λ k. IsColumn before i (found k (unblanked i))) (sym n) (column_is t (subst (λ j. is_broken j ≡ false) m b) (good_is (spaces i) kept before o (subst (λ k. is_bad_dedent k kept ≡ false) n d))))
 
 -- logical lines
-pub line_misplaced_by : (before : List ℕ) (i mid new : At) (view : Line → PlainLine) (e : LexError) → Comes (λ (c : ℕ). c) (IsColumn before i) (Err e) mid → Comes view (IsLine before i) (Err e) new
-line_misplaced_by before i mid new view NoMemory h = tt
-line_misplaced_by before i mid new view (Fault f) h = line_misplaced h
+pub line_misplaced_by : (before : List ℕ) (i : At) (f : LexFault) → IsColumn before i (stops f) → IsLine before i (stops f)
+line_misplaced_by before i f h = line_misplaced h
 
 pub line_fails : (before : List ℕ) (i j mid new : At) (c : ℕ) (view : Line → PlainLine) (views : List Token → List PlainToken) (e : LexError) → IsColumn before i (found c j) → Comes views (IsTokens [] j) (Err e) mid → Comes view (IsLine before i) (Err e) new
 line_fails before i j mid new c view views NoMemory h t = tt
@@ -110,9 +107,8 @@ lines_pass text start now behind mid new items all l g e b t h p a o rest =
 pub lines_done : (view : Line → PlainLine) (start now : At) (items : List Line) → LinesGoOn view start now items → at_end now ≡ true → IsLines [] start (found (map view items) now)
 lines_done view start now items g e = subst (λ ys. IsLines [] start (found ys now)) (append-nil (map view items)) (g (found [] now) (lines_end e))
 
-pub lines_bare_fail : (view : Line → PlainLine) (start now behind mid new : At) (items : List Line) (e : LexError) → LinesGoOn view start now items → at_end now ≡ false → behind ≡ unblanked now → has_token behind ≡ false → Comes (λ (u : Nothing). u) (IsBare behind) (Err e) mid → Comes (map view) (IsLines [] start) (Err e) new
-lines_bare_fail view start now behind mid new items NoMemory g a b t h = tt
-lines_bare_fail view start now behind mid new items (Fault f) g a b t h = g (stops f) (lines_bare_stops a (subst (λ j. has_token j ≡ false) b t) (subst (λ j. IsBare j (stops f)) b h))
+pub lines_bare_fail : (view : Line → PlainLine) (start now behind : At) (items : List Line) (f : LexFault) → LinesGoOn view start now items → at_end now ≡ false → behind ≡ unblanked now → has_token behind ≡ false → IsBare behind (stops f) → IsLines [] start (stops f)
+lines_bare_fail view start now behind items f g a b t h = g (stops f) (lines_bare_stops a (subst (λ j. has_token j ≡ false) b t) (subst (λ j. IsBare j (stops f)) b h))
 
 pub lines_fail : (view : Line → PlainLine) (start now behind mid new : At) (items : List Line) (e : LexError) → LinesGoOn view start now items → at_end now ≡ false → behind ≡ unblanked now → has_token behind ≡ true → Comes view (IsLine (columns_of items) now) (Err e) mid → Comes (map view) (IsLines [] start) (Err e) new
 lines_fail view start now behind mid new items NoMemory g a b t h = tt

@@ -8,15 +8,14 @@ use Rattle.std.proofs.Math.Seq.{take-length}
 use Rattle.std.proofs.lemmas.Str.{utf8_valid_len-IsUtf8}
 use Rattle.py_tree.specs.StringText.{escape}
 use Rattle.py_lexer.specs.declared.strings.Quote.{Quote}
+use Rattle.py_lexer.specs.declared.fault.LexFault.{LexFault}
 use Rattle.py_lexer.specs.declared.fault.LexKind.{LexKind}
 use Rattle.py_lexer.specs.declared.fault.LexKind.TheVariants.{NotUtf8, OpenString, BadEscape, BadCharacter}
-use Rattle.py_lexer.specs.declared.fault.LexError.{LexError}
-use Rattle.py_lexer.specs.declared.fault.LexError.TheVariants.{Fault, NoMemory}
 use Rattle.py_lexer.specs.Cursor.{At, byte, moved, is_line_end, past_line, at_end, ends, rest, stray, fault_at, is_broken, is_letter, is_digit, is_quote, is_backslash, is_hash, is_blank, sign}
 use Rattle.py_lexer.specs.LogicalLines.{Outcome, found, stops, Nothing, reaches, joins, passes_line, IsComment, comment_ends, comment_stops, comment_more, IsGap, gap_blank, gap_comment, gap_stops, gap_line, gap_join, gap_ends, closes, quote_len, IsPiece, piece_stops, piece_byte, piece_escape, piece_bad, IsBody, body_open, body_broken, body_closed, body_cut, body_line, body_stops, body_more, quote_at, token, sign_len, is_number, value_of, behind_word, behind_digits, IsNumber, number_bad, number_wide, number_is, IsString, string_stops, string_is, IsSign, sign_is, sign_none, IsToken, token_broken, token_word, token_number, token_string, token_sign}
 use Rattle.py_tree.specs.Tokens.{PlainToken, LStr, LSign}
 use Rattle.py_lexer.specs.declared.token.Token.{Token}
-use Rattle.py_lexer.specs.Views.{Comes}
+use Rattle.py_lexer.specs.Views.{Meets}
 
 pub whole_is_valid : (bs : List ℕ) → IsUtf8 bs → length bs ≡ utf8_valid_len bs
 whole_is_valid bs u = sym (utf8_valid_len-IsUtf8 bs u)
@@ -59,9 +58,8 @@ gap_passes_join d start now mid g e m o h = g o (gap_join e (subst (λ i. IsGap 
 pub gap_done : (d : ℕ) (start now : At) → LeadsOn (IsGap d) start now → is_blank (byte now) ≡ false → is_hash (byte now) ≡ false → passes_line d now ≡ false → joins now ≡ false → IsGap d start (reaches now)
 gap_done d start now g a b c e = g (reaches now) (gap_ends a b c e)
 
-pub gap_fails : (d : ℕ) (start now behind mid new : At) (e : LexError) → LeadsOn (IsGap d) start now → is_hash (byte now) ≡ true → behind ≡ moved 1 now → Comes (λ (u : Nothing). u) (IsComment behind) (Err e) mid → Comes (λ (u : Nothing). u) (IsGap d start) (Err e) new
-gap_fails d start now behind mid new NoMemory g h b c = tt
-gap_fails d start now behind mid new (Fault f) g h b c = g (stops f) (gap_stops h (subst (λ i. IsComment i (stops f)) b c))
+pub gap_fails : (d : ℕ) (start now behind : At) (f : LexFault) → LeadsOn (IsGap d) start now → is_hash (byte now) ≡ true → behind ≡ moved 1 now → IsComment behind (stops f) → IsGap d start (stops f)
+gap_fails d start now behind f g h b c = g (stops f) (gap_stops h (subst (λ i. IsComment i (stops f)) b c))
 
 pub ruleset gap_rules = (gap_passes_blank, gap_passes_comment, gap_passes_line, gap_passes_join, gap_done, gap_fails)
 
@@ -92,9 +90,8 @@ body_is_cut q s start now g a z b c t = g (stops (fault_at OpenString s)) (body_
 pub body_is_open : (q : Quote) (s start now : At) → LeadsOn (IsBody q s) start now → at_end now ≡ true → IsBody q s start (stops (fault_at OpenString s))
 body_is_open q s start now g a = g (stops (fault_at OpenString s)) (body_open a)
 
-pub body_fails : (q : Quote) (s start now mid new : At) (e : LexError) → LeadsOn (IsBody q s) start now → at_end now ≡ false → is_broken now ≡ false → closes q now ≡ false → is_line_end now ≡ false → Comes (λ (u : Nothing). u) (IsPiece now) (Err e) mid → Comes (λ (u : Nothing). u) (IsBody q s start) (Err e) new
-body_fails q s start now mid new NoMemory g a z b c p = tt
-body_fails q s start now mid new (Fault f) g a z b c p = g (stops f) (body_stops a z b c p)
+pub body_fails : (q : Quote) (s start now : At) (f : LexFault) → LeadsOn (IsBody q s) start now → at_end now ≡ false → is_broken now ≡ false → closes q now ≡ false → is_line_end now ≡ false → IsPiece now (stops f) → IsBody q s start (stops f)
+body_fails q s start now f g a z b c p = g (stops f) (body_stops a z b c p)
 
 pub body_is_broken : (q : Quote) (s start now : At) → LeadsOn (IsBody q s) start now → at_end now ≡ false → is_broken now ≡ true → IsBody q s start (stops (fault_at NotUtf8 now))
 body_is_broken q s start now g a z = g (stops (fault_at NotUtf8 now)) (body_broken a z)
@@ -104,9 +101,8 @@ pub ruleset body_rules = (body_passes_line, body_passes, body_done, body_is_cut,
 -- tokens
 pub ruleset number_rules = (number_bad, number_wide, number_is)
 
-pub string_fails : (i s mid new : At) (q : Quote) (view : Token → PlainToken) (e : LexError) → s ≡ i → q ≡ quote_at i → Comes (λ (u : Nothing). u) (IsBody q s mid) (Err e) new → mid ≡ moved (quote_len q) i → Comes view (IsString i) (Err e) new
-string_fails i s mid new q view NoMemory b a c m = tt
-string_fails i s mid new q view (Fault f) b a c m = string_stops (subst (λ p. IsBody p i (moved (quote_len p) i) (stops f)) a (subst (λ k. IsBody q i k (stops f)) m (subst (λ k. IsBody q k mid (stops f)) b c)))
+pub string_fails : (i s mid : At) (q : Quote) (f : LexFault) → s ≡ i → q ≡ quote_at i → IsBody q s mid (stops f) → mid ≡ moved (quote_len q) i → IsString i (stops f)
+string_fails i s mid q f b a c m = string_stops (subst (λ p. IsBody p i (moved (quote_len p) i) (stops f)) a (subst (λ k. IsBody q i k (stops f)) m (subst (λ k. IsBody q k mid (stops f)) b c)))
 
 pub string_found : (i mid end : At) (q : Quote) → q ≡ quote_at i → IsBody q i mid (reaches end) → mid ≡ moved (quote_len q) i → IsString i (found (token LStr i end) end)
 string_found i mid end q a c m = string_is (subst (λ p. IsBody p i (moved (quote_len p) i) (reaches end)) a (subst (λ k. IsBody q i k (reaches end)) m c))
@@ -144,19 +140,16 @@ sign_missing i e =
 
 pub ruleset sign_rules = (sign_found, sign_missing)
 
-pub token_numbers : (i new : At) (view : Token → PlainToken) (r : Result Token LexError) → is_broken i ≡ false → is_letter (byte i) ≡ false → is_digit (byte i) ≡ true → Comes view (IsNumber i) r new → Comes view (IsToken i) r new
+pub token_numbers : (i new : At) (view : Token → PlainToken) (r : Result Token LexFault) → is_broken i ≡ false → is_letter (byte i) ≡ false → is_digit (byte i) ≡ true → Meets view (IsNumber i) r new → Meets view (IsToken i) r new
 token_numbers i new view (Ok t) a b c h = token_number a b c h
-token_numbers i new view (Err NoMemory) a b c h = tt
-token_numbers i new view (Err (Fault f)) a b c h = token_number a b c h
+token_numbers i new view (Err f) a b c h = token_number a b c h
 
-pub token_strings : (i new : At) (view : Token → PlainToken) (r : Result Token LexError) → is_broken i ≡ false → is_letter (byte i) ≡ false → is_digit (byte i) ≡ false → is_quote (byte i) ≡ true → Comes view (IsString i) r new → Comes view (IsToken i) r new
+pub token_strings : (i new : At) (view : Token → PlainToken) (r : Result Token LexFault) → is_broken i ≡ false → is_letter (byte i) ≡ false → is_digit (byte i) ≡ false → is_quote (byte i) ≡ true → Meets view (IsString i) r new → Meets view (IsToken i) r new
 token_strings i new view (Ok t) a b c d h = token_string a b c d h
-token_strings i new view (Err NoMemory) a b c d h = tt
-token_strings i new view (Err (Fault f)) a b c d h = token_string a b c d h
+token_strings i new view (Err f) a b c d h = token_string a b c d h
 
-pub token_signs : (i new : At) (view : Token → PlainToken) (r : Result Token LexError) → is_broken i ≡ false → is_letter (byte i) ≡ false → is_digit (byte i) ≡ false → is_quote (byte i) ≡ false → Comes view (IsSign i) r new → Comes view (IsToken i) r new
+pub token_signs : (i new : At) (view : Token → PlainToken) (r : Result Token LexFault) → is_broken i ≡ false → is_letter (byte i) ≡ false → is_digit (byte i) ≡ false → is_quote (byte i) ≡ false → Meets view (IsSign i) r new → Meets view (IsToken i) r new
 token_signs i new view (Ok t) a b c d h = token_sign a b c d h
-token_signs i new view (Err NoMemory) a b c d h = tt
-token_signs i new view (Err (Fault f)) a b c d h = token_sign a b c d h
+token_signs i new view (Err f) a b c d h = token_sign a b c d h
 
 pub ruleset token_rules = (token_broken, token_word, token_numbers, token_strings, token_signs)

@@ -6,6 +6,7 @@ use Rattle.py_lexer.specs.declared.token.TokenKind.{TokenKind}
 use Rattle.py_lexer.specs.declared.token.TokenKind.TheVariants.{Word, Int, Str, Sign}
 use Rattle.py_lexer.specs.declared.token.Token.{Token}
 use Rattle.py_lexer.specs.declared.token.Line.{Line}
+use Rattle.py_lexer.specs.declared.fault.LexFault.{LexFault}
 use Rattle.py_lexer.specs.declared.fault.LexError.{LexError}
 use Rattle.py_lexer.specs.declared.fault.LexError.TheVariants.{Fault, NoMemory}
 use Rattle.py_lexer.specs.Cursor.{At}
@@ -27,7 +28,12 @@ plain_token text t = record { kind = plain_kind t.kind; bytes = bytes_of text t;
 abbrev pub plain_line : List ℕ → Line → PlainLine
 plain_line text l = record { column = l.column; tokens = map (plain_token text) l.tokens }
 
--- what a reading function answers is what the rules say; want of memory is free
+-- what a reading function answers is what the rules say
+abbrev pub Meets : {X A : Type 0} → (X → A) → (Outcome A → Type 0) → Result X LexFault → At → Type 0
+Meets view Is (Ok x) new = Is (found (view x) new)
+Meets view Is (Err f) new = Is (stops f)
+
+-- and of one that takes memory: want of it is free
 abbrev pub Comes : {X A : Type 0} → (X → A) → (Outcome A → Type 0) → Result X LexError → At → Type 0
 Comes view Is (Ok x) new = Is (found (view x) new)
 Comes view Is (Err NoMemory) new = Unit {0}

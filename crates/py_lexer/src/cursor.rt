@@ -4,9 +4,8 @@
 ghost use Rattle.std.specs.Prelude.{◌≡◌, ◌+◌, ◌<◌, ◌≤◌, max, false, length, take, IsUtf8, IsTrue};
 ghost use Rattle.std.specs.Str.Lossy.{utf8_valid_len};
 ghost use Rattle.py_lexer.specs.Cursor as spec;
-ghost use Rattle.py_lexer.specs.declared.fault.LexError.TheVariants.{Fault};
 
-use crate::fault::{LexError, LexFault, LexKind};
+use crate::fault::{LexFault, LexKind};
 use crate::words::{blank_run, digits_of, space_run, word_run};
 use py_tree::Place;
 use std::marker::Model;
@@ -163,13 +162,13 @@ impl<'a> Cursor<'a> {
         }
     }
 
-    pub fn fault(&self, kind: LexKind) -> LexError
-        ensures { result ≡ Fault (spec.fault_at kind self.now) }
+    pub fn fault(&self, kind: LexKind) -> LexFault
+        ensures { result ≡ spec.fault_at kind self.now }
     {
-        LexError::Fault(LexFault {
+        LexFault {
             place: self.place(),
             kind,
-        })
+        }
     }
 
     /// How many bytes stand before this place.

@@ -1,7 +1,7 @@
 //! Why a text has no logical lines.
 
 ghost use Rattle.std.specs.Prelude.{◌≡◌};
-ghost use Rattle.py_lexer.specs.declared.fault.LexError.TheVariants.{NoMemory as WantsMemory};
+ghost use Rattle.py_lexer.specs.declared.fault.LexError.TheVariants.{Fault as Met, NoMemory as WantsMemory};
 
 use py_tree::Place;
 use std::alloc::AllocError;
@@ -43,6 +43,14 @@ pub struct LexFault {
 pub enum LexError {
     Fault(LexFault),
     NoMemory,
+}
+
+impl From<LexFault> for LexError {
+    ghost from_gives = { λ fault error. error ≡ Met fault };
+
+    fn from(fault: LexFault) -> LexError {
+        LexError::Fault(fault)
+    }
 }
 
 impl From<AllocError> for LexError {

@@ -4,16 +4,16 @@
 ghost use Rattle.std.specs.Prelude.{◌≡◌, ◌<◌, ◌≤◌, IsTrue, OnOk};
 ghost use Rattle.py_lexer.specs.Cursor as at;
 ghost use Rattle.py_lexer.specs.LogicalLines.{joins as Joins, passes_line as PassesLine, IsComment, IsGap};
-ghost use Rattle.py_lexer.specs.Views.{Comes};
+ghost use Rattle.py_lexer.specs.Views.{Meets};
 
 use crate::cursor::Cursor;
-use crate::fault::LexError;
+use crate::fault::LexFault;
 use crate::words::{is_backslash, is_blank, is_hash};
 
 /// Passes what follows the sign of a comment, up to the line's end.
 #[tactic(auto, using(crate::proofs::Rules::comment_rules))]
-pub fn pass_comment(text: &mut Cursor<'_>) -> Result<(), LexError>
-    ensures comes { Comes (λ u. u) (IsComment text.old) result text.new }
+pub fn pass_comment(text: &mut Cursor<'_>) -> Result<(), LexFault>
+    ensures comes { Meets (λ u. u) (IsComment text.old) result text.new }
     ensures no_longer { OnOk result (at.bytes_left text.new ≤ at.bytes_left text.old) }
     ensures forward { text.old.at ≤ text.new.at }
     ensures ends { OnOk result (IsTrue (at.ends text.new)) }
@@ -51,8 +51,8 @@ fn passes_line(depth: usize, text: &Cursor<'_>) -> bool
 
 /// Passes what separates two tokens where so many brackets are open.
 #[tactic(auto, using(crate::proofs::Rules::gap_rules))]
-pub fn pass_gap(depth: usize, text: &mut Cursor<'_>) -> Result<(), LexError>
-    ensures comes { Comes (λ u. u) (IsGap depth text.old) result text.new }
+pub fn pass_gap(depth: usize, text: &mut Cursor<'_>) -> Result<(), LexFault>
+    ensures comes { Meets (λ u. u) (IsGap depth text.old) result text.new }
     ensures no_longer { OnOk result (at.bytes_left text.new ≤ at.bytes_left text.old) }
     ensures forward { text.old.at ≤ text.new.at }
     ensures same_text { text.new.text ≡ text.old.text }

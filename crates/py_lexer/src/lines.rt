@@ -6,7 +6,7 @@ ghost use Rattle.py_lexer.specs.LogicalLines.{IsBare, IsColumn, IsLine, IsLines}
 ghost use Rattle.py_lexer.specs.LogicalLines as spec;
 ghost use Rattle.py_lexer.specs.OpenColumns.{AreOpen};
 ghost use Rattle.py_lexer.specs.Spans.{Rise, LinesRise};
-ghost use Rattle.py_lexer.specs.Views.{plain_line, Comes, Lexes};
+ghost use Rattle.py_lexer.specs.Views.{plain_line, Comes, Meets, Lexes};
 
 use crate::columns::{is_bad_dedent, open_column};
 use crate::cursor::Cursor;
@@ -43,9 +43,9 @@ fn has_token(text: &Cursor<'_>) -> bool
 
 /// Passes what is left of a line without a token.
 #[tactic(auto, using(crate::proofs::LineRules::bare_rules), unfolding(crate::specs::LogicalLines::has_token))]
-fn pass_bare(text: &mut Cursor<'_>) -> Result<(), LexError>
+fn pass_bare(text: &mut Cursor<'_>) -> Result<(), LexFault>
     requires { spec.has_token text.old ≡ false }
-    ensures comes { Comes (λ u. u) (IsBare text.old) result text.new }
+    ensures comes { Meets (λ u. u) (IsBare text.old) result text.new }
     ensures no_longer { OnOk result (at.bytes_left text.new ≤ at.bytes_left text.old) }
     ensures ends { OnOk result (IsTrue (at.ends text.new)) }
     ensures forward { text.old.at ≤ text.new.at }
@@ -78,9 +78,9 @@ fn has_tab(begin: &Cursor<'_>) -> bool
 
 /// The column of the line that begins at one place and has its first token at another.
 #[tactic(auto, using(crate::proofs::LineRules::column_rules))]
-fn column_of(begin: &Cursor<'_>, token: &Cursor<'_>, kept: &[u32]) -> Result<u32, LexError>
+fn column_of(begin: &Cursor<'_>, token: &Cursor<'_>, kept: &[u32]) -> Result<u32, LexFault>
     requires { token.now ≡ spec.unblanked begin.now }
-    ensures { (before : List ℕ) → AreOpen kept.now before → Comes (λ c. c) (IsColumn before begin.now) result token.now }
+    ensures { (before : List ℕ) → AreOpen kept.now before → Meets (λ c. c) (IsColumn before begin.now) result token.now }
 {
     if has_tab(begin) {
         return Err(unspaced(begin).fault(LexKind::TabIndent));

@@ -7,7 +7,7 @@ ghost use Rattle.py_lexer.specs.Cursor as at;
 ghost use Rattle.py_lexer.specs.LogicalLines.{IsNumber, IsString, IsSign, IsToken, IsTokens};
 ghost use Rattle.py_lexer.specs.LogicalLines as spec;
 ghost use Rattle.py_lexer.specs.Spans.{IsOf, Rise};
-ghost use Rattle.py_lexer.specs.Views.{plain_kind, plain_token, Closes, Comes};
+ghost use Rattle.py_lexer.specs.Views.{plain_kind, plain_token, Closes, Comes, Meets};
 
 use crate::cursor::Cursor;
 use crate::fault::{LexError, LexFault, LexKind};
@@ -56,9 +56,9 @@ fn word(text: &mut Cursor<'_>) -> Token
 
 /// A number.
 #[tactic(auto, using(crate::proofs::Rules::number_rules, crate::proofs::SpanLaws::of_rules), unfolding(crate::specs::LogicalLines::behind_digits, crate::specs::LogicalLines::is_number))]
-fn number(text: &mut Cursor<'_>) -> Result<Token, LexError>
+fn number(text: &mut Cursor<'_>) -> Result<Token, LexFault>
     requires { IsTrue (at.is_digit (at.byte text.old)) }
-    ensures comes { Comes (plain_token text.old.text) (IsNumber text.old) result text.new }
+    ensures comes { Meets (plain_token text.old.text) (IsNumber text.old) result text.new }
     ensures of { IfOk result (λ t. IsOf text.old.text t) }
     ensures spans { IfOk result (λ t. (t.start ≡ text.old.at) × (t.end ≡ text.new.at)) }
     ensures shorter { OnOk result (at.bytes_left text.new < at.bytes_left text.old) }
@@ -78,11 +78,11 @@ fn number(text: &mut Cursor<'_>) -> Result<Token, LexError>
 
 /// A string.
 #[tactic(auto, using(crate::proofs::Rules::string_rules))]
-fn string(text: &mut Cursor<'_>) -> Result<Token, LexError>
+fn string(text: &mut Cursor<'_>) -> Result<Token, LexFault>
     requires some { 0 < at.byte text.old }
     requires ascii { at.byte text.old < 128 }
     requires utf8 { IsUtf8 (take (utf8_valid_len text.old.text) text.old.text) }
-    ensures comes { Comes (plain_token text.old.text) (IsString text.old) result text.new }
+    ensures comes { Meets (plain_token text.old.text) (IsString text.old) result text.new }
     ensures of { IfOk result (λ t. IsOf text.old.text t) }
     ensures spans { IfOk result (λ t. (t.start ≡ text.old.at) × (t.end ≡ text.new.at)) }
     ensures shorter { OnOk result (at.bytes_left text.new < at.bytes_left text.old) }
@@ -97,8 +97,8 @@ fn string(text: &mut Cursor<'_>) -> Result<Token, LexError>
 
 /// A sign.
 #[tactic(auto, using(crate::proofs::Rules::sign_rules, crate::proofs::SpanLaws::of_rules), unfolding(crate::specs::Cursor::sign))]
-fn sign(text: &mut Cursor<'_>) -> Result<Token, LexError>
-    ensures comes { Comes (plain_token text.old.text) (IsSign text.old) result text.new }
+fn sign(text: &mut Cursor<'_>) -> Result<Token, LexFault>
+    ensures comes { Meets (plain_token text.old.text) (IsSign text.old) result text.new }
     ensures of { IfOk result (λ t. IsOf text.old.text t) }
     ensures spans { IfOk result (λ t. (t.start ≡ text.old.at) × (t.end ≡ text.new.at)) }
     ensures shorter { OnOk result (at.bytes_left text.new < at.bytes_left text.old) }
@@ -114,8 +114,8 @@ fn sign(text: &mut Cursor<'_>) -> Result<Token, LexError>
 
 /// The token that begins here.
 #[tactic(auto, using(crate::proofs::Rules::token_rules))]
-fn one_token(text: &mut Cursor<'_>) -> Result<Token, LexError>
-    ensures comes { Comes (plain_token text.old.text) (IsToken text.old) result text.new }
+fn one_token(text: &mut Cursor<'_>) -> Result<Token, LexFault>
+    ensures comes { Meets (plain_token text.old.text) (IsToken text.old) result text.new }
     ensures of { IfOk result (λ t. IsOf text.old.text t) }
     ensures spans { IfOk result (λ t. (t.start ≡ text.old.at) × (t.end ≡ text.new.at)) }
     ensures shorter { OnOk result (at.bytes_left text.new < at.bytes_left text.old) }

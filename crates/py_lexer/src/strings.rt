@@ -8,10 +8,10 @@ ghost use Rattle.py_lexer.specs.Cursor as at;
 ghost use Rattle.py_lexer.specs.LogicalLines.{IsBody, IsPiece, quote_len, stands_thrice as StandsThrice};
 ghost use Rattle.py_lexer.specs.LogicalLines as spec;
 ghost use Rattle.py_lexer.specs.Spans.{ClosedBetween};
-ghost use Rattle.py_lexer.specs.Views.{Comes};
+ghost use Rattle.py_lexer.specs.Views.{Meets};
 
 use crate::cursor::Cursor;
-use crate::fault::{LexError, LexKind};
+use crate::fault::{LexFault, LexKind};
 use crate::words::is_backslash;
 
 /// The quotes that a string begins with, and ends with.
@@ -128,9 +128,9 @@ pub fn escape_of(bytes: &[u8]) -> Option<(u32, usize)>
 
 /// Passes one byte of a string, or one escape.
 #[tactic(auto, using(crate::proofs::Rules::piece_rules))]
-fn pass_piece(text: &mut Cursor<'_>) -> Result<(), LexError>
+fn pass_piece(text: &mut Cursor<'_>) -> Result<(), LexFault>
     requires { 0 < at.bytes_left text.old }
-    ensures comes { Comes (λ u. u) (IsPiece text.old) result text.new }
+    ensures comes { Meets (λ u. u) (IsPiece text.old) result text.new }
     ensures shorter { OnOk result (at.bytes_left text.new < at.bytes_left text.old) }
     ensures forward { text.old.at ≤ text.new.at }
     ensures same_text { text.new.text ≡ text.old.text }
@@ -151,9 +151,9 @@ fn pass_piece(text: &mut Cursor<'_>) -> Result<(), LexError>
 
 /// Passes the bytes of a string that begins at `start`, and its closing quotes.
 #[tactic(auto, using(crate::proofs::Rules::body_rules))]
-pub fn pass_body(quote: Quote, start: &Cursor<'_>, text: &mut Cursor<'_>) -> Result<(), LexError>
+pub fn pass_body(quote: Quote, start: &Cursor<'_>, text: &mut Cursor<'_>) -> Result<(), LexFault>
     requires { 0 < quote.mark }
-    ensures comes { Comes (λ u. u) (IsBody quote start.now text.old) result text.new }
+    ensures comes { Meets (λ u. u) (IsBody quote start.now text.old) result text.new }
     ensures no_longer { OnOk result (at.bytes_left text.new ≤ at.bytes_left text.old) }
     ensures closed { OnOk result (ClosedBetween quote text.old text.new) }
     ensures same_text { text.new.text ≡ text.old.text }

@@ -12,7 +12,7 @@ use Rattle.py_lexer.proofs.lines.lines.Goals as goal
 pub returns-in_err-pass_bare-clause-comes : goal.returns-in_err-pass_bare-clause-comes
 returns-in_err-pass_bare-clause-comes c =
     let p = err_from_is_err_and c.from_residual.result c.from_residual.ensures.1 in
-    rw (p.1, p.2) (lines_bare_fail (plain_line c.args.text.now.text) c.args.text.now c.lines.text c.pass_blanks.new.text c.pass_bare.new.text c.pass_bare.new.text c.lines.items c.in_err-pass_bare.field-0.0 c.lines.invariant.so_far (sym c.lines-test.ensures.ends) c.pass_blanks.ensures.unblanked (sym c.if-not-has_token.ensures) c.in_err-pass_bare.ensures.comes)
+    rw (p.1, p.2) (lines_bare_fail (plain_line c.args.text.now.text) c.args.text.now c.lines.text c.pass_blanks.new.text c.lines.items c.in_err-pass_bare.field-0.0 c.lines.invariant.so_far (sym c.lines-test.ensures.ends) c.pass_blanks.ensures.unblanked (sym c.if-not-has_token.ensures) c.in_err-pass_bare.ensures.comes)
 
 pub returns-in_err-line-clause-comes : goal.returns-in_err-line-clause-comes
 returns-in_err-line-clause-comes c =

@@ -10,7 +10,7 @@ use Rattle.py_lexer.proofs.lines.logical_line.Goals as goal
 pub returns-in_err-column-clause-comes : goal.returns-in_err-column-clause-comes
 returns-in_err-column-clause-comes c before are =
     let p = err_from_is_err_and c.from_residual.result c.from_residual.ensures.1 in
-    rw (p.1, p.2) (line_misplaced_by before c.args.begin.now c.args.text.now c.args.text.now (plain_line c.args.text.now.text) c.in_err-column.field-0.0 (c.in_err-column.ensures before (subst (λ k. AreOpen k before) (sym c.deref.ensures.value) are)))
+    rw (p.1, p.2) (line_misplaced_by before c.args.begin.now c.in_err-column.field-0.0 (c.in_err-column.ensures before (subst (λ k. AreOpen k before) (sym c.deref.ensures.value) are)))
 
 pub returns-in_err-tokens-clause-comes : goal.returns-in_err-tokens-clause-comes
 returns-in_err-tokens-clause-comes c before are =

@@ -1,6 +1,6 @@
 use Rattle.std.proofs.Common.{Err, arith, subst, sym, ◌∙◌}
 use Rattle.std.proofs.lemmas.Result.{err_from_is_err_and}
-use Rattle.py_lexer.specs.LogicalLines.{found, reaches, Nothing, IsToken, IsGap, innermost}
+use Rattle.py_lexer.specs.LogicalLines.{found, stops, reaches, Nothing, IsToken, IsGap, innermost}
 use Rattle.py_lexer.specs.Views.{plain_token, Closes, Comes}
 use Rattle.py_lexer.specs.Spans.{IsOf, Rise}
 use Rattle.py_lexer.proofs.SpanLaws.{rise_more, closed_rise}
@@ -10,13 +10,13 @@ use Rattle.py_lexer.proofs.scan.tokens.Goals as goal
 pub returns-in_err-token-clause-comes : goal.returns-in_err-token-clause-comes
 returns-in_err-token-clause-comes c =
     let p = err_from_is_err_and c.from_residual.result c.from_residual.ensures.1 in
-    rw (p.1, p.2) (tokens_fail (plain_token c.args.text.now.text) c.args.text.now c.tokens.brackets.items c.tokens.text c.one_token.new.text c.one_token.new.text c.tokens.items c.in_err-token.field-0.0 c.tokens.invariant.so_far (subst (λ w. Comes (plain_token w) (IsToken c.tokens.text) (Err c.in_err-token.field-0.0) c.one_token.new.text) c.tokens.invariant.same_text c.in_err-token.ensures.comes))
+    rw (p.1, p.2) (tokens_fail (plain_token c.args.text.now.text) c.args.text.now c.tokens.brackets.items c.tokens.text c.tokens.items c.in_err-token.field-0.0 c.tokens.invariant.so_far c.in_err-token.ensures.comes)
 
 pub returns-in_err-pass_gap-clause-comes : goal.returns-in_err-pass_gap-clause-comes
 returns-in_err-pass_gap-clause-comes c =
     let p = err_from_is_err_and c.from_residual-in_err-pass_gap.result c.from_residual-in_err-pass_gap.ensures.1 in
     let t : IsToken c.tokens.text (found (plain_token c.args.text.now.text c.in_ok-token.token) c.one_token.new.text) = subst (λ w. IsToken c.tokens.text (found (plain_token w c.in_ok-token.token) c.one_token.new.text)) c.tokens.invariant.same_text c.in_ok-token.ensures.comes in
-    rw (p.1, p.2) (tokens_gap_fails (plain_token c.args.text.now.text) c.args.text.now c.tokens.brackets.items c.note_bracket.new.brackets.items c.tokens.text c.one_token.new.text c.pass_gap.new.text c.pass_gap.new.text c.tokens.items c.in_ok-token.token c.in_err-pass_gap.field-0.0 c.tokens.invariant.so_far t (c.in_ok-note_bracket.ensures.behind c.args.text.now.text) (subst (λ d. Comes (λ (u : Nothing). u) (IsGap d c.one_token.new.text) (Err c.in_err-pass_gap.field-0.0) c.pass_gap.new.text) (c.len.ensures ∙ c.note_bracket.new.brackets.ok.0) c.in_err-pass_gap.ensures.comes))
+    rw (p.1, p.2) (tokens_gap_fails (plain_token c.args.text.now.text) c.args.text.now c.tokens.brackets.items c.note_bracket.new.brackets.items c.tokens.text c.one_token.new.text c.tokens.items c.in_ok-token.token c.in_err-pass_gap.field-0.0 c.tokens.invariant.so_far t (c.in_ok-note_bracket.ensures.behind c.args.text.now.text) (subst (λ d. IsGap d c.one_token.new.text (stops c.in_err-pass_gap.field-0.0)) (c.len.ensures ∙ c.note_bracket.new.brackets.ok.0) c.in_err-pass_gap.ensures.comes))
 
 pub returns-then-ends-clause-comes : goal.returns-then-ends-clause-comes
 returns-then-ends-clause-comes c =
