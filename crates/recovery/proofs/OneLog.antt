@@ -54,23 +54,23 @@ pub none_bad : (file : List ℕ) (at : ℕ) → IsBadAt file at → NoRecord fil
 none_bad file at (inl past) batch there = absurd (omega (arith, past, there.next_gate))
 none_bad file at (inr bad) batch there = bad.1 batch there
 
-pub one_end : (file : List ℕ) (at : ℕ) (as bs : List BatchRecord) (m n : ℕ) → RecordsTo file at as m → RecordsTo file at bs n → NoRecord file m → NoRecord file n → (as ≡ bs) × (m ≡ n)
+pub one_end : (file : List ℕ) (at : ℕ) (xs ys : List BatchRecord) (m n : ℕ) → RecordsTo file at xs m → RecordsTo file at ys n → NoRecord file m → NoRecord file n → (xs ≡ ys) × (m ≡ n)
 one_end file at [] [] m n a b ends_a ends_b = (refl, sym a ∙ b)
-one_end file at [] (y ∷ bs) m n a b ends_a ends_b = absurd (ends_a y (subst (λ place. RecordAt file place y) a b.0))
-one_end file at (x ∷ as) [] m n a b ends_a ends_b = absurd (ends_b x (subst (λ place. RecordAt file place x) b a.0))
-one_end file at (x ∷ as) (y ∷ bs) m n a b ends_a ends_b =
+one_end file at [] (y ∷ ys) m n a b ends_a ends_b = absurd (ends_a y (subst (λ place. RecordAt file place y) a b.0))
+one_end file at (x ∷ xs) [] m n a b ends_a ends_b = absurd (ends_b x (subst (λ place. RecordAt file place x) b a.0))
+one_end file at (x ∷ xs) (y ∷ ys) m n a b ends_a ends_b =
     let same = one_record file at x y a.0 b.0 in
-    let there : RecordsTo file (gate_behind at (length (batch_bytes x))) bs n = subst (λ z. RecordsTo file (gate_behind at (length (batch_bytes z))) bs n) (sym same) b.1 in
-    let rest = one_end file (gate_behind at (length (batch_bytes x))) as bs m n a.1 there ends_a ends_b in
+    let there : RecordsTo file (gate_behind at (length (batch_bytes x))) ys n = subst (λ z. RecordsTo file (gate_behind at (length (batch_bytes z))) ys n) (sym same) b.1 in
+    let rest = one_end file (gate_behind at (length (batch_bytes x))) xs ys m n a.1 there ends_a ends_b in
     (λ i. same i ∷ rest.0 i, rest.1)
 
 -- ---- whole logs
 
-pub one_log : (file : List ℕ) (as bs : List BatchRecord) (m n : ℕ) → LogFrom file 0 as m → LogFrom file 0 bs n → (as ≡ bs) × (m ≡ n)
-one_log file as bs m n a b =
-    let one = log_records file 0 as m a in
-    let other = log_records file 0 bs n b in
-    one_end file 0 as bs m n one.0 other.0 (none_closed file m one.1) (none_closed file n other.1)
+pub one_log : (file : List ℕ) (xs ys : List BatchRecord) (m n : ℕ) → LogFrom file 0 xs m → LogFrom file 0 ys n → (xs ≡ ys) × (m ≡ n)
+one_log file xs ys m n a b =
+    let one = log_records file 0 xs m a in
+    let other = log_records file 0 ys n b in
+    one_end file 0 xs ys m n one.0 other.0 (none_closed file m one.1) (none_closed file n other.1)
 
 pub one_break : (file : List ℕ) (m n : ℕ) → BreaksAt file m → BreaksAt file n → m ≡ n
 one_break file m n a b = (one_end file 0 a.0 b.0 m n a.1 b.1 (none_bad file m a.2) (none_bad file n b.2)).1
@@ -82,14 +82,14 @@ log_not_broken file batches m n log breaks =
     bad_not_closed file n breaks.2 (subst (ClosedAt file) same one.1)
 
 -- batches have one place each
-pub one_placing : (at : ℕ) (as bs : List Placed) (m n : ℕ) → batches_of as ≡ batches_of bs → ArePlaced at as m → ArePlaced at bs n → as ≡ bs
+pub one_placing : (at : ℕ) (xs ys : List Placed) (m n : ℕ) → batches_of xs ≡ batches_of ys → ArePlaced at xs m → ArePlaced at ys n → xs ≡ ys
 one_placing at [] [] m n same a b = refl
-one_placing at [] (y ∷ bs) m n same a b = absurd cc
-one_placing at (x ∷ as) [] m n same a b = absurd cc
-one_placing at (x ∷ as) (y ∷ bs) m n same a b =
+one_placing at [] (y ∷ ys) m n same a b = absurd cc
+one_placing at (x ∷ xs) [] m n same a b = absurd cc
+one_placing at (x ∷ xs) (y ∷ ys) m n same a b =
     let batch : x.batch ≡ y.batch = cc in
-    let batches : batches_of as ≡ batches_of bs = cc in
+    let batches : batches_of xs ≡ batches_of ys = cc in
     let place : x.at ≡ y.at = a.0 ∙ sym b.0 in
-    let there : ArePlaced (gate_behind at (length (batch_bytes x.batch))) bs n = subst (λ z. ArePlaced (gate_behind at (length (batch_bytes z))) bs n) (sym batch) b.1 in
-    let rest = one_placing (gate_behind at (length (batch_bytes x.batch))) as bs m n batches a.1 there in
+    let there : ArePlaced (gate_behind at (length (batch_bytes x.batch))) ys n = subst (λ z. ArePlaced (gate_behind at (length (batch_bytes z))) ys n) (sym batch) b.1 in
+    let rest = one_placing (gate_behind at (length (batch_bytes x.batch))) xs ys m n batches a.1 there in
     λ i. record { at = place i; batch = batch i } ∷ rest i
