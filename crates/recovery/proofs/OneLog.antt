@@ -1,5 +1,5 @@
 -- What a log says it says alone: at a place there is one record, or a closed gate, or the log is bad there.
-use Rattle.std.proofs.Common.{◌≡◌, inl, inr, ℕ, ◌+◌, List, [], ◌∷◌, ◌++◌, length, get_or, take, drop, refl, sym, ap, ◌∙◌, subst, arith, take-append-drop}
+use Rattle.std.proofs.Common.{◌≡◌, inl, inr, ℕ, ◌+◌, List, [], ◌∷◌, ◌++◌, length, get_or, drop, refl, sym, ap, ◌∙◌, subst, arith, take-append-drop}
 use Rattle.sf_bytes.specs.ByteForms.{number_bytes, batch_bytes}
 use Rattle.sf_bytes.specs.Gates.{open_gate, StandsAt, ClosedAt, OpenAt}
 use Rattle.sf_bytes.specs.Reading.{batch_at}
@@ -28,7 +28,7 @@ pub one_record : (file : List ℕ) (at : ℕ) (a b : BatchRecord) → RecordAt f
 one_record file at a b first second =
     let rest = drop (at + 5) file in
     let whole = λ (batch : BatchRecord) (there : RecordAt file at batch).
-        ap (λ bytes. bytes ++ drop (length (batch_bytes batch)) rest) (sym (record_body file at batch there)) ∙ take-append-drop (length (batch_bytes batch)) rest in
+    ap (λ bytes. bytes ++ drop (length (batch_bytes batch)) rest) (sym (record_body file at batch there)) ∙ take-append-drop (length (batch_bytes batch)) rest in
     let apart : NoneBeginsAnother batch_bytes IsReadBatch = stands_apart batch_at batch_bytes IsReadBatch batch_spells in
     apart a b (drop (length (batch_bytes a)) rest) (drop (length (batch_bytes b)) rest) first.read second.read (whole a first ∙ sym (whole b second))
 

@@ -2,14 +2,11 @@
 use Rattle.std.proofs.Common.{◌≡◌, inl, inr, ℕ, zero, suc, ◌+◌, ◌<◌, List, refl, sym, ap, ◌∙◌, subst, arith}
 use Rattle.std.proofs.lemmas.Bool.{cases_eq}
 use Rattle.sf_outside.specs.DiskModel.{Image, of_file}
-use Rattle.sf_outside.specs.declared.store_disk.StoreFile.{StoreFile}
-use Rattle.sf_value.specs.declared.BatchRecord.{BatchRecord}
 use Rattle.sf_value.specs.declared.Snapshot.{Snapshot}
 use Rattle.request_log.specs.LogFile.{LogFrom}
 use Rattle.snapshot_store.specs.SlotFile.{number_of, slot_file, log_of, IsBadSlot, IsGoodSlot, IsOlder, IsNewest, IsNew, IsFirstBad}
 use Rattle.snapshot_store.proofs.OneNewest.{not_both, one_newest, newest_not_new}
-use Rattle.recovery.specs.declared.opened.Placed.{Placed}
-use Rattle.recovery.specs.StoreImage.{batches_of, BreaksAt, IsOld, HasBadSlot, HasBadLog, IsBad}
+use Rattle.recovery.specs.StoreImage.{batches_of, BreaksAt}
 use Rattle.recovery.specs.OneStore.{NewIsNotOld, NewIsNotBad, OldIsNotBad, OldIsOne, BadIsOne}
 use Rattle.recovery.proofs.OneLog.{one_log, one_break, log_not_broken, one_placing}
 

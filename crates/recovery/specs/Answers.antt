@@ -1,5 +1,5 @@
 -- What finding a store again answers.
-use Rattle.std.specs.Prelude.{ℕ, ◌≡◌, List, Result, Ok, Err}
+use Rattle.std.specs.Prelude.{ℕ, List, Result, Ok, Err}
 use Rattle.std.specs.List.{AllByRecursion}
 use Rattle.sf_bytes.specs.Spelt.{IsReadBatch, IsReadSnapshot}
 use Rattle.sf_outside.specs.DiskModel.{Image}

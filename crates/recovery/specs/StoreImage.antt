@@ -2,7 +2,6 @@
 -- snapshot and the batches of its log.
 use Rattle.std.specs.Prelude.{ℕ, ◌≡◌, ◌⊎◌, List, [], ◌∷◌, length, map}
 use Rattle.sf_bytes.specs.ByteForms.{batch_bytes}
-use Rattle.sf_bytes.specs.Spelt.{IsReadBatch}
 use Rattle.sf_outside.specs.DiskModel.{Image, of_file}
 use Rattle.sf_outside.specs.declared.store_disk.StoreFile.{StoreFile}
 use Rattle.sf_value.specs.declared.BatchRecord.{BatchRecord}

@@ -18,7 +18,7 @@ pub(crate) struct Log {
     pub at: u64,
 }
 
-/// The log in a file. Each record is longer than nothing, and places have an end: so has this.
+/// The log in a file. It ends, since each record moves the place on and places have an end.
 pub(crate) fn read_log<D: Disk>(
     alloc: Global,
     disk: &mut D,

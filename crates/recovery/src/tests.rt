@@ -77,7 +77,10 @@ fn summary(opened: &Opened) -> Option<(u64, usize, u64, u64)> {
     match opened {
         Opened::New => None,
         Opened::Old {
-            epoch, batches, at, ..
+            epoch,
+            batches,
+            at,
+            ..
         } => {
             let first = batches.get(0)?;
             Some((*epoch, batches.len(), first.at, *at))

@@ -1,7 +1,6 @@
-use Rattle.std.proofs.Common.{◌≡◌, ◌∷◌, [], ◌++◌, Ok, IfSome, subst, ◌∙◌, arith}
+use Rattle.std.proofs.Common.{Ok, IfSome, subst, ◌∙◌, arith}
 use Rattle.sf_outside.specs.DiskModel.{of_file}
 use Rattle.request_log.specs.Answers.{Answers, IsPlaced}
-use Rattle.recovery.specs.declared.opened.Placed.{Placed}
 use Rattle.recovery.proofs.Logs.{stays_then, logged_next, seen_next, seen_end}
 use Rattle.recovery.proofs.log.read_log.Goals as goal
 
