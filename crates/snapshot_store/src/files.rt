@@ -6,7 +6,7 @@ ghost use Rattle.snapshot_store.specs.SlotFile.{slot_file, slot_of, log_of};
 use sf_outside::StoreFile;
 
 /// The slot of this number, which is 0 or 1.
-pub(crate) fn slot_file(number: u32) -> StoreFile
+pub fn slot_file(number: u32) -> StoreFile
     ensures { result ≡ slot_file number }
 {
     match number {
@@ -23,7 +23,7 @@ pub(crate) fn slot_of(epoch: u64) -> StoreFile
 }
 
 /// The log of an epoch.
-pub(crate) fn log_of(epoch: u64) -> StoreFile
+pub fn log_of(epoch: u64) -> StoreFile
     ensures { result ≡ log_of epoch }
 {
     match epoch % 2 {

@@ -13,6 +13,7 @@ mod reading;
 
 pub use checkpoints::{checkpoint, clear_log, close_slot, fill_slot, open_slot};
 pub use fault::SnapFault;
+pub use files::{log_of, slot_file};
 pub use reading::{Kept, newest};
 
 /// The byte of an open gate. Any other byte is a closed one.

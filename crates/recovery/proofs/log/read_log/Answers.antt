@@ -1,0 +1,33 @@
+use Rattle.std.proofs.Common.{Ok, IfSome, subst, ◌∙◌, arith}
+use Rattle.sf_outside.specs.DiskModel.{of_file}
+use Rattle.request_log.specs.Answers.{Answers, IsPlaced}
+use Rattle.recovery.proofs.Logs.{stays_then, logged_next, seen_next, seen_end}
+use Rattle.recovery.proofs.log.read_log.Goals as goal
+
+pub loop-batches-preserved : goal.loop-batches-preserved
+loop-batches-preserved g c =
+    let old = g.D.Disk.facts c.args.disk.now in
+    let mid = g.D.Disk.facts c.loop-batches.disk in
+    let new = g.D.Disk.facts c.next.new.disk in
+    let before = c.loop-batches.invariant in
+    let batches = c.loop-batches.batches in
+    let at = c.loop-batches.at in
+    let found = c.in-Some.found in
+    let there = subst (λ answer. IfSome mid.seen (λ now. Answers (of_file c.args.file now) at (Ok answer))) c.in-Some.is c.in_ok-found.ensures.answer in
+    let here = subst (λ answer. IsPlaced at (Ok answer)) c.in-Some.is c.in_ok-found.ensures.placed in
+    record {
+      logged = logged_next batches at found.batch found.next c.push.new.self c.in_ok-push.ensures.ok here before.logged;
+      seen = seen_next c.args.file old.seen mid.seen before.stays.seen batches at before.seen found.batch found.next c.push.new.self c.in_ok-push.ensures.ok here.1 there;
+      stays = stays_then old mid new before.stays c.next.ensures.stays;
+      later = omega (arith, before.later, c.next.ensures.later);
+      mounts = c.next.ensures.mounts ∙ before.mounts;
+    }
+
+pub returns-clause-answer : goal.returns-clause-answer
+returns-clause-answer g c =
+    let old = g.D.Disk.facts c.args.disk.now in
+    let mid = g.D.Disk.facts c.loop-batches.disk in
+    let before = c.loop-batches.invariant in
+    let at = c.loop-batches.at in
+    let closed = subst (λ answer. IfSome mid.seen (λ now. Answers (of_file c.args.file now) at (Ok answer))) c.in_default.is c.in_ok-found.ensures.answer in
+    seen_end c.args.file old.seen mid.seen before.stays.seen c.loop-batches.batches at before.seen closed

@@ -1,0 +1,17 @@
+//! A store as it is found again: whether it is new, or old with a snapshot and the batches behind it, or bad at a place.
+//!
+//! Each file is made safe before it is read. What is told of the store is then left by each crash to
+//! come, until something is written.
+#![tactic(auto)]
+
+mod fault;
+mod log;
+mod opened;
+mod opening;
+
+pub use fault::OpenFault;
+pub use opened::{Batches, Opened, Placed};
+pub use opening::{is_one_store, reopen};
+
+#[cfg(test)]
+mod tests;

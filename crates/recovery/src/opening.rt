@@ -1,0 +1,79 @@
+//! Finding a store again.
+
+ghost use Rattle.std.specs.Prelude.{◌≡◌, ◌≤◌, IfSome, OnOk, IsErrOf};
+ghost use Rattle.sf_outside.specs.Causes.{HasCause, Rose};
+ghost use Rattle.sf_outside.specs.DiskModel.{Stays, IsClean};
+ghost use Rattle.sf_bytes.specs.Spelt.{IsReadSnapshot};
+ghost use Rattle.snapshot_store.specs.SlotFile.{IsEpoch, IsNewest};
+ghost use Rattle.recovery.specs.Answers.{Answers, IsPlaced, UnlessFailed};
+ghost use Rattle.recovery.specs.OneStore.{NewIsNotOld, NewIsNotBad, OldIsNotBad, OldIsOne, BadIsOne};
+
+use crate::fault::{OpenFault, log_fault};
+use crate::log::read_log;
+use crate::opened::Opened;
+use sf_outside::{Disk, Failed, StoreFile};
+use snapshot_store::{Kept, log_of, newest};
+use std::alloc::Global;
+
+/// What a store has. It writes nothing, and takes memory by the bytes that are there.
+pub fn reopen<D: Disk>(alloc: Global, disk: &mut D) -> Result<Opened, OpenFault>
+    ensures answer { IfSome (D.facts disk.old).seen (λ now. Answers now result) }
+    ensures placed { IsPlaced result }
+    ensures clean { UnlessFailed result (IsClean (D.facts disk.new)) }
+    ensures stays { Stays (D.facts disk.old) (D.facts disk.new) }
+    ensures later { D.faults disk.old ≤ D.faults disk.new }
+    ensures cause { IsErrOf result OpenFault.Failed → Rose (D.faults disk.old) (D.faults disk.new) }
+    ensures mounts { D.mounts disk.new ≡ D.mounts disk.old }
+{
+    sync_all(disk)?;
+    let Some(newest) = newest(alloc, disk)? else {
+        return Ok(Opened::New);
+    };
+    with_log(alloc, disk, newest)
+}
+
+/// Makes each file safe.
+fn sync_all<D: Disk>(disk: &mut D) -> Result<(), Failed>
+    ensures clean { OnOk result (IsClean (D.facts disk.new)) }
+    ensures stays { Stays (D.facts disk.old) (D.facts disk.new) }
+    ensures cause { HasCause (D.faults disk.old) (D.faults disk.new) result }
+    ensures mounts { D.mounts disk.new ≡ D.mounts disk.old }
+{
+    disk.sync(StoreFile::Log0)?;
+    disk.sync(StoreFile::Log1)?;
+    disk.sync(StoreFile::Snap0)?;
+    disk.sync(StoreFile::Snap1)
+}
+
+/// What a store has whose newest snapshot this is.
+fn with_log<D: Disk>(alloc: Global, disk: &mut D, newest: Kept) -> Result<Opened, OpenFault>
+    requires newest { IfSome (D.facts disk.old).seen (λ now. IsNewest now newest.epoch newest.kept) }
+    requires epoch { IsEpoch newest.epoch }
+    requires read { IsReadSnapshot newest.kept }
+    ensures answer { IfSome (D.facts disk.old).seen (λ now. Answers now result) }
+    ensures placed { IsPlaced result }
+    ensures stays { Stays (D.facts disk.old) (D.facts disk.new) }
+    ensures later { D.faults disk.old ≤ D.faults disk.new }
+    ensures cause { IsErrOf result OpenFault.Failed → Rose (D.faults disk.old) (D.faults disk.new) }
+    ensures mounts { D.mounts disk.new ≡ D.mounts disk.old }
+{
+    let file = log_of(newest.epoch);
+    match read_log(alloc, disk, file) {
+        Ok(log) => Ok(Opened::Old {
+            epoch: newest.epoch,
+            kept: newest.kept,
+            batches: log.batches,
+            at: log.at,
+        }),
+        Err(fault) => Err(log_fault(file, fault)),
+    }
+}
+
+/// Four files are a store of one kind at most, with one content.
+pub fn is_one_store()
+    ensures new_or_old { NewIsNotOld }
+    ensures new_or_bad { NewIsNotBad }
+    ensures old_or_bad { OldIsNotBad }
+    ensures one_old { OldIsOne }
+    ensures one_bad { BadIsOne }
+{}
