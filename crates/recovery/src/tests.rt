@@ -23,15 +23,22 @@ const BATCH: [u8; 53] = [
     b'e', 3, 0, 0, 0, 0, 0, 0, 0, 0, 0, 0, 0, 0, 0, 0, 0, 3, 0, 0, 0, 1, 0, 0, 0, 0,
 ];
 
-/// Mounts a disk whose files are empty.
-fn new_disk(alloc: Global) -> Result<MemDisk, SnapFault>
+/// Mounts a disk whose files are empty, and of which these calls are to fail.
+fn failing_disk(alloc: Global, fail_at: &[u64]) -> Result<MemDisk, SnapFault>
     ensures { IfOk result (λ disk. (image : Image) → (facts_after disk.calls).may_leave image → IsNew image) }
 {
-    let mut disk = MemDisk::new(alloc, 256, 60, &[])?;
+    let mut disk = MemDisk::new(alloc, 256, 60, fail_at)?;
     match disk.mount(alloc, "s") {
         Ok(()) => Ok(disk),
         Err(_) => Err(SnapFault::Failed),
     }
+}
+
+/// Mounts a disk whose files are empty.
+fn new_disk(alloc: Global) -> Result<MemDisk, SnapFault>
+    ensures { IfOk result (λ disk. (image : Image) → (facts_after disk.calls).may_leave image → IsNew image) }
+{
+    failing_disk(alloc, &[])
 }
 
 /// Keeps the first snapshot where these are the bytes of one.
@@ -150,5 +157,33 @@ fn an_open_slot_of_zeros_is_bad(rt: HostRuntime) -> Result<(), Fail> {
             })
         )
     );
+    Ok(())
+}
+
+/// How far a store came where one of its calls failed: nothing, a snapshot, or a batch too. None where what is found
+/// again isn't that.
+fn found_after_a_fault(alloc: Global, call: u64) -> Result<Option<usize>, SnapFault> {
+    let mut disk = failing_disk(alloc, &[call])?;
+    let added = keep_and_add(alloc, &mut disk).is_ok();
+    match reopen(alloc, &mut disk) {
+        Ok(Opened::New) if !added => Ok(Some(0)),
+        Ok(
+            Opened::Old {
+                epoch: 1,
+                batches,
+                ..
+            },
+        ) if batches.len() == 1 || !added && batches.is_empty() => Ok(Some(1 + batches.len())),
+        Err(OpenFault::Failed) if added => Ok(Some(2)),
+        _ => Ok(None),
+    }
+}
+
+#[test]
+fn a_call_that_fails_leaves_the_store_before_or_after(rt: HostRuntime) -> Result<(), Fail> {
+    for call in 2..24u64 {
+        let found = found_after_a_fault(rt.alloc(), call)?;
+        assert!(rt; found.is_some(), "{call}");
+    }
     Ok(())
 }
