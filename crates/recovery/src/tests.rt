@@ -160,30 +160,29 @@ fn an_open_slot_of_zeros_is_bad(rt: HostRuntime) -> Result<(), Fail> {
     Ok(())
 }
 
-/// How far a store came where one of its calls failed: nothing, a snapshot, or a batch too. None where what is found
-/// again isn't that.
-fn found_after_a_fault(alloc: Global, call: u64) -> Result<Option<usize>, SnapFault> {
+/// Whether a store has a snapshot and a batch where both were kept, and else what it had before or after.
+fn is_before_or_after(opened: &Opened, added: bool) -> bool {
+    match opened {
+        Opened::New => !added,
+        Opened::Old { batches, .. } => batches.len() == 1 || !added && batches.is_empty(),
+    }
+}
+
+/// Whether a store is found as it was before or after the call of its disk that failed.
+fn is_found_after_a_fault(alloc: Global, call: u64) -> Result<bool, SnapFault> {
     let mut disk = failing_disk(alloc, &[call])?;
     let added = keep_and_add(alloc, &mut disk).is_ok();
     match reopen(alloc, &mut disk) {
-        Ok(Opened::New) if !added => Ok(Some(0)),
-        Ok(
-            Opened::Old {
-                epoch: 1,
-                batches,
-                ..
-            },
-        ) if batches.len() == 1 || !added && batches.is_empty() => Ok(Some(1 + batches.len())),
-        Err(OpenFault::Failed) if added => Ok(Some(2)),
-        _ => Ok(None),
+        Ok(opened) => Ok(is_before_or_after(&opened, added)),
+        Err(OpenFault::Failed) => Ok(added),
+        Err(_) => Ok(false),
     }
 }
 
 #[test]
 fn a_call_that_fails_leaves_the_store_before_or_after(rt: HostRuntime) -> Result<(), Fail> {
     for call in 2..24u64 {
-        let found = found_after_a_fault(rt.alloc(), call)?;
-        assert!(rt; found.is_some(), "{call}");
+        assert!(rt; is_found_after_a_fault(rt.alloc(), call)?, "{call}");
     }
     Ok(())
 }
