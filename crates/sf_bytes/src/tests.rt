@@ -23,7 +23,72 @@ fn a_batch_is_read_and_written_again(rt: HostRuntime) -> Result<(), Fail> {
 
 #[test]
 fn a_batch_that_is_cut_is_none(rt: HostRuntime) -> Result<(), Fail> {
-    assert!(rt; read_batch(rt.alloc(), &BATCH[..52])?.is_none());
+    for length in 0..BATCH.len() {
+        let found = read_batch(rt.alloc(), &BATCH[..length])?;
+        assert!(rt; found.is_none(), "{length}");
+    }
+    Ok(())
+}
+
+/// Whether these are the bytes of a value, and are written again.
+fn is_value(alloc: Global, bytes: &[u8]) -> Result<bool, AllocError> {
+    let Some((item, taken)) = read_value(alloc, bytes)? else {
+        return Ok(false);
+    };
+    Ok(taken == bytes.len() && write_value(alloc, &item)?.as_slice() == bytes)
+}
+
+/// Whether these are the bytes of a request, and are written again.
+fn is_request(alloc: Global, bytes: &[u8]) -> Result<bool, AllocError> {
+    let Some((item, taken)) = read_request(alloc, bytes)? else {
+        return Ok(false);
+    };
+    Ok(taken == bytes.len() && write_request(alloc, &item)?.as_slice() == bytes)
+}
+
+/// Whether these are the bytes of an outcome, and are written again.
+fn is_outcome(alloc: Global, bytes: &[u8]) -> Result<bool, AllocError> {
+    let Some((item, taken)) = read_outcome(alloc, bytes)? else {
+        return Ok(false);
+    };
+    Ok(taken == bytes.len() && write_outcome(alloc, &item)?.as_slice() == bytes)
+}
+
+/// Whether these are the bytes of a batch, and are written again.
+fn is_batch(alloc: Global, bytes: &[u8]) -> Result<bool, AllocError> {
+    let Some((item, taken)) = read_batch(alloc, bytes)? else {
+        return Ok(false);
+    };
+    Ok(taken == bytes.len() && write_batch(alloc, &item)?.as_slice() == bytes)
+}
+
+/// Whether these are the bytes of a snapshot, and are written again.
+fn is_snapshot(alloc: Global, bytes: &[u8]) -> Result<bool, AllocError> {
+    let Some((item, taken)) = read_snapshot(alloc, bytes)? else {
+        return Ok(false);
+    };
+    Ok(taken == bytes.len() && write_snapshot(alloc, &item)?.as_slice() == bytes)
+}
+
+#[test]
+fn each_thing_has_a_shortest_spelling(rt: HostRuntime) -> Result<(), Fail> {
+    let alloc = rt.alloc();
+    assert!(rt; is_value(alloc, &[0])?);
+    assert!(rt; is_request(alloc, &[0, 0, 0, 0, 1, 0, 0, 0, 0, 0, 0, 0, 0])?);
+    assert!(rt; is_outcome(alloc, &[0, 0])?);
+    assert!(rt; is_batch(alloc, &[0; 8])?);
+    assert!(rt; is_snapshot(alloc, &[0; 20])?);
+    Ok(())
+}
+
+#[test]
+fn a_list_of_a_list_of_minus_one_is_read_and_written_again(rt: HostRuntime) -> Result<(), Fail> {
+    let alloc = rt.alloc();
+    let bytes = [
+        5, 0, 0, 0, 2, 5, 0, 0, 0, 1, 3, 255, 255, 255, 255, 255, 255, 255, 255, 255, 255, 255,
+        255, 255, 255, 255, 255, 6, 0, 0, 0, 1, 0, 0, 0, 1, b'k',
+    ];
+    assert!(rt; is_value(alloc, &bytes)?);
     Ok(())
 }
 
