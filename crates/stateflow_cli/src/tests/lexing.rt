@@ -113,11 +113,18 @@ fn the_first_fault_of_a_text_has_its_kind_and_place(rt: HostRuntime) -> Result<(
     Ok(())
 }
 
+/// What the lexer makes of a comment of so many bytes.
+fn outcome_of_comment(alloc: Global, length: usize) -> Result<String, AllocError> {
+    let text = vec![in alloc; b'#'; length]?;
+    outcome(alloc, &text)
+}
+
 #[test]
 fn a_text_may_have_a_mebibyte(rt: HostRuntime) -> Result<(), Fail> {
-    let text = vec![in rt.alloc(); b'#'; 1_048_577]?;
-    assert_eq!(rt; outcome(rt.alloc(), &text[..1_048_576])?.as_str(), "lines");
-    assert_eq!(rt; outcome(rt.alloc(), &text)?.as_str(), "1:1: TooLong");
+    let longest = outcome_of_comment(rt.alloc(), 1_048_576)?;
+    assert_eq!(rt; longest.as_str(), "lines");
+    let longer = outcome_of_comment(rt.alloc(), 1_048_577)?;
+    assert_eq!(rt; longer.as_str(), "1:1: TooLong");
     Ok(())
 }
 
