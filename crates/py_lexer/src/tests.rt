@@ -23,10 +23,15 @@ fn first_string(alloc: Global, text: &[u8]) -> Result<Option<Text>, LexError> {
 
 #[test]
 fn a_string_has_its_text(rt: HostRuntime) -> Result<(), Fail> {
-    let rows: [(&[u8], &str); 4] = [
+    let rows: [(&[u8], &str); 9] = [
         (b"'a\\n\\x41\\\\' 1", "a\nA\\"),
+        (b"'\\'' ", "'"),
+        (b"'\\\"'", "\""),
+        (b"'\\r'", "\r"),
+        (b"'\\t'", "\t"),
         (b"\"\"\"a\r\nb\"\"\"", "a\nb"),
         (b"'\xc3\xa9\\xE9\\u00e9'", "\u{e9}\u{e9}\u{e9}"),
+        (b"'\\u20AC'", "\u{20ac}"),
         (b"''", ""),
     ];
     for (text, wanted) in rows {
