@@ -5,3 +5,10 @@ pub mod PlainStatements
 pub mod PlainProgram
 pub mod Tokens
 pub mod StringText
+pub mod Terminals
+pub mod Reading
+pub mod ReservedNames
+pub mod ExpressionGrammar
+pub mod TypeGrammar
+pub mod StatementGrammar
+pub mod Grammar

@@ -8,16 +8,22 @@ mod copy;
 mod copy_program;
 mod copy_stmt;
 mod expr;
+mod fault;
 mod names;
 pub mod nodes;
 mod program;
+mod starts;
 mod stmt;
+mod terminal;
 #[cfg(test)]
 mod tests;
 mod ty;
 
 pub use expr::{BinOp, Cmp, Expr, ExprKind, Exprs, Link, Links};
+pub use fault::{SyntaxFault, SyntaxKind};
 pub use names::{Name, Names, Place, PlacedName};
 pub use program::{Class, Classes, Method, Methods, Param, Params, Program};
+pub use starts::{AtomStart, SimpleStart, TypeStart};
 pub use stmt::{Arm, Arms, Over, Stmt, StmtKind, Stmts, Target};
+pub use terminal::Terminal;
 pub use ty::{Ty, WrittenKind, WrittenTy};
