@@ -3,3 +3,8 @@ pub mod NameLaws
 pub mod ProgramCopies
 pub mod Views
 mod StringExamples
+pub mod OneOutcome
+pub mod OneExpression
+pub mod OneType
+pub mod OneStatement
+pub mod OneProgram

@@ -9,6 +9,7 @@ mod copy_program;
 mod copy_stmt;
 mod expr;
 mod fault;
+mod laws;
 mod names;
 pub mod nodes;
 mod program;
@@ -21,6 +22,7 @@ mod ty;
 
 pub use expr::{BinOp, Cmp, Expr, ExprKind, Exprs, Link, Links};
 pub use fault::{SyntaxFault, SyntaxKind};
+pub use laws::has_one_outcome;
 pub use names::{Name, Names, Place, PlacedName};
 pub use program::{Class, Classes, Method, Methods, Param, Params, Program};
 pub use starts::{AtomStart, SimpleStart, TypeStart};

@@ -1,0 +1,791 @@
+-- Reading statements has one outcome at most.
+use Rattle.std.proofs.Common.{◌≡◌, ℕ, ◌-◌, Bool, List, [], ◌∷◌, Option, Some, None, arith, refl, ap}
+use Rattle.py_tree.specs.declared.names.Place.{Place}
+use Rattle.py_tree.specs.declared.stmt.Target.{Target}
+use Rattle.py_tree.specs.declared.stmt.Target.TheVariants as target
+use Rattle.py_tree.specs.PlainExpressions.{PlainExpr}
+use Rattle.py_tree.specs.PlainStatements.{PlainOver, PlainStmt, PlainArm}
+use Rattle.py_tree.specs.Reading.{Input, Outcome, next, here, named, placed_name, next_line, column}
+use Rattle.py_tree.specs.StatementGrammar.{IsSimple, IsValue, IsMessage, IsDetail, IsAssigned, IsSimples, IsMoreSimples, IsLine, simple_pass, simple_break, simple_continue, simple_return_stops_v, simple_return, simple_raise_none, simple_raise_stops_v, simple_raise, simple_assert_stops_x, simple_assert_stops_v, simple_assert, simple_local, simple_field_deep, simple_field, simple_expr_stops_x, simple_expr, value_none, value_is_stops_x, value_is, message_none, message_is_deep, message_is_stops_v, message_is_needs_close, message_is, detail_none, detail_is_stops_x, detail_is, assigned_typed_stops_ty, assigned_typed_needs_assign, assigned_typed_stops_x, assigned_typed, assigned_plain_stops_x, assigned_plain, assigned_augmented_stops_x, assigned_augmented, assigned_other, simples_is_stops_x, simples_is_stops_xs, simples_is, more_simples_end, more_simples_last, more_simples_more_stops_x, more_simples_more_stops_xs, more_simples_more, line_is_stops_xs, line_is_needs_line_end, line_is, IsBody, IsSuite, IsBlock, IsStmts, IsStmt, IsArm, IsArms, IsOther, IsOver, body_is_needs_colon, body_is_deep, body_is, suite_line, suite_block, block_none, block_is, stmts_end, stmts_shifted, stmts_more_stops_xs, stmts_more_stops_ys, stmts_more, stmt_if_stops_a, stmt_if_stops_bs, stmt_if_stops_ys, stmt_if, stmt_while_stops_x, stmt_while_stops_ys, stmt_while, stmt_for_needs_name, stmt_for_needs_in, stmt_for_stops_v, stmt_for_stops_ys, stmt_for, stmt_simple, arm_is_stops_x, arm_is_stops_ys, arm_is, arms_end, arms_more_stops_a, arms_more_stops_bs, arms_more, other_none, other_is, over_items_stops_x, over_items, over_end_deep, over_end_stops_x, over_end_needs_close, over_end, over_ends_stops_y, over_ends_needs_close, over_ends}
+use Rattle.py_tree.proofs.OneOutcome.{same_rest}
+use Rattle.py_tree.proofs.OneExpression.{whole_one}
+use Rattle.py_tree.proofs.OneType.{type_one}
+
+pub value_one : {n n' : ℕ} {i i' : Input} {o o' : Outcome (Option PlainExpr)} → IsValue n i o → n ≡ n' → i ≡ i' → IsValue n' i' o' → o ≡ o'
+value_one (value_none h0) en ei (value_none h0') = cc
+value_one (value_none h0) en ei (value_is_stops_x h0' h1') = cc
+value_one (value_none h0) en ei (value_is h0' h1') = cc
+value_one (value_is_stops_x h0 h1) en ei (value_none h0') = cc
+value_one (value_is_stops_x h0 h1) en ei (value_is_stops_x h0' h1') = let s1 = whole_one h1 en ei h1' in cc
+value_one (value_is_stops_x h0 h1) en ei (value_is h0' h1') = let s1 = whole_one h1 en ei h1' in cc
+value_one (value_is h0 h1) en ei (value_none h0') = cc
+value_one (value_is h0 h1) en ei (value_is_stops_x h0' h1') = let s1 = whole_one h1 en ei h1' in cc
+value_one (value_is h0 h1) en ei (value_is h0' h1') = let s1 = whole_one h1 en ei h1' in cc
+
+pub message_one : {n n' : ℕ} {i i' : Input} {o o' : Outcome (Option PlainExpr)} → IsMessage n i o → n ≡ n' → i ≡ i' → IsMessage n' i' o' → o ≡ o'
+message_one (message_none h0) en ei (message_none h0') = cc
+message_one (message_none h0) en ei (message_is_deep h0' h1') = cc
+message_one (message_none h0) en ei (message_is_stops_v h0' h1' h2') = cc
+message_one (message_none h0) en ei (message_is_needs_close h0' h1' h2' h3') = cc
+message_one (message_none h0) en ei (message_is h0' h1' h2' h3') = cc
+message_one (message_is_deep h0 h1) en ei (message_none h0') = cc
+message_one (message_is_deep h0 h1) en ei (message_is_deep h0' h1') = cc
+message_one (message_is_deep h0 h1) en ei (message_is_stops_v h0' h1' h2') = absurd (omega arith)
+message_one (message_is_deep h0 h1) en ei (message_is_needs_close h0' h1' h2' h3') = absurd (omega arith)
+message_one (message_is_deep h0 h1) en ei (message_is h0' h1' h2' h3') = absurd (omega arith)
+message_one (message_is_stops_v h0 h1 h2) en ei (message_none h0') = cc
+message_one (message_is_stops_v h0 h1 h2) en ei (message_is_deep h0' h1') = absurd (omega arith)
+message_one (message_is_stops_v h0 h1 h2) en ei (message_is_stops_v h0' h1' h2') = let s1 = value_one h2 (ap (λ z. z - 1) en) (ap (λ z. next z) ei) h2' in cc
+message_one (message_is_stops_v h0 h1 h2) en ei (message_is_needs_close h0' h1' h2' h3') = let s1 = value_one h2 (ap (λ z. z - 1) en) (ap (λ z. next z) ei) h2' in cc
+message_one (message_is_stops_v h0 h1 h2) en ei (message_is h0' h1' h2' h3') = let s1 = value_one h2 (ap (λ z. z - 1) en) (ap (λ z. next z) ei) h2' in cc
+message_one (message_is_needs_close h0 h1 h2 h3) en ei (message_none h0') = cc
+message_one (message_is_needs_close h0 h1 h2 h3) en ei (message_is_deep h0' h1') = absurd (omega arith)
+message_one (message_is_needs_close h0 h1 h2 h3) en ei (message_is_stops_v h0' h1' h2') = let s1 = value_one h2 (ap (λ z. z - 1) en) (ap (λ z. next z) ei) h2' in cc
+message_one (message_is_needs_close h0 h1 h2 h3) en ei (message_is_needs_close h0' h1' h2' h3') = let s1 = value_one h2 (ap (λ z. z - 1) en) (ap (λ z. next z) ei) h2' in cc
+message_one (message_is_needs_close h0 h1 h2 h3) en ei (message_is h0' h1' h2' h3') = let s1 = value_one h2 (ap (λ z. z - 1) en) (ap (λ z. next z) ei) h2' in cc
+message_one (message_is h0 h1 h2 h3) en ei (message_none h0') = cc
+message_one (message_is h0 h1 h2 h3) en ei (message_is_deep h0' h1') = absurd (omega arith)
+message_one (message_is h0 h1 h2 h3) en ei (message_is_stops_v h0' h1' h2') = let s1 = value_one h2 (ap (λ z. z - 1) en) (ap (λ z. next z) ei) h2' in cc
+message_one (message_is h0 h1 h2 h3) en ei (message_is_needs_close h0' h1' h2' h3') = let s1 = value_one h2 (ap (λ z. z - 1) en) (ap (λ z. next z) ei) h2' in cc
+message_one (message_is h0 h1 h2 h3) en ei (message_is h0' h1' h2' h3') = let s1 = value_one h2 (ap (λ z. z - 1) en) (ap (λ z. next z) ei) h2' in cc
+
+pub detail_one : {n n' : ℕ} {i i' : Input} {o o' : Outcome (Option PlainExpr)} → IsDetail n i o → n ≡ n' → i ≡ i' → IsDetail n' i' o' → o ≡ o'
+detail_one (detail_none h0) en ei (detail_none h0') = cc
+detail_one (detail_none h0) en ei (detail_is_stops_x h0' h1') = cc
+detail_one (detail_none h0) en ei (detail_is h0' h1') = cc
+detail_one (detail_is_stops_x h0 h1) en ei (detail_none h0') = cc
+detail_one (detail_is_stops_x h0 h1) en ei (detail_is_stops_x h0' h1') = let s1 = whole_one h1 en (ap (λ z. next z) ei) h1' in cc
+detail_one (detail_is_stops_x h0 h1) en ei (detail_is h0' h1') = let s1 = whole_one h1 en (ap (λ z. next z) ei) h1' in cc
+detail_one (detail_is h0 h1) en ei (detail_none h0') = cc
+detail_one (detail_is h0 h1) en ei (detail_is_stops_x h0' h1') = let s1 = whole_one h1 en (ap (λ z. next z) ei) h1' in cc
+detail_one (detail_is h0 h1) en ei (detail_is h0' h1') = let s1 = whole_one h1 en (ap (λ z. next z) ei) h1' in cc
+
+pub assigned_one : {n n' : ℕ} {at at' : Place} {t t' : Target} {i i' : Input} {o o' : Outcome PlainStmt} → IsAssigned n at t i o → n ≡ n' → at ≡ at' → t ≡ t' → i ≡ i' → IsAssigned n' at' t' i' o' → o ≡ o'
+assigned_one (assigned_typed_stops_ty h0 h1) en eat et ei (assigned_typed_stops_ty h0' h1') = let s1 = type_one h1 en (ap (λ z. next z) ei) h1' in cc
+assigned_one (assigned_typed_stops_ty h0 h1) en eat et ei (assigned_typed_needs_assign h0' h1' h2') = let s1 = type_one h1 en (ap (λ z. next z) ei) h1' in cc
+assigned_one (assigned_typed_stops_ty h0 h1) en eat et ei (assigned_typed_stops_x h0' h1' h2' h3') = let s1 = type_one h1 en (ap (λ z. next z) ei) h1' in cc
+assigned_one (assigned_typed_stops_ty h0 h1) en eat et ei (assigned_typed h0' h1' h2' h3') = let s1 = type_one h1 en (ap (λ z. next z) ei) h1' in cc
+assigned_one (assigned_typed_stops_ty h0 h1) en eat et ei (assigned_plain_stops_x h0' h1' h2') = cc
+assigned_one (assigned_typed_stops_ty h0 h1) en eat et ei (assigned_plain h0' h1' h2') = cc
+assigned_one (assigned_typed_stops_ty h0 h1) en eat et ei (assigned_augmented_stops_x h0' h1' h2' h3') = cc
+assigned_one (assigned_typed_stops_ty h0 h1) en eat et ei (assigned_augmented h0' h1' h2' h3') = cc
+assigned_one (assigned_typed_stops_ty h0 h1) en eat et ei (assigned_other h0' h1' h2') = cc
+assigned_one (assigned_typed_needs_assign h0 h1 h2) en eat et ei (assigned_typed_stops_ty h0' h1') = let s1 = type_one h1 en (ap (λ z. next z) ei) h1' in cc
+assigned_one (assigned_typed_needs_assign h0 h1 h2) en eat et ei (assigned_typed_needs_assign h0' h1' h2') = let s1 = type_one h1 en (ap (λ z. next z) ei) h1' in cc
+assigned_one (assigned_typed_needs_assign h0 h1 h2) en eat et ei (assigned_typed_stops_x h0' h1' h2' h3') = let s1 = type_one h1 en (ap (λ z. next z) ei) h1' in cc
+assigned_one (assigned_typed_needs_assign h0 h1 h2) en eat et ei (assigned_typed h0' h1' h2' h3') = let s1 = type_one h1 en (ap (λ z. next z) ei) h1' in cc
+assigned_one (assigned_typed_needs_assign h0 h1 h2) en eat et ei (assigned_plain_stops_x h0' h1' h2') = cc
+assigned_one (assigned_typed_needs_assign h0 h1 h2) en eat et ei (assigned_plain h0' h1' h2') = cc
+assigned_one (assigned_typed_needs_assign h0 h1 h2) en eat et ei (assigned_augmented_stops_x h0' h1' h2' h3') = cc
+assigned_one (assigned_typed_needs_assign h0 h1 h2) en eat et ei (assigned_augmented h0' h1' h2' h3') = cc
+assigned_one (assigned_typed_needs_assign h0 h1 h2) en eat et ei (assigned_other h0' h1' h2') = cc
+assigned_one (assigned_typed_stops_x h0 h1 h2 h3) en eat et ei (assigned_typed_stops_ty h0' h1') = let s1 = type_one h1 en (ap (λ z. next z) ei) h1' in cc
+assigned_one (assigned_typed_stops_x h0 h1 h2 h3) en eat et ei (assigned_typed_needs_assign h0' h1' h2') = let s1 = type_one h1 en (ap (λ z. next z) ei) h1' in cc
+assigned_one (assigned_typed_stops_x h0 h1 h2 h3) en eat et ei (assigned_typed_stops_x h0' h1' h2' h3') = let s1 = type_one h1 en (ap (λ z. next z) ei) h1' in let s2 = whole_one h3 en (ap (λ z. next z) (same_rest s1)) h3' in cc
+assigned_one (assigned_typed_stops_x h0 h1 h2 h3) en eat et ei (assigned_typed h0' h1' h2' h3') = let s1 = type_one h1 en (ap (λ z. next z) ei) h1' in let s2 = whole_one h3 en (ap (λ z. next z) (same_rest s1)) h3' in cc
+assigned_one (assigned_typed_stops_x h0 h1 h2 h3) en eat et ei (assigned_plain_stops_x h0' h1' h2') = cc
+assigned_one (assigned_typed_stops_x h0 h1 h2 h3) en eat et ei (assigned_plain h0' h1' h2') = cc
+assigned_one (assigned_typed_stops_x h0 h1 h2 h3) en eat et ei (assigned_augmented_stops_x h0' h1' h2' h3') = cc
+assigned_one (assigned_typed_stops_x h0 h1 h2 h3) en eat et ei (assigned_augmented h0' h1' h2' h3') = cc
+assigned_one (assigned_typed_stops_x h0 h1 h2 h3) en eat et ei (assigned_other h0' h1' h2') = cc
+assigned_one (assigned_typed h0 h1 h2 h3) en eat et ei (assigned_typed_stops_ty h0' h1') = let s1 = type_one h1 en (ap (λ z. next z) ei) h1' in cc
+assigned_one (assigned_typed h0 h1 h2 h3) en eat et ei (assigned_typed_needs_assign h0' h1' h2') = let s1 = type_one h1 en (ap (λ z. next z) ei) h1' in cc
+assigned_one (assigned_typed h0 h1 h2 h3) en eat et ei (assigned_typed_stops_x h0' h1' h2' h3') = let s1 = type_one h1 en (ap (λ z. next z) ei) h1' in let s2 = whole_one h3 en (ap (λ z. next z) (same_rest s1)) h3' in cc
+assigned_one (assigned_typed h0 h1 h2 h3) en eat et ei (assigned_typed h0' h1' h2' h3') = let s1 = type_one h1 en (ap (λ z. next z) ei) h1' in let s2 = whole_one h3 en (ap (λ z. next z) (same_rest s1)) h3' in cc
+assigned_one (assigned_typed h0 h1 h2 h3) en eat et ei (assigned_plain_stops_x h0' h1' h2') = cc
+assigned_one (assigned_typed h0 h1 h2 h3) en eat et ei (assigned_plain h0' h1' h2') = cc
+assigned_one (assigned_typed h0 h1 h2 h3) en eat et ei (assigned_augmented_stops_x h0' h1' h2' h3') = cc
+assigned_one (assigned_typed h0 h1 h2 h3) en eat et ei (assigned_augmented h0' h1' h2' h3') = cc
+assigned_one (assigned_typed h0 h1 h2 h3) en eat et ei (assigned_other h0' h1' h2') = cc
+assigned_one (assigned_plain_stops_x h0 h1 h2) en eat et ei (assigned_typed_stops_ty h0' h1') = cc
+assigned_one (assigned_plain_stops_x h0 h1 h2) en eat et ei (assigned_typed_needs_assign h0' h1' h2') = cc
+assigned_one (assigned_plain_stops_x h0 h1 h2) en eat et ei (assigned_typed_stops_x h0' h1' h2' h3') = cc
+assigned_one (assigned_plain_stops_x h0 h1 h2) en eat et ei (assigned_typed h0' h1' h2' h3') = cc
+assigned_one (assigned_plain_stops_x h0 h1 h2) en eat et ei (assigned_plain_stops_x h0' h1' h2') = let s1 = whole_one h2 en (ap (λ z. next z) ei) h2' in cc
+assigned_one (assigned_plain_stops_x h0 h1 h2) en eat et ei (assigned_plain h0' h1' h2') = let s1 = whole_one h2 en (ap (λ z. next z) ei) h2' in cc
+assigned_one (assigned_plain_stops_x h0 h1 h2) en eat et ei (assigned_augmented_stops_x h0' h1' h2' h3') = cc
+assigned_one (assigned_plain_stops_x h0 h1 h2) en eat et ei (assigned_augmented h0' h1' h2' h3') = cc
+assigned_one (assigned_plain_stops_x h0 h1 h2) en eat et ei (assigned_other h0' h1' h2') = cc
+assigned_one (assigned_plain h0 h1 h2) en eat et ei (assigned_typed_stops_ty h0' h1') = cc
+assigned_one (assigned_plain h0 h1 h2) en eat et ei (assigned_typed_needs_assign h0' h1' h2') = cc
+assigned_one (assigned_plain h0 h1 h2) en eat et ei (assigned_typed_stops_x h0' h1' h2' h3') = cc
+assigned_one (assigned_plain h0 h1 h2) en eat et ei (assigned_typed h0' h1' h2' h3') = cc
+assigned_one (assigned_plain h0 h1 h2) en eat et ei (assigned_plain_stops_x h0' h1' h2') = let s1 = whole_one h2 en (ap (λ z. next z) ei) h2' in cc
+assigned_one (assigned_plain h0 h1 h2) en eat et ei (assigned_plain h0' h1' h2') = let s1 = whole_one h2 en (ap (λ z. next z) ei) h2' in cc
+assigned_one (assigned_plain h0 h1 h2) en eat et ei (assigned_augmented_stops_x h0' h1' h2' h3') = cc
+assigned_one (assigned_plain h0 h1 h2) en eat et ei (assigned_augmented h0' h1' h2' h3') = cc
+assigned_one (assigned_plain h0 h1 h2) en eat et ei (assigned_other h0' h1' h2') = cc
+assigned_one (assigned_augmented_stops_x h0 h1 h2 h3) en eat et ei (assigned_typed_stops_ty h0' h1') = cc
+assigned_one (assigned_augmented_stops_x h0 h1 h2 h3) en eat et ei (assigned_typed_needs_assign h0' h1' h2') = cc
+assigned_one (assigned_augmented_stops_x h0 h1 h2 h3) en eat et ei (assigned_typed_stops_x h0' h1' h2' h3') = cc
+assigned_one (assigned_augmented_stops_x h0 h1 h2 h3) en eat et ei (assigned_typed h0' h1' h2' h3') = cc
+assigned_one (assigned_augmented_stops_x h0 h1 h2 h3) en eat et ei (assigned_plain_stops_x h0' h1' h2') = cc
+assigned_one (assigned_augmented_stops_x h0 h1 h2 h3) en eat et ei (assigned_plain h0' h1' h2') = cc
+assigned_one (assigned_augmented_stops_x h0 h1 h2 h3) en eat et ei (assigned_augmented_stops_x h0' h1' h2' h3') = let s1 = whole_one h3 en (ap (λ z. next z) ei) h3' in cc
+assigned_one (assigned_augmented_stops_x h0 h1 h2 h3) en eat et ei (assigned_augmented h0' h1' h2' h3') = let s1 = whole_one h3 en (ap (λ z. next z) ei) h3' in cc
+assigned_one (assigned_augmented_stops_x h0 h1 h2 h3) en eat et ei (assigned_other h0' h1' h2') = cc
+assigned_one (assigned_augmented h0 h1 h2 h3) en eat et ei (assigned_typed_stops_ty h0' h1') = cc
+assigned_one (assigned_augmented h0 h1 h2 h3) en eat et ei (assigned_typed_needs_assign h0' h1' h2') = cc
+assigned_one (assigned_augmented h0 h1 h2 h3) en eat et ei (assigned_typed_stops_x h0' h1' h2' h3') = cc
+assigned_one (assigned_augmented h0 h1 h2 h3) en eat et ei (assigned_typed h0' h1' h2' h3') = cc
+assigned_one (assigned_augmented h0 h1 h2 h3) en eat et ei (assigned_plain_stops_x h0' h1' h2') = cc
+assigned_one (assigned_augmented h0 h1 h2 h3) en eat et ei (assigned_plain h0' h1' h2') = cc
+assigned_one (assigned_augmented h0 h1 h2 h3) en eat et ei (assigned_augmented_stops_x h0' h1' h2' h3') = let s1 = whole_one h3 en (ap (λ z. next z) ei) h3' in cc
+assigned_one (assigned_augmented h0 h1 h2 h3) en eat et ei (assigned_augmented h0' h1' h2' h3') = let s1 = whole_one h3 en (ap (λ z. next z) ei) h3' in cc
+assigned_one (assigned_augmented h0 h1 h2 h3) en eat et ei (assigned_other h0' h1' h2') = cc
+assigned_one (assigned_other h0 h1 h2) en eat et ei (assigned_typed_stops_ty h0' h1') = cc
+assigned_one (assigned_other h0 h1 h2) en eat et ei (assigned_typed_needs_assign h0' h1' h2') = cc
+assigned_one (assigned_other h0 h1 h2) en eat et ei (assigned_typed_stops_x h0' h1' h2' h3') = cc
+assigned_one (assigned_other h0 h1 h2) en eat et ei (assigned_typed h0' h1' h2' h3') = cc
+assigned_one (assigned_other h0 h1 h2) en eat et ei (assigned_plain_stops_x h0' h1' h2') = cc
+assigned_one (assigned_other h0 h1 h2) en eat et ei (assigned_plain h0' h1' h2') = cc
+assigned_one (assigned_other h0 h1 h2) en eat et ei (assigned_augmented_stops_x h0' h1' h2' h3') = cc
+assigned_one (assigned_other h0 h1 h2) en eat et ei (assigned_augmented h0' h1' h2' h3') = cc
+assigned_one (assigned_other h0 h1 h2) en eat et ei (assigned_other h0' h1' h2') = cc
+
+pub simple_one : {n n' : ℕ} {i i' : Input} {o o' : Outcome PlainStmt} → IsSimple n i o → n ≡ n' → i ≡ i' → IsSimple n' i' o' → o ≡ o'
+simple_one (simple_pass h0) en ei (simple_pass h0') = cc
+simple_one (simple_pass h0) en ei (simple_break h0') = cc
+simple_one (simple_pass h0) en ei (simple_continue h0') = cc
+simple_one (simple_pass h0) en ei (simple_return_stops_v h0' h1') = cc
+simple_one (simple_pass h0) en ei (simple_return h0' h1') = cc
+simple_one (simple_pass h0) en ei (simple_raise_none h0' h1') = cc
+simple_one (simple_pass h0) en ei (simple_raise_stops_v h0' h1' h2') = cc
+simple_one (simple_pass h0) en ei (simple_raise h0' h1' h2') = cc
+simple_one (simple_pass h0) en ei (simple_assert_stops_x h0' h1') = cc
+simple_one (simple_pass h0) en ei (simple_assert_stops_v h0' h1' h2') = cc
+simple_one (simple_pass h0) en ei (simple_assert h0' h1' h2') = cc
+simple_one (simple_pass h0) en ei (simple_local h0' h1') = cc
+simple_one (simple_pass h0) en ei (simple_field_deep h0' h1') = cc
+simple_one (simple_pass h0) en ei (simple_field h0' h1' h2') = cc
+simple_one (simple_pass h0) en ei (simple_expr_stops_x h0' h1') = cc
+simple_one (simple_pass h0) en ei (simple_expr h0' h1') = cc
+simple_one (simple_break h0) en ei (simple_pass h0') = cc
+simple_one (simple_break h0) en ei (simple_break h0') = cc
+simple_one (simple_break h0) en ei (simple_continue h0') = cc
+simple_one (simple_break h0) en ei (simple_return_stops_v h0' h1') = cc
+simple_one (simple_break h0) en ei (simple_return h0' h1') = cc
+simple_one (simple_break h0) en ei (simple_raise_none h0' h1') = cc
+simple_one (simple_break h0) en ei (simple_raise_stops_v h0' h1' h2') = cc
+simple_one (simple_break h0) en ei (simple_raise h0' h1' h2') = cc
+simple_one (simple_break h0) en ei (simple_assert_stops_x h0' h1') = cc
+simple_one (simple_break h0) en ei (simple_assert_stops_v h0' h1' h2') = cc
+simple_one (simple_break h0) en ei (simple_assert h0' h1' h2') = cc
+simple_one (simple_break h0) en ei (simple_local h0' h1') = cc
+simple_one (simple_break h0) en ei (simple_field_deep h0' h1') = cc
+simple_one (simple_break h0) en ei (simple_field h0' h1' h2') = cc
+simple_one (simple_break h0) en ei (simple_expr_stops_x h0' h1') = cc
+simple_one (simple_break h0) en ei (simple_expr h0' h1') = cc
+simple_one (simple_continue h0) en ei (simple_pass h0') = cc
+simple_one (simple_continue h0) en ei (simple_break h0') = cc
+simple_one (simple_continue h0) en ei (simple_continue h0') = cc
+simple_one (simple_continue h0) en ei (simple_return_stops_v h0' h1') = cc
+simple_one (simple_continue h0) en ei (simple_return h0' h1') = cc
+simple_one (simple_continue h0) en ei (simple_raise_none h0' h1') = cc
+simple_one (simple_continue h0) en ei (simple_raise_stops_v h0' h1' h2') = cc
+simple_one (simple_continue h0) en ei (simple_raise h0' h1' h2') = cc
+simple_one (simple_continue h0) en ei (simple_assert_stops_x h0' h1') = cc
+simple_one (simple_continue h0) en ei (simple_assert_stops_v h0' h1' h2') = cc
+simple_one (simple_continue h0) en ei (simple_assert h0' h1' h2') = cc
+simple_one (simple_continue h0) en ei (simple_local h0' h1') = cc
+simple_one (simple_continue h0) en ei (simple_field_deep h0' h1') = cc
+simple_one (simple_continue h0) en ei (simple_field h0' h1' h2') = cc
+simple_one (simple_continue h0) en ei (simple_expr_stops_x h0' h1') = cc
+simple_one (simple_continue h0) en ei (simple_expr h0' h1') = cc
+simple_one (simple_return_stops_v h0 h1) en ei (simple_pass h0') = cc
+simple_one (simple_return_stops_v h0 h1) en ei (simple_break h0') = cc
+simple_one (simple_return_stops_v h0 h1) en ei (simple_continue h0') = cc
+simple_one (simple_return_stops_v h0 h1) en ei (simple_return_stops_v h0' h1') = let s1 = value_one h1 en (ap (λ z. next z) ei) h1' in cc
+simple_one (simple_return_stops_v h0 h1) en ei (simple_return h0' h1') = let s1 = value_one h1 en (ap (λ z. next z) ei) h1' in cc
+simple_one (simple_return_stops_v h0 h1) en ei (simple_raise_none h0' h1') = cc
+simple_one (simple_return_stops_v h0 h1) en ei (simple_raise_stops_v h0' h1' h2') = cc
+simple_one (simple_return_stops_v h0 h1) en ei (simple_raise h0' h1' h2') = cc
+simple_one (simple_return_stops_v h0 h1) en ei (simple_assert_stops_x h0' h1') = cc
+simple_one (simple_return_stops_v h0 h1) en ei (simple_assert_stops_v h0' h1' h2') = cc
+simple_one (simple_return_stops_v h0 h1) en ei (simple_assert h0' h1' h2') = cc
+simple_one (simple_return_stops_v h0 h1) en ei (simple_local h0' h1') = cc
+simple_one (simple_return_stops_v h0 h1) en ei (simple_field_deep h0' h1') = cc
+simple_one (simple_return_stops_v h0 h1) en ei (simple_field h0' h1' h2') = cc
+simple_one (simple_return_stops_v h0 h1) en ei (simple_expr_stops_x h0' h1') = cc
+simple_one (simple_return_stops_v h0 h1) en ei (simple_expr h0' h1') = cc
+simple_one (simple_return h0 h1) en ei (simple_pass h0') = cc
+simple_one (simple_return h0 h1) en ei (simple_break h0') = cc
+simple_one (simple_return h0 h1) en ei (simple_continue h0') = cc
+simple_one (simple_return h0 h1) en ei (simple_return_stops_v h0' h1') = let s1 = value_one h1 en (ap (λ z. next z) ei) h1' in cc
+simple_one (simple_return h0 h1) en ei (simple_return h0' h1') = let s1 = value_one h1 en (ap (λ z. next z) ei) h1' in cc
+simple_one (simple_return h0 h1) en ei (simple_raise_none h0' h1') = cc
+simple_one (simple_return h0 h1) en ei (simple_raise_stops_v h0' h1' h2') = cc
+simple_one (simple_return h0 h1) en ei (simple_raise h0' h1' h2') = cc
+simple_one (simple_return h0 h1) en ei (simple_assert_stops_x h0' h1') = cc
+simple_one (simple_return h0 h1) en ei (simple_assert_stops_v h0' h1' h2') = cc
+simple_one (simple_return h0 h1) en ei (simple_assert h0' h1' h2') = cc
+simple_one (simple_return h0 h1) en ei (simple_local h0' h1') = cc
+simple_one (simple_return h0 h1) en ei (simple_field_deep h0' h1') = cc
+simple_one (simple_return h0 h1) en ei (simple_field h0' h1' h2') = cc
+simple_one (simple_return h0 h1) en ei (simple_expr_stops_x h0' h1') = cc
+simple_one (simple_return h0 h1) en ei (simple_expr h0' h1') = cc
+simple_one (simple_raise_none h0 h1) en ei (simple_pass h0') = cc
+simple_one (simple_raise_none h0 h1) en ei (simple_break h0') = cc
+simple_one (simple_raise_none h0 h1) en ei (simple_continue h0') = cc
+simple_one (simple_raise_none h0 h1) en ei (simple_return_stops_v h0' h1') = cc
+simple_one (simple_raise_none h0 h1) en ei (simple_return h0' h1') = cc
+simple_one (simple_raise_none h0 h1) en ei (simple_raise_none h0' h1') = cc
+simple_one (simple_raise_none h0 h1) en ei (simple_raise_stops_v h0' h1' h2') = cc
+simple_one (simple_raise_none h0 h1) en ei (simple_raise h0' h1' h2') = cc
+simple_one (simple_raise_none h0 h1) en ei (simple_assert_stops_x h0' h1') = cc
+simple_one (simple_raise_none h0 h1) en ei (simple_assert_stops_v h0' h1' h2') = cc
+simple_one (simple_raise_none h0 h1) en ei (simple_assert h0' h1' h2') = cc
+simple_one (simple_raise_none h0 h1) en ei (simple_local h0' h1') = cc
+simple_one (simple_raise_none h0 h1) en ei (simple_field_deep h0' h1') = cc
+simple_one (simple_raise_none h0 h1) en ei (simple_field h0' h1' h2') = cc
+simple_one (simple_raise_none h0 h1) en ei (simple_expr_stops_x h0' h1') = cc
+simple_one (simple_raise_none h0 h1) en ei (simple_expr h0' h1') = cc
+simple_one (simple_raise_stops_v h0 h1 h2) en ei (simple_pass h0') = cc
+simple_one (simple_raise_stops_v h0 h1 h2) en ei (simple_break h0') = cc
+simple_one (simple_raise_stops_v h0 h1 h2) en ei (simple_continue h0') = cc
+simple_one (simple_raise_stops_v h0 h1 h2) en ei (simple_return_stops_v h0' h1') = cc
+simple_one (simple_raise_stops_v h0 h1 h2) en ei (simple_return h0' h1') = cc
+simple_one (simple_raise_stops_v h0 h1 h2) en ei (simple_raise_none h0' h1') = cc
+simple_one (simple_raise_stops_v h0 h1 h2) en ei (simple_raise_stops_v h0' h1' h2') = let s1 = message_one h2 en (ap (λ z. next (next z)) ei) h2' in cc
+simple_one (simple_raise_stops_v h0 h1 h2) en ei (simple_raise h0' h1' h2') = let s1 = message_one h2 en (ap (λ z. next (next z)) ei) h2' in cc
+simple_one (simple_raise_stops_v h0 h1 h2) en ei (simple_assert_stops_x h0' h1') = cc
+simple_one (simple_raise_stops_v h0 h1 h2) en ei (simple_assert_stops_v h0' h1' h2') = cc
+simple_one (simple_raise_stops_v h0 h1 h2) en ei (simple_assert h0' h1' h2') = cc
+simple_one (simple_raise_stops_v h0 h1 h2) en ei (simple_local h0' h1') = cc
+simple_one (simple_raise_stops_v h0 h1 h2) en ei (simple_field_deep h0' h1') = cc
+simple_one (simple_raise_stops_v h0 h1 h2) en ei (simple_field h0' h1' h2') = cc
+simple_one (simple_raise_stops_v h0 h1 h2) en ei (simple_expr_stops_x h0' h1') = cc
+simple_one (simple_raise_stops_v h0 h1 h2) en ei (simple_expr h0' h1') = cc
+simple_one (simple_raise h0 h1 h2) en ei (simple_pass h0') = cc
+simple_one (simple_raise h0 h1 h2) en ei (simple_break h0') = cc
+simple_one (simple_raise h0 h1 h2) en ei (simple_continue h0') = cc
+simple_one (simple_raise h0 h1 h2) en ei (simple_return_stops_v h0' h1') = cc
+simple_one (simple_raise h0 h1 h2) en ei (simple_return h0' h1') = cc
+simple_one (simple_raise h0 h1 h2) en ei (simple_raise_none h0' h1') = cc
+simple_one (simple_raise h0 h1 h2) en ei (simple_raise_stops_v h0' h1' h2') = let s1 = message_one h2 en (ap (λ z. next (next z)) ei) h2' in cc
+simple_one (simple_raise h0 h1 h2) en ei (simple_raise h0' h1' h2') = let s1 = message_one h2 en (ap (λ z. next (next z)) ei) h2' in cc
+simple_one (simple_raise h0 h1 h2) en ei (simple_assert_stops_x h0' h1') = cc
+simple_one (simple_raise h0 h1 h2) en ei (simple_assert_stops_v h0' h1' h2') = cc
+simple_one (simple_raise h0 h1 h2) en ei (simple_assert h0' h1' h2') = cc
+simple_one (simple_raise h0 h1 h2) en ei (simple_local h0' h1') = cc
+simple_one (simple_raise h0 h1 h2) en ei (simple_field_deep h0' h1') = cc
+simple_one (simple_raise h0 h1 h2) en ei (simple_field h0' h1' h2') = cc
+simple_one (simple_raise h0 h1 h2) en ei (simple_expr_stops_x h0' h1') = cc
+simple_one (simple_raise h0 h1 h2) en ei (simple_expr h0' h1') = cc
+simple_one (simple_assert_stops_x h0 h1) en ei (simple_pass h0') = cc
+simple_one (simple_assert_stops_x h0 h1) en ei (simple_break h0') = cc
+simple_one (simple_assert_stops_x h0 h1) en ei (simple_continue h0') = cc
+simple_one (simple_assert_stops_x h0 h1) en ei (simple_return_stops_v h0' h1') = cc
+simple_one (simple_assert_stops_x h0 h1) en ei (simple_return h0' h1') = cc
+simple_one (simple_assert_stops_x h0 h1) en ei (simple_raise_none h0' h1') = cc
+simple_one (simple_assert_stops_x h0 h1) en ei (simple_raise_stops_v h0' h1' h2') = cc
+simple_one (simple_assert_stops_x h0 h1) en ei (simple_raise h0' h1' h2') = cc
+simple_one (simple_assert_stops_x h0 h1) en ei (simple_assert_stops_x h0' h1') = let s1 = whole_one h1 en (ap (λ z. next z) ei) h1' in cc
+simple_one (simple_assert_stops_x h0 h1) en ei (simple_assert_stops_v h0' h1' h2') = let s1 = whole_one h1 en (ap (λ z. next z) ei) h1' in cc
+simple_one (simple_assert_stops_x h0 h1) en ei (simple_assert h0' h1' h2') = let s1 = whole_one h1 en (ap (λ z. next z) ei) h1' in cc
+simple_one (simple_assert_stops_x h0 h1) en ei (simple_local h0' h1') = cc
+simple_one (simple_assert_stops_x h0 h1) en ei (simple_field_deep h0' h1') = cc
+simple_one (simple_assert_stops_x h0 h1) en ei (simple_field h0' h1' h2') = cc
+simple_one (simple_assert_stops_x h0 h1) en ei (simple_expr_stops_x h0' h1') = cc
+simple_one (simple_assert_stops_x h0 h1) en ei (simple_expr h0' h1') = cc
+simple_one (simple_assert_stops_v h0 h1 h2) en ei (simple_pass h0') = cc
+simple_one (simple_assert_stops_v h0 h1 h2) en ei (simple_break h0') = cc
+simple_one (simple_assert_stops_v h0 h1 h2) en ei (simple_continue h0') = cc
+simple_one (simple_assert_stops_v h0 h1 h2) en ei (simple_return_stops_v h0' h1') = cc
+simple_one (simple_assert_stops_v h0 h1 h2) en ei (simple_return h0' h1') = cc
+simple_one (simple_assert_stops_v h0 h1 h2) en ei (simple_raise_none h0' h1') = cc
+simple_one (simple_assert_stops_v h0 h1 h2) en ei (simple_raise_stops_v h0' h1' h2') = cc
+simple_one (simple_assert_stops_v h0 h1 h2) en ei (simple_raise h0' h1' h2') = cc
+simple_one (simple_assert_stops_v h0 h1 h2) en ei (simple_assert_stops_x h0' h1') = let s1 = whole_one h1 en (ap (λ z. next z) ei) h1' in cc
+simple_one (simple_assert_stops_v h0 h1 h2) en ei (simple_assert_stops_v h0' h1' h2') = let s1 = whole_one h1 en (ap (λ z. next z) ei) h1' in let s2 = detail_one h2 en (same_rest s1) h2' in cc
+simple_one (simple_assert_stops_v h0 h1 h2) en ei (simple_assert h0' h1' h2') = let s1 = whole_one h1 en (ap (λ z. next z) ei) h1' in let s2 = detail_one h2 en (same_rest s1) h2' in cc
+simple_one (simple_assert_stops_v h0 h1 h2) en ei (simple_local h0' h1') = cc
+simple_one (simple_assert_stops_v h0 h1 h2) en ei (simple_field_deep h0' h1') = cc
+simple_one (simple_assert_stops_v h0 h1 h2) en ei (simple_field h0' h1' h2') = cc
+simple_one (simple_assert_stops_v h0 h1 h2) en ei (simple_expr_stops_x h0' h1') = cc
+simple_one (simple_assert_stops_v h0 h1 h2) en ei (simple_expr h0' h1') = cc
+simple_one (simple_assert h0 h1 h2) en ei (simple_pass h0') = cc
+simple_one (simple_assert h0 h1 h2) en ei (simple_break h0') = cc
+simple_one (simple_assert h0 h1 h2) en ei (simple_continue h0') = cc
+simple_one (simple_assert h0 h1 h2) en ei (simple_return_stops_v h0' h1') = cc
+simple_one (simple_assert h0 h1 h2) en ei (simple_return h0' h1') = cc
+simple_one (simple_assert h0 h1 h2) en ei (simple_raise_none h0' h1') = cc
+simple_one (simple_assert h0 h1 h2) en ei (simple_raise_stops_v h0' h1' h2') = cc
+simple_one (simple_assert h0 h1 h2) en ei (simple_raise h0' h1' h2') = cc
+simple_one (simple_assert h0 h1 h2) en ei (simple_assert_stops_x h0' h1') = let s1 = whole_one h1 en (ap (λ z. next z) ei) h1' in cc
+simple_one (simple_assert h0 h1 h2) en ei (simple_assert_stops_v h0' h1' h2') = let s1 = whole_one h1 en (ap (λ z. next z) ei) h1' in let s2 = detail_one h2 en (same_rest s1) h2' in cc
+simple_one (simple_assert h0 h1 h2) en ei (simple_assert h0' h1' h2') = let s1 = whole_one h1 en (ap (λ z. next z) ei) h1' in let s2 = detail_one h2 en (same_rest s1) h2' in cc
+simple_one (simple_assert h0 h1 h2) en ei (simple_local h0' h1') = cc
+simple_one (simple_assert h0 h1 h2) en ei (simple_field_deep h0' h1') = cc
+simple_one (simple_assert h0 h1 h2) en ei (simple_field h0' h1' h2') = cc
+simple_one (simple_assert h0 h1 h2) en ei (simple_expr_stops_x h0' h1') = cc
+simple_one (simple_assert h0 h1 h2) en ei (simple_expr h0' h1') = cc
+simple_one (simple_local h0 h1) en ei (simple_pass h0') = cc
+simple_one (simple_local h0 h1) en ei (simple_break h0') = cc
+simple_one (simple_local h0 h1) en ei (simple_continue h0') = cc
+simple_one (simple_local h0 h1) en ei (simple_return_stops_v h0' h1') = cc
+simple_one (simple_local h0 h1) en ei (simple_return h0' h1') = cc
+simple_one (simple_local h0 h1) en ei (simple_raise_none h0' h1') = cc
+simple_one (simple_local h0 h1) en ei (simple_raise_stops_v h0' h1' h2') = cc
+simple_one (simple_local h0 h1) en ei (simple_raise h0' h1' h2') = cc
+simple_one (simple_local h0 h1) en ei (simple_assert_stops_x h0' h1') = cc
+simple_one (simple_local h0 h1) en ei (simple_assert_stops_v h0' h1' h2') = cc
+simple_one (simple_local h0 h1) en ei (simple_assert h0' h1' h2') = cc
+simple_one (simple_local h0 h1) en ei (simple_local h0' h1') = let s1 = assigned_one h1 en (ap (λ z. here z) ei) (ap (λ z. target.Local (placed_name z)) ei) (ap (λ z. named z) ei) h1' in cc
+simple_one (simple_local h0 h1) en ei (simple_field_deep h0' h1') = cc
+simple_one (simple_local h0 h1) en ei (simple_field h0' h1' h2') = cc
+simple_one (simple_local h0 h1) en ei (simple_expr_stops_x h0' h1') = cc
+simple_one (simple_local h0 h1) en ei (simple_expr h0' h1') = cc
+simple_one (simple_field_deep h0 h1) en ei (simple_pass h0') = cc
+simple_one (simple_field_deep h0 h1) en ei (simple_break h0') = cc
+simple_one (simple_field_deep h0 h1) en ei (simple_continue h0') = cc
+simple_one (simple_field_deep h0 h1) en ei (simple_return_stops_v h0' h1') = cc
+simple_one (simple_field_deep h0 h1) en ei (simple_return h0' h1') = cc
+simple_one (simple_field_deep h0 h1) en ei (simple_raise_none h0' h1') = cc
+simple_one (simple_field_deep h0 h1) en ei (simple_raise_stops_v h0' h1' h2') = cc
+simple_one (simple_field_deep h0 h1) en ei (simple_raise h0' h1' h2') = cc
+simple_one (simple_field_deep h0 h1) en ei (simple_assert_stops_x h0' h1') = cc
+simple_one (simple_field_deep h0 h1) en ei (simple_assert_stops_v h0' h1' h2') = cc
+simple_one (simple_field_deep h0 h1) en ei (simple_assert h0' h1' h2') = cc
+simple_one (simple_field_deep h0 h1) en ei (simple_local h0' h1') = cc
+simple_one (simple_field_deep h0 h1) en ei (simple_field_deep h0' h1') = cc
+simple_one (simple_field_deep h0 h1) en ei (simple_field h0' h1' h2') = absurd (omega arith)
+simple_one (simple_field_deep h0 h1) en ei (simple_expr_stops_x h0' h1') = cc
+simple_one (simple_field_deep h0 h1) en ei (simple_expr h0' h1') = cc
+simple_one (simple_field h0 h1 h2) en ei (simple_pass h0') = cc
+simple_one (simple_field h0 h1 h2) en ei (simple_break h0') = cc
+simple_one (simple_field h0 h1 h2) en ei (simple_continue h0') = cc
+simple_one (simple_field h0 h1 h2) en ei (simple_return_stops_v h0' h1') = cc
+simple_one (simple_field h0 h1 h2) en ei (simple_return h0' h1') = cc
+simple_one (simple_field h0 h1 h2) en ei (simple_raise_none h0' h1') = cc
+simple_one (simple_field h0 h1 h2) en ei (simple_raise_stops_v h0' h1' h2') = cc
+simple_one (simple_field h0 h1 h2) en ei (simple_raise h0' h1' h2') = cc
+simple_one (simple_field h0 h1 h2) en ei (simple_assert_stops_x h0' h1') = cc
+simple_one (simple_field h0 h1 h2) en ei (simple_assert_stops_v h0' h1' h2') = cc
+simple_one (simple_field h0 h1 h2) en ei (simple_assert h0' h1' h2') = cc
+simple_one (simple_field h0 h1 h2) en ei (simple_local h0' h1') = cc
+simple_one (simple_field h0 h1 h2) en ei (simple_field_deep h0' h1') = absurd (omega arith)
+simple_one (simple_field h0 h1 h2) en ei (simple_field h0' h1' h2') = let s1 = assigned_one h2 en (ap (λ z. here z) ei) (ap (λ z. target.Field (placed_name (next (next z)))) ei) (ap (λ z. named (next (next z))) ei) h2' in cc
+simple_one (simple_field h0 h1 h2) en ei (simple_expr_stops_x h0' h1') = cc
+simple_one (simple_field h0 h1 h2) en ei (simple_expr h0' h1') = cc
+simple_one (simple_expr_stops_x h0 h1) en ei (simple_pass h0') = cc
+simple_one (simple_expr_stops_x h0 h1) en ei (simple_break h0') = cc
+simple_one (simple_expr_stops_x h0 h1) en ei (simple_continue h0') = cc
+simple_one (simple_expr_stops_x h0 h1) en ei (simple_return_stops_v h0' h1') = cc
+simple_one (simple_expr_stops_x h0 h1) en ei (simple_return h0' h1') = cc
+simple_one (simple_expr_stops_x h0 h1) en ei (simple_raise_none h0' h1') = cc
+simple_one (simple_expr_stops_x h0 h1) en ei (simple_raise_stops_v h0' h1' h2') = cc
+simple_one (simple_expr_stops_x h0 h1) en ei (simple_raise h0' h1' h2') = cc
+simple_one (simple_expr_stops_x h0 h1) en ei (simple_assert_stops_x h0' h1') = cc
+simple_one (simple_expr_stops_x h0 h1) en ei (simple_assert_stops_v h0' h1' h2') = cc
+simple_one (simple_expr_stops_x h0 h1) en ei (simple_assert h0' h1' h2') = cc
+simple_one (simple_expr_stops_x h0 h1) en ei (simple_local h0' h1') = cc
+simple_one (simple_expr_stops_x h0 h1) en ei (simple_field_deep h0' h1') = cc
+simple_one (simple_expr_stops_x h0 h1) en ei (simple_field h0' h1' h2') = cc
+simple_one (simple_expr_stops_x h0 h1) en ei (simple_expr_stops_x h0' h1') = let s1 = whole_one h1 en ei h1' in cc
+simple_one (simple_expr_stops_x h0 h1) en ei (simple_expr h0' h1') = let s1 = whole_one h1 en ei h1' in cc
+simple_one (simple_expr h0 h1) en ei (simple_pass h0') = cc
+simple_one (simple_expr h0 h1) en ei (simple_break h0') = cc
+simple_one (simple_expr h0 h1) en ei (simple_continue h0') = cc
+simple_one (simple_expr h0 h1) en ei (simple_return_stops_v h0' h1') = cc
+simple_one (simple_expr h0 h1) en ei (simple_return h0' h1') = cc
+simple_one (simple_expr h0 h1) en ei (simple_raise_none h0' h1') = cc
+simple_one (simple_expr h0 h1) en ei (simple_raise_stops_v h0' h1' h2') = cc
+simple_one (simple_expr h0 h1) en ei (simple_raise h0' h1' h2') = cc
+simple_one (simple_expr h0 h1) en ei (simple_assert_stops_x h0' h1') = cc
+simple_one (simple_expr h0 h1) en ei (simple_assert_stops_v h0' h1' h2') = cc
+simple_one (simple_expr h0 h1) en ei (simple_assert h0' h1' h2') = cc
+simple_one (simple_expr h0 h1) en ei (simple_local h0' h1') = cc
+simple_one (simple_expr h0 h1) en ei (simple_field_deep h0' h1') = cc
+simple_one (simple_expr h0 h1) en ei (simple_field h0' h1' h2') = cc
+simple_one (simple_expr h0 h1) en ei (simple_expr_stops_x h0' h1') = let s1 = whole_one h1 en ei h1' in cc
+simple_one (simple_expr h0 h1) en ei (simple_expr h0' h1') = let s1 = whole_one h1 en ei h1' in cc
+
+pub more_simples_one : {n n' : ℕ} {i i' : Input} {o o' : Outcome (List PlainStmt)} → IsMoreSimples n i o → n ≡ n' → i ≡ i' → IsMoreSimples n' i' o' → o ≡ o'
+more_simples_one (more_simples_end h0) en ei (more_simples_end h0') = cc
+more_simples_one (more_simples_end h0) en ei (more_simples_last h0' h1') = cc
+more_simples_one (more_simples_end h0) en ei (more_simples_more_stops_x h0' h1' h2') = cc
+more_simples_one (more_simples_end h0) en ei (more_simples_more_stops_xs h0' h1' h2' h3') = cc
+more_simples_one (more_simples_end h0) en ei (more_simples_more h0' h1' h2' h3') = cc
+more_simples_one (more_simples_last h0 h1) en ei (more_simples_end h0') = cc
+more_simples_one (more_simples_last h0 h1) en ei (more_simples_last h0' h1') = cc
+more_simples_one (more_simples_last h0 h1) en ei (more_simples_more_stops_x h0' h1' h2') = cc
+more_simples_one (more_simples_last h0 h1) en ei (more_simples_more_stops_xs h0' h1' h2' h3') = cc
+more_simples_one (more_simples_last h0 h1) en ei (more_simples_more h0' h1' h2' h3') = cc
+more_simples_one (more_simples_more_stops_x h0 h1 h2) en ei (more_simples_end h0') = cc
+more_simples_one (more_simples_more_stops_x h0 h1 h2) en ei (more_simples_last h0' h1') = cc
+more_simples_one (more_simples_more_stops_x h0 h1 h2) en ei (more_simples_more_stops_x h0' h1' h2') = let s1 = simple_one h2 en (ap (λ z. next z) ei) h2' in cc
+more_simples_one (more_simples_more_stops_x h0 h1 h2) en ei (more_simples_more_stops_xs h0' h1' h2' h3') = let s1 = simple_one h2 en (ap (λ z. next z) ei) h2' in cc
+more_simples_one (more_simples_more_stops_x h0 h1 h2) en ei (more_simples_more h0' h1' h2' h3') = let s1 = simple_one h2 en (ap (λ z. next z) ei) h2' in cc
+more_simples_one (more_simples_more_stops_xs h0 h1 h2 h3) en ei (more_simples_end h0') = cc
+more_simples_one (more_simples_more_stops_xs h0 h1 h2 h3) en ei (more_simples_last h0' h1') = cc
+more_simples_one (more_simples_more_stops_xs h0 h1 h2 h3) en ei (more_simples_more_stops_x h0' h1' h2') = let s1 = simple_one h2 en (ap (λ z. next z) ei) h2' in cc
+more_simples_one (more_simples_more_stops_xs h0 h1 h2 h3) en ei (more_simples_more_stops_xs h0' h1' h2' h3') = let s1 = simple_one h2 en (ap (λ z. next z) ei) h2' in let s2 = more_simples_one h3 en (same_rest s1) h3' in cc
+more_simples_one (more_simples_more_stops_xs h0 h1 h2 h3) en ei (more_simples_more h0' h1' h2' h3') = let s1 = simple_one h2 en (ap (λ z. next z) ei) h2' in let s2 = more_simples_one h3 en (same_rest s1) h3' in cc
+more_simples_one (more_simples_more h0 h1 h2 h3) en ei (more_simples_end h0') = cc
+more_simples_one (more_simples_more h0 h1 h2 h3) en ei (more_simples_last h0' h1') = cc
+more_simples_one (more_simples_more h0 h1 h2 h3) en ei (more_simples_more_stops_x h0' h1' h2') = let s1 = simple_one h2 en (ap (λ z. next z) ei) h2' in cc
+more_simples_one (more_simples_more h0 h1 h2 h3) en ei (more_simples_more_stops_xs h0' h1' h2' h3') = let s1 = simple_one h2 en (ap (λ z. next z) ei) h2' in let s2 = more_simples_one h3 en (same_rest s1) h3' in cc
+more_simples_one (more_simples_more h0 h1 h2 h3) en ei (more_simples_more h0' h1' h2' h3') = let s1 = simple_one h2 en (ap (λ z. next z) ei) h2' in let s2 = more_simples_one h3 en (same_rest s1) h3' in cc
+
+pub simples_one : {n n' : ℕ} {i i' : Input} {o o' : Outcome (List PlainStmt)} → IsSimples n i o → n ≡ n' → i ≡ i' → IsSimples n' i' o' → o ≡ o'
+simples_one (simples_is_stops_x h0) en ei (simples_is_stops_x h0') = let s1 = simple_one h0 en ei h0' in cc
+simples_one (simples_is_stops_x h0) en ei (simples_is_stops_xs h0' h1') = let s1 = simple_one h0 en ei h0' in cc
+simples_one (simples_is_stops_x h0) en ei (simples_is h0' h1') = let s1 = simple_one h0 en ei h0' in cc
+simples_one (simples_is_stops_xs h0 h1) en ei (simples_is_stops_x h0') = let s1 = simple_one h0 en ei h0' in cc
+simples_one (simples_is_stops_xs h0 h1) en ei (simples_is_stops_xs h0' h1') = let s1 = simple_one h0 en ei h0' in let s2 = more_simples_one h1 en (same_rest s1) h1' in cc
+simples_one (simples_is_stops_xs h0 h1) en ei (simples_is h0' h1') = let s1 = simple_one h0 en ei h0' in let s2 = more_simples_one h1 en (same_rest s1) h1' in cc
+simples_one (simples_is h0 h1) en ei (simples_is_stops_x h0') = let s1 = simple_one h0 en ei h0' in cc
+simples_one (simples_is h0 h1) en ei (simples_is_stops_xs h0' h1') = let s1 = simple_one h0 en ei h0' in let s2 = more_simples_one h1 en (same_rest s1) h1' in cc
+simples_one (simples_is h0 h1) en ei (simples_is h0' h1') = let s1 = simple_one h0 en ei h0' in let s2 = more_simples_one h1 en (same_rest s1) h1' in cc
+
+pub line_one : {n n' : ℕ} {i i' : Input} {o o' : Outcome (List PlainStmt)} → IsLine n i o → n ≡ n' → i ≡ i' → IsLine n' i' o' → o ≡ o'
+line_one (line_is_stops_xs h0) en ei (line_is_stops_xs h0') = let s1 = simples_one h0 en ei h0' in cc
+line_one (line_is_stops_xs h0) en ei (line_is_needs_line_end h0' h1') = let s1 = simples_one h0 en ei h0' in cc
+line_one (line_is_stops_xs h0) en ei (line_is h0' h1') = let s1 = simples_one h0 en ei h0' in cc
+line_one (line_is_needs_line_end h0 h1) en ei (line_is_stops_xs h0') = let s1 = simples_one h0 en ei h0' in cc
+line_one (line_is_needs_line_end h0 h1) en ei (line_is_needs_line_end h0' h1') = let s1 = simples_one h0 en ei h0' in cc
+line_one (line_is_needs_line_end h0 h1) en ei (line_is h0' h1') = let s1 = simples_one h0 en ei h0' in cc
+line_one (line_is h0 h1) en ei (line_is_stops_xs h0') = let s1 = simples_one h0 en ei h0' in cc
+line_one (line_is h0 h1) en ei (line_is_needs_line_end h0' h1') = let s1 = simples_one h0 en ei h0' in cc
+line_one (line_is h0 h1) en ei (line_is h0' h1') = let s1 = simples_one h0 en ei h0' in cc
+
+pub over_one : {n n' : ℕ} {i i' : Input} {o o' : Outcome PlainOver} → IsOver n i o → n ≡ n' → i ≡ i' → IsOver n' i' o' → o ≡ o'
+over_one (over_items_stops_x h0 h1) en ei (over_items_stops_x h0' h1') = let s1 = whole_one h1 en ei h1' in cc
+over_one (over_items_stops_x h0 h1) en ei (over_items h0' h1') = let s1 = whole_one h1 en ei h1' in cc
+over_one (over_items_stops_x h0 h1) en ei (over_end_deep h0' h1') = cc
+over_one (over_items_stops_x h0 h1) en ei (over_end_stops_x h0' h1' h2') = cc
+over_one (over_items_stops_x h0 h1) en ei (over_end_needs_close h0' h1' h2' h3' h4') = cc
+over_one (over_items_stops_x h0 h1) en ei (over_end h0' h1' h2' h3' h4') = cc
+over_one (over_items_stops_x h0 h1) en ei (over_ends_stops_y h0' h1' h2' h3' h4') = cc
+over_one (over_items_stops_x h0 h1) en ei (over_ends_needs_close h0' h1' h2' h3' h4' h5') = cc
+over_one (over_items_stops_x h0 h1) en ei (over_ends h0' h1' h2' h3' h4' h5') = cc
+over_one (over_items h0 h1) en ei (over_items_stops_x h0' h1') = let s1 = whole_one h1 en ei h1' in cc
+over_one (over_items h0 h1) en ei (over_items h0' h1') = let s1 = whole_one h1 en ei h1' in cc
+over_one (over_items h0 h1) en ei (over_end_deep h0' h1') = cc
+over_one (over_items h0 h1) en ei (over_end_stops_x h0' h1' h2') = cc
+over_one (over_items h0 h1) en ei (over_end_needs_close h0' h1' h2' h3' h4') = cc
+over_one (over_items h0 h1) en ei (over_end h0' h1' h2' h3' h4') = cc
+over_one (over_items h0 h1) en ei (over_ends_stops_y h0' h1' h2' h3' h4') = cc
+over_one (over_items h0 h1) en ei (over_ends_needs_close h0' h1' h2' h3' h4' h5') = cc
+over_one (over_items h0 h1) en ei (over_ends h0' h1' h2' h3' h4' h5') = cc
+over_one (over_end_deep h0 h1) en ei (over_items_stops_x h0' h1') = cc
+over_one (over_end_deep h0 h1) en ei (over_items h0' h1') = cc
+over_one (over_end_deep h0 h1) en ei (over_end_deep h0' h1') = cc
+over_one (over_end_deep h0 h1) en ei (over_end_stops_x h0' h1' h2') = absurd (omega arith)
+over_one (over_end_deep h0 h1) en ei (over_end_needs_close h0' h1' h2' h3' h4') = absurd (omega arith)
+over_one (over_end_deep h0 h1) en ei (over_end h0' h1' h2' h3' h4') = absurd (omega arith)
+over_one (over_end_deep h0 h1) en ei (over_ends_stops_y h0' h1' h2' h3' h4') = absurd (omega arith)
+over_one (over_end_deep h0 h1) en ei (over_ends_needs_close h0' h1' h2' h3' h4' h5') = absurd (omega arith)
+over_one (over_end_deep h0 h1) en ei (over_ends h0' h1' h2' h3' h4' h5') = absurd (omega arith)
+over_one (over_end_stops_x h0 h1 h2) en ei (over_items_stops_x h0' h1') = cc
+over_one (over_end_stops_x h0 h1 h2) en ei (over_items h0' h1') = cc
+over_one (over_end_stops_x h0 h1 h2) en ei (over_end_deep h0' h1') = absurd (omega arith)
+over_one (over_end_stops_x h0 h1 h2) en ei (over_end_stops_x h0' h1' h2') = let s1 = whole_one h2 (ap (λ z. z - 1) en) (ap (λ z. next (next z)) ei) h2' in cc
+over_one (over_end_stops_x h0 h1 h2) en ei (over_end_needs_close h0' h1' h2' h3' h4') = let s1 = whole_one h2 (ap (λ z. z - 1) en) (ap (λ z. next (next z)) ei) h2' in cc
+over_one (over_end_stops_x h0 h1 h2) en ei (over_end h0' h1' h2' h3' h4') = let s1 = whole_one h2 (ap (λ z. z - 1) en) (ap (λ z. next (next z)) ei) h2' in cc
+over_one (over_end_stops_x h0 h1 h2) en ei (over_ends_stops_y h0' h1' h2' h3' h4') = let s1 = whole_one h2 (ap (λ z. z - 1) en) (ap (λ z. next (next z)) ei) h2' in cc
+over_one (over_end_stops_x h0 h1 h2) en ei (over_ends_needs_close h0' h1' h2' h3' h4' h5') = let s1 = whole_one h2 (ap (λ z. z - 1) en) (ap (λ z. next (next z)) ei) h2' in cc
+over_one (over_end_stops_x h0 h1 h2) en ei (over_ends h0' h1' h2' h3' h4' h5') = let s1 = whole_one h2 (ap (λ z. z - 1) en) (ap (λ z. next (next z)) ei) h2' in cc
+over_one (over_end_needs_close h0 h1 h2 h3 h4) en ei (over_items_stops_x h0' h1') = cc
+over_one (over_end_needs_close h0 h1 h2 h3 h4) en ei (over_items h0' h1') = cc
+over_one (over_end_needs_close h0 h1 h2 h3 h4) en ei (over_end_deep h0' h1') = absurd (omega arith)
+over_one (over_end_needs_close h0 h1 h2 h3 h4) en ei (over_end_stops_x h0' h1' h2') = let s1 = whole_one h2 (ap (λ z. z - 1) en) (ap (λ z. next (next z)) ei) h2' in cc
+over_one (over_end_needs_close h0 h1 h2 h3 h4) en ei (over_end_needs_close h0' h1' h2' h3' h4') = let s1 = whole_one h2 (ap (λ z. z - 1) en) (ap (λ z. next (next z)) ei) h2' in cc
+over_one (over_end_needs_close h0 h1 h2 h3 h4) en ei (over_end h0' h1' h2' h3' h4') = let s1 = whole_one h2 (ap (λ z. z - 1) en) (ap (λ z. next (next z)) ei) h2' in cc
+over_one (over_end_needs_close h0 h1 h2 h3 h4) en ei (over_ends_stops_y h0' h1' h2' h3' h4') = let s1 = whole_one h2 (ap (λ z. z - 1) en) (ap (λ z. next (next z)) ei) h2' in cc
+over_one (over_end_needs_close h0 h1 h2 h3 h4) en ei (over_ends_needs_close h0' h1' h2' h3' h4' h5') = let s1 = whole_one h2 (ap (λ z. z - 1) en) (ap (λ z. next (next z)) ei) h2' in cc
+over_one (over_end_needs_close h0 h1 h2 h3 h4) en ei (over_ends h0' h1' h2' h3' h4' h5') = let s1 = whole_one h2 (ap (λ z. z - 1) en) (ap (λ z. next (next z)) ei) h2' in cc
+over_one (over_end h0 h1 h2 h3 h4) en ei (over_items_stops_x h0' h1') = cc
+over_one (over_end h0 h1 h2 h3 h4) en ei (over_items h0' h1') = cc
+over_one (over_end h0 h1 h2 h3 h4) en ei (over_end_deep h0' h1') = absurd (omega arith)
+over_one (over_end h0 h1 h2 h3 h4) en ei (over_end_stops_x h0' h1' h2') = let s1 = whole_one h2 (ap (λ z. z - 1) en) (ap (λ z. next (next z)) ei) h2' in cc
+over_one (over_end h0 h1 h2 h3 h4) en ei (over_end_needs_close h0' h1' h2' h3' h4') = let s1 = whole_one h2 (ap (λ z. z - 1) en) (ap (λ z. next (next z)) ei) h2' in cc
+over_one (over_end h0 h1 h2 h3 h4) en ei (over_end h0' h1' h2' h3' h4') = let s1 = whole_one h2 (ap (λ z. z - 1) en) (ap (λ z. next (next z)) ei) h2' in cc
+over_one (over_end h0 h1 h2 h3 h4) en ei (over_ends_stops_y h0' h1' h2' h3' h4') = let s1 = whole_one h2 (ap (λ z. z - 1) en) (ap (λ z. next (next z)) ei) h2' in cc
+over_one (over_end h0 h1 h2 h3 h4) en ei (over_ends_needs_close h0' h1' h2' h3' h4' h5') = let s1 = whole_one h2 (ap (λ z. z - 1) en) (ap (λ z. next (next z)) ei) h2' in cc
+over_one (over_end h0 h1 h2 h3 h4) en ei (over_ends h0' h1' h2' h3' h4' h5') = let s1 = whole_one h2 (ap (λ z. z - 1) en) (ap (λ z. next (next z)) ei) h2' in cc
+over_one (over_ends_stops_y h0 h1 h2 h3 h4) en ei (over_items_stops_x h0' h1') = cc
+over_one (over_ends_stops_y h0 h1 h2 h3 h4) en ei (over_items h0' h1') = cc
+over_one (over_ends_stops_y h0 h1 h2 h3 h4) en ei (over_end_deep h0' h1') = absurd (omega arith)
+over_one (over_ends_stops_y h0 h1 h2 h3 h4) en ei (over_end_stops_x h0' h1' h2') = let s1 = whole_one h2 (ap (λ z. z - 1) en) (ap (λ z. next (next z)) ei) h2' in cc
+over_one (over_ends_stops_y h0 h1 h2 h3 h4) en ei (over_end_needs_close h0' h1' h2' h3' h4') = let s1 = whole_one h2 (ap (λ z. z - 1) en) (ap (λ z. next (next z)) ei) h2' in cc
+over_one (over_ends_stops_y h0 h1 h2 h3 h4) en ei (over_end h0' h1' h2' h3' h4') = let s1 = whole_one h2 (ap (λ z. z - 1) en) (ap (λ z. next (next z)) ei) h2' in cc
+over_one (over_ends_stops_y h0 h1 h2 h3 h4) en ei (over_ends_stops_y h0' h1' h2' h3' h4') = let s1 = whole_one h2 (ap (λ z. z - 1) en) (ap (λ z. next (next z)) ei) h2' in let s2 = whole_one h4 (ap (λ z. z - 1) en) (ap (λ z. next z) (same_rest s1)) h4' in cc
+over_one (over_ends_stops_y h0 h1 h2 h3 h4) en ei (over_ends_needs_close h0' h1' h2' h3' h4' h5') = let s1 = whole_one h2 (ap (λ z. z - 1) en) (ap (λ z. next (next z)) ei) h2' in let s2 = whole_one h4 (ap (λ z. z - 1) en) (ap (λ z. next z) (same_rest s1)) h4' in cc
+over_one (over_ends_stops_y h0 h1 h2 h3 h4) en ei (over_ends h0' h1' h2' h3' h4' h5') = let s1 = whole_one h2 (ap (λ z. z - 1) en) (ap (λ z. next (next z)) ei) h2' in let s2 = whole_one h4 (ap (λ z. z - 1) en) (ap (λ z. next z) (same_rest s1)) h4' in cc
+over_one (over_ends_needs_close h0 h1 h2 h3 h4 h5) en ei (over_items_stops_x h0' h1') = cc
+over_one (over_ends_needs_close h0 h1 h2 h3 h4 h5) en ei (over_items h0' h1') = cc
+over_one (over_ends_needs_close h0 h1 h2 h3 h4 h5) en ei (over_end_deep h0' h1') = absurd (omega arith)
+over_one (over_ends_needs_close h0 h1 h2 h3 h4 h5) en ei (over_end_stops_x h0' h1' h2') = let s1 = whole_one h2 (ap (λ z. z - 1) en) (ap (λ z. next (next z)) ei) h2' in cc
+over_one (over_ends_needs_close h0 h1 h2 h3 h4 h5) en ei (over_end_needs_close h0' h1' h2' h3' h4') = let s1 = whole_one h2 (ap (λ z. z - 1) en) (ap (λ z. next (next z)) ei) h2' in cc
+over_one (over_ends_needs_close h0 h1 h2 h3 h4 h5) en ei (over_end h0' h1' h2' h3' h4') = let s1 = whole_one h2 (ap (λ z. z - 1) en) (ap (λ z. next (next z)) ei) h2' in cc
+over_one (over_ends_needs_close h0 h1 h2 h3 h4 h5) en ei (over_ends_stops_y h0' h1' h2' h3' h4') = let s1 = whole_one h2 (ap (λ z. z - 1) en) (ap (λ z. next (next z)) ei) h2' in let s2 = whole_one h4 (ap (λ z. z - 1) en) (ap (λ z. next z) (same_rest s1)) h4' in cc
+over_one (over_ends_needs_close h0 h1 h2 h3 h4 h5) en ei (over_ends_needs_close h0' h1' h2' h3' h4' h5') = let s1 = whole_one h2 (ap (λ z. z - 1) en) (ap (λ z. next (next z)) ei) h2' in let s2 = whole_one h4 (ap (λ z. z - 1) en) (ap (λ z. next z) (same_rest s1)) h4' in cc
+over_one (over_ends_needs_close h0 h1 h2 h3 h4 h5) en ei (over_ends h0' h1' h2' h3' h4' h5') = let s1 = whole_one h2 (ap (λ z. z - 1) en) (ap (λ z. next (next z)) ei) h2' in let s2 = whole_one h4 (ap (λ z. z - 1) en) (ap (λ z. next z) (same_rest s1)) h4' in cc
+over_one (over_ends h0 h1 h2 h3 h4 h5) en ei (over_items_stops_x h0' h1') = cc
+over_one (over_ends h0 h1 h2 h3 h4 h5) en ei (over_items h0' h1') = cc
+over_one (over_ends h0 h1 h2 h3 h4 h5) en ei (over_end_deep h0' h1') = absurd (omega arith)
+over_one (over_ends h0 h1 h2 h3 h4 h5) en ei (over_end_stops_x h0' h1' h2') = let s1 = whole_one h2 (ap (λ z. z - 1) en) (ap (λ z. next (next z)) ei) h2' in cc
+over_one (over_ends h0 h1 h2 h3 h4 h5) en ei (over_end_needs_close h0' h1' h2' h3' h4') = let s1 = whole_one h2 (ap (λ z. z - 1) en) (ap (λ z. next (next z)) ei) h2' in cc
+over_one (over_ends h0 h1 h2 h3 h4 h5) en ei (over_end h0' h1' h2' h3' h4') = let s1 = whole_one h2 (ap (λ z. z - 1) en) (ap (λ z. next (next z)) ei) h2' in cc
+over_one (over_ends h0 h1 h2 h3 h4 h5) en ei (over_ends_stops_y h0' h1' h2' h3' h4') = let s1 = whole_one h2 (ap (λ z. z - 1) en) (ap (λ z. next (next z)) ei) h2' in let s2 = whole_one h4 (ap (λ z. z - 1) en) (ap (λ z. next z) (same_rest s1)) h4' in cc
+over_one (over_ends h0 h1 h2 h3 h4 h5) en ei (over_ends_needs_close h0' h1' h2' h3' h4' h5') = let s1 = whole_one h2 (ap (λ z. z - 1) en) (ap (λ z. next (next z)) ei) h2' in let s2 = whole_one h4 (ap (λ z. z - 1) en) (ap (λ z. next z) (same_rest s1)) h4' in cc
+over_one (over_ends h0 h1 h2 h3 h4 h5) en ei (over_ends h0' h1' h2' h3' h4' h5') = let s1 = whole_one h2 (ap (λ z. z - 1) en) (ap (λ z. next (next z)) ei) h2' in let s2 = whole_one h4 (ap (λ z. z - 1) en) (ap (λ z. next z) (same_rest s1)) h4' in cc
+
+mutual
+  pub body_one : {n n' : ℕ} {c c' : ℕ} {i i' : Input} {o o' : Outcome (List PlainStmt)} → IsBody n c i o → n ≡ n' → c ≡ c' → i ≡ i' → IsBody n' c' i' o' → o ≡ o'
+  body_one (body_is_needs_colon h0) en ec ei (body_is_needs_colon h0') = cc
+  body_one (body_is_needs_colon h0) en ec ei (body_is_deep h0' h1') = cc
+  body_one (body_is_needs_colon h0) en ec ei (body_is h0' h1' h2') = cc
+  body_one (body_is_deep h0 h1) en ec ei (body_is_needs_colon h0') = cc
+  body_one (body_is_deep h0 h1) en ec ei (body_is_deep h0' h1') = cc
+  body_one (body_is_deep h0 h1) en ec ei (body_is h0' h1' h2') = absurd (omega arith)
+  body_one (body_is h0 h1 h2) en ec ei (body_is_needs_colon h0') = cc
+  body_one (body_is h0 h1 h2) en ec ei (body_is_deep h0' h1') = absurd (omega arith)
+  body_one (body_is h0 h1 h2) en ec ei (body_is h0' h1' h2') = let s1 = suite_one h2 (ap (λ z. z - 1) en) ec (ap (λ z. next z) ei) h2' in cc
+
+  pub suite_one : {n n' : ℕ} {c c' : ℕ} {i i' : Input} {o o' : Outcome (List PlainStmt)} → IsSuite n c i o → n ≡ n' → c ≡ c' → i ≡ i' → IsSuite n' c' i' o' → o ≡ o'
+  suite_one (suite_line h0 h1) en ec ei (suite_line h0' h1') = let s1 = line_one h1 en ei h1' in cc
+  suite_one (suite_line h0 h1) en ec ei (suite_block h0' h1') = cc
+  suite_one (suite_block h0 h1) en ec ei (suite_line h0' h1') = cc
+  suite_one (suite_block h0 h1) en ec ei (suite_block h0' h1') = let s1 = block_one h1 en ec ei h1' in cc
+
+  pub block_one : {n n' : ℕ} {c c' : ℕ} {i i' : Input} {o o' : Outcome (List PlainStmt)} → IsBlock n c i o → n ≡ n' → c ≡ c' → i ≡ i' → IsBlock n' c' i' o' → o ≡ o'
+  block_one (block_none h0) en ec ei (block_none h0') = cc
+  block_one (block_none h0) en ec ei (block_is h0' h1') = cc
+  block_one (block_is h0 h1) en ec ei (block_none h0') = cc
+  block_one (block_is h0 h1) en ec ei (block_is h0' h1') = let s1 = stmts_one h1 en ec (ap (λ z. column z) ei) ei h1' in cc
+
+  pub stmts_one : {n n' : ℕ} {c c' : ℕ} {b b' : ℕ} {i i' : Input} {o o' : Outcome (List PlainStmt)} → IsStmts n c b i o → n ≡ n' → c ≡ c' → b ≡ b' → i ≡ i' → IsStmts n' c' b' i' o' → o ≡ o'
+  stmts_one (stmts_end h0) en ec eb ei (stmts_end h0') = cc
+  stmts_one (stmts_end h0) en ec eb ei (stmts_shifted h0' h1') = cc
+  stmts_one (stmts_end h0) en ec eb ei (stmts_more_stops_xs h0' h1' h2') = cc
+  stmts_one (stmts_end h0) en ec eb ei (stmts_more_stops_ys h0' h1' h2' h3') = cc
+  stmts_one (stmts_end h0) en ec eb ei (stmts_more h0' h1' h2' h3') = cc
+  stmts_one (stmts_shifted h0 h1) en ec eb ei (stmts_end h0') = cc
+  stmts_one (stmts_shifted h0 h1) en ec eb ei (stmts_shifted h0' h1') = cc
+  stmts_one (stmts_shifted h0 h1) en ec eb ei (stmts_more_stops_xs h0' h1' h2') = cc
+  stmts_one (stmts_shifted h0 h1) en ec eb ei (stmts_more_stops_ys h0' h1' h2' h3') = cc
+  stmts_one (stmts_shifted h0 h1) en ec eb ei (stmts_more h0' h1' h2' h3') = cc
+  stmts_one (stmts_more_stops_xs h0 h1 h2) en ec eb ei (stmts_end h0') = cc
+  stmts_one (stmts_more_stops_xs h0 h1 h2) en ec eb ei (stmts_shifted h0' h1') = cc
+  stmts_one (stmts_more_stops_xs h0 h1 h2) en ec eb ei (stmts_more_stops_xs h0' h1' h2') = let s1 = stmt_one h2 en eb (ap (λ z. next_line z) ei) h2' in cc
+  stmts_one (stmts_more_stops_xs h0 h1 h2) en ec eb ei (stmts_more_stops_ys h0' h1' h2' h3') = let s1 = stmt_one h2 en eb (ap (λ z. next_line z) ei) h2' in cc
+  stmts_one (stmts_more_stops_xs h0 h1 h2) en ec eb ei (stmts_more h0' h1' h2' h3') = let s1 = stmt_one h2 en eb (ap (λ z. next_line z) ei) h2' in cc
+  stmts_one (stmts_more_stops_ys h0 h1 h2 h3) en ec eb ei (stmts_end h0') = cc
+  stmts_one (stmts_more_stops_ys h0 h1 h2 h3) en ec eb ei (stmts_shifted h0' h1') = cc
+  stmts_one (stmts_more_stops_ys h0 h1 h2 h3) en ec eb ei (stmts_more_stops_xs h0' h1' h2') = let s1 = stmt_one h2 en eb (ap (λ z. next_line z) ei) h2' in cc
+  stmts_one (stmts_more_stops_ys h0 h1 h2 h3) en ec eb ei (stmts_more_stops_ys h0' h1' h2' h3') = let s1 = stmt_one h2 en eb (ap (λ z. next_line z) ei) h2' in let s2 = stmts_one h3 en ec eb (same_rest s1) h3' in cc
+  stmts_one (stmts_more_stops_ys h0 h1 h2 h3) en ec eb ei (stmts_more h0' h1' h2' h3') = let s1 = stmt_one h2 en eb (ap (λ z. next_line z) ei) h2' in let s2 = stmts_one h3 en ec eb (same_rest s1) h3' in cc
+  stmts_one (stmts_more h0 h1 h2 h3) en ec eb ei (stmts_end h0') = cc
+  stmts_one (stmts_more h0 h1 h2 h3) en ec eb ei (stmts_shifted h0' h1') = cc
+  stmts_one (stmts_more h0 h1 h2 h3) en ec eb ei (stmts_more_stops_xs h0' h1' h2') = let s1 = stmt_one h2 en eb (ap (λ z. next_line z) ei) h2' in cc
+  stmts_one (stmts_more h0 h1 h2 h3) en ec eb ei (stmts_more_stops_ys h0' h1' h2' h3') = let s1 = stmt_one h2 en eb (ap (λ z. next_line z) ei) h2' in let s2 = stmts_one h3 en ec eb (same_rest s1) h3' in cc
+  stmts_one (stmts_more h0 h1 h2 h3) en ec eb ei (stmts_more h0' h1' h2' h3') = let s1 = stmt_one h2 en eb (ap (λ z. next_line z) ei) h2' in let s2 = stmts_one h3 en ec eb (same_rest s1) h3' in cc
+
+  pub stmt_one : {n n' : ℕ} {c c' : ℕ} {i i' : Input} {o o' : Outcome (List PlainStmt)} → IsStmt n c i o → n ≡ n' → c ≡ c' → i ≡ i' → IsStmt n' c' i' o' → o ≡ o'
+  stmt_one (stmt_if_stops_a h0 h1) en ec ei (stmt_if_stops_a h0' h1') = let s1 = arm_one h1 en ec (ap (λ z. next z) ei) h1' in cc
+  stmt_one (stmt_if_stops_a h0 h1) en ec ei (stmt_if_stops_bs h0' h1' h2') = let s1 = arm_one h1 en ec (ap (λ z. next z) ei) h1' in cc
+  stmt_one (stmt_if_stops_a h0 h1) en ec ei (stmt_if_stops_ys h0' h1' h2' h3') = let s1 = arm_one h1 en ec (ap (λ z. next z) ei) h1' in cc
+  stmt_one (stmt_if_stops_a h0 h1) en ec ei (stmt_if h0' h1' h2' h3') = let s1 = arm_one h1 en ec (ap (λ z. next z) ei) h1' in cc
+  stmt_one (stmt_if_stops_a h0 h1) en ec ei (stmt_while_stops_x h0' h1' h2') = cc
+  stmt_one (stmt_if_stops_a h0 h1) en ec ei (stmt_while_stops_ys h0' h1' h2' h3') = cc
+  stmt_one (stmt_if_stops_a h0 h1) en ec ei (stmt_while h0' h1' h2' h3') = cc
+  stmt_one (stmt_if_stops_a h0 h1) en ec ei (stmt_for_needs_name h0' h1' h2' h3') = cc
+  stmt_one (stmt_if_stops_a h0 h1) en ec ei (stmt_for_needs_in h0' h1' h2' h3' h4') = cc
+  stmt_one (stmt_if_stops_a h0 h1) en ec ei (stmt_for_stops_v h0' h1' h2' h3' h4' h5') = cc
+  stmt_one (stmt_if_stops_a h0 h1) en ec ei (stmt_for_stops_ys h0' h1' h2' h3' h4' h5' h6') = cc
+  stmt_one (stmt_if_stops_a h0 h1) en ec ei (stmt_for h0' h1' h2' h3' h4' h5' h6') = cc
+  stmt_one (stmt_if_stops_a h0 h1) en ec ei (stmt_simple h0' h1' h2' h3') = cc
+  stmt_one (stmt_if_stops_bs h0 h1 h2) en ec ei (stmt_if_stops_a h0' h1') = let s1 = arm_one h1 en ec (ap (λ z. next z) ei) h1' in cc
+  stmt_one (stmt_if_stops_bs h0 h1 h2) en ec ei (stmt_if_stops_bs h0' h1' h2') = let s1 = arm_one h1 en ec (ap (λ z. next z) ei) h1' in let s2 = arms_one h2 en ec (same_rest s1) h2' in cc
+  stmt_one (stmt_if_stops_bs h0 h1 h2) en ec ei (stmt_if_stops_ys h0' h1' h2' h3') = let s1 = arm_one h1 en ec (ap (λ z. next z) ei) h1' in let s2 = arms_one h2 en ec (same_rest s1) h2' in cc
+  stmt_one (stmt_if_stops_bs h0 h1 h2) en ec ei (stmt_if h0' h1' h2' h3') = let s1 = arm_one h1 en ec (ap (λ z. next z) ei) h1' in let s2 = arms_one h2 en ec (same_rest s1) h2' in cc
+  stmt_one (stmt_if_stops_bs h0 h1 h2) en ec ei (stmt_while_stops_x h0' h1' h2') = cc
+  stmt_one (stmt_if_stops_bs h0 h1 h2) en ec ei (stmt_while_stops_ys h0' h1' h2' h3') = cc
+  stmt_one (stmt_if_stops_bs h0 h1 h2) en ec ei (stmt_while h0' h1' h2' h3') = cc
+  stmt_one (stmt_if_stops_bs h0 h1 h2) en ec ei (stmt_for_needs_name h0' h1' h2' h3') = cc
+  stmt_one (stmt_if_stops_bs h0 h1 h2) en ec ei (stmt_for_needs_in h0' h1' h2' h3' h4') = cc
+  stmt_one (stmt_if_stops_bs h0 h1 h2) en ec ei (stmt_for_stops_v h0' h1' h2' h3' h4' h5') = cc
+  stmt_one (stmt_if_stops_bs h0 h1 h2) en ec ei (stmt_for_stops_ys h0' h1' h2' h3' h4' h5' h6') = cc
+  stmt_one (stmt_if_stops_bs h0 h1 h2) en ec ei (stmt_for h0' h1' h2' h3' h4' h5' h6') = cc
+  stmt_one (stmt_if_stops_bs h0 h1 h2) en ec ei (stmt_simple h0' h1' h2' h3') = cc
+  stmt_one (stmt_if_stops_ys h0 h1 h2 h3) en ec ei (stmt_if_stops_a h0' h1') = let s1 = arm_one h1 en ec (ap (λ z. next z) ei) h1' in cc
+  stmt_one (stmt_if_stops_ys h0 h1 h2 h3) en ec ei (stmt_if_stops_bs h0' h1' h2') = let s1 = arm_one h1 en ec (ap (λ z. next z) ei) h1' in let s2 = arms_one h2 en ec (same_rest s1) h2' in cc
+  stmt_one (stmt_if_stops_ys h0 h1 h2 h3) en ec ei (stmt_if_stops_ys h0' h1' h2' h3') = let s1 = arm_one h1 en ec (ap (λ z. next z) ei) h1' in let s2 = arms_one h2 en ec (same_rest s1) h2' in let s3 = other_one h3 en ec (same_rest s2) h3' in cc
+  stmt_one (stmt_if_stops_ys h0 h1 h2 h3) en ec ei (stmt_if h0' h1' h2' h3') = let s1 = arm_one h1 en ec (ap (λ z. next z) ei) h1' in let s2 = arms_one h2 en ec (same_rest s1) h2' in let s3 = other_one h3 en ec (same_rest s2) h3' in cc
+  stmt_one (stmt_if_stops_ys h0 h1 h2 h3) en ec ei (stmt_while_stops_x h0' h1' h2') = cc
+  stmt_one (stmt_if_stops_ys h0 h1 h2 h3) en ec ei (stmt_while_stops_ys h0' h1' h2' h3') = cc
+  stmt_one (stmt_if_stops_ys h0 h1 h2 h3) en ec ei (stmt_while h0' h1' h2' h3') = cc
+  stmt_one (stmt_if_stops_ys h0 h1 h2 h3) en ec ei (stmt_for_needs_name h0' h1' h2' h3') = cc
+  stmt_one (stmt_if_stops_ys h0 h1 h2 h3) en ec ei (stmt_for_needs_in h0' h1' h2' h3' h4') = cc
+  stmt_one (stmt_if_stops_ys h0 h1 h2 h3) en ec ei (stmt_for_stops_v h0' h1' h2' h3' h4' h5') = cc
+  stmt_one (stmt_if_stops_ys h0 h1 h2 h3) en ec ei (stmt_for_stops_ys h0' h1' h2' h3' h4' h5' h6') = cc
+  stmt_one (stmt_if_stops_ys h0 h1 h2 h3) en ec ei (stmt_for h0' h1' h2' h3' h4' h5' h6') = cc
+  stmt_one (stmt_if_stops_ys h0 h1 h2 h3) en ec ei (stmt_simple h0' h1' h2' h3') = cc
+  stmt_one (stmt_if h0 h1 h2 h3) en ec ei (stmt_if_stops_a h0' h1') = let s1 = arm_one h1 en ec (ap (λ z. next z) ei) h1' in cc
+  stmt_one (stmt_if h0 h1 h2 h3) en ec ei (stmt_if_stops_bs h0' h1' h2') = let s1 = arm_one h1 en ec (ap (λ z. next z) ei) h1' in let s2 = arms_one h2 en ec (same_rest s1) h2' in cc
+  stmt_one (stmt_if h0 h1 h2 h3) en ec ei (stmt_if_stops_ys h0' h1' h2' h3') = let s1 = arm_one h1 en ec (ap (λ z. next z) ei) h1' in let s2 = arms_one h2 en ec (same_rest s1) h2' in let s3 = other_one h3 en ec (same_rest s2) h3' in cc
+  stmt_one (stmt_if h0 h1 h2 h3) en ec ei (stmt_if h0' h1' h2' h3') = let s1 = arm_one h1 en ec (ap (λ z. next z) ei) h1' in let s2 = arms_one h2 en ec (same_rest s1) h2' in let s3 = other_one h3 en ec (same_rest s2) h3' in cc
+  stmt_one (stmt_if h0 h1 h2 h3) en ec ei (stmt_while_stops_x h0' h1' h2') = cc
+  stmt_one (stmt_if h0 h1 h2 h3) en ec ei (stmt_while_stops_ys h0' h1' h2' h3') = cc
+  stmt_one (stmt_if h0 h1 h2 h3) en ec ei (stmt_while h0' h1' h2' h3') = cc
+  stmt_one (stmt_if h0 h1 h2 h3) en ec ei (stmt_for_needs_name h0' h1' h2' h3') = cc
+  stmt_one (stmt_if h0 h1 h2 h3) en ec ei (stmt_for_needs_in h0' h1' h2' h3' h4') = cc
+  stmt_one (stmt_if h0 h1 h2 h3) en ec ei (stmt_for_stops_v h0' h1' h2' h3' h4' h5') = cc
+  stmt_one (stmt_if h0 h1 h2 h3) en ec ei (stmt_for_stops_ys h0' h1' h2' h3' h4' h5' h6') = cc
+  stmt_one (stmt_if h0 h1 h2 h3) en ec ei (stmt_for h0' h1' h2' h3' h4' h5' h6') = cc
+  stmt_one (stmt_if h0 h1 h2 h3) en ec ei (stmt_simple h0' h1' h2' h3') = cc
+  stmt_one (stmt_while_stops_x h0 h1 h2) en ec ei (stmt_if_stops_a h0' h1') = cc
+  stmt_one (stmt_while_stops_x h0 h1 h2) en ec ei (stmt_if_stops_bs h0' h1' h2') = cc
+  stmt_one (stmt_while_stops_x h0 h1 h2) en ec ei (stmt_if_stops_ys h0' h1' h2' h3') = cc
+  stmt_one (stmt_while_stops_x h0 h1 h2) en ec ei (stmt_if h0' h1' h2' h3') = cc
+  stmt_one (stmt_while_stops_x h0 h1 h2) en ec ei (stmt_while_stops_x h0' h1' h2') = let s1 = whole_one h2 en (ap (λ z. next z) ei) h2' in cc
+  stmt_one (stmt_while_stops_x h0 h1 h2) en ec ei (stmt_while_stops_ys h0' h1' h2' h3') = let s1 = whole_one h2 en (ap (λ z. next z) ei) h2' in cc
+  stmt_one (stmt_while_stops_x h0 h1 h2) en ec ei (stmt_while h0' h1' h2' h3') = let s1 = whole_one h2 en (ap (λ z. next z) ei) h2' in cc
+  stmt_one (stmt_while_stops_x h0 h1 h2) en ec ei (stmt_for_needs_name h0' h1' h2' h3') = cc
+  stmt_one (stmt_while_stops_x h0 h1 h2) en ec ei (stmt_for_needs_in h0' h1' h2' h3' h4') = cc
+  stmt_one (stmt_while_stops_x h0 h1 h2) en ec ei (stmt_for_stops_v h0' h1' h2' h3' h4' h5') = cc
+  stmt_one (stmt_while_stops_x h0 h1 h2) en ec ei (stmt_for_stops_ys h0' h1' h2' h3' h4' h5' h6') = cc
+  stmt_one (stmt_while_stops_x h0 h1 h2) en ec ei (stmt_for h0' h1' h2' h3' h4' h5' h6') = cc
+  stmt_one (stmt_while_stops_x h0 h1 h2) en ec ei (stmt_simple h0' h1' h2' h3') = cc
+  stmt_one (stmt_while_stops_ys h0 h1 h2 h3) en ec ei (stmt_if_stops_a h0' h1') = cc
+  stmt_one (stmt_while_stops_ys h0 h1 h2 h3) en ec ei (stmt_if_stops_bs h0' h1' h2') = cc
+  stmt_one (stmt_while_stops_ys h0 h1 h2 h3) en ec ei (stmt_if_stops_ys h0' h1' h2' h3') = cc
+  stmt_one (stmt_while_stops_ys h0 h1 h2 h3) en ec ei (stmt_if h0' h1' h2' h3') = cc
+  stmt_one (stmt_while_stops_ys h0 h1 h2 h3) en ec ei (stmt_while_stops_x h0' h1' h2') = let s1 = whole_one h2 en (ap (λ z. next z) ei) h2' in cc
+  stmt_one (stmt_while_stops_ys h0 h1 h2 h3) en ec ei (stmt_while_stops_ys h0' h1' h2' h3') = let s1 = whole_one h2 en (ap (λ z. next z) ei) h2' in let s2 = body_one h3 en ec (same_rest s1) h3' in cc
+  stmt_one (stmt_while_stops_ys h0 h1 h2 h3) en ec ei (stmt_while h0' h1' h2' h3') = let s1 = whole_one h2 en (ap (λ z. next z) ei) h2' in let s2 = body_one h3 en ec (same_rest s1) h3' in cc
+  stmt_one (stmt_while_stops_ys h0 h1 h2 h3) en ec ei (stmt_for_needs_name h0' h1' h2' h3') = cc
+  stmt_one (stmt_while_stops_ys h0 h1 h2 h3) en ec ei (stmt_for_needs_in h0' h1' h2' h3' h4') = cc
+  stmt_one (stmt_while_stops_ys h0 h1 h2 h3) en ec ei (stmt_for_stops_v h0' h1' h2' h3' h4' h5') = cc
+  stmt_one (stmt_while_stops_ys h0 h1 h2 h3) en ec ei (stmt_for_stops_ys h0' h1' h2' h3' h4' h5' h6') = cc
+  stmt_one (stmt_while_stops_ys h0 h1 h2 h3) en ec ei (stmt_for h0' h1' h2' h3' h4' h5' h6') = cc
+  stmt_one (stmt_while_stops_ys h0 h1 h2 h3) en ec ei (stmt_simple h0' h1' h2' h3') = cc
+  stmt_one (stmt_while h0 h1 h2 h3) en ec ei (stmt_if_stops_a h0' h1') = cc
+  stmt_one (stmt_while h0 h1 h2 h3) en ec ei (stmt_if_stops_bs h0' h1' h2') = cc
+  stmt_one (stmt_while h0 h1 h2 h3) en ec ei (stmt_if_stops_ys h0' h1' h2' h3') = cc
+  stmt_one (stmt_while h0 h1 h2 h3) en ec ei (stmt_if h0' h1' h2' h3') = cc
+  stmt_one (stmt_while h0 h1 h2 h3) en ec ei (stmt_while_stops_x h0' h1' h2') = let s1 = whole_one h2 en (ap (λ z. next z) ei) h2' in cc
+  stmt_one (stmt_while h0 h1 h2 h3) en ec ei (stmt_while_stops_ys h0' h1' h2' h3') = let s1 = whole_one h2 en (ap (λ z. next z) ei) h2' in let s2 = body_one h3 en ec (same_rest s1) h3' in cc
+  stmt_one (stmt_while h0 h1 h2 h3) en ec ei (stmt_while h0' h1' h2' h3') = let s1 = whole_one h2 en (ap (λ z. next z) ei) h2' in let s2 = body_one h3 en ec (same_rest s1) h3' in cc
+  stmt_one (stmt_while h0 h1 h2 h3) en ec ei (stmt_for_needs_name h0' h1' h2' h3') = cc
+  stmt_one (stmt_while h0 h1 h2 h3) en ec ei (stmt_for_needs_in h0' h1' h2' h3' h4') = cc
+  stmt_one (stmt_while h0 h1 h2 h3) en ec ei (stmt_for_stops_v h0' h1' h2' h3' h4' h5') = cc
+  stmt_one (stmt_while h0 h1 h2 h3) en ec ei (stmt_for_stops_ys h0' h1' h2' h3' h4' h5' h6') = cc
+  stmt_one (stmt_while h0 h1 h2 h3) en ec ei (stmt_for h0' h1' h2' h3' h4' h5' h6') = cc
+  stmt_one (stmt_while h0 h1 h2 h3) en ec ei (stmt_simple h0' h1' h2' h3') = cc
+  stmt_one (stmt_for_needs_name h0 h1 h2 h3) en ec ei (stmt_if_stops_a h0' h1') = cc
+  stmt_one (stmt_for_needs_name h0 h1 h2 h3) en ec ei (stmt_if_stops_bs h0' h1' h2') = cc
+  stmt_one (stmt_for_needs_name h0 h1 h2 h3) en ec ei (stmt_if_stops_ys h0' h1' h2' h3') = cc
+  stmt_one (stmt_for_needs_name h0 h1 h2 h3) en ec ei (stmt_if h0' h1' h2' h3') = cc
+  stmt_one (stmt_for_needs_name h0 h1 h2 h3) en ec ei (stmt_while_stops_x h0' h1' h2') = cc
+  stmt_one (stmt_for_needs_name h0 h1 h2 h3) en ec ei (stmt_while_stops_ys h0' h1' h2' h3') = cc
+  stmt_one (stmt_for_needs_name h0 h1 h2 h3) en ec ei (stmt_while h0' h1' h2' h3') = cc
+  stmt_one (stmt_for_needs_name h0 h1 h2 h3) en ec ei (stmt_for_needs_name h0' h1' h2' h3') = cc
+  stmt_one (stmt_for_needs_name h0 h1 h2 h3) en ec ei (stmt_for_needs_in h0' h1' h2' h3' h4') = cc
+  stmt_one (stmt_for_needs_name h0 h1 h2 h3) en ec ei (stmt_for_stops_v h0' h1' h2' h3' h4' h5') = cc
+  stmt_one (stmt_for_needs_name h0 h1 h2 h3) en ec ei (stmt_for_stops_ys h0' h1' h2' h3' h4' h5' h6') = cc
+  stmt_one (stmt_for_needs_name h0 h1 h2 h3) en ec ei (stmt_for h0' h1' h2' h3' h4' h5' h6') = cc
+  stmt_one (stmt_for_needs_name h0 h1 h2 h3) en ec ei (stmt_simple h0' h1' h2' h3') = cc
+  stmt_one (stmt_for_needs_in h0 h1 h2 h3 h4) en ec ei (stmt_if_stops_a h0' h1') = cc
+  stmt_one (stmt_for_needs_in h0 h1 h2 h3 h4) en ec ei (stmt_if_stops_bs h0' h1' h2') = cc
+  stmt_one (stmt_for_needs_in h0 h1 h2 h3 h4) en ec ei (stmt_if_stops_ys h0' h1' h2' h3') = cc
+  stmt_one (stmt_for_needs_in h0 h1 h2 h3 h4) en ec ei (stmt_if h0' h1' h2' h3') = cc
+  stmt_one (stmt_for_needs_in h0 h1 h2 h3 h4) en ec ei (stmt_while_stops_x h0' h1' h2') = cc
+  stmt_one (stmt_for_needs_in h0 h1 h2 h3 h4) en ec ei (stmt_while_stops_ys h0' h1' h2' h3') = cc
+  stmt_one (stmt_for_needs_in h0 h1 h2 h3 h4) en ec ei (stmt_while h0' h1' h2' h3') = cc
+  stmt_one (stmt_for_needs_in h0 h1 h2 h3 h4) en ec ei (stmt_for_needs_name h0' h1' h2' h3') = cc
+  stmt_one (stmt_for_needs_in h0 h1 h2 h3 h4) en ec ei (stmt_for_needs_in h0' h1' h2' h3' h4') = cc
+  stmt_one (stmt_for_needs_in h0 h1 h2 h3 h4) en ec ei (stmt_for_stops_v h0' h1' h2' h3' h4' h5') = cc
+  stmt_one (stmt_for_needs_in h0 h1 h2 h3 h4) en ec ei (stmt_for_stops_ys h0' h1' h2' h3' h4' h5' h6') = cc
+  stmt_one (stmt_for_needs_in h0 h1 h2 h3 h4) en ec ei (stmt_for h0' h1' h2' h3' h4' h5' h6') = cc
+  stmt_one (stmt_for_needs_in h0 h1 h2 h3 h4) en ec ei (stmt_simple h0' h1' h2' h3') = cc
+  stmt_one (stmt_for_stops_v h0 h1 h2 h3 h4 h5) en ec ei (stmt_if_stops_a h0' h1') = cc
+  stmt_one (stmt_for_stops_v h0 h1 h2 h3 h4 h5) en ec ei (stmt_if_stops_bs h0' h1' h2') = cc
+  stmt_one (stmt_for_stops_v h0 h1 h2 h3 h4 h5) en ec ei (stmt_if_stops_ys h0' h1' h2' h3') = cc
+  stmt_one (stmt_for_stops_v h0 h1 h2 h3 h4 h5) en ec ei (stmt_if h0' h1' h2' h3') = cc
+  stmt_one (stmt_for_stops_v h0 h1 h2 h3 h4 h5) en ec ei (stmt_while_stops_x h0' h1' h2') = cc
+  stmt_one (stmt_for_stops_v h0 h1 h2 h3 h4 h5) en ec ei (stmt_while_stops_ys h0' h1' h2' h3') = cc
+  stmt_one (stmt_for_stops_v h0 h1 h2 h3 h4 h5) en ec ei (stmt_while h0' h1' h2' h3') = cc
+  stmt_one (stmt_for_stops_v h0 h1 h2 h3 h4 h5) en ec ei (stmt_for_needs_name h0' h1' h2' h3') = cc
+  stmt_one (stmt_for_stops_v h0 h1 h2 h3 h4 h5) en ec ei (stmt_for_needs_in h0' h1' h2' h3' h4') = cc
+  stmt_one (stmt_for_stops_v h0 h1 h2 h3 h4 h5) en ec ei (stmt_for_stops_v h0' h1' h2' h3' h4' h5') = let s1 = over_one h5 en (ap (λ z. next (named (next z))) ei) h5' in cc
+  stmt_one (stmt_for_stops_v h0 h1 h2 h3 h4 h5) en ec ei (stmt_for_stops_ys h0' h1' h2' h3' h4' h5' h6') = let s1 = over_one h5 en (ap (λ z. next (named (next z))) ei) h5' in cc
+  stmt_one (stmt_for_stops_v h0 h1 h2 h3 h4 h5) en ec ei (stmt_for h0' h1' h2' h3' h4' h5' h6') = let s1 = over_one h5 en (ap (λ z. next (named (next z))) ei) h5' in cc
+  stmt_one (stmt_for_stops_v h0 h1 h2 h3 h4 h5) en ec ei (stmt_simple h0' h1' h2' h3') = cc
+  stmt_one (stmt_for_stops_ys h0 h1 h2 h3 h4 h5 h6) en ec ei (stmt_if_stops_a h0' h1') = cc
+  stmt_one (stmt_for_stops_ys h0 h1 h2 h3 h4 h5 h6) en ec ei (stmt_if_stops_bs h0' h1' h2') = cc
+  stmt_one (stmt_for_stops_ys h0 h1 h2 h3 h4 h5 h6) en ec ei (stmt_if_stops_ys h0' h1' h2' h3') = cc
+  stmt_one (stmt_for_stops_ys h0 h1 h2 h3 h4 h5 h6) en ec ei (stmt_if h0' h1' h2' h3') = cc
+  stmt_one (stmt_for_stops_ys h0 h1 h2 h3 h4 h5 h6) en ec ei (stmt_while_stops_x h0' h1' h2') = cc
+  stmt_one (stmt_for_stops_ys h0 h1 h2 h3 h4 h5 h6) en ec ei (stmt_while_stops_ys h0' h1' h2' h3') = cc
+  stmt_one (stmt_for_stops_ys h0 h1 h2 h3 h4 h5 h6) en ec ei (stmt_while h0' h1' h2' h3') = cc
+  stmt_one (stmt_for_stops_ys h0 h1 h2 h3 h4 h5 h6) en ec ei (stmt_for_needs_name h0' h1' h2' h3') = cc
+  stmt_one (stmt_for_stops_ys h0 h1 h2 h3 h4 h5 h6) en ec ei (stmt_for_needs_in h0' h1' h2' h3' h4') = cc
+  stmt_one (stmt_for_stops_ys h0 h1 h2 h3 h4 h5 h6) en ec ei (stmt_for_stops_v h0' h1' h2' h3' h4' h5') = let s1 = over_one h5 en (ap (λ z. next (named (next z))) ei) h5' in cc
+  stmt_one (stmt_for_stops_ys h0 h1 h2 h3 h4 h5 h6) en ec ei (stmt_for_stops_ys h0' h1' h2' h3' h4' h5' h6') = let s1 = over_one h5 en (ap (λ z. next (named (next z))) ei) h5' in let s2 = body_one h6 en ec (same_rest s1) h6' in cc
+  stmt_one (stmt_for_stops_ys h0 h1 h2 h3 h4 h5 h6) en ec ei (stmt_for h0' h1' h2' h3' h4' h5' h6') = let s1 = over_one h5 en (ap (λ z. next (named (next z))) ei) h5' in let s2 = body_one h6 en ec (same_rest s1) h6' in cc
+  stmt_one (stmt_for_stops_ys h0 h1 h2 h3 h4 h5 h6) en ec ei (stmt_simple h0' h1' h2' h3') = cc
+  stmt_one (stmt_for h0 h1 h2 h3 h4 h5 h6) en ec ei (stmt_if_stops_a h0' h1') = cc
+  stmt_one (stmt_for h0 h1 h2 h3 h4 h5 h6) en ec ei (stmt_if_stops_bs h0' h1' h2') = cc
+  stmt_one (stmt_for h0 h1 h2 h3 h4 h5 h6) en ec ei (stmt_if_stops_ys h0' h1' h2' h3') = cc
+  stmt_one (stmt_for h0 h1 h2 h3 h4 h5 h6) en ec ei (stmt_if h0' h1' h2' h3') = cc
+  stmt_one (stmt_for h0 h1 h2 h3 h4 h5 h6) en ec ei (stmt_while_stops_x h0' h1' h2') = cc
+  stmt_one (stmt_for h0 h1 h2 h3 h4 h5 h6) en ec ei (stmt_while_stops_ys h0' h1' h2' h3') = cc
+  stmt_one (stmt_for h0 h1 h2 h3 h4 h5 h6) en ec ei (stmt_while h0' h1' h2' h3') = cc
+  stmt_one (stmt_for h0 h1 h2 h3 h4 h5 h6) en ec ei (stmt_for_needs_name h0' h1' h2' h3') = cc
+  stmt_one (stmt_for h0 h1 h2 h3 h4 h5 h6) en ec ei (stmt_for_needs_in h0' h1' h2' h3' h4') = cc
+  stmt_one (stmt_for h0 h1 h2 h3 h4 h5 h6) en ec ei (stmt_for_stops_v h0' h1' h2' h3' h4' h5') = let s1 = over_one h5 en (ap (λ z. next (named (next z))) ei) h5' in cc
+  stmt_one (stmt_for h0 h1 h2 h3 h4 h5 h6) en ec ei (stmt_for_stops_ys h0' h1' h2' h3' h4' h5' h6') = let s1 = over_one h5 en (ap (λ z. next (named (next z))) ei) h5' in let s2 = body_one h6 en ec (same_rest s1) h6' in cc
+  stmt_one (stmt_for h0 h1 h2 h3 h4 h5 h6) en ec ei (stmt_for h0' h1' h2' h3' h4' h5' h6') = let s1 = over_one h5 en (ap (λ z. next (named (next z))) ei) h5' in let s2 = body_one h6 en ec (same_rest s1) h6' in cc
+  stmt_one (stmt_for h0 h1 h2 h3 h4 h5 h6) en ec ei (stmt_simple h0' h1' h2' h3') = cc
+  stmt_one (stmt_simple h0 h1 h2 h3) en ec ei (stmt_if_stops_a h0' h1') = cc
+  stmt_one (stmt_simple h0 h1 h2 h3) en ec ei (stmt_if_stops_bs h0' h1' h2') = cc
+  stmt_one (stmt_simple h0 h1 h2 h3) en ec ei (stmt_if_stops_ys h0' h1' h2' h3') = cc
+  stmt_one (stmt_simple h0 h1 h2 h3) en ec ei (stmt_if h0' h1' h2' h3') = cc
+  stmt_one (stmt_simple h0 h1 h2 h3) en ec ei (stmt_while_stops_x h0' h1' h2') = cc
+  stmt_one (stmt_simple h0 h1 h2 h3) en ec ei (stmt_while_stops_ys h0' h1' h2' h3') = cc
+  stmt_one (stmt_simple h0 h1 h2 h3) en ec ei (stmt_while h0' h1' h2' h3') = cc
+  stmt_one (stmt_simple h0 h1 h2 h3) en ec ei (stmt_for_needs_name h0' h1' h2' h3') = cc
+  stmt_one (stmt_simple h0 h1 h2 h3) en ec ei (stmt_for_needs_in h0' h1' h2' h3' h4') = cc
+  stmt_one (stmt_simple h0 h1 h2 h3) en ec ei (stmt_for_stops_v h0' h1' h2' h3' h4' h5') = cc
+  stmt_one (stmt_simple h0 h1 h2 h3) en ec ei (stmt_for_stops_ys h0' h1' h2' h3' h4' h5' h6') = cc
+  stmt_one (stmt_simple h0 h1 h2 h3) en ec ei (stmt_for h0' h1' h2' h3' h4' h5' h6') = cc
+  stmt_one (stmt_simple h0 h1 h2 h3) en ec ei (stmt_simple h0' h1' h2' h3') = let s1 = line_one h3 en ei h3' in cc
+
+  pub arm_one : {n n' : ℕ} {c c' : ℕ} {i i' : Input} {o o' : Outcome PlainArm} → IsArm n c i o → n ≡ n' → c ≡ c' → i ≡ i' → IsArm n' c' i' o' → o ≡ o'
+  arm_one (arm_is_stops_x h0) en ec ei (arm_is_stops_x h0') = let s1 = whole_one h0 en ei h0' in cc
+  arm_one (arm_is_stops_x h0) en ec ei (arm_is_stops_ys h0' h1') = let s1 = whole_one h0 en ei h0' in cc
+  arm_one (arm_is_stops_x h0) en ec ei (arm_is h0' h1') = let s1 = whole_one h0 en ei h0' in cc
+  arm_one (arm_is_stops_ys h0 h1) en ec ei (arm_is_stops_x h0') = let s1 = whole_one h0 en ei h0' in cc
+  arm_one (arm_is_stops_ys h0 h1) en ec ei (arm_is_stops_ys h0' h1') = let s1 = whole_one h0 en ei h0' in let s2 = body_one h1 en ec (same_rest s1) h1' in cc
+  arm_one (arm_is_stops_ys h0 h1) en ec ei (arm_is h0' h1') = let s1 = whole_one h0 en ei h0' in let s2 = body_one h1 en ec (same_rest s1) h1' in cc
+  arm_one (arm_is h0 h1) en ec ei (arm_is_stops_x h0') = let s1 = whole_one h0 en ei h0' in cc
+  arm_one (arm_is h0 h1) en ec ei (arm_is_stops_ys h0' h1') = let s1 = whole_one h0 en ei h0' in let s2 = body_one h1 en ec (same_rest s1) h1' in cc
+  arm_one (arm_is h0 h1) en ec ei (arm_is h0' h1') = let s1 = whole_one h0 en ei h0' in let s2 = body_one h1 en ec (same_rest s1) h1' in cc
+
+  pub arms_one : {n n' : ℕ} {c c' : ℕ} {i i' : Input} {o o' : Outcome (List PlainArm)} → IsArms n c i o → n ≡ n' → c ≡ c' → i ≡ i' → IsArms n' c' i' o' → o ≡ o'
+  arms_one (arms_end h0) en ec ei (arms_end h0') = cc
+  arms_one (arms_end h0) en ec ei (arms_more_stops_a h0' h1') = cc
+  arms_one (arms_end h0) en ec ei (arms_more_stops_bs h0' h1' h2') = cc
+  arms_one (arms_end h0) en ec ei (arms_more h0' h1' h2') = cc
+  arms_one (arms_more_stops_a h0 h1) en ec ei (arms_end h0') = cc
+  arms_one (arms_more_stops_a h0 h1) en ec ei (arms_more_stops_a h0' h1') = let s1 = arm_one h1 en ec (ap (λ z. next (next_line z)) ei) h1' in cc
+  arms_one (arms_more_stops_a h0 h1) en ec ei (arms_more_stops_bs h0' h1' h2') = let s1 = arm_one h1 en ec (ap (λ z. next (next_line z)) ei) h1' in cc
+  arms_one (arms_more_stops_a h0 h1) en ec ei (arms_more h0' h1' h2') = let s1 = arm_one h1 en ec (ap (λ z. next (next_line z)) ei) h1' in cc
+  arms_one (arms_more_stops_bs h0 h1 h2) en ec ei (arms_end h0') = cc
+  arms_one (arms_more_stops_bs h0 h1 h2) en ec ei (arms_more_stops_a h0' h1') = let s1 = arm_one h1 en ec (ap (λ z. next (next_line z)) ei) h1' in cc
+  arms_one (arms_more_stops_bs h0 h1 h2) en ec ei (arms_more_stops_bs h0' h1' h2') = let s1 = arm_one h1 en ec (ap (λ z. next (next_line z)) ei) h1' in let s2 = arms_one h2 en ec (same_rest s1) h2' in cc
+  arms_one (arms_more_stops_bs h0 h1 h2) en ec ei (arms_more h0' h1' h2') = let s1 = arm_one h1 en ec (ap (λ z. next (next_line z)) ei) h1' in let s2 = arms_one h2 en ec (same_rest s1) h2' in cc
+  arms_one (arms_more h0 h1 h2) en ec ei (arms_end h0') = cc
+  arms_one (arms_more h0 h1 h2) en ec ei (arms_more_stops_a h0' h1') = let s1 = arm_one h1 en ec (ap (λ z. next (next_line z)) ei) h1' in cc
+  arms_one (arms_more h0 h1 h2) en ec ei (arms_more_stops_bs h0' h1' h2') = let s1 = arm_one h1 en ec (ap (λ z. next (next_line z)) ei) h1' in let s2 = arms_one h2 en ec (same_rest s1) h2' in cc
+  arms_one (arms_more h0 h1 h2) en ec ei (arms_more h0' h1' h2') = let s1 = arm_one h1 en ec (ap (λ z. next (next_line z)) ei) h1' in let s2 = arms_one h2 en ec (same_rest s1) h2' in cc
+
+  pub other_one : {n n' : ℕ} {c c' : ℕ} {i i' : Input} {o o' : Outcome (List PlainStmt)} → IsOther n c i o → n ≡ n' → c ≡ c' → i ≡ i' → IsOther n' c' i' o' → o ≡ o'
+  other_one (other_none h0) en ec ei (other_none h0') = cc
+  other_one (other_none h0) en ec ei (other_is h0' h1') = cc
+  other_one (other_is h0 h1) en ec ei (other_none h0') = cc
+  other_one (other_is h0 h1) en ec ei (other_is h0' h1') = let s1 = body_one h1 en ec (ap (λ z. next (next_line z)) ei) h1' in cc
