@@ -171,9 +171,9 @@ width_is true = refl
 width_is false = refl
 
 -- a token of a string that was read
-pub string_is_of : (i m : At) (q : Quote) (mid : At) (t : Token) → q ≡ quote_at i → 0 < byte i → slice_index i.text i.at < 128 → mid ≡ moved (quote_len q) i → ClosedBetween q mid m → IsUtf8 (take (utf8_valid_len i.text) i.text) → m.at ≤ length i.text → t.start ≡ i.at → t.end ≡ m.at → IsOf i.text t
+pub string_is_of : (i m : At) (q : Quote) (mid : At) (t : Token) → q ≡ quote_at i → 0 < byte i → slice_index i.text i.at < 128 → mid ≡ moved (quote_len q) i → ClosedBetween q mid m → IsUtf8 (take (utf8_valid_len i.text) i.text) → m.at ≤ length i.text → t.start ≡ i.at → t.end ≡ m.at → t.place.line ≤ t.start + 1 → t.place.col ≤ t.start + 1 → IsOf i.text t
 unfolding moved quote_at byte
-string_is_of i m q mid t quote some ascii at closed utf8 within starts ends =
+string_is_of i m q mid t quote some ascii at closed utf8 within starts ends line col =
     let triple : Bool = stands_thrice (byte i) i in
     let w : quote_len (quote_at i) ≡ width triple = width_is triple in
     let c : ClosedBetween (quote_at i) (moved (quote_len (quote_at i)) i) m = subst (λ p. ClosedBetween p (moved (quote_len p) i) m) quote (subst (λ j. ClosedBetween q j m) at closed) in
@@ -182,13 +182,15 @@ string_is_of i m q mid t quote some ascii at closed utf8 within starts ends =
     record {
       some = omega (arith, starts, ends, c.behind, c.ends, w, width_some triple);
       within = omega (arith, ends, within);
+      line = line;
+      col = col;
       quoted = λ _. subst (λ a. quotes (slice_range i.text a t.end) + quotes (slice_range i.text a t.end) ≤ length (slice_range i.text a t.end)) (sym starts) (subst (λ b. quotes (slice_range i.text i.at b) + quotes (slice_range i.text i.at b) ≤ length (slice_range i.text i.at b)) (sym ends) quoted);
       utf8 = λ _. subst (λ a. IsUtf8 (enclosed (slice_range i.text a t.end))) (sym starts) (subst (λ b. IsUtf8 (enclosed (slice_range i.text i.at b))) (sym ends) inner);
     }
 
 -- a token of another kind
-pub other_is_of : (text : List ℕ) (t : Token) → (t.kind ≡ Str → ⊥) → t.start < t.end → t.end ≤ length text → IsOf text t
-other_is_of text t other some within = record { some = some; within = within; quoted = λ e. absurd (other e); utf8 = λ e. absurd (other e) }
+pub other_is_of : (text : List ℕ) (t : Token) → (t.kind ≡ Str → ⊥) → t.start < t.end → t.end ≤ length text → t.place.line ≤ t.start + 1 → t.place.col ≤ t.start + 1 → IsOf text t
+other_is_of text t other some within line col = record { some = some; within = within; line = line; col = col; quoted = λ e. absurd (other e); utf8 = λ e. absurd (other e) }
 
 pub word_other : (t : Token) → t.kind ≡ Word → t.kind ≡ Str → ⊥
 word_other t a b = cc

@@ -18,10 +18,13 @@ pub record ClosedBetween (q : Quote) (from upto : At) : Type 0 where
   pub valid : quotes_at < utf8_valid_len from.text
   pub mark : slice_index from.text quotes_at ≡ q.mark
 
--- a token spans bytes of its text; a string has its quotes, and what it encloses is UTF-8
+-- a token spans bytes of its text, and its place counts no more than the bytes before it; a string has its quotes, and what it
+-- encloses is UTF-8
 pub record IsOf (text : List ℕ) (t : Token) : Type 0 where
   pub some : t.start < t.end
   pub within : t.end ≤ length text
+  pub line : t.place.line ≤ t.start + 1
+  pub col : t.place.col ≤ t.start + 1
   pub quoted : t.kind ≡ Str → quotes (bytes_of text t) + quotes (bytes_of text t) ≤ length (bytes_of text t)
   pub utf8 : t.kind ≡ Str → IsUtf8 (enclosed (bytes_of text t))
 

@@ -154,7 +154,9 @@ impl<'a> Cursor<'a> {
     }
 
     pub fn place(&self) -> Place
-        ensures { result ≡ spec.place self.now }
+        ensures place { result ≡ spec.place self.now }
+        ensures line { result.line ≤ self.now.at + 1 }
+        ensures col { result.col ≤ self.now.at + 1 }
     {
         Place {
             line: self.line,

@@ -1,6 +1,6 @@
 //! Tokens, one after another, up to the end of a logical line.
 
-ghost use Rattle.std.specs.Prelude.{◌≡◌, ◌<◌, ◌≤◌, ◌^◌, ℕ, List, [], map, length, take, IsUtf8, IsTrue, IfOk, OnOk};
+ghost use Rattle.std.specs.Prelude.{◌≡◌, ◌+◌, ◌<◌, ◌≤◌, ◌^◌, ℕ, List, [], map, length, take, IsUtf8, IsTrue, IfOk, OnOk};
 ghost use Rattle.std.specs.Str.Lossy.{utf8_valid_len};
 ghost use Rattle.py_tree.specs.Tokens.{LWord};
 ghost use Rattle.py_lexer.specs.Cursor as at;
@@ -28,6 +28,8 @@ fn token(kind: TokenKind, start: &Cursor<'_>, end: &Cursor<'_>) -> Token
     ensures start { result.start ≡ start.now.at }
     ensures end { result.end ≡ end.now.at }
     ensures within { result.end ≤ length end.now.text }
+    ensures line { result.place.line ≤ result.start + 1 }
+    ensures col { result.place.col ≤ result.start + 1 }
 {
     Token {
         kind,

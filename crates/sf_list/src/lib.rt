@@ -85,6 +85,15 @@ impl<T: Drop> Sequence<T> {
         Ok(())
     }
 
+    /// Adds the elements of another list at the end. The list keeps its own allocator, so `alloc` is unused.
+    pub fn append(&mut self, _alloc: Global, other: Sequence<T>) -> Result<(), AllocError>
+        ensures ok { OnOk result (self.new ≡ self.old ++ other) }
+        ensures err { OnErr result (self.new ≡ self.old) }
+    {
+        let mut other = other;
+        self.items.append(&mut other.items)
+    }
+
     /// Replaces the element at a place counted from 0.
     pub fn set(&mut self, at: usize, item: T)
         requires { at < length self.old }

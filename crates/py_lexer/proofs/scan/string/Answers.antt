@@ -15,4 +15,4 @@ pub returns-clause-of : goal.returns-clause-of
 unfolding byte
 returns-clause-of c =
     let within : c.pass_body.new.text.at ≤ length c.args.text.now.text = subst (λ w. c.pass_body.new.text.at ≤ length w) (c.pass_body.ensures.same_text ∙ c.pass.ensures.same_text) (omega (arith, c.token.ensures.within, c.token.ensures.end)) in
-    string_is_of c.args.text.now c.pass_body.new.text c.quote_at-quote.result c.pass.new.self c.token.result c.quote_at-quote.ensures.quote c.requires.some c.requires.ascii (c.pass.ensures.moved ∙ ap (λ n. moved n c.args.text.now) c.len.ensures) c.in_ok-pass_body.ensures.closed c.requires.utf8 within (c.token.ensures.start ∙ ap (λ i. i.at) c.copy-start.ensures) c.token.ensures.end
+    string_is_of c.args.text.now c.pass_body.new.text c.quote_at-quote.result c.pass.new.self c.token.result c.quote_at-quote.ensures.quote c.requires.some c.requires.ascii (c.pass.ensures.moved ∙ ap (λ n. moved n c.args.text.now) c.len.ensures) c.in_ok-pass_body.ensures.closed c.requires.utf8 within (c.token.ensures.start ∙ ap (λ i. i.at) c.copy-start.ensures) c.token.ensures.end c.token.ensures.line c.token.ensures.col
