@@ -1,12 +1,2 @@
-pub mod Digits
-pub mod Fails
-pub mod InputLaws
-pub mod LexRules
-pub mod OneClass
-pub mod OneProgram
-pub mod OneText
-pub mod RuleLaws
-pub mod Rules
-pub mod Runs
-pub mod Tables
-pub mod TreeLaws
+pub mod GrammarRules
+pub mod Ahead

@@ -1,8 +1,1 @@
-pub mod Input
-pub mod Kinds
-pub mod Lexed
-pub mod SmallGrammar
-pub mod SmallProgram
-pub mod SmallRules
-pub mod SmallTokens
-pub mod SmallTrees
+pub mod Reads

@@ -1,26 +1,21 @@
-//! The parser of small programs: one class of whole numbers, with a text as its key.
+//! The parser: from logical lines of tokens to the tree of a program, or to the first token that is refused.
 //!
-//! A text is cut into lines of tokens, the lines are read as a class by the grammar, the class is
-//! tested by the rules, and its tree is built. Each stage is exactly its definition in `specs/`.
+//! The grammar stands in `py_tree`, as relations between what is left to read and what reading it
+//! comes to. Each function here reads one part of it and cites that part's rules. Tokens are read
+//! once, from the left, and the next token decides; recursion is bounded by the 64 levels.
 #![tactic(auto)]
 
-mod build;
-mod check;
-mod class;
-mod fault;
-mod keywords;
-mod lex;
-mod lines;
-mod names;
-mod parse;
-mod reader;
-mod scanner;
-mod small;
-#[cfg(test)]
-mod tests;
-mod token;
-mod tokens;
-mod words;
+mod classes;
+mod expressions;
+mod input;
+mod looking;
+mod program;
+mod reserved;
+mod simple_statements;
+mod spelling;
+mod statements;
+mod syntax_error;
+mod types;
 
-pub use fault::SmallError;
-pub use parse::{Parsed, has_one_tree, parse_small};
+pub use program::{Parsed, parse};
+pub use syntax_error::SyntaxError;

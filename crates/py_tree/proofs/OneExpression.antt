@@ -4,7 +4,7 @@ use Rattle.py_tree.specs.declared.names.Place.{Place}
 use Rattle.py_tree.specs.declared.terminal.Terminal.{Terminal}
 use Rattle.py_tree.specs.PlainExpressions.{PlainExpr, PAttr, PCall, PIndex, PlainLink, exprs_of}
 use Rattle.py_tree.specs.Reading.{Input, Outcome, next, here, named, name_number}
-use Rattle.py_tree.specs.ExpressionGrammar.{IsWhole, IsOr, IsOrs, IsAnd, IsAnds, IsNot, IsCompare, IsSum, IsSums, IsTerm, IsTerms, IsUnary, IsPostfix, IsTails, IsEnclosed, IsArgs, IsMore, IsAtom, IsNamed, whole_plain_stops_x, whole_plain, whole_cond_stops_y, whole_cond_needs_else, whole_cond_deep, whole_cond_stops_z, whole_cond, or_is_stops_x, or_is_stops_xs, or_is, ors_end, ors_more_stops_x, ors_more_stops_xs, ors_more, and_is_stops_x, and_is_stops_xs, and_is, ands_end, ands_more_stops_x, ands_more_stops_xs, ands_more, not_is_deep, not_is_stops_x, not_is, not_as, compare_plain_stops_x, compare_plain, compare_is_stops_y, compare_is, compare_none_needs_none, compare_none, compare_some_needs_none, compare_some, sum_is_stops_x, sum_is_stops_ls, sum_is, sums_end, sums_more_stops_x, sums_more_stops_ls, sums_more, term_is_stops_x, term_is_stops_ls, term_is, terms_end, terms_more_stops_x, terms_more_stops_ls, terms_more, unary_minus_deep, unary_minus_stops_x, unary_minus, unary_plus_deep, unary_plus_stops_x, unary_plus, unary_as, postfix_is_stops_x, postfix_is, tails_end, tails_dot_deep, tails_dot_needs_name, tails_dot, tails_call_stops_xs, tails_call, tails_index_deep, tails_index_stops_y, tails_index_needs_closebracket, tails_index, enclosed_is_deep, enclosed_is_stops_xs, enclosed_is_needs_close, enclosed_is, args_none, args_is_stops_x, args_is_stops_xs, args_is, more_end, more_comma, more_is_stops_x, more_is_stops_xs, more_is, atom_name, atom_int, atom_str, atom_true, atom_false, atom_nil, atom_group_deep, atom_group_stops_x, atom_group_needs_close, atom_group, atom_list_stops_xs, atom_list, atom_other, named_call_stops_xs, named_call, named_self, named_var}
+use Rattle.py_tree.specs.ExpressionGrammar.{IsWhole, IsOr, IsOrs, IsAnd, IsAnds, IsNot, IsCompare, IsSum, IsSums, IsTerm, IsTerms, IsUnary, IsPostfix, IsTails, IsEnclosed, IsArgs, IsMore, IsAtom, IsGroup, IsNamed, whole_plain_stops_x, whole_plain, whole_cond_stops_y, whole_cond_needs_else, whole_cond_deep, whole_cond_stops_z, whole_cond, or_is_stops_x, or_is_stops_xs, or_is, ors_end, ors_more_stops_x, ors_more_stops_xs, ors_more, and_is_stops_x, and_is_stops_xs, and_is, ands_end, ands_more_stops_x, ands_more_stops_xs, ands_more, not_is_deep, not_is_stops_x, not_is, not_as, compare_plain_stops_x, compare_plain, compare_is_stops_y, compare_is, compare_none_needs_none, compare_none, compare_some_needs_none, compare_some, sum_is_stops_x, sum_is_stops_ls, sum_is, sums_end, sums_more_stops_x, sums_more_stops_ls, sums_more, term_is_stops_x, term_is_stops_ls, term_is, terms_end, terms_more_stops_x, terms_more_stops_ls, terms_more, unary_minus_deep, unary_minus_stops_x, unary_minus, unary_plus_deep, unary_plus_stops_x, unary_plus, unary_as, postfix_is_stops_x, postfix_is, tails_end, tails_dot_deep, tails_dot_needs_name, tails_dot, tails_call_stops_xs, tails_call, tails_index_deep, tails_index_stops_y, tails_index_needs_closebracket, tails_index, enclosed_is_deep, enclosed_is_stops_xs, enclosed_is_needs_close, enclosed_is, args_none, args_is_stops_x, args_is_stops_xs, args_is, more_end, more_comma, more_is_stops_x, more_is_stops_xs, more_is, atom_name, atom_int, atom_str, atom_true, atom_false, atom_nil, atom_group, atom_list_stops_xs, atom_list, atom_other, group_is_deep, group_is_stops_x, group_is_needs_close, group_is, named_call_stops_xs, named_call, named_self, named_var}
 use Rattle.py_tree.proofs.OneOutcome.{same_rest, same_part}
 
 same_attribute : {at at' : Place} {x x' : PlainExpr} {i i' : Input} → at ≡ at' → x ≡ x' → i ≡ i' → (PAttr at x (name_number (next i)) (here (next i))) ≡ (PAttr at' x' (name_number (next i')) (here (next i')))
@@ -497,10 +497,7 @@ mutual
   atom_one (atom_name h0 h1) en ei (atom_true h0') = cc
   atom_one (atom_name h0 h1) en ei (atom_false h0') = cc
   atom_one (atom_name h0 h1) en ei (atom_nil h0') = cc
-  atom_one (atom_name h0 h1) en ei (atom_group_deep h0' h1') = cc
-  atom_one (atom_name h0 h1) en ei (atom_group_stops_x h0' h1' h2') = cc
-  atom_one (atom_name h0 h1) en ei (atom_group_needs_close h0' h1' h2' h3') = cc
-  atom_one (atom_name h0 h1) en ei (atom_group h0' h1' h2' h3') = cc
+  atom_one (atom_name h0 h1) en ei (atom_group h0' h1') = cc
   atom_one (atom_name h0 h1) en ei (atom_list_stops_xs h0' h1') = cc
   atom_one (atom_name h0 h1) en ei (atom_list h0' h1') = cc
   atom_one (atom_name h0 h1) en ei (atom_other h0') = cc
@@ -510,10 +507,7 @@ mutual
   atom_one (atom_int h0) en ei (atom_true h0') = cc
   atom_one (atom_int h0) en ei (atom_false h0') = cc
   atom_one (atom_int h0) en ei (atom_nil h0') = cc
-  atom_one (atom_int h0) en ei (atom_group_deep h0' h1') = cc
-  atom_one (atom_int h0) en ei (atom_group_stops_x h0' h1' h2') = cc
-  atom_one (atom_int h0) en ei (atom_group_needs_close h0' h1' h2' h3') = cc
-  atom_one (atom_int h0) en ei (atom_group h0' h1' h2' h3') = cc
+  atom_one (atom_int h0) en ei (atom_group h0' h1') = cc
   atom_one (atom_int h0) en ei (atom_list_stops_xs h0' h1') = cc
   atom_one (atom_int h0) en ei (atom_list h0' h1') = cc
   atom_one (atom_int h0) en ei (atom_other h0') = cc
@@ -523,10 +517,7 @@ mutual
   atom_one (atom_str h0) en ei (atom_true h0') = cc
   atom_one (atom_str h0) en ei (atom_false h0') = cc
   atom_one (atom_str h0) en ei (atom_nil h0') = cc
-  atom_one (atom_str h0) en ei (atom_group_deep h0' h1') = cc
-  atom_one (atom_str h0) en ei (atom_group_stops_x h0' h1' h2') = cc
-  atom_one (atom_str h0) en ei (atom_group_needs_close h0' h1' h2' h3') = cc
-  atom_one (atom_str h0) en ei (atom_group h0' h1' h2' h3') = cc
+  atom_one (atom_str h0) en ei (atom_group h0' h1') = cc
   atom_one (atom_str h0) en ei (atom_list_stops_xs h0' h1') = cc
   atom_one (atom_str h0) en ei (atom_list h0' h1') = cc
   atom_one (atom_str h0) en ei (atom_other h0') = cc
@@ -536,10 +527,7 @@ mutual
   atom_one (atom_true h0) en ei (atom_true h0') = cc
   atom_one (atom_true h0) en ei (atom_false h0') = cc
   atom_one (atom_true h0) en ei (atom_nil h0') = cc
-  atom_one (atom_true h0) en ei (atom_group_deep h0' h1') = cc
-  atom_one (atom_true h0) en ei (atom_group_stops_x h0' h1' h2') = cc
-  atom_one (atom_true h0) en ei (atom_group_needs_close h0' h1' h2' h3') = cc
-  atom_one (atom_true h0) en ei (atom_group h0' h1' h2' h3') = cc
+  atom_one (atom_true h0) en ei (atom_group h0' h1') = cc
   atom_one (atom_true h0) en ei (atom_list_stops_xs h0' h1') = cc
   atom_one (atom_true h0) en ei (atom_list h0' h1') = cc
   atom_one (atom_true h0) en ei (atom_other h0') = cc
@@ -549,10 +537,7 @@ mutual
   atom_one (atom_false h0) en ei (atom_true h0') = cc
   atom_one (atom_false h0) en ei (atom_false h0') = cc
   atom_one (atom_false h0) en ei (atom_nil h0') = cc
-  atom_one (atom_false h0) en ei (atom_group_deep h0' h1') = cc
-  atom_one (atom_false h0) en ei (atom_group_stops_x h0' h1' h2') = cc
-  atom_one (atom_false h0) en ei (atom_group_needs_close h0' h1' h2' h3') = cc
-  atom_one (atom_false h0) en ei (atom_group h0' h1' h2' h3') = cc
+  atom_one (atom_false h0) en ei (atom_group h0' h1') = cc
   atom_one (atom_false h0) en ei (atom_list_stops_xs h0' h1') = cc
   atom_one (atom_false h0) en ei (atom_list h0' h1') = cc
   atom_one (atom_false h0) en ei (atom_other h0') = cc
@@ -562,75 +547,27 @@ mutual
   atom_one (atom_nil h0) en ei (atom_true h0') = cc
   atom_one (atom_nil h0) en ei (atom_false h0') = cc
   atom_one (atom_nil h0) en ei (atom_nil h0') = cc
-  atom_one (atom_nil h0) en ei (atom_group_deep h0' h1') = cc
-  atom_one (atom_nil h0) en ei (atom_group_stops_x h0' h1' h2') = cc
-  atom_one (atom_nil h0) en ei (atom_group_needs_close h0' h1' h2' h3') = cc
-  atom_one (atom_nil h0) en ei (atom_group h0' h1' h2' h3') = cc
+  atom_one (atom_nil h0) en ei (atom_group h0' h1') = cc
   atom_one (atom_nil h0) en ei (atom_list_stops_xs h0' h1') = cc
   atom_one (atom_nil h0) en ei (atom_list h0' h1') = cc
   atom_one (atom_nil h0) en ei (atom_other h0') = cc
-  atom_one (atom_group_deep h0 h1) en ei (atom_name h0' h1') = cc
-  atom_one (atom_group_deep h0 h1) en ei (atom_int h0') = cc
-  atom_one (atom_group_deep h0 h1) en ei (atom_str h0') = cc
-  atom_one (atom_group_deep h0 h1) en ei (atom_true h0') = cc
-  atom_one (atom_group_deep h0 h1) en ei (atom_false h0') = cc
-  atom_one (atom_group_deep h0 h1) en ei (atom_nil h0') = cc
-  atom_one (atom_group_deep h0 h1) en ei (atom_group_deep h0' h1') = cc
-  atom_one (atom_group_deep h0 h1) en ei (atom_group_stops_x h0' h1' h2') = absurd (omega arith)
-  atom_one (atom_group_deep h0 h1) en ei (atom_group_needs_close h0' h1' h2' h3') = absurd (omega arith)
-  atom_one (atom_group_deep h0 h1) en ei (atom_group h0' h1' h2' h3') = absurd (omega arith)
-  atom_one (atom_group_deep h0 h1) en ei (atom_list_stops_xs h0' h1') = cc
-  atom_one (atom_group_deep h0 h1) en ei (atom_list h0' h1') = cc
-  atom_one (atom_group_deep h0 h1) en ei (atom_other h0') = cc
-  atom_one (atom_group_stops_x h0 h1 h2) en ei (atom_name h0' h1') = cc
-  atom_one (atom_group_stops_x h0 h1 h2) en ei (atom_int h0') = cc
-  atom_one (atom_group_stops_x h0 h1 h2) en ei (atom_str h0') = cc
-  atom_one (atom_group_stops_x h0 h1 h2) en ei (atom_true h0') = cc
-  atom_one (atom_group_stops_x h0 h1 h2) en ei (atom_false h0') = cc
-  atom_one (atom_group_stops_x h0 h1 h2) en ei (atom_nil h0') = cc
-  atom_one (atom_group_stops_x h0 h1 h2) en ei (atom_group_deep h0' h1') = absurd (omega arith)
-  atom_one (atom_group_stops_x h0 h1 h2) en ei (atom_group_stops_x h0' h1' h2') = let s1 = whole_one h2 (ap (λ z. z - 1) en) (ap (λ z. next z) ei) h2' in cc
-  atom_one (atom_group_stops_x h0 h1 h2) en ei (atom_group_needs_close h0' h1' h2' h3') = let s1 = whole_one h2 (ap (λ z. z - 1) en) (ap (λ z. next z) ei) h2' in cc
-  atom_one (atom_group_stops_x h0 h1 h2) en ei (atom_group h0' h1' h2' h3') = let s1 = whole_one h2 (ap (λ z. z - 1) en) (ap (λ z. next z) ei) h2' in cc
-  atom_one (atom_group_stops_x h0 h1 h2) en ei (atom_list_stops_xs h0' h1') = cc
-  atom_one (atom_group_stops_x h0 h1 h2) en ei (atom_list h0' h1') = cc
-  atom_one (atom_group_stops_x h0 h1 h2) en ei (atom_other h0') = cc
-  atom_one (atom_group_needs_close h0 h1 h2 h3) en ei (atom_name h0' h1') = cc
-  atom_one (atom_group_needs_close h0 h1 h2 h3) en ei (atom_int h0') = cc
-  atom_one (atom_group_needs_close h0 h1 h2 h3) en ei (atom_str h0') = cc
-  atom_one (atom_group_needs_close h0 h1 h2 h3) en ei (atom_true h0') = cc
-  atom_one (atom_group_needs_close h0 h1 h2 h3) en ei (atom_false h0') = cc
-  atom_one (atom_group_needs_close h0 h1 h2 h3) en ei (atom_nil h0') = cc
-  atom_one (atom_group_needs_close h0 h1 h2 h3) en ei (atom_group_deep h0' h1') = absurd (omega arith)
-  atom_one (atom_group_needs_close h0 h1 h2 h3) en ei (atom_group_stops_x h0' h1' h2') = let s1 = whole_one h2 (ap (λ z. z - 1) en) (ap (λ z. next z) ei) h2' in cc
-  atom_one (atom_group_needs_close h0 h1 h2 h3) en ei (atom_group_needs_close h0' h1' h2' h3') = let s1 = whole_one h2 (ap (λ z. z - 1) en) (ap (λ z. next z) ei) h2' in cc
-  atom_one (atom_group_needs_close h0 h1 h2 h3) en ei (atom_group h0' h1' h2' h3') = let s1 = whole_one h2 (ap (λ z. z - 1) en) (ap (λ z. next z) ei) h2' in cc
-  atom_one (atom_group_needs_close h0 h1 h2 h3) en ei (atom_list_stops_xs h0' h1') = cc
-  atom_one (atom_group_needs_close h0 h1 h2 h3) en ei (atom_list h0' h1') = cc
-  atom_one (atom_group_needs_close h0 h1 h2 h3) en ei (atom_other h0') = cc
-  atom_one (atom_group h0 h1 h2 h3) en ei (atom_name h0' h1') = cc
-  atom_one (atom_group h0 h1 h2 h3) en ei (atom_int h0') = cc
-  atom_one (atom_group h0 h1 h2 h3) en ei (atom_str h0') = cc
-  atom_one (atom_group h0 h1 h2 h3) en ei (atom_true h0') = cc
-  atom_one (atom_group h0 h1 h2 h3) en ei (atom_false h0') = cc
-  atom_one (atom_group h0 h1 h2 h3) en ei (atom_nil h0') = cc
-  atom_one (atom_group h0 h1 h2 h3) en ei (atom_group_deep h0' h1') = absurd (omega arith)
-  atom_one (atom_group h0 h1 h2 h3) en ei (atom_group_stops_x h0' h1' h2') = let s1 = whole_one h2 (ap (λ z. z - 1) en) (ap (λ z. next z) ei) h2' in cc
-  atom_one (atom_group h0 h1 h2 h3) en ei (atom_group_needs_close h0' h1' h2' h3') = let s1 = whole_one h2 (ap (λ z. z - 1) en) (ap (λ z. next z) ei) h2' in cc
-  atom_one (atom_group h0 h1 h2 h3) en ei (atom_group h0' h1' h2' h3') = let s1 = whole_one h2 (ap (λ z. z - 1) en) (ap (λ z. next z) ei) h2' in cc
-  atom_one (atom_group h0 h1 h2 h3) en ei (atom_list_stops_xs h0' h1') = cc
-  atom_one (atom_group h0 h1 h2 h3) en ei (atom_list h0' h1') = cc
-  atom_one (atom_group h0 h1 h2 h3) en ei (atom_other h0') = cc
+  atom_one (atom_group h0 h1) en ei (atom_name h0' h1') = cc
+  atom_one (atom_group h0 h1) en ei (atom_int h0') = cc
+  atom_one (atom_group h0 h1) en ei (atom_str h0') = cc
+  atom_one (atom_group h0 h1) en ei (atom_true h0') = cc
+  atom_one (atom_group h0 h1) en ei (atom_false h0') = cc
+  atom_one (atom_group h0 h1) en ei (atom_nil h0') = cc
+  atom_one (atom_group h0 h1) en ei (atom_group h0' h1') = let s1 = group_one h1 en ei h1' in cc
+  atom_one (atom_group h0 h1) en ei (atom_list_stops_xs h0' h1') = cc
+  atom_one (atom_group h0 h1) en ei (atom_list h0' h1') = cc
+  atom_one (atom_group h0 h1) en ei (atom_other h0') = cc
   atom_one (atom_list_stops_xs h0 h1) en ei (atom_name h0' h1') = cc
   atom_one (atom_list_stops_xs h0 h1) en ei (atom_int h0') = cc
   atom_one (atom_list_stops_xs h0 h1) en ei (atom_str h0') = cc
   atom_one (atom_list_stops_xs h0 h1) en ei (atom_true h0') = cc
   atom_one (atom_list_stops_xs h0 h1) en ei (atom_false h0') = cc
   atom_one (atom_list_stops_xs h0 h1) en ei (atom_nil h0') = cc
-  atom_one (atom_list_stops_xs h0 h1) en ei (atom_group_deep h0' h1') = cc
-  atom_one (atom_list_stops_xs h0 h1) en ei (atom_group_stops_x h0' h1' h2') = cc
-  atom_one (atom_list_stops_xs h0 h1) en ei (atom_group_needs_close h0' h1' h2' h3') = cc
-  atom_one (atom_list_stops_xs h0 h1) en ei (atom_group h0' h1' h2' h3') = cc
+  atom_one (atom_list_stops_xs h0 h1) en ei (atom_group h0' h1') = cc
   atom_one (atom_list_stops_xs h0 h1) en ei (atom_list_stops_xs h0' h1') = let s1 = enclosed_one h1 en refl ei h1' in cc
   atom_one (atom_list_stops_xs h0 h1) en ei (atom_list h0' h1') = let s1 = enclosed_one h1 en refl ei h1' in cc
   atom_one (atom_list_stops_xs h0 h1) en ei (atom_other h0') = cc
@@ -640,10 +577,7 @@ mutual
   atom_one (atom_list h0 h1) en ei (atom_true h0') = cc
   atom_one (atom_list h0 h1) en ei (atom_false h0') = cc
   atom_one (atom_list h0 h1) en ei (atom_nil h0') = cc
-  atom_one (atom_list h0 h1) en ei (atom_group_deep h0' h1') = cc
-  atom_one (atom_list h0 h1) en ei (atom_group_stops_x h0' h1' h2') = cc
-  atom_one (atom_list h0 h1) en ei (atom_group_needs_close h0' h1' h2' h3') = cc
-  atom_one (atom_list h0 h1) en ei (atom_group h0' h1' h2' h3') = cc
+  atom_one (atom_list h0 h1) en ei (atom_group h0' h1') = cc
   atom_one (atom_list h0 h1) en ei (atom_list_stops_xs h0' h1') = let s1 = enclosed_one h1 en refl ei h1' in cc
   atom_one (atom_list h0 h1) en ei (atom_list h0' h1') = let s1 = enclosed_one h1 en refl ei h1' in cc
   atom_one (atom_list h0 h1) en ei (atom_other h0') = cc
@@ -653,13 +587,28 @@ mutual
   atom_one (atom_other h0) en ei (atom_true h0') = cc
   atom_one (atom_other h0) en ei (atom_false h0') = cc
   atom_one (atom_other h0) en ei (atom_nil h0') = cc
-  atom_one (atom_other h0) en ei (atom_group_deep h0' h1') = cc
-  atom_one (atom_other h0) en ei (atom_group_stops_x h0' h1' h2') = cc
-  atom_one (atom_other h0) en ei (atom_group_needs_close h0' h1' h2' h3') = cc
-  atom_one (atom_other h0) en ei (atom_group h0' h1' h2' h3') = cc
+  atom_one (atom_other h0) en ei (atom_group h0' h1') = cc
   atom_one (atom_other h0) en ei (atom_list_stops_xs h0' h1') = cc
   atom_one (atom_other h0) en ei (atom_list h0' h1') = cc
   atom_one (atom_other h0) en ei (atom_other h0') = cc
+
+  pub group_one : {n n' : ℕ} {i i' : Input} {o o' : Outcome PlainExpr} → IsGroup n i o → n ≡ n' → i ≡ i' → IsGroup n' i' o' → o ≡ o'
+  group_one (group_is_deep h0) en ei (group_is_deep h0') = cc
+  group_one (group_is_deep h0) en ei (group_is_stops_x h0' h1') = absurd (omega arith)
+  group_one (group_is_deep h0) en ei (group_is_needs_close h0' h1' h2') = absurd (omega arith)
+  group_one (group_is_deep h0) en ei (group_is h0' h1' h2') = absurd (omega arith)
+  group_one (group_is_stops_x h0 h1) en ei (group_is_deep h0') = absurd (omega arith)
+  group_one (group_is_stops_x h0 h1) en ei (group_is_stops_x h0' h1') = let s1 = whole_one h1 (ap (λ z. z - 1) en) (ap (λ z. next z) ei) h1' in cc
+  group_one (group_is_stops_x h0 h1) en ei (group_is_needs_close h0' h1' h2') = let s1 = whole_one h1 (ap (λ z. z - 1) en) (ap (λ z. next z) ei) h1' in cc
+  group_one (group_is_stops_x h0 h1) en ei (group_is h0' h1' h2') = let s1 = whole_one h1 (ap (λ z. z - 1) en) (ap (λ z. next z) ei) h1' in cc
+  group_one (group_is_needs_close h0 h1 h2) en ei (group_is_deep h0') = absurd (omega arith)
+  group_one (group_is_needs_close h0 h1 h2) en ei (group_is_stops_x h0' h1') = let s1 = whole_one h1 (ap (λ z. z - 1) en) (ap (λ z. next z) ei) h1' in cc
+  group_one (group_is_needs_close h0 h1 h2) en ei (group_is_needs_close h0' h1' h2') = let s1 = whole_one h1 (ap (λ z. z - 1) en) (ap (λ z. next z) ei) h1' in cc
+  group_one (group_is_needs_close h0 h1 h2) en ei (group_is h0' h1' h2') = let s1 = whole_one h1 (ap (λ z. z - 1) en) (ap (λ z. next z) ei) h1' in cc
+  group_one (group_is h0 h1 h2) en ei (group_is_deep h0') = absurd (omega arith)
+  group_one (group_is h0 h1 h2) en ei (group_is_stops_x h0' h1') = let s1 = whole_one h1 (ap (λ z. z - 1) en) (ap (λ z. next z) ei) h1' in cc
+  group_one (group_is h0 h1 h2) en ei (group_is_needs_close h0' h1' h2') = let s1 = whole_one h1 (ap (λ z. z - 1) en) (ap (λ z. next z) ei) h1' in cc
+  group_one (group_is h0 h1 h2) en ei (group_is h0' h1' h2') = let s1 = whole_one h1 (ap (λ z. z - 1) en) (ap (λ z. next z) ei) h1' in cc
 
   pub named_one : {n n' : ℕ} {i i' : Input} {o o' : Outcome PlainExpr} → IsNamed n i o → n ≡ n' → i ≡ i' → IsNamed n' i' o' → o ≡ o'
   named_one (named_call_stops_xs h0 h1) en ei (named_call_stops_xs h0' h1') = let s1 = enclosed_one h1 en refl (ap (λ z. named z) ei) h1' in cc

@@ -4,7 +4,7 @@ use Rattle.py_tree.specs.declared.terminal.Terminal.{Terminal}
 use Rattle.py_tree.specs.PlainProgram.{PlainParam, PlainMethod, PlainClass}
 use Rattle.py_tree.specs.Reading.{Input, Outcome, Nothing, next, named, next_line, column}
 use Rattle.py_tree.specs.Tokens.{PlainLine}
-use Rattle.py_tree.specs.Grammar.{levels, Parse, first_input, IsParams, IsMarker, IsDef, IsMethod, IsMethods, IsMembers, IsBrackets, IsHead, IsClass, IsMoreNames, IsNames, IsImported, IsImport, IsItems, IsFile, params_end, params_last, params_more_stops_t, params_more_stops_ps, params_more, marker_plain_needs_name, marker_plain_needs_line_end, marker_plain, marker_long_needs_dot, marker_long_needs_name, marker_long_needs_line_end, marker_long, def_is_needs_def, def_is_needs_name, def_is_needs_open, def_is_needs_selfword, def_is_stops_ps, def_is_needs_close, def_is_stops_t, def_is_stops_ys, def_is, method_marked_stops_u, method_marked_needs_line, method_marked, method_plain, methods_end, methods_shifted, methods_more_stops_d, methods_more_stops_ds, methods_more, members_none, members_plain, members_doc_needs_line_end, members_doc_needs_method, members_doc, brackets_none, brackets_is_needs_close, brackets_is, head_is_needs_class, head_is_needs_name, head_is_stops_u, head_is_needs_colon, head_is_needs_line_end, head_is_stops_ds, head_is, class_is_needs_at, class_is_stops_u, class_is_needs_line, class_is, more_names_end, more_names_more, more_names_last, more_names_other, names_is_needs_name, names_is, imported_plain, imported_enclosed_stops_u, imported_enclosed_needs_close, imported_enclosed, import_from_needs_module, import_from_needs_import, import_from_stops_u, import_from_needs_line_end, import_from, import_whole_needs_import, import_whole_needs_stateflowword, import_whole_needs_line_end, import_whole, items_end, items_shifted, items_import_stops_u, items_import, items_class_stops_d, items_class_stops_ds, items_class, file_doc_needs_line_end, file_doc, file_plain, IsProgram, program_is, program_stops}
+use Rattle.py_tree.specs.Grammar.{levels, Parse, first_input, IsParams, IsMarker, IsSignature, IsDef, IsMethod, IsMethods, IsMembers, IsBrackets, IsHead, IsClass, IsMoreNames, IsNames, IsImported, IsLineEnd, IsImportFrom, IsImport, IsItems, IsFile, params_end, params_last, params_more_stops_t, params_more_stops_ps, params_more, marker_plain_needs_name, marker_plain_needs_line_end, marker_plain, marker_long_needs_dot, marker_long_needs_name, marker_long_needs_line_end, marker_long, signature_is_needs_open, signature_is_needs_selfword, signature_is_stops_ps, signature_is_needs_close, signature_is, def_is_needs_def, def_is_needs_name, def_is_stops_ps, def_is_stops_t, def_is_stops_ys, def_is, method_marked_stops_u, method_marked_needs_line, method_marked, method_plain, methods_end, methods_shifted, methods_more_stops_d, methods_more_stops_ds, methods_more, members_plain, members_none, members_doc_needs_line_end, members_doc_needs_method, members_doc, brackets_none, brackets_is_needs_close, brackets_is, head_is_needs_class, head_is_needs_name, head_is_stops_u, head_is_needs_colon, head_is_needs_line_end, head_is_stops_ds, head_is, class_is_needs_at, class_is_stops_u, class_is_needs_line, class_is, more_names_end, more_names_more, more_names_last, more_names_other, names_is_needs_name, names_is, imported_plain, imported_enclosed_stops_u, imported_enclosed_needs_close, imported_enclosed, line_end_is_needs_line_end, line_end_is, import_from_is_needs_module, import_from_is_needs_import, import_from_is_stops_u, import_from_is, import_from, import_whole_needs_import, import_whole_needs_stateflowword, import_whole, items_end, items_shifted, items_import_stops_u, items_import, items_class_stops_d, items_class_stops_ds, items_class, file_doc_needs_line_end, file_doc, file_plain, IsProgram, program_is, program_stops}
 use Rattle.py_tree.proofs.OneOutcome.{same_rest, same_part}
 use Rattle.py_tree.proofs.OneType.{annotation_one}
 use Rattle.py_tree.proofs.OneStatement.{body_one}
@@ -87,88 +87,70 @@ marker_one (marker_long h0 h1 h2 h3) ec ei (marker_long_needs_name h0' h1' h2') 
 marker_one (marker_long h0 h1 h2 h3) ec ei (marker_long_needs_line_end h0' h1' h2' h3') = cc
 marker_one (marker_long h0 h1 h2 h3) ec ei (marker_long h0' h1' h2' h3') = cc
 
+pub signature_one : {i i' : Input} {o o' : Outcome (List PlainParam)} → IsSignature i o → i ≡ i' → IsSignature i' o' → o ≡ o'
+signature_one (signature_is_needs_open h0) ei (signature_is_needs_open h0') = cc
+signature_one (signature_is_needs_open h0) ei (signature_is_needs_selfword h0' h1') = cc
+signature_one (signature_is_needs_open h0) ei (signature_is_stops_ps h0' h1' h2') = cc
+signature_one (signature_is_needs_open h0) ei (signature_is_needs_close h0' h1' h2' h3') = cc
+signature_one (signature_is_needs_open h0) ei (signature_is h0' h1' h2' h3') = cc
+signature_one (signature_is_needs_selfword h0 h1) ei (signature_is_needs_open h0') = cc
+signature_one (signature_is_needs_selfword h0 h1) ei (signature_is_needs_selfword h0' h1') = cc
+signature_one (signature_is_needs_selfword h0 h1) ei (signature_is_stops_ps h0' h1' h2') = cc
+signature_one (signature_is_needs_selfword h0 h1) ei (signature_is_needs_close h0' h1' h2' h3') = cc
+signature_one (signature_is_needs_selfword h0 h1) ei (signature_is h0' h1' h2' h3') = cc
+signature_one (signature_is_stops_ps h0 h1 h2) ei (signature_is_needs_open h0') = cc
+signature_one (signature_is_stops_ps h0 h1 h2) ei (signature_is_needs_selfword h0' h1') = cc
+signature_one (signature_is_stops_ps h0 h1 h2) ei (signature_is_stops_ps h0' h1' h2') = let s1 = params_one h2 refl (ap (λ z. next (next z)) ei) h2' in cc
+signature_one (signature_is_stops_ps h0 h1 h2) ei (signature_is_needs_close h0' h1' h2' h3') = let s1 = params_one h2 refl (ap (λ z. next (next z)) ei) h2' in cc
+signature_one (signature_is_stops_ps h0 h1 h2) ei (signature_is h0' h1' h2' h3') = let s1 = params_one h2 refl (ap (λ z. next (next z)) ei) h2' in cc
+signature_one (signature_is_needs_close h0 h1 h2 h3) ei (signature_is_needs_open h0') = cc
+signature_one (signature_is_needs_close h0 h1 h2 h3) ei (signature_is_needs_selfword h0' h1') = cc
+signature_one (signature_is_needs_close h0 h1 h2 h3) ei (signature_is_stops_ps h0' h1' h2') = let s1 = params_one h2 refl (ap (λ z. next (next z)) ei) h2' in cc
+signature_one (signature_is_needs_close h0 h1 h2 h3) ei (signature_is_needs_close h0' h1' h2' h3') = let s1 = params_one h2 refl (ap (λ z. next (next z)) ei) h2' in cc
+signature_one (signature_is_needs_close h0 h1 h2 h3) ei (signature_is h0' h1' h2' h3') = let s1 = params_one h2 refl (ap (λ z. next (next z)) ei) h2' in cc
+signature_one (signature_is h0 h1 h2 h3) ei (signature_is_needs_open h0') = cc
+signature_one (signature_is h0 h1 h2 h3) ei (signature_is_needs_selfword h0' h1') = cc
+signature_one (signature_is h0 h1 h2 h3) ei (signature_is_stops_ps h0' h1' h2') = let s1 = params_one h2 refl (ap (λ z. next (next z)) ei) h2' in cc
+signature_one (signature_is h0 h1 h2 h3) ei (signature_is_needs_close h0' h1' h2' h3') = let s1 = params_one h2 refl (ap (λ z. next (next z)) ei) h2' in cc
+signature_one (signature_is h0 h1 h2 h3) ei (signature_is h0' h1' h2' h3') = let s1 = params_one h2 refl (ap (λ z. next (next z)) ei) h2' in cc
+
 pub def_one : {c c' : ℕ} {i i' : Input} {o o' : Outcome PlainMethod} → IsDef c i o → c ≡ c' → i ≡ i' → IsDef c' i' o' → o ≡ o'
 def_one (def_is_needs_def h0) ec ei (def_is_needs_def h0') = cc
 def_one (def_is_needs_def h0) ec ei (def_is_needs_name h0' h1') = cc
-def_one (def_is_needs_def h0) ec ei (def_is_needs_open h0' h1' h2') = cc
-def_one (def_is_needs_def h0) ec ei (def_is_needs_selfword h0' h1' h2' h3') = cc
-def_one (def_is_needs_def h0) ec ei (def_is_stops_ps h0' h1' h2' h3' h4') = cc
-def_one (def_is_needs_def h0) ec ei (def_is_needs_close h0' h1' h2' h3' h4' h5') = cc
-def_one (def_is_needs_def h0) ec ei (def_is_stops_t h0' h1' h2' h3' h4' h5' h6') = cc
-def_one (def_is_needs_def h0) ec ei (def_is_stops_ys h0' h1' h2' h3' h4' h5' h6' h7') = cc
-def_one (def_is_needs_def h0) ec ei (def_is h0' h1' h2' h3' h4' h5' h6' h7') = cc
+def_one (def_is_needs_def h0) ec ei (def_is_stops_ps h0' h1' h2') = cc
+def_one (def_is_needs_def h0) ec ei (def_is_stops_t h0' h1' h2' h3') = cc
+def_one (def_is_needs_def h0) ec ei (def_is_stops_ys h0' h1' h2' h3' h4') = cc
+def_one (def_is_needs_def h0) ec ei (def_is h0' h1' h2' h3' h4') = cc
 def_one (def_is_needs_name h0 h1) ec ei (def_is_needs_def h0') = cc
 def_one (def_is_needs_name h0 h1) ec ei (def_is_needs_name h0' h1') = cc
-def_one (def_is_needs_name h0 h1) ec ei (def_is_needs_open h0' h1' h2') = cc
-def_one (def_is_needs_name h0 h1) ec ei (def_is_needs_selfword h0' h1' h2' h3') = cc
-def_one (def_is_needs_name h0 h1) ec ei (def_is_stops_ps h0' h1' h2' h3' h4') = cc
-def_one (def_is_needs_name h0 h1) ec ei (def_is_needs_close h0' h1' h2' h3' h4' h5') = cc
-def_one (def_is_needs_name h0 h1) ec ei (def_is_stops_t h0' h1' h2' h3' h4' h5' h6') = cc
-def_one (def_is_needs_name h0 h1) ec ei (def_is_stops_ys h0' h1' h2' h3' h4' h5' h6' h7') = cc
-def_one (def_is_needs_name h0 h1) ec ei (def_is h0' h1' h2' h3' h4' h5' h6' h7') = cc
-def_one (def_is_needs_open h0 h1 h2) ec ei (def_is_needs_def h0') = cc
-def_one (def_is_needs_open h0 h1 h2) ec ei (def_is_needs_name h0' h1') = cc
-def_one (def_is_needs_open h0 h1 h2) ec ei (def_is_needs_open h0' h1' h2') = cc
-def_one (def_is_needs_open h0 h1 h2) ec ei (def_is_needs_selfword h0' h1' h2' h3') = cc
-def_one (def_is_needs_open h0 h1 h2) ec ei (def_is_stops_ps h0' h1' h2' h3' h4') = cc
-def_one (def_is_needs_open h0 h1 h2) ec ei (def_is_needs_close h0' h1' h2' h3' h4' h5') = cc
-def_one (def_is_needs_open h0 h1 h2) ec ei (def_is_stops_t h0' h1' h2' h3' h4' h5' h6') = cc
-def_one (def_is_needs_open h0 h1 h2) ec ei (def_is_stops_ys h0' h1' h2' h3' h4' h5' h6' h7') = cc
-def_one (def_is_needs_open h0 h1 h2) ec ei (def_is h0' h1' h2' h3' h4' h5' h6' h7') = cc
-def_one (def_is_needs_selfword h0 h1 h2 h3) ec ei (def_is_needs_def h0') = cc
-def_one (def_is_needs_selfword h0 h1 h2 h3) ec ei (def_is_needs_name h0' h1') = cc
-def_one (def_is_needs_selfword h0 h1 h2 h3) ec ei (def_is_needs_open h0' h1' h2') = cc
-def_one (def_is_needs_selfword h0 h1 h2 h3) ec ei (def_is_needs_selfword h0' h1' h2' h3') = cc
-def_one (def_is_needs_selfword h0 h1 h2 h3) ec ei (def_is_stops_ps h0' h1' h2' h3' h4') = cc
-def_one (def_is_needs_selfword h0 h1 h2 h3) ec ei (def_is_needs_close h0' h1' h2' h3' h4' h5') = cc
-def_one (def_is_needs_selfword h0 h1 h2 h3) ec ei (def_is_stops_t h0' h1' h2' h3' h4' h5' h6') = cc
-def_one (def_is_needs_selfword h0 h1 h2 h3) ec ei (def_is_stops_ys h0' h1' h2' h3' h4' h5' h6' h7') = cc
-def_one (def_is_needs_selfword h0 h1 h2 h3) ec ei (def_is h0' h1' h2' h3' h4' h5' h6' h7') = cc
-def_one (def_is_stops_ps h0 h1 h2 h3 h4) ec ei (def_is_needs_def h0') = cc
-def_one (def_is_stops_ps h0 h1 h2 h3 h4) ec ei (def_is_needs_name h0' h1') = cc
-def_one (def_is_stops_ps h0 h1 h2 h3 h4) ec ei (def_is_needs_open h0' h1' h2') = cc
-def_one (def_is_stops_ps h0 h1 h2 h3 h4) ec ei (def_is_needs_selfword h0' h1' h2' h3') = cc
-def_one (def_is_stops_ps h0 h1 h2 h3 h4) ec ei (def_is_stops_ps h0' h1' h2' h3' h4') = let s1 = params_one h4 refl (ap (λ z. next (next (named (next z)))) ei) h4' in cc
-def_one (def_is_stops_ps h0 h1 h2 h3 h4) ec ei (def_is_needs_close h0' h1' h2' h3' h4' h5') = let s1 = params_one h4 refl (ap (λ z. next (next (named (next z)))) ei) h4' in cc
-def_one (def_is_stops_ps h0 h1 h2 h3 h4) ec ei (def_is_stops_t h0' h1' h2' h3' h4' h5' h6') = let s1 = params_one h4 refl (ap (λ z. next (next (named (next z)))) ei) h4' in cc
-def_one (def_is_stops_ps h0 h1 h2 h3 h4) ec ei (def_is_stops_ys h0' h1' h2' h3' h4' h5' h6' h7') = let s1 = params_one h4 refl (ap (λ z. next (next (named (next z)))) ei) h4' in cc
-def_one (def_is_stops_ps h0 h1 h2 h3 h4) ec ei (def_is h0' h1' h2' h3' h4' h5' h6' h7') = let s1 = params_one h4 refl (ap (λ z. next (next (named (next z)))) ei) h4' in cc
-def_one (def_is_needs_close h0 h1 h2 h3 h4 h5) ec ei (def_is_needs_def h0') = cc
-def_one (def_is_needs_close h0 h1 h2 h3 h4 h5) ec ei (def_is_needs_name h0' h1') = cc
-def_one (def_is_needs_close h0 h1 h2 h3 h4 h5) ec ei (def_is_needs_open h0' h1' h2') = cc
-def_one (def_is_needs_close h0 h1 h2 h3 h4 h5) ec ei (def_is_needs_selfword h0' h1' h2' h3') = cc
-def_one (def_is_needs_close h0 h1 h2 h3 h4 h5) ec ei (def_is_stops_ps h0' h1' h2' h3' h4') = let s1 = params_one h4 refl (ap (λ z. next (next (named (next z)))) ei) h4' in cc
-def_one (def_is_needs_close h0 h1 h2 h3 h4 h5) ec ei (def_is_needs_close h0' h1' h2' h3' h4' h5') = let s1 = params_one h4 refl (ap (λ z. next (next (named (next z)))) ei) h4' in cc
-def_one (def_is_needs_close h0 h1 h2 h3 h4 h5) ec ei (def_is_stops_t h0' h1' h2' h3' h4' h5' h6') = let s1 = params_one h4 refl (ap (λ z. next (next (named (next z)))) ei) h4' in cc
-def_one (def_is_needs_close h0 h1 h2 h3 h4 h5) ec ei (def_is_stops_ys h0' h1' h2' h3' h4' h5' h6' h7') = let s1 = params_one h4 refl (ap (λ z. next (next (named (next z)))) ei) h4' in cc
-def_one (def_is_needs_close h0 h1 h2 h3 h4 h5) ec ei (def_is h0' h1' h2' h3' h4' h5' h6' h7') = let s1 = params_one h4 refl (ap (λ z. next (next (named (next z)))) ei) h4' in cc
-def_one (def_is_stops_t h0 h1 h2 h3 h4 h5 h6) ec ei (def_is_needs_def h0') = cc
-def_one (def_is_stops_t h0 h1 h2 h3 h4 h5 h6) ec ei (def_is_needs_name h0' h1') = cc
-def_one (def_is_stops_t h0 h1 h2 h3 h4 h5 h6) ec ei (def_is_needs_open h0' h1' h2') = cc
-def_one (def_is_stops_t h0 h1 h2 h3 h4 h5 h6) ec ei (def_is_needs_selfword h0' h1' h2' h3') = cc
-def_one (def_is_stops_t h0 h1 h2 h3 h4 h5 h6) ec ei (def_is_stops_ps h0' h1' h2' h3' h4') = let s1 = params_one h4 refl (ap (λ z. next (next (named (next z)))) ei) h4' in cc
-def_one (def_is_stops_t h0 h1 h2 h3 h4 h5 h6) ec ei (def_is_needs_close h0' h1' h2' h3' h4' h5') = let s1 = params_one h4 refl (ap (λ z. next (next (named (next z)))) ei) h4' in cc
-def_one (def_is_stops_t h0 h1 h2 h3 h4 h5 h6) ec ei (def_is_stops_t h0' h1' h2' h3' h4' h5' h6') = let s1 = params_one h4 refl (ap (λ z. next (next (named (next z)))) ei) h4' in let s2 = annotation_one h6 refl refl (ap (λ z. next z) (same_rest s1)) h6' in cc
-def_one (def_is_stops_t h0 h1 h2 h3 h4 h5 h6) ec ei (def_is_stops_ys h0' h1' h2' h3' h4' h5' h6' h7') = let s1 = params_one h4 refl (ap (λ z. next (next (named (next z)))) ei) h4' in let s2 = annotation_one h6 refl refl (ap (λ z. next z) (same_rest s1)) h6' in cc
-def_one (def_is_stops_t h0 h1 h2 h3 h4 h5 h6) ec ei (def_is h0' h1' h2' h3' h4' h5' h6' h7') = let s1 = params_one h4 refl (ap (λ z. next (next (named (next z)))) ei) h4' in let s2 = annotation_one h6 refl refl (ap (λ z. next z) (same_rest s1)) h6' in cc
-def_one (def_is_stops_ys h0 h1 h2 h3 h4 h5 h6 h7) ec ei (def_is_needs_def h0') = cc
-def_one (def_is_stops_ys h0 h1 h2 h3 h4 h5 h6 h7) ec ei (def_is_needs_name h0' h1') = cc
-def_one (def_is_stops_ys h0 h1 h2 h3 h4 h5 h6 h7) ec ei (def_is_needs_open h0' h1' h2') = cc
-def_one (def_is_stops_ys h0 h1 h2 h3 h4 h5 h6 h7) ec ei (def_is_needs_selfword h0' h1' h2' h3') = cc
-def_one (def_is_stops_ys h0 h1 h2 h3 h4 h5 h6 h7) ec ei (def_is_stops_ps h0' h1' h2' h3' h4') = let s1 = params_one h4 refl (ap (λ z. next (next (named (next z)))) ei) h4' in cc
-def_one (def_is_stops_ys h0 h1 h2 h3 h4 h5 h6 h7) ec ei (def_is_needs_close h0' h1' h2' h3' h4' h5') = let s1 = params_one h4 refl (ap (λ z. next (next (named (next z)))) ei) h4' in cc
-def_one (def_is_stops_ys h0 h1 h2 h3 h4 h5 h6 h7) ec ei (def_is_stops_t h0' h1' h2' h3' h4' h5' h6') = let s1 = params_one h4 refl (ap (λ z. next (next (named (next z)))) ei) h4' in let s2 = annotation_one h6 refl refl (ap (λ z. next z) (same_rest s1)) h6' in cc
-def_one (def_is_stops_ys h0 h1 h2 h3 h4 h5 h6 h7) ec ei (def_is_stops_ys h0' h1' h2' h3' h4' h5' h6' h7') = let s1 = params_one h4 refl (ap (λ z. next (next (named (next z)))) ei) h4' in let s2 = annotation_one h6 refl refl (ap (λ z. next z) (same_rest s1)) h6' in let s3 = body_one h7 refl ec (same_rest s2) h7' in cc
-def_one (def_is_stops_ys h0 h1 h2 h3 h4 h5 h6 h7) ec ei (def_is h0' h1' h2' h3' h4' h5' h6' h7') = let s1 = params_one h4 refl (ap (λ z. next (next (named (next z)))) ei) h4' in let s2 = annotation_one h6 refl refl (ap (λ z. next z) (same_rest s1)) h6' in let s3 = body_one h7 refl ec (same_rest s2) h7' in cc
-def_one (def_is h0 h1 h2 h3 h4 h5 h6 h7) ec ei (def_is_needs_def h0') = cc
-def_one (def_is h0 h1 h2 h3 h4 h5 h6 h7) ec ei (def_is_needs_name h0' h1') = cc
-def_one (def_is h0 h1 h2 h3 h4 h5 h6 h7) ec ei (def_is_needs_open h0' h1' h2') = cc
-def_one (def_is h0 h1 h2 h3 h4 h5 h6 h7) ec ei (def_is_needs_selfword h0' h1' h2' h3') = cc
-def_one (def_is h0 h1 h2 h3 h4 h5 h6 h7) ec ei (def_is_stops_ps h0' h1' h2' h3' h4') = let s1 = params_one h4 refl (ap (λ z. next (next (named (next z)))) ei) h4' in cc
-def_one (def_is h0 h1 h2 h3 h4 h5 h6 h7) ec ei (def_is_needs_close h0' h1' h2' h3' h4' h5') = let s1 = params_one h4 refl (ap (λ z. next (next (named (next z)))) ei) h4' in cc
-def_one (def_is h0 h1 h2 h3 h4 h5 h6 h7) ec ei (def_is_stops_t h0' h1' h2' h3' h4' h5' h6') = let s1 = params_one h4 refl (ap (λ z. next (next (named (next z)))) ei) h4' in let s2 = annotation_one h6 refl refl (ap (λ z. next z) (same_rest s1)) h6' in cc
-def_one (def_is h0 h1 h2 h3 h4 h5 h6 h7) ec ei (def_is_stops_ys h0' h1' h2' h3' h4' h5' h6' h7') = let s1 = params_one h4 refl (ap (λ z. next (next (named (next z)))) ei) h4' in let s2 = annotation_one h6 refl refl (ap (λ z. next z) (same_rest s1)) h6' in let s3 = body_one h7 refl ec (same_rest s2) h7' in cc
-def_one (def_is h0 h1 h2 h3 h4 h5 h6 h7) ec ei (def_is h0' h1' h2' h3' h4' h5' h6' h7') = let s1 = params_one h4 refl (ap (λ z. next (next (named (next z)))) ei) h4' in let s2 = annotation_one h6 refl refl (ap (λ z. next z) (same_rest s1)) h6' in let s3 = body_one h7 refl ec (same_rest s2) h7' in cc
+def_one (def_is_needs_name h0 h1) ec ei (def_is_stops_ps h0' h1' h2') = cc
+def_one (def_is_needs_name h0 h1) ec ei (def_is_stops_t h0' h1' h2' h3') = cc
+def_one (def_is_needs_name h0 h1) ec ei (def_is_stops_ys h0' h1' h2' h3' h4') = cc
+def_one (def_is_needs_name h0 h1) ec ei (def_is h0' h1' h2' h3' h4') = cc
+def_one (def_is_stops_ps h0 h1 h2) ec ei (def_is_needs_def h0') = cc
+def_one (def_is_stops_ps h0 h1 h2) ec ei (def_is_needs_name h0' h1') = cc
+def_one (def_is_stops_ps h0 h1 h2) ec ei (def_is_stops_ps h0' h1' h2') = let s1 = signature_one h2 (ap (λ z. named (next z)) ei) h2' in cc
+def_one (def_is_stops_ps h0 h1 h2) ec ei (def_is_stops_t h0' h1' h2' h3') = let s1 = signature_one h2 (ap (λ z. named (next z)) ei) h2' in cc
+def_one (def_is_stops_ps h0 h1 h2) ec ei (def_is_stops_ys h0' h1' h2' h3' h4') = let s1 = signature_one h2 (ap (λ z. named (next z)) ei) h2' in cc
+def_one (def_is_stops_ps h0 h1 h2) ec ei (def_is h0' h1' h2' h3' h4') = let s1 = signature_one h2 (ap (λ z. named (next z)) ei) h2' in cc
+def_one (def_is_stops_t h0 h1 h2 h3) ec ei (def_is_needs_def h0') = cc
+def_one (def_is_stops_t h0 h1 h2 h3) ec ei (def_is_needs_name h0' h1') = cc
+def_one (def_is_stops_t h0 h1 h2 h3) ec ei (def_is_stops_ps h0' h1' h2') = let s1 = signature_one h2 (ap (λ z. named (next z)) ei) h2' in cc
+def_one (def_is_stops_t h0 h1 h2 h3) ec ei (def_is_stops_t h0' h1' h2' h3') = let s1 = signature_one h2 (ap (λ z. named (next z)) ei) h2' in let s2 = annotation_one h3 refl refl (same_rest s1) h3' in cc
+def_one (def_is_stops_t h0 h1 h2 h3) ec ei (def_is_stops_ys h0' h1' h2' h3' h4') = let s1 = signature_one h2 (ap (λ z. named (next z)) ei) h2' in let s2 = annotation_one h3 refl refl (same_rest s1) h3' in cc
+def_one (def_is_stops_t h0 h1 h2 h3) ec ei (def_is h0' h1' h2' h3' h4') = let s1 = signature_one h2 (ap (λ z. named (next z)) ei) h2' in let s2 = annotation_one h3 refl refl (same_rest s1) h3' in cc
+def_one (def_is_stops_ys h0 h1 h2 h3 h4) ec ei (def_is_needs_def h0') = cc
+def_one (def_is_stops_ys h0 h1 h2 h3 h4) ec ei (def_is_needs_name h0' h1') = cc
+def_one (def_is_stops_ys h0 h1 h2 h3 h4) ec ei (def_is_stops_ps h0' h1' h2') = let s1 = signature_one h2 (ap (λ z. named (next z)) ei) h2' in cc
+def_one (def_is_stops_ys h0 h1 h2 h3 h4) ec ei (def_is_stops_t h0' h1' h2' h3') = let s1 = signature_one h2 (ap (λ z. named (next z)) ei) h2' in let s2 = annotation_one h3 refl refl (same_rest s1) h3' in cc
+def_one (def_is_stops_ys h0 h1 h2 h3 h4) ec ei (def_is_stops_ys h0' h1' h2' h3' h4') = let s1 = signature_one h2 (ap (λ z. named (next z)) ei) h2' in let s2 = annotation_one h3 refl refl (same_rest s1) h3' in let s3 = body_one h4 refl ec (same_rest s2) h4' in cc
+def_one (def_is_stops_ys h0 h1 h2 h3 h4) ec ei (def_is h0' h1' h2' h3' h4') = let s1 = signature_one h2 (ap (λ z. named (next z)) ei) h2' in let s2 = annotation_one h3 refl refl (same_rest s1) h3' in let s3 = body_one h4 refl ec (same_rest s2) h4' in cc
+def_one (def_is h0 h1 h2 h3 h4) ec ei (def_is_needs_def h0') = cc
+def_one (def_is h0 h1 h2 h3 h4) ec ei (def_is_needs_name h0' h1') = cc
+def_one (def_is h0 h1 h2 h3 h4) ec ei (def_is_stops_ps h0' h1' h2') = let s1 = signature_one h2 (ap (λ z. named (next z)) ei) h2' in cc
+def_one (def_is h0 h1 h2 h3 h4) ec ei (def_is_stops_t h0' h1' h2' h3') = let s1 = signature_one h2 (ap (λ z. named (next z)) ei) h2' in let s2 = annotation_one h3 refl refl (same_rest s1) h3' in cc
+def_one (def_is h0 h1 h2 h3 h4) ec ei (def_is_stops_ys h0' h1' h2' h3' h4') = let s1 = signature_one h2 (ap (λ z. named (next z)) ei) h2' in let s2 = annotation_one h3 refl refl (same_rest s1) h3' in let s3 = body_one h4 refl ec (same_rest s2) h4' in cc
+def_one (def_is h0 h1 h2 h3 h4) ec ei (def_is h0' h1' h2' h3' h4') = let s1 = signature_one h2 (ap (λ z. named (next z)) ei) h2' in let s2 = annotation_one h3 refl refl (same_rest s1) h3' in let s3 = body_one h4 refl ec (same_rest s2) h4' in cc
 
 pub method_one : {c c' : ℕ} {i i' : Input} {o o' : Outcome PlainMethod} → IsMethod c i o → c ≡ c' → i ≡ i' → IsMethod c' i' o' → o ≡ o'
 method_one (method_marked_stops_u h0 h1) ec ei (method_marked_stops_u h0' h1') = let s1 = marker_one h1 refl (ap (λ z. next z) ei) h1' in cc
@@ -216,31 +198,31 @@ methods_one (methods_more h0 h1 h2 h3) ec ei (methods_more_stops_ds h0' h1' h2' 
 methods_one (methods_more h0 h1 h2 h3) ec ei (methods_more h0' h1' h2' h3') = let s1 = method_one h2 ec (ap (λ z. next_line z) ei) h2' in let s2 = methods_one h3 ec (same_rest s1) h3' in cc
 
 pub members_one : {i i' : Input} {o o' : Outcome (List PlainMethod)} → IsMembers i o → i ≡ i' → IsMembers i' o' → o ≡ o'
-members_one (members_none h0) ei (members_none h0') = cc
-members_one (members_none h0) ei (members_plain h0' h1' h2') = cc
-members_one (members_none h0) ei (members_doc_needs_line_end h0' h1' h2') = cc
-members_one (members_none h0) ei (members_doc_needs_method h0' h1' h2' h3') = cc
-members_one (members_none h0) ei (members_doc h0' h1' h2' h3' h4') = cc
-members_one (members_plain h0 h1 h2) ei (members_none h0') = cc
 members_one (members_plain h0 h1 h2) ei (members_plain h0' h1' h2') = let s1 = methods_one h2 (ap (λ z. column z) ei) ei h2' in cc
-members_one (members_plain h0 h1 h2) ei (members_doc_needs_line_end h0' h1' h2') = cc
-members_one (members_plain h0 h1 h2) ei (members_doc_needs_method h0' h1' h2' h3') = cc
-members_one (members_plain h0 h1 h2) ei (members_doc h0' h1' h2' h3' h4') = cc
-members_one (members_doc_needs_line_end h0 h1 h2) ei (members_none h0') = cc
-members_one (members_doc_needs_line_end h0 h1 h2) ei (members_plain h0' h1' h2') = cc
-members_one (members_doc_needs_line_end h0 h1 h2) ei (members_doc_needs_line_end h0' h1' h2') = cc
-members_one (members_doc_needs_line_end h0 h1 h2) ei (members_doc_needs_method h0' h1' h2' h3') = cc
-members_one (members_doc_needs_line_end h0 h1 h2) ei (members_doc h0' h1' h2' h3' h4') = cc
-members_one (members_doc_needs_method h0 h1 h2 h3) ei (members_none h0') = cc
-members_one (members_doc_needs_method h0 h1 h2 h3) ei (members_plain h0' h1' h2') = cc
-members_one (members_doc_needs_method h0 h1 h2 h3) ei (members_doc_needs_line_end h0' h1' h2') = cc
-members_one (members_doc_needs_method h0 h1 h2 h3) ei (members_doc_needs_method h0' h1' h2' h3') = cc
-members_one (members_doc_needs_method h0 h1 h2 h3) ei (members_doc h0' h1' h2' h3' h4') = cc
-members_one (members_doc h0 h1 h2 h3 h4) ei (members_none h0') = cc
-members_one (members_doc h0 h1 h2 h3 h4) ei (members_plain h0' h1' h2') = cc
-members_one (members_doc h0 h1 h2 h3 h4) ei (members_doc_needs_line_end h0' h1' h2') = cc
-members_one (members_doc h0 h1 h2 h3 h4) ei (members_doc_needs_method h0' h1' h2' h3') = cc
-members_one (members_doc h0 h1 h2 h3 h4) ei (members_doc h0' h1' h2' h3' h4') = let s1 = methods_one h4 (ap (λ z. column z) ei) (ap (λ z. next (next_line z)) ei) h4' in cc
+members_one (members_plain h0 h1 h2) ei (members_none h0' h1') = cc
+members_one (members_plain h0 h1 h2) ei (members_doc_needs_line_end h0' h1') = cc
+members_one (members_plain h0 h1 h2) ei (members_doc_needs_method h0' h1' h2') = cc
+members_one (members_plain h0 h1 h2) ei (members_doc h0' h1' h2' h3') = cc
+members_one (members_none h0 h1) ei (members_plain h0' h1' h2') = cc
+members_one (members_none h0 h1) ei (members_none h0' h1') = cc
+members_one (members_none h0 h1) ei (members_doc_needs_line_end h0' h1') = cc
+members_one (members_none h0 h1) ei (members_doc_needs_method h0' h1' h2') = cc
+members_one (members_none h0 h1) ei (members_doc h0' h1' h2' h3') = cc
+members_one (members_doc_needs_line_end h0 h1) ei (members_plain h0' h1' h2') = cc
+members_one (members_doc_needs_line_end h0 h1) ei (members_none h0' h1') = cc
+members_one (members_doc_needs_line_end h0 h1) ei (members_doc_needs_line_end h0' h1') = cc
+members_one (members_doc_needs_line_end h0 h1) ei (members_doc_needs_method h0' h1' h2') = cc
+members_one (members_doc_needs_line_end h0 h1) ei (members_doc h0' h1' h2' h3') = cc
+members_one (members_doc_needs_method h0 h1 h2) ei (members_plain h0' h1' h2') = cc
+members_one (members_doc_needs_method h0 h1 h2) ei (members_none h0' h1') = cc
+members_one (members_doc_needs_method h0 h1 h2) ei (members_doc_needs_line_end h0' h1') = cc
+members_one (members_doc_needs_method h0 h1 h2) ei (members_doc_needs_method h0' h1' h2') = cc
+members_one (members_doc_needs_method h0 h1 h2) ei (members_doc h0' h1' h2' h3') = cc
+members_one (members_doc h0 h1 h2 h3) ei (members_plain h0' h1' h2') = cc
+members_one (members_doc h0 h1 h2 h3) ei (members_none h0' h1') = cc
+members_one (members_doc h0 h1 h2 h3) ei (members_doc_needs_line_end h0' h1') = cc
+members_one (members_doc h0 h1 h2 h3) ei (members_doc_needs_method h0' h1' h2') = cc
+members_one (members_doc h0 h1 h2 h3) ei (members_doc h0' h1' h2' h3') = let s1 = methods_one h3 (ap (λ z. column z) ei) (ap (λ z. next (next_line z)) ei) h3' in cc
 
 pub brackets_one : {i i' : Input} {o o' : Outcome Nothing} → IsBrackets i o → i ≡ i' → IsBrackets i' o' → o ≡ o'
 brackets_one (brackets_none h0) ei (brackets_none h0') = cc
@@ -364,88 +346,47 @@ imported_one (imported_enclosed h0 h1 h2) ei (imported_enclosed_stops_u h0' h1')
 imported_one (imported_enclosed h0 h1 h2) ei (imported_enclosed_needs_close h0' h1' h2') = let s1 = names_one h1 refl (ap (λ z. next z) ei) h1' in cc
 imported_one (imported_enclosed h0 h1 h2) ei (imported_enclosed h0' h1' h2') = let s1 = names_one h1 refl (ap (λ z. next z) ei) h1' in cc
 
+pub line_end_one : {i i' : Input} {o o' : Outcome Nothing} → IsLineEnd i o → i ≡ i' → IsLineEnd i' o' → o ≡ o'
+line_end_one (line_end_is_needs_line_end h0) ei (line_end_is_needs_line_end h0') = cc
+line_end_one (line_end_is_needs_line_end h0) ei (line_end_is h0') = cc
+line_end_one (line_end_is h0) ei (line_end_is_needs_line_end h0') = cc
+line_end_one (line_end_is h0) ei (line_end_is h0') = cc
+
+pub import_from_one : {i i' : Input} {o o' : Outcome Nothing} → IsImportFrom i o → i ≡ i' → IsImportFrom i' o' → o ≡ o'
+import_from_one (import_from_is_needs_module h0) ei (import_from_is_needs_module h0') = cc
+import_from_one (import_from_is_needs_module h0) ei (import_from_is_needs_import h0' h1') = cc
+import_from_one (import_from_is_needs_module h0) ei (import_from_is_stops_u h0' h1' h2') = cc
+import_from_one (import_from_is_needs_module h0) ei (import_from_is h0' h1' h2' h3') = cc
+import_from_one (import_from_is_needs_import h0 h1) ei (import_from_is_needs_module h0') = cc
+import_from_one (import_from_is_needs_import h0 h1) ei (import_from_is_needs_import h0' h1') = cc
+import_from_one (import_from_is_needs_import h0 h1) ei (import_from_is_stops_u h0' h1' h2') = cc
+import_from_one (import_from_is_needs_import h0 h1) ei (import_from_is h0' h1' h2' h3') = cc
+import_from_one (import_from_is_stops_u h0 h1 h2) ei (import_from_is_needs_module h0') = cc
+import_from_one (import_from_is_stops_u h0 h1 h2) ei (import_from_is_needs_import h0' h1') = cc
+import_from_one (import_from_is_stops_u h0 h1 h2) ei (import_from_is_stops_u h0' h1' h2') = let s1 = imported_one h2 (ap (λ z. next (next z)) ei) h2' in cc
+import_from_one (import_from_is_stops_u h0 h1 h2) ei (import_from_is h0' h1' h2' h3') = let s1 = imported_one h2 (ap (λ z. next (next z)) ei) h2' in cc
+import_from_one (import_from_is h0 h1 h2 h3) ei (import_from_is_needs_module h0') = cc
+import_from_one (import_from_is h0 h1 h2 h3) ei (import_from_is_needs_import h0' h1') = cc
+import_from_one (import_from_is h0 h1 h2 h3) ei (import_from_is_stops_u h0' h1' h2') = let s1 = imported_one h2 (ap (λ z. next (next z)) ei) h2' in cc
+import_from_one (import_from_is h0 h1 h2 h3) ei (import_from_is h0' h1' h2' h3') = let s1 = imported_one h2 (ap (λ z. next (next z)) ei) h2' in let s2 = line_end_one h3 (same_rest s1) h3' in cc
+
 pub import_one : {i i' : Input} {o o' : Outcome Nothing} → IsImport i o → i ≡ i' → IsImport i' o' → o ≡ o'
-import_one (import_from_needs_module h0 h1) ei (import_from_needs_module h0' h1') = cc
-import_one (import_from_needs_module h0 h1) ei (import_from_needs_import h0' h1' h2') = cc
-import_one (import_from_needs_module h0 h1) ei (import_from_stops_u h0' h1' h2' h3') = cc
-import_one (import_from_needs_module h0 h1) ei (import_from_needs_line_end h0' h1' h2' h3' h4') = cc
-import_one (import_from_needs_module h0 h1) ei (import_from h0' h1' h2' h3' h4') = cc
-import_one (import_from_needs_module h0 h1) ei (import_whole_needs_import h0' h1') = cc
-import_one (import_from_needs_module h0 h1) ei (import_whole_needs_stateflowword h0' h1' h2') = cc
-import_one (import_from_needs_module h0 h1) ei (import_whole_needs_line_end h0' h1' h2' h3') = cc
-import_one (import_from_needs_module h0 h1) ei (import_whole h0' h1' h2' h3') = cc
-import_one (import_from_needs_import h0 h1 h2) ei (import_from_needs_module h0' h1') = cc
-import_one (import_from_needs_import h0 h1 h2) ei (import_from_needs_import h0' h1' h2') = cc
-import_one (import_from_needs_import h0 h1 h2) ei (import_from_stops_u h0' h1' h2' h3') = cc
-import_one (import_from_needs_import h0 h1 h2) ei (import_from_needs_line_end h0' h1' h2' h3' h4') = cc
-import_one (import_from_needs_import h0 h1 h2) ei (import_from h0' h1' h2' h3' h4') = cc
-import_one (import_from_needs_import h0 h1 h2) ei (import_whole_needs_import h0' h1') = cc
-import_one (import_from_needs_import h0 h1 h2) ei (import_whole_needs_stateflowword h0' h1' h2') = cc
-import_one (import_from_needs_import h0 h1 h2) ei (import_whole_needs_line_end h0' h1' h2' h3') = cc
-import_one (import_from_needs_import h0 h1 h2) ei (import_whole h0' h1' h2' h3') = cc
-import_one (import_from_stops_u h0 h1 h2 h3) ei (import_from_needs_module h0' h1') = cc
-import_one (import_from_stops_u h0 h1 h2 h3) ei (import_from_needs_import h0' h1' h2') = cc
-import_one (import_from_stops_u h0 h1 h2 h3) ei (import_from_stops_u h0' h1' h2' h3') = let s1 = imported_one h3 (ap (λ z. next (next (next z))) ei) h3' in cc
-import_one (import_from_stops_u h0 h1 h2 h3) ei (import_from_needs_line_end h0' h1' h2' h3' h4') = let s1 = imported_one h3 (ap (λ z. next (next (next z))) ei) h3' in cc
-import_one (import_from_stops_u h0 h1 h2 h3) ei (import_from h0' h1' h2' h3' h4') = let s1 = imported_one h3 (ap (λ z. next (next (next z))) ei) h3' in cc
-import_one (import_from_stops_u h0 h1 h2 h3) ei (import_whole_needs_import h0' h1') = cc
-import_one (import_from_stops_u h0 h1 h2 h3) ei (import_whole_needs_stateflowword h0' h1' h2') = cc
-import_one (import_from_stops_u h0 h1 h2 h3) ei (import_whole_needs_line_end h0' h1' h2' h3') = cc
-import_one (import_from_stops_u h0 h1 h2 h3) ei (import_whole h0' h1' h2' h3') = cc
-import_one (import_from_needs_line_end h0 h1 h2 h3 h4) ei (import_from_needs_module h0' h1') = cc
-import_one (import_from_needs_line_end h0 h1 h2 h3 h4) ei (import_from_needs_import h0' h1' h2') = cc
-import_one (import_from_needs_line_end h0 h1 h2 h3 h4) ei (import_from_stops_u h0' h1' h2' h3') = let s1 = imported_one h3 (ap (λ z. next (next (next z))) ei) h3' in cc
-import_one (import_from_needs_line_end h0 h1 h2 h3 h4) ei (import_from_needs_line_end h0' h1' h2' h3' h4') = let s1 = imported_one h3 (ap (λ z. next (next (next z))) ei) h3' in cc
-import_one (import_from_needs_line_end h0 h1 h2 h3 h4) ei (import_from h0' h1' h2' h3' h4') = let s1 = imported_one h3 (ap (λ z. next (next (next z))) ei) h3' in cc
-import_one (import_from_needs_line_end h0 h1 h2 h3 h4) ei (import_whole_needs_import h0' h1') = cc
-import_one (import_from_needs_line_end h0 h1 h2 h3 h4) ei (import_whole_needs_stateflowword h0' h1' h2') = cc
-import_one (import_from_needs_line_end h0 h1 h2 h3 h4) ei (import_whole_needs_line_end h0' h1' h2' h3') = cc
-import_one (import_from_needs_line_end h0 h1 h2 h3 h4) ei (import_whole h0' h1' h2' h3') = cc
-import_one (import_from h0 h1 h2 h3 h4) ei (import_from_needs_module h0' h1') = cc
-import_one (import_from h0 h1 h2 h3 h4) ei (import_from_needs_import h0' h1' h2') = cc
-import_one (import_from h0 h1 h2 h3 h4) ei (import_from_stops_u h0' h1' h2' h3') = let s1 = imported_one h3 (ap (λ z. next (next (next z))) ei) h3' in cc
-import_one (import_from h0 h1 h2 h3 h4) ei (import_from_needs_line_end h0' h1' h2' h3' h4') = let s1 = imported_one h3 (ap (λ z. next (next (next z))) ei) h3' in cc
-import_one (import_from h0 h1 h2 h3 h4) ei (import_from h0' h1' h2' h3' h4') = let s1 = imported_one h3 (ap (λ z. next (next (next z))) ei) h3' in cc
-import_one (import_from h0 h1 h2 h3 h4) ei (import_whole_needs_import h0' h1') = cc
-import_one (import_from h0 h1 h2 h3 h4) ei (import_whole_needs_stateflowword h0' h1' h2') = cc
-import_one (import_from h0 h1 h2 h3 h4) ei (import_whole_needs_line_end h0' h1' h2' h3') = cc
-import_one (import_from h0 h1 h2 h3 h4) ei (import_whole h0' h1' h2' h3') = cc
-import_one (import_whole_needs_import h0 h1) ei (import_from_needs_module h0' h1') = cc
-import_one (import_whole_needs_import h0 h1) ei (import_from_needs_import h0' h1' h2') = cc
-import_one (import_whole_needs_import h0 h1) ei (import_from_stops_u h0' h1' h2' h3') = cc
-import_one (import_whole_needs_import h0 h1) ei (import_from_needs_line_end h0' h1' h2' h3' h4') = cc
-import_one (import_whole_needs_import h0 h1) ei (import_from h0' h1' h2' h3' h4') = cc
+import_one (import_from h0 h1) ei (import_from h0' h1') = let s1 = import_from_one h1 (ap (λ z. next z) ei) h1' in cc
+import_one (import_from h0 h1) ei (import_whole_needs_import h0' h1') = cc
+import_one (import_from h0 h1) ei (import_whole_needs_stateflowword h0' h1' h2') = cc
+import_one (import_from h0 h1) ei (import_whole h0' h1' h2' h3') = cc
+import_one (import_whole_needs_import h0 h1) ei (import_from h0' h1') = cc
 import_one (import_whole_needs_import h0 h1) ei (import_whole_needs_import h0' h1') = cc
 import_one (import_whole_needs_import h0 h1) ei (import_whole_needs_stateflowword h0' h1' h2') = cc
-import_one (import_whole_needs_import h0 h1) ei (import_whole_needs_line_end h0' h1' h2' h3') = cc
 import_one (import_whole_needs_import h0 h1) ei (import_whole h0' h1' h2' h3') = cc
-import_one (import_whole_needs_stateflowword h0 h1 h2) ei (import_from_needs_module h0' h1') = cc
-import_one (import_whole_needs_stateflowword h0 h1 h2) ei (import_from_needs_import h0' h1' h2') = cc
-import_one (import_whole_needs_stateflowword h0 h1 h2) ei (import_from_stops_u h0' h1' h2' h3') = cc
-import_one (import_whole_needs_stateflowword h0 h1 h2) ei (import_from_needs_line_end h0' h1' h2' h3' h4') = cc
-import_one (import_whole_needs_stateflowword h0 h1 h2) ei (import_from h0' h1' h2' h3' h4') = cc
+import_one (import_whole_needs_stateflowword h0 h1 h2) ei (import_from h0' h1') = cc
 import_one (import_whole_needs_stateflowword h0 h1 h2) ei (import_whole_needs_import h0' h1') = cc
 import_one (import_whole_needs_stateflowword h0 h1 h2) ei (import_whole_needs_stateflowword h0' h1' h2') = cc
-import_one (import_whole_needs_stateflowword h0 h1 h2) ei (import_whole_needs_line_end h0' h1' h2' h3') = cc
 import_one (import_whole_needs_stateflowword h0 h1 h2) ei (import_whole h0' h1' h2' h3') = cc
-import_one (import_whole_needs_line_end h0 h1 h2 h3) ei (import_from_needs_module h0' h1') = cc
-import_one (import_whole_needs_line_end h0 h1 h2 h3) ei (import_from_needs_import h0' h1' h2') = cc
-import_one (import_whole_needs_line_end h0 h1 h2 h3) ei (import_from_stops_u h0' h1' h2' h3') = cc
-import_one (import_whole_needs_line_end h0 h1 h2 h3) ei (import_from_needs_line_end h0' h1' h2' h3' h4') = cc
-import_one (import_whole_needs_line_end h0 h1 h2 h3) ei (import_from h0' h1' h2' h3' h4') = cc
-import_one (import_whole_needs_line_end h0 h1 h2 h3) ei (import_whole_needs_import h0' h1') = cc
-import_one (import_whole_needs_line_end h0 h1 h2 h3) ei (import_whole_needs_stateflowword h0' h1' h2') = cc
-import_one (import_whole_needs_line_end h0 h1 h2 h3) ei (import_whole_needs_line_end h0' h1' h2' h3') = cc
-import_one (import_whole_needs_line_end h0 h1 h2 h3) ei (import_whole h0' h1' h2' h3') = cc
-import_one (import_whole h0 h1 h2 h3) ei (import_from_needs_module h0' h1') = cc
-import_one (import_whole h0 h1 h2 h3) ei (import_from_needs_import h0' h1' h2') = cc
-import_one (import_whole h0 h1 h2 h3) ei (import_from_stops_u h0' h1' h2' h3') = cc
-import_one (import_whole h0 h1 h2 h3) ei (import_from_needs_line_end h0' h1' h2' h3' h4') = cc
-import_one (import_whole h0 h1 h2 h3) ei (import_from h0' h1' h2' h3' h4') = cc
+import_one (import_whole h0 h1 h2 h3) ei (import_from h0' h1') = cc
 import_one (import_whole h0 h1 h2 h3) ei (import_whole_needs_import h0' h1') = cc
 import_one (import_whole h0 h1 h2 h3) ei (import_whole_needs_stateflowword h0' h1' h2') = cc
-import_one (import_whole h0 h1 h2 h3) ei (import_whole_needs_line_end h0' h1' h2' h3') = cc
-import_one (import_whole h0 h1 h2 h3) ei (import_whole h0' h1' h2' h3') = cc
+import_one (import_whole h0 h1 h2 h3) ei (import_whole h0' h1' h2' h3') = let s1 = line_end_one h3 (ap (λ z. next (next z)) ei) h3' in cc
 
 pub items_one : {i i' : Input} {o o' : Outcome (List PlainClass)} → IsItems i o → i ≡ i' → IsItems i' o' → o ≡ o'
 items_one (items_end h0) ei (items_end h0') = cc

@@ -6,7 +6,7 @@ use Rattle.py_tree.specs.declared.stmt.Target.TheVariants as target
 use Rattle.py_tree.specs.PlainExpressions.{PlainExpr}
 use Rattle.py_tree.specs.PlainStatements.{PlainOver, PlainStmt, PlainArm}
 use Rattle.py_tree.specs.Reading.{Input, Outcome, next, here, named, placed_name, next_line, column}
-use Rattle.py_tree.specs.StatementGrammar.{IsSimple, IsValue, IsMessage, IsDetail, IsAssigned, IsSimples, IsMoreSimples, IsLine, simple_pass, simple_break, simple_continue, simple_return_stops_v, simple_return, simple_raise_none, simple_raise_stops_v, simple_raise, simple_assert_stops_x, simple_assert_stops_v, simple_assert, simple_local, simple_field_deep, simple_field, simple_expr_stops_x, simple_expr, value_none, value_is_stops_x, value_is, message_none, message_is_deep, message_is_stops_v, message_is_needs_close, message_is, detail_none, detail_is_stops_x, detail_is, assigned_typed_stops_ty, assigned_typed_needs_assign, assigned_typed_stops_x, assigned_typed, assigned_plain_stops_x, assigned_plain, assigned_augmented_stops_x, assigned_augmented, assigned_other, simples_is_stops_x, simples_is_stops_xs, simples_is, more_simples_end, more_simples_last, more_simples_more_stops_x, more_simples_more_stops_xs, more_simples_more, line_is_stops_xs, line_is_needs_line_end, line_is, IsBody, IsSuite, IsBlock, IsStmts, IsStmt, IsArm, IsArms, IsOther, IsOver, body_is_needs_colon, body_is_deep, body_is, suite_line, suite_block, block_none, block_is, stmts_end, stmts_shifted, stmts_more_stops_xs, stmts_more_stops_ys, stmts_more, stmt_if_stops_a, stmt_if_stops_bs, stmt_if_stops_ys, stmt_if, stmt_while_stops_x, stmt_while_stops_ys, stmt_while, stmt_for_needs_name, stmt_for_needs_in, stmt_for_stops_v, stmt_for_stops_ys, stmt_for, stmt_simple, arm_is_stops_x, arm_is_stops_ys, arm_is, arms_end, arms_more_stops_a, arms_more_stops_bs, arms_more, other_none, other_is, over_items_stops_x, over_items, over_end_deep, over_end_stops_x, over_end_needs_close, over_end, over_ends_stops_y, over_ends_needs_close, over_ends}
+use Rattle.py_tree.specs.StatementGrammar.{IsSimple, IsValue, IsMessage, IsDetail, IsAssigned, IsRaise, IsField, IsSimples, IsMoreSimples, IsLine, simple_pass, simple_break, simple_continue, simple_return_stops_v, simple_return, simple_raise, simple_assert_stops_x, simple_assert_stops_v, simple_assert, simple_local, simple_field, simple_expr_stops_x, simple_expr, value_none, value_is_stops_x, value_is, message_none, message_is_deep, message_is_stops_v, message_is_needs_close, message_is, detail_none, detail_is_stops_x, detail_is, assigned_typed_stops_ty, assigned_typed_needs_assign, assigned_typed_stops_x, assigned_typed, assigned_plain_stops_x, assigned_plain, assigned_augmented_stops_x, assigned_augmented, assigned_other, raise_none, raise_is_stops_v, raise_is, field_deep, field_is, simples_is_stops_x, simples_is_stops_xs, simples_is, more_simples_end, more_simples_last, more_simples_more_stops_x, more_simples_more_stops_xs, more_simples_more, line_is_stops_xs, line_is_needs_line_end, line_is, IsBody, IsSuite, IsBlock, IsStmts, IsStmt, IsIf, IsWhile, IsFor, IsArm, IsArms, IsOther, IsOver, body_is_needs_colon, body_is_deep, body_is, suite_line, suite_block, block_none, block_is, stmts_end, stmts_shifted, stmts_more_stops_xs, stmts_more_stops_ys, stmts_more, stmt_if_stops_x, stmt_if, stmt_while_stops_x, stmt_while, stmt_for_stops_x, stmt_for, stmt_simple, if_is_stops_a, if_is_stops_bs, if_is_stops_ys, if_is, while_is_stops_x, while_is_stops_ys, while_is, for_is_needs_name, for_is_needs_in, for_is_stops_v, for_is_stops_ys, for_is, arm_is_stops_x, arm_is_stops_ys, arm_is, arms_end, arms_more_stops_a, arms_more_stops_bs, arms_more, other_none, other_is, over_items_stops_x, over_items, over_end_deep, over_end_stops_x, over_end_needs_close, over_end, over_ends_stops_y, over_ends_needs_close, over_ends}
 use Rattle.py_tree.proofs.OneOutcome.{same_rest}
 use Rattle.py_tree.proofs.OneExpression.{whole_one}
 use Rattle.py_tree.proofs.OneType.{type_one}
@@ -21,33 +21,6 @@ value_one (value_is_stops_x h0 h1) en ei (value_is h0' h1') = let s1 = whole_one
 value_one (value_is h0 h1) en ei (value_none h0') = cc
 value_one (value_is h0 h1) en ei (value_is_stops_x h0' h1') = let s1 = whole_one h1 en ei h1' in cc
 value_one (value_is h0 h1) en ei (value_is h0' h1') = let s1 = whole_one h1 en ei h1' in cc
-
-pub message_one : {n n' : ℕ} {i i' : Input} {o o' : Outcome (Option PlainExpr)} → IsMessage n i o → n ≡ n' → i ≡ i' → IsMessage n' i' o' → o ≡ o'
-message_one (message_none h0) en ei (message_none h0') = cc
-message_one (message_none h0) en ei (message_is_deep h0' h1') = cc
-message_one (message_none h0) en ei (message_is_stops_v h0' h1' h2') = cc
-message_one (message_none h0) en ei (message_is_needs_close h0' h1' h2' h3') = cc
-message_one (message_none h0) en ei (message_is h0' h1' h2' h3') = cc
-message_one (message_is_deep h0 h1) en ei (message_none h0') = cc
-message_one (message_is_deep h0 h1) en ei (message_is_deep h0' h1') = cc
-message_one (message_is_deep h0 h1) en ei (message_is_stops_v h0' h1' h2') = absurd (omega arith)
-message_one (message_is_deep h0 h1) en ei (message_is_needs_close h0' h1' h2' h3') = absurd (omega arith)
-message_one (message_is_deep h0 h1) en ei (message_is h0' h1' h2' h3') = absurd (omega arith)
-message_one (message_is_stops_v h0 h1 h2) en ei (message_none h0') = cc
-message_one (message_is_stops_v h0 h1 h2) en ei (message_is_deep h0' h1') = absurd (omega arith)
-message_one (message_is_stops_v h0 h1 h2) en ei (message_is_stops_v h0' h1' h2') = let s1 = value_one h2 (ap (λ z. z - 1) en) (ap (λ z. next z) ei) h2' in cc
-message_one (message_is_stops_v h0 h1 h2) en ei (message_is_needs_close h0' h1' h2' h3') = let s1 = value_one h2 (ap (λ z. z - 1) en) (ap (λ z. next z) ei) h2' in cc
-message_one (message_is_stops_v h0 h1 h2) en ei (message_is h0' h1' h2' h3') = let s1 = value_one h2 (ap (λ z. z - 1) en) (ap (λ z. next z) ei) h2' in cc
-message_one (message_is_needs_close h0 h1 h2 h3) en ei (message_none h0') = cc
-message_one (message_is_needs_close h0 h1 h2 h3) en ei (message_is_deep h0' h1') = absurd (omega arith)
-message_one (message_is_needs_close h0 h1 h2 h3) en ei (message_is_stops_v h0' h1' h2') = let s1 = value_one h2 (ap (λ z. z - 1) en) (ap (λ z. next z) ei) h2' in cc
-message_one (message_is_needs_close h0 h1 h2 h3) en ei (message_is_needs_close h0' h1' h2' h3') = let s1 = value_one h2 (ap (λ z. z - 1) en) (ap (λ z. next z) ei) h2' in cc
-message_one (message_is_needs_close h0 h1 h2 h3) en ei (message_is h0' h1' h2' h3') = let s1 = value_one h2 (ap (λ z. z - 1) en) (ap (λ z. next z) ei) h2' in cc
-message_one (message_is h0 h1 h2 h3) en ei (message_none h0') = cc
-message_one (message_is h0 h1 h2 h3) en ei (message_is_deep h0' h1') = absurd (omega arith)
-message_one (message_is h0 h1 h2 h3) en ei (message_is_stops_v h0' h1' h2') = let s1 = value_one h2 (ap (λ z. z - 1) en) (ap (λ z. next z) ei) h2' in cc
-message_one (message_is h0 h1 h2 h3) en ei (message_is_needs_close h0' h1' h2' h3') = let s1 = value_one h2 (ap (λ z. z - 1) en) (ap (λ z. next z) ei) h2' in cc
-message_one (message_is h0 h1 h2 h3) en ei (message_is h0' h1' h2' h3') = let s1 = value_one h2 (ap (λ z. z - 1) en) (ap (λ z. next z) ei) h2' in cc
 
 pub detail_one : {n n' : ℕ} {i i' : Input} {o o' : Outcome (Option PlainExpr)} → IsDetail n i o → n ≡ n' → i ≡ i' → IsDetail n' i' o' → o ≡ o'
 detail_one (detail_none h0) en ei (detail_none h0') = cc
@@ -143,21 +116,62 @@ assigned_one (assigned_other h0 h1 h2) en eat et ei (assigned_augmented_stops_x 
 assigned_one (assigned_other h0 h1 h2) en eat et ei (assigned_augmented h0' h1' h2' h3') = cc
 assigned_one (assigned_other h0 h1 h2) en eat et ei (assigned_other h0' h1' h2') = cc
 
+pub message_one : {n n' : ℕ} {i i' : Input} {o o' : Outcome (Option PlainExpr)} → IsMessage n i o → n ≡ n' → i ≡ i' → IsMessage n' i' o' → o ≡ o'
+message_one (message_none h0) en ei (message_none h0') = cc
+message_one (message_none h0) en ei (message_is_deep h0' h1') = cc
+message_one (message_none h0) en ei (message_is_stops_v h0' h1' h2') = cc
+message_one (message_none h0) en ei (message_is_needs_close h0' h1' h2' h3') = cc
+message_one (message_none h0) en ei (message_is h0' h1' h2' h3') = cc
+message_one (message_is_deep h0 h1) en ei (message_none h0') = cc
+message_one (message_is_deep h0 h1) en ei (message_is_deep h0' h1') = cc
+message_one (message_is_deep h0 h1) en ei (message_is_stops_v h0' h1' h2') = absurd (omega arith)
+message_one (message_is_deep h0 h1) en ei (message_is_needs_close h0' h1' h2' h3') = absurd (omega arith)
+message_one (message_is_deep h0 h1) en ei (message_is h0' h1' h2' h3') = absurd (omega arith)
+message_one (message_is_stops_v h0 h1 h2) en ei (message_none h0') = cc
+message_one (message_is_stops_v h0 h1 h2) en ei (message_is_deep h0' h1') = absurd (omega arith)
+message_one (message_is_stops_v h0 h1 h2) en ei (message_is_stops_v h0' h1' h2') = let s1 = value_one h2 (ap (λ z. z - 1) en) (ap (λ z. next z) ei) h2' in cc
+message_one (message_is_stops_v h0 h1 h2) en ei (message_is_needs_close h0' h1' h2' h3') = let s1 = value_one h2 (ap (λ z. z - 1) en) (ap (λ z. next z) ei) h2' in cc
+message_one (message_is_stops_v h0 h1 h2) en ei (message_is h0' h1' h2' h3') = let s1 = value_one h2 (ap (λ z. z - 1) en) (ap (λ z. next z) ei) h2' in cc
+message_one (message_is_needs_close h0 h1 h2 h3) en ei (message_none h0') = cc
+message_one (message_is_needs_close h0 h1 h2 h3) en ei (message_is_deep h0' h1') = absurd (omega arith)
+message_one (message_is_needs_close h0 h1 h2 h3) en ei (message_is_stops_v h0' h1' h2') = let s1 = value_one h2 (ap (λ z. z - 1) en) (ap (λ z. next z) ei) h2' in cc
+message_one (message_is_needs_close h0 h1 h2 h3) en ei (message_is_needs_close h0' h1' h2' h3') = let s1 = value_one h2 (ap (λ z. z - 1) en) (ap (λ z. next z) ei) h2' in cc
+message_one (message_is_needs_close h0 h1 h2 h3) en ei (message_is h0' h1' h2' h3') = let s1 = value_one h2 (ap (λ z. z - 1) en) (ap (λ z. next z) ei) h2' in cc
+message_one (message_is h0 h1 h2 h3) en ei (message_none h0') = cc
+message_one (message_is h0 h1 h2 h3) en ei (message_is_deep h0' h1') = absurd (omega arith)
+message_one (message_is h0 h1 h2 h3) en ei (message_is_stops_v h0' h1' h2') = let s1 = value_one h2 (ap (λ z. z - 1) en) (ap (λ z. next z) ei) h2' in cc
+message_one (message_is h0 h1 h2 h3) en ei (message_is_needs_close h0' h1' h2' h3') = let s1 = value_one h2 (ap (λ z. z - 1) en) (ap (λ z. next z) ei) h2' in cc
+message_one (message_is h0 h1 h2 h3) en ei (message_is h0' h1' h2' h3') = let s1 = value_one h2 (ap (λ z. z - 1) en) (ap (λ z. next z) ei) h2' in cc
+
+pub raise_one : {n n' : ℕ} {i i' : Input} {o o' : Outcome PlainStmt} → IsRaise n i o → n ≡ n' → i ≡ i' → IsRaise n' i' o' → o ≡ o'
+raise_one (raise_none h0) en ei (raise_none h0') = cc
+raise_one (raise_none h0) en ei (raise_is_stops_v h0' h1') = cc
+raise_one (raise_none h0) en ei (raise_is h0' h1') = cc
+raise_one (raise_is_stops_v h0 h1) en ei (raise_none h0') = cc
+raise_one (raise_is_stops_v h0 h1) en ei (raise_is_stops_v h0' h1') = let s1 = message_one h1 en (ap (λ z. next (next z)) ei) h1' in cc
+raise_one (raise_is_stops_v h0 h1) en ei (raise_is h0' h1') = let s1 = message_one h1 en (ap (λ z. next (next z)) ei) h1' in cc
+raise_one (raise_is h0 h1) en ei (raise_none h0') = cc
+raise_one (raise_is h0 h1) en ei (raise_is_stops_v h0' h1') = let s1 = message_one h1 en (ap (λ z. next (next z)) ei) h1' in cc
+raise_one (raise_is h0 h1) en ei (raise_is h0' h1') = let s1 = message_one h1 en (ap (λ z. next (next z)) ei) h1' in cc
+
+pub field_one : {n n' : ℕ} {i i' : Input} {o o' : Outcome PlainStmt} → IsField n i o → n ≡ n' → i ≡ i' → IsField n' i' o' → o ≡ o'
+field_one (field_deep h0) en ei (field_deep h0') = cc
+field_one (field_deep h0) en ei (field_is h0' h1') = absurd (omega arith)
+field_one (field_is h0 h1) en ei (field_deep h0') = absurd (omega arith)
+field_one (field_is h0 h1) en ei (field_is h0' h1') = let s1 = assigned_one h1 en (ap (λ z. here z) ei) (ap (λ z. target.Field (placed_name (next (next z)))) ei) (ap (λ z. named (next (next z))) ei) h1' in cc
+
 pub simple_one : {n n' : ℕ} {i i' : Input} {o o' : Outcome PlainStmt} → IsSimple n i o → n ≡ n' → i ≡ i' → IsSimple n' i' o' → o ≡ o'
 simple_one (simple_pass h0) en ei (simple_pass h0') = cc
 simple_one (simple_pass h0) en ei (simple_break h0') = cc
 simple_one (simple_pass h0) en ei (simple_continue h0') = cc
 simple_one (simple_pass h0) en ei (simple_return_stops_v h0' h1') = cc
 simple_one (simple_pass h0) en ei (simple_return h0' h1') = cc
-simple_one (simple_pass h0) en ei (simple_raise_none h0' h1') = cc
-simple_one (simple_pass h0) en ei (simple_raise_stops_v h0' h1' h2') = cc
-simple_one (simple_pass h0) en ei (simple_raise h0' h1' h2') = cc
+simple_one (simple_pass h0) en ei (simple_raise h0' h1') = cc
 simple_one (simple_pass h0) en ei (simple_assert_stops_x h0' h1') = cc
 simple_one (simple_pass h0) en ei (simple_assert_stops_v h0' h1' h2') = cc
 simple_one (simple_pass h0) en ei (simple_assert h0' h1' h2') = cc
 simple_one (simple_pass h0) en ei (simple_local h0' h1') = cc
-simple_one (simple_pass h0) en ei (simple_field_deep h0' h1') = cc
-simple_one (simple_pass h0) en ei (simple_field h0' h1' h2') = cc
+simple_one (simple_pass h0) en ei (simple_field h0' h1') = cc
 simple_one (simple_pass h0) en ei (simple_expr_stops_x h0' h1') = cc
 simple_one (simple_pass h0) en ei (simple_expr h0' h1') = cc
 simple_one (simple_break h0) en ei (simple_pass h0') = cc
@@ -165,15 +179,12 @@ simple_one (simple_break h0) en ei (simple_break h0') = cc
 simple_one (simple_break h0) en ei (simple_continue h0') = cc
 simple_one (simple_break h0) en ei (simple_return_stops_v h0' h1') = cc
 simple_one (simple_break h0) en ei (simple_return h0' h1') = cc
-simple_one (simple_break h0) en ei (simple_raise_none h0' h1') = cc
-simple_one (simple_break h0) en ei (simple_raise_stops_v h0' h1' h2') = cc
-simple_one (simple_break h0) en ei (simple_raise h0' h1' h2') = cc
+simple_one (simple_break h0) en ei (simple_raise h0' h1') = cc
 simple_one (simple_break h0) en ei (simple_assert_stops_x h0' h1') = cc
 simple_one (simple_break h0) en ei (simple_assert_stops_v h0' h1' h2') = cc
 simple_one (simple_break h0) en ei (simple_assert h0' h1' h2') = cc
 simple_one (simple_break h0) en ei (simple_local h0' h1') = cc
-simple_one (simple_break h0) en ei (simple_field_deep h0' h1') = cc
-simple_one (simple_break h0) en ei (simple_field h0' h1' h2') = cc
+simple_one (simple_break h0) en ei (simple_field h0' h1') = cc
 simple_one (simple_break h0) en ei (simple_expr_stops_x h0' h1') = cc
 simple_one (simple_break h0) en ei (simple_expr h0' h1') = cc
 simple_one (simple_continue h0) en ei (simple_pass h0') = cc
@@ -181,15 +192,12 @@ simple_one (simple_continue h0) en ei (simple_break h0') = cc
 simple_one (simple_continue h0) en ei (simple_continue h0') = cc
 simple_one (simple_continue h0) en ei (simple_return_stops_v h0' h1') = cc
 simple_one (simple_continue h0) en ei (simple_return h0' h1') = cc
-simple_one (simple_continue h0) en ei (simple_raise_none h0' h1') = cc
-simple_one (simple_continue h0) en ei (simple_raise_stops_v h0' h1' h2') = cc
-simple_one (simple_continue h0) en ei (simple_raise h0' h1' h2') = cc
+simple_one (simple_continue h0) en ei (simple_raise h0' h1') = cc
 simple_one (simple_continue h0) en ei (simple_assert_stops_x h0' h1') = cc
 simple_one (simple_continue h0) en ei (simple_assert_stops_v h0' h1' h2') = cc
 simple_one (simple_continue h0) en ei (simple_assert h0' h1' h2') = cc
 simple_one (simple_continue h0) en ei (simple_local h0' h1') = cc
-simple_one (simple_continue h0) en ei (simple_field_deep h0' h1') = cc
-simple_one (simple_continue h0) en ei (simple_field h0' h1' h2') = cc
+simple_one (simple_continue h0) en ei (simple_field h0' h1') = cc
 simple_one (simple_continue h0) en ei (simple_expr_stops_x h0' h1') = cc
 simple_one (simple_continue h0) en ei (simple_expr h0' h1') = cc
 simple_one (simple_return_stops_v h0 h1) en ei (simple_pass h0') = cc
@@ -197,15 +205,12 @@ simple_one (simple_return_stops_v h0 h1) en ei (simple_break h0') = cc
 simple_one (simple_return_stops_v h0 h1) en ei (simple_continue h0') = cc
 simple_one (simple_return_stops_v h0 h1) en ei (simple_return_stops_v h0' h1') = let s1 = value_one h1 en (ap (λ z. next z) ei) h1' in cc
 simple_one (simple_return_stops_v h0 h1) en ei (simple_return h0' h1') = let s1 = value_one h1 en (ap (λ z. next z) ei) h1' in cc
-simple_one (simple_return_stops_v h0 h1) en ei (simple_raise_none h0' h1') = cc
-simple_one (simple_return_stops_v h0 h1) en ei (simple_raise_stops_v h0' h1' h2') = cc
-simple_one (simple_return_stops_v h0 h1) en ei (simple_raise h0' h1' h2') = cc
+simple_one (simple_return_stops_v h0 h1) en ei (simple_raise h0' h1') = cc
 simple_one (simple_return_stops_v h0 h1) en ei (simple_assert_stops_x h0' h1') = cc
 simple_one (simple_return_stops_v h0 h1) en ei (simple_assert_stops_v h0' h1' h2') = cc
 simple_one (simple_return_stops_v h0 h1) en ei (simple_assert h0' h1' h2') = cc
 simple_one (simple_return_stops_v h0 h1) en ei (simple_local h0' h1') = cc
-simple_one (simple_return_stops_v h0 h1) en ei (simple_field_deep h0' h1') = cc
-simple_one (simple_return_stops_v h0 h1) en ei (simple_field h0' h1' h2') = cc
+simple_one (simple_return_stops_v h0 h1) en ei (simple_field h0' h1') = cc
 simple_one (simple_return_stops_v h0 h1) en ei (simple_expr_stops_x h0' h1') = cc
 simple_one (simple_return_stops_v h0 h1) en ei (simple_expr h0' h1') = cc
 simple_one (simple_return h0 h1) en ei (simple_pass h0') = cc
@@ -213,79 +218,38 @@ simple_one (simple_return h0 h1) en ei (simple_break h0') = cc
 simple_one (simple_return h0 h1) en ei (simple_continue h0') = cc
 simple_one (simple_return h0 h1) en ei (simple_return_stops_v h0' h1') = let s1 = value_one h1 en (ap (λ z. next z) ei) h1' in cc
 simple_one (simple_return h0 h1) en ei (simple_return h0' h1') = let s1 = value_one h1 en (ap (λ z. next z) ei) h1' in cc
-simple_one (simple_return h0 h1) en ei (simple_raise_none h0' h1') = cc
-simple_one (simple_return h0 h1) en ei (simple_raise_stops_v h0' h1' h2') = cc
-simple_one (simple_return h0 h1) en ei (simple_raise h0' h1' h2') = cc
+simple_one (simple_return h0 h1) en ei (simple_raise h0' h1') = cc
 simple_one (simple_return h0 h1) en ei (simple_assert_stops_x h0' h1') = cc
 simple_one (simple_return h0 h1) en ei (simple_assert_stops_v h0' h1' h2') = cc
 simple_one (simple_return h0 h1) en ei (simple_assert h0' h1' h2') = cc
 simple_one (simple_return h0 h1) en ei (simple_local h0' h1') = cc
-simple_one (simple_return h0 h1) en ei (simple_field_deep h0' h1') = cc
-simple_one (simple_return h0 h1) en ei (simple_field h0' h1' h2') = cc
+simple_one (simple_return h0 h1) en ei (simple_field h0' h1') = cc
 simple_one (simple_return h0 h1) en ei (simple_expr_stops_x h0' h1') = cc
 simple_one (simple_return h0 h1) en ei (simple_expr h0' h1') = cc
-simple_one (simple_raise_none h0 h1) en ei (simple_pass h0') = cc
-simple_one (simple_raise_none h0 h1) en ei (simple_break h0') = cc
-simple_one (simple_raise_none h0 h1) en ei (simple_continue h0') = cc
-simple_one (simple_raise_none h0 h1) en ei (simple_return_stops_v h0' h1') = cc
-simple_one (simple_raise_none h0 h1) en ei (simple_return h0' h1') = cc
-simple_one (simple_raise_none h0 h1) en ei (simple_raise_none h0' h1') = cc
-simple_one (simple_raise_none h0 h1) en ei (simple_raise_stops_v h0' h1' h2') = cc
-simple_one (simple_raise_none h0 h1) en ei (simple_raise h0' h1' h2') = cc
-simple_one (simple_raise_none h0 h1) en ei (simple_assert_stops_x h0' h1') = cc
-simple_one (simple_raise_none h0 h1) en ei (simple_assert_stops_v h0' h1' h2') = cc
-simple_one (simple_raise_none h0 h1) en ei (simple_assert h0' h1' h2') = cc
-simple_one (simple_raise_none h0 h1) en ei (simple_local h0' h1') = cc
-simple_one (simple_raise_none h0 h1) en ei (simple_field_deep h0' h1') = cc
-simple_one (simple_raise_none h0 h1) en ei (simple_field h0' h1' h2') = cc
-simple_one (simple_raise_none h0 h1) en ei (simple_expr_stops_x h0' h1') = cc
-simple_one (simple_raise_none h0 h1) en ei (simple_expr h0' h1') = cc
-simple_one (simple_raise_stops_v h0 h1 h2) en ei (simple_pass h0') = cc
-simple_one (simple_raise_stops_v h0 h1 h2) en ei (simple_break h0') = cc
-simple_one (simple_raise_stops_v h0 h1 h2) en ei (simple_continue h0') = cc
-simple_one (simple_raise_stops_v h0 h1 h2) en ei (simple_return_stops_v h0' h1') = cc
-simple_one (simple_raise_stops_v h0 h1 h2) en ei (simple_return h0' h1') = cc
-simple_one (simple_raise_stops_v h0 h1 h2) en ei (simple_raise_none h0' h1') = cc
-simple_one (simple_raise_stops_v h0 h1 h2) en ei (simple_raise_stops_v h0' h1' h2') = let s1 = message_one h2 en (ap (λ z. next (next z)) ei) h2' in cc
-simple_one (simple_raise_stops_v h0 h1 h2) en ei (simple_raise h0' h1' h2') = let s1 = message_one h2 en (ap (λ z. next (next z)) ei) h2' in cc
-simple_one (simple_raise_stops_v h0 h1 h2) en ei (simple_assert_stops_x h0' h1') = cc
-simple_one (simple_raise_stops_v h0 h1 h2) en ei (simple_assert_stops_v h0' h1' h2') = cc
-simple_one (simple_raise_stops_v h0 h1 h2) en ei (simple_assert h0' h1' h2') = cc
-simple_one (simple_raise_stops_v h0 h1 h2) en ei (simple_local h0' h1') = cc
-simple_one (simple_raise_stops_v h0 h1 h2) en ei (simple_field_deep h0' h1') = cc
-simple_one (simple_raise_stops_v h0 h1 h2) en ei (simple_field h0' h1' h2') = cc
-simple_one (simple_raise_stops_v h0 h1 h2) en ei (simple_expr_stops_x h0' h1') = cc
-simple_one (simple_raise_stops_v h0 h1 h2) en ei (simple_expr h0' h1') = cc
-simple_one (simple_raise h0 h1 h2) en ei (simple_pass h0') = cc
-simple_one (simple_raise h0 h1 h2) en ei (simple_break h0') = cc
-simple_one (simple_raise h0 h1 h2) en ei (simple_continue h0') = cc
-simple_one (simple_raise h0 h1 h2) en ei (simple_return_stops_v h0' h1') = cc
-simple_one (simple_raise h0 h1 h2) en ei (simple_return h0' h1') = cc
-simple_one (simple_raise h0 h1 h2) en ei (simple_raise_none h0' h1') = cc
-simple_one (simple_raise h0 h1 h2) en ei (simple_raise_stops_v h0' h1' h2') = let s1 = message_one h2 en (ap (λ z. next (next z)) ei) h2' in cc
-simple_one (simple_raise h0 h1 h2) en ei (simple_raise h0' h1' h2') = let s1 = message_one h2 en (ap (λ z. next (next z)) ei) h2' in cc
-simple_one (simple_raise h0 h1 h2) en ei (simple_assert_stops_x h0' h1') = cc
-simple_one (simple_raise h0 h1 h2) en ei (simple_assert_stops_v h0' h1' h2') = cc
-simple_one (simple_raise h0 h1 h2) en ei (simple_assert h0' h1' h2') = cc
-simple_one (simple_raise h0 h1 h2) en ei (simple_local h0' h1') = cc
-simple_one (simple_raise h0 h1 h2) en ei (simple_field_deep h0' h1') = cc
-simple_one (simple_raise h0 h1 h2) en ei (simple_field h0' h1' h2') = cc
-simple_one (simple_raise h0 h1 h2) en ei (simple_expr_stops_x h0' h1') = cc
-simple_one (simple_raise h0 h1 h2) en ei (simple_expr h0' h1') = cc
+simple_one (simple_raise h0 h1) en ei (simple_pass h0') = cc
+simple_one (simple_raise h0 h1) en ei (simple_break h0') = cc
+simple_one (simple_raise h0 h1) en ei (simple_continue h0') = cc
+simple_one (simple_raise h0 h1) en ei (simple_return_stops_v h0' h1') = cc
+simple_one (simple_raise h0 h1) en ei (simple_return h0' h1') = cc
+simple_one (simple_raise h0 h1) en ei (simple_raise h0' h1') = let s1 = raise_one h1 en ei h1' in cc
+simple_one (simple_raise h0 h1) en ei (simple_assert_stops_x h0' h1') = cc
+simple_one (simple_raise h0 h1) en ei (simple_assert_stops_v h0' h1' h2') = cc
+simple_one (simple_raise h0 h1) en ei (simple_assert h0' h1' h2') = cc
+simple_one (simple_raise h0 h1) en ei (simple_local h0' h1') = cc
+simple_one (simple_raise h0 h1) en ei (simple_field h0' h1') = cc
+simple_one (simple_raise h0 h1) en ei (simple_expr_stops_x h0' h1') = cc
+simple_one (simple_raise h0 h1) en ei (simple_expr h0' h1') = cc
 simple_one (simple_assert_stops_x h0 h1) en ei (simple_pass h0') = cc
 simple_one (simple_assert_stops_x h0 h1) en ei (simple_break h0') = cc
 simple_one (simple_assert_stops_x h0 h1) en ei (simple_continue h0') = cc
 simple_one (simple_assert_stops_x h0 h1) en ei (simple_return_stops_v h0' h1') = cc
 simple_one (simple_assert_stops_x h0 h1) en ei (simple_return h0' h1') = cc
-simple_one (simple_assert_stops_x h0 h1) en ei (simple_raise_none h0' h1') = cc
-simple_one (simple_assert_stops_x h0 h1) en ei (simple_raise_stops_v h0' h1' h2') = cc
-simple_one (simple_assert_stops_x h0 h1) en ei (simple_raise h0' h1' h2') = cc
+simple_one (simple_assert_stops_x h0 h1) en ei (simple_raise h0' h1') = cc
 simple_one (simple_assert_stops_x h0 h1) en ei (simple_assert_stops_x h0' h1') = let s1 = whole_one h1 en (ap (λ z. next z) ei) h1' in cc
 simple_one (simple_assert_stops_x h0 h1) en ei (simple_assert_stops_v h0' h1' h2') = let s1 = whole_one h1 en (ap (λ z. next z) ei) h1' in cc
 simple_one (simple_assert_stops_x h0 h1) en ei (simple_assert h0' h1' h2') = let s1 = whole_one h1 en (ap (λ z. next z) ei) h1' in cc
 simple_one (simple_assert_stops_x h0 h1) en ei (simple_local h0' h1') = cc
-simple_one (simple_assert_stops_x h0 h1) en ei (simple_field_deep h0' h1') = cc
-simple_one (simple_assert_stops_x h0 h1) en ei (simple_field h0' h1' h2') = cc
+simple_one (simple_assert_stops_x h0 h1) en ei (simple_field h0' h1') = cc
 simple_one (simple_assert_stops_x h0 h1) en ei (simple_expr_stops_x h0' h1') = cc
 simple_one (simple_assert_stops_x h0 h1) en ei (simple_expr h0' h1') = cc
 simple_one (simple_assert_stops_v h0 h1 h2) en ei (simple_pass h0') = cc
@@ -293,15 +257,12 @@ simple_one (simple_assert_stops_v h0 h1 h2) en ei (simple_break h0') = cc
 simple_one (simple_assert_stops_v h0 h1 h2) en ei (simple_continue h0') = cc
 simple_one (simple_assert_stops_v h0 h1 h2) en ei (simple_return_stops_v h0' h1') = cc
 simple_one (simple_assert_stops_v h0 h1 h2) en ei (simple_return h0' h1') = cc
-simple_one (simple_assert_stops_v h0 h1 h2) en ei (simple_raise_none h0' h1') = cc
-simple_one (simple_assert_stops_v h0 h1 h2) en ei (simple_raise_stops_v h0' h1' h2') = cc
-simple_one (simple_assert_stops_v h0 h1 h2) en ei (simple_raise h0' h1' h2') = cc
+simple_one (simple_assert_stops_v h0 h1 h2) en ei (simple_raise h0' h1') = cc
 simple_one (simple_assert_stops_v h0 h1 h2) en ei (simple_assert_stops_x h0' h1') = let s1 = whole_one h1 en (ap (λ z. next z) ei) h1' in cc
 simple_one (simple_assert_stops_v h0 h1 h2) en ei (simple_assert_stops_v h0' h1' h2') = let s1 = whole_one h1 en (ap (λ z. next z) ei) h1' in let s2 = detail_one h2 en (same_rest s1) h2' in cc
 simple_one (simple_assert_stops_v h0 h1 h2) en ei (simple_assert h0' h1' h2') = let s1 = whole_one h1 en (ap (λ z. next z) ei) h1' in let s2 = detail_one h2 en (same_rest s1) h2' in cc
 simple_one (simple_assert_stops_v h0 h1 h2) en ei (simple_local h0' h1') = cc
-simple_one (simple_assert_stops_v h0 h1 h2) en ei (simple_field_deep h0' h1') = cc
-simple_one (simple_assert_stops_v h0 h1 h2) en ei (simple_field h0' h1' h2') = cc
+simple_one (simple_assert_stops_v h0 h1 h2) en ei (simple_field h0' h1') = cc
 simple_one (simple_assert_stops_v h0 h1 h2) en ei (simple_expr_stops_x h0' h1') = cc
 simple_one (simple_assert_stops_v h0 h1 h2) en ei (simple_expr h0' h1') = cc
 simple_one (simple_assert h0 h1 h2) en ei (simple_pass h0') = cc
@@ -309,15 +270,12 @@ simple_one (simple_assert h0 h1 h2) en ei (simple_break h0') = cc
 simple_one (simple_assert h0 h1 h2) en ei (simple_continue h0') = cc
 simple_one (simple_assert h0 h1 h2) en ei (simple_return_stops_v h0' h1') = cc
 simple_one (simple_assert h0 h1 h2) en ei (simple_return h0' h1') = cc
-simple_one (simple_assert h0 h1 h2) en ei (simple_raise_none h0' h1') = cc
-simple_one (simple_assert h0 h1 h2) en ei (simple_raise_stops_v h0' h1' h2') = cc
-simple_one (simple_assert h0 h1 h2) en ei (simple_raise h0' h1' h2') = cc
+simple_one (simple_assert h0 h1 h2) en ei (simple_raise h0' h1') = cc
 simple_one (simple_assert h0 h1 h2) en ei (simple_assert_stops_x h0' h1') = let s1 = whole_one h1 en (ap (λ z. next z) ei) h1' in cc
 simple_one (simple_assert h0 h1 h2) en ei (simple_assert_stops_v h0' h1' h2') = let s1 = whole_one h1 en (ap (λ z. next z) ei) h1' in let s2 = detail_one h2 en (same_rest s1) h2' in cc
 simple_one (simple_assert h0 h1 h2) en ei (simple_assert h0' h1' h2') = let s1 = whole_one h1 en (ap (λ z. next z) ei) h1' in let s2 = detail_one h2 en (same_rest s1) h2' in cc
 simple_one (simple_assert h0 h1 h2) en ei (simple_local h0' h1') = cc
-simple_one (simple_assert h0 h1 h2) en ei (simple_field_deep h0' h1') = cc
-simple_one (simple_assert h0 h1 h2) en ei (simple_field h0' h1' h2') = cc
+simple_one (simple_assert h0 h1 h2) en ei (simple_field h0' h1') = cc
 simple_one (simple_assert h0 h1 h2) en ei (simple_expr_stops_x h0' h1') = cc
 simple_one (simple_assert h0 h1 h2) en ei (simple_expr h0' h1') = cc
 simple_one (simple_local h0 h1) en ei (simple_pass h0') = cc
@@ -325,63 +283,38 @@ simple_one (simple_local h0 h1) en ei (simple_break h0') = cc
 simple_one (simple_local h0 h1) en ei (simple_continue h0') = cc
 simple_one (simple_local h0 h1) en ei (simple_return_stops_v h0' h1') = cc
 simple_one (simple_local h0 h1) en ei (simple_return h0' h1') = cc
-simple_one (simple_local h0 h1) en ei (simple_raise_none h0' h1') = cc
-simple_one (simple_local h0 h1) en ei (simple_raise_stops_v h0' h1' h2') = cc
-simple_one (simple_local h0 h1) en ei (simple_raise h0' h1' h2') = cc
+simple_one (simple_local h0 h1) en ei (simple_raise h0' h1') = cc
 simple_one (simple_local h0 h1) en ei (simple_assert_stops_x h0' h1') = cc
 simple_one (simple_local h0 h1) en ei (simple_assert_stops_v h0' h1' h2') = cc
 simple_one (simple_local h0 h1) en ei (simple_assert h0' h1' h2') = cc
 simple_one (simple_local h0 h1) en ei (simple_local h0' h1') = let s1 = assigned_one h1 en (ap (λ z. here z) ei) (ap (λ z. target.Local (placed_name z)) ei) (ap (λ z. named z) ei) h1' in cc
-simple_one (simple_local h0 h1) en ei (simple_field_deep h0' h1') = cc
-simple_one (simple_local h0 h1) en ei (simple_field h0' h1' h2') = cc
+simple_one (simple_local h0 h1) en ei (simple_field h0' h1') = cc
 simple_one (simple_local h0 h1) en ei (simple_expr_stops_x h0' h1') = cc
 simple_one (simple_local h0 h1) en ei (simple_expr h0' h1') = cc
-simple_one (simple_field_deep h0 h1) en ei (simple_pass h0') = cc
-simple_one (simple_field_deep h0 h1) en ei (simple_break h0') = cc
-simple_one (simple_field_deep h0 h1) en ei (simple_continue h0') = cc
-simple_one (simple_field_deep h0 h1) en ei (simple_return_stops_v h0' h1') = cc
-simple_one (simple_field_deep h0 h1) en ei (simple_return h0' h1') = cc
-simple_one (simple_field_deep h0 h1) en ei (simple_raise_none h0' h1') = cc
-simple_one (simple_field_deep h0 h1) en ei (simple_raise_stops_v h0' h1' h2') = cc
-simple_one (simple_field_deep h0 h1) en ei (simple_raise h0' h1' h2') = cc
-simple_one (simple_field_deep h0 h1) en ei (simple_assert_stops_x h0' h1') = cc
-simple_one (simple_field_deep h0 h1) en ei (simple_assert_stops_v h0' h1' h2') = cc
-simple_one (simple_field_deep h0 h1) en ei (simple_assert h0' h1' h2') = cc
-simple_one (simple_field_deep h0 h1) en ei (simple_local h0' h1') = cc
-simple_one (simple_field_deep h0 h1) en ei (simple_field_deep h0' h1') = cc
-simple_one (simple_field_deep h0 h1) en ei (simple_field h0' h1' h2') = absurd (omega arith)
-simple_one (simple_field_deep h0 h1) en ei (simple_expr_stops_x h0' h1') = cc
-simple_one (simple_field_deep h0 h1) en ei (simple_expr h0' h1') = cc
-simple_one (simple_field h0 h1 h2) en ei (simple_pass h0') = cc
-simple_one (simple_field h0 h1 h2) en ei (simple_break h0') = cc
-simple_one (simple_field h0 h1 h2) en ei (simple_continue h0') = cc
-simple_one (simple_field h0 h1 h2) en ei (simple_return_stops_v h0' h1') = cc
-simple_one (simple_field h0 h1 h2) en ei (simple_return h0' h1') = cc
-simple_one (simple_field h0 h1 h2) en ei (simple_raise_none h0' h1') = cc
-simple_one (simple_field h0 h1 h2) en ei (simple_raise_stops_v h0' h1' h2') = cc
-simple_one (simple_field h0 h1 h2) en ei (simple_raise h0' h1' h2') = cc
-simple_one (simple_field h0 h1 h2) en ei (simple_assert_stops_x h0' h1') = cc
-simple_one (simple_field h0 h1 h2) en ei (simple_assert_stops_v h0' h1' h2') = cc
-simple_one (simple_field h0 h1 h2) en ei (simple_assert h0' h1' h2') = cc
-simple_one (simple_field h0 h1 h2) en ei (simple_local h0' h1') = cc
-simple_one (simple_field h0 h1 h2) en ei (simple_field_deep h0' h1') = absurd (omega arith)
-simple_one (simple_field h0 h1 h2) en ei (simple_field h0' h1' h2') = let s1 = assigned_one h2 en (ap (λ z. here z) ei) (ap (λ z. target.Field (placed_name (next (next z)))) ei) (ap (λ z. named (next (next z))) ei) h2' in cc
-simple_one (simple_field h0 h1 h2) en ei (simple_expr_stops_x h0' h1') = cc
-simple_one (simple_field h0 h1 h2) en ei (simple_expr h0' h1') = cc
+simple_one (simple_field h0 h1) en ei (simple_pass h0') = cc
+simple_one (simple_field h0 h1) en ei (simple_break h0') = cc
+simple_one (simple_field h0 h1) en ei (simple_continue h0') = cc
+simple_one (simple_field h0 h1) en ei (simple_return_stops_v h0' h1') = cc
+simple_one (simple_field h0 h1) en ei (simple_return h0' h1') = cc
+simple_one (simple_field h0 h1) en ei (simple_raise h0' h1') = cc
+simple_one (simple_field h0 h1) en ei (simple_assert_stops_x h0' h1') = cc
+simple_one (simple_field h0 h1) en ei (simple_assert_stops_v h0' h1' h2') = cc
+simple_one (simple_field h0 h1) en ei (simple_assert h0' h1' h2') = cc
+simple_one (simple_field h0 h1) en ei (simple_local h0' h1') = cc
+simple_one (simple_field h0 h1) en ei (simple_field h0' h1') = let s1 = field_one h1 en ei h1' in cc
+simple_one (simple_field h0 h1) en ei (simple_expr_stops_x h0' h1') = cc
+simple_one (simple_field h0 h1) en ei (simple_expr h0' h1') = cc
 simple_one (simple_expr_stops_x h0 h1) en ei (simple_pass h0') = cc
 simple_one (simple_expr_stops_x h0 h1) en ei (simple_break h0') = cc
 simple_one (simple_expr_stops_x h0 h1) en ei (simple_continue h0') = cc
 simple_one (simple_expr_stops_x h0 h1) en ei (simple_return_stops_v h0' h1') = cc
 simple_one (simple_expr_stops_x h0 h1) en ei (simple_return h0' h1') = cc
-simple_one (simple_expr_stops_x h0 h1) en ei (simple_raise_none h0' h1') = cc
-simple_one (simple_expr_stops_x h0 h1) en ei (simple_raise_stops_v h0' h1' h2') = cc
-simple_one (simple_expr_stops_x h0 h1) en ei (simple_raise h0' h1' h2') = cc
+simple_one (simple_expr_stops_x h0 h1) en ei (simple_raise h0' h1') = cc
 simple_one (simple_expr_stops_x h0 h1) en ei (simple_assert_stops_x h0' h1') = cc
 simple_one (simple_expr_stops_x h0 h1) en ei (simple_assert_stops_v h0' h1' h2') = cc
 simple_one (simple_expr_stops_x h0 h1) en ei (simple_assert h0' h1' h2') = cc
 simple_one (simple_expr_stops_x h0 h1) en ei (simple_local h0' h1') = cc
-simple_one (simple_expr_stops_x h0 h1) en ei (simple_field_deep h0' h1') = cc
-simple_one (simple_expr_stops_x h0 h1) en ei (simple_field h0' h1' h2') = cc
+simple_one (simple_expr_stops_x h0 h1) en ei (simple_field h0' h1') = cc
 simple_one (simple_expr_stops_x h0 h1) en ei (simple_expr_stops_x h0' h1') = let s1 = whole_one h1 en ei h1' in cc
 simple_one (simple_expr_stops_x h0 h1) en ei (simple_expr h0' h1') = let s1 = whole_one h1 en ei h1' in cc
 simple_one (simple_expr h0 h1) en ei (simple_pass h0') = cc
@@ -389,15 +322,12 @@ simple_one (simple_expr h0 h1) en ei (simple_break h0') = cc
 simple_one (simple_expr h0 h1) en ei (simple_continue h0') = cc
 simple_one (simple_expr h0 h1) en ei (simple_return_stops_v h0' h1') = cc
 simple_one (simple_expr h0 h1) en ei (simple_return h0' h1') = cc
-simple_one (simple_expr h0 h1) en ei (simple_raise_none h0' h1') = cc
-simple_one (simple_expr h0 h1) en ei (simple_raise_stops_v h0' h1' h2') = cc
-simple_one (simple_expr h0 h1) en ei (simple_raise h0' h1' h2') = cc
+simple_one (simple_expr h0 h1) en ei (simple_raise h0' h1') = cc
 simple_one (simple_expr h0 h1) en ei (simple_assert_stops_x h0' h1') = cc
 simple_one (simple_expr h0 h1) en ei (simple_assert_stops_v h0' h1' h2') = cc
 simple_one (simple_expr h0 h1) en ei (simple_assert h0' h1' h2') = cc
 simple_one (simple_expr h0 h1) en ei (simple_local h0' h1') = cc
-simple_one (simple_expr h0 h1) en ei (simple_field_deep h0' h1') = cc
-simple_one (simple_expr h0 h1) en ei (simple_field h0' h1' h2') = cc
+simple_one (simple_expr h0 h1) en ei (simple_field h0' h1') = cc
 simple_one (simple_expr h0 h1) en ei (simple_expr_stops_x h0' h1') = let s1 = whole_one h1 en ei h1' in cc
 simple_one (simple_expr h0 h1) en ei (simple_expr h0' h1') = let s1 = whole_one h1 en ei h1' in cc
 
@@ -585,175 +515,111 @@ mutual
   stmts_one (stmts_more h0 h1 h2 h3) en ec eb ei (stmts_more h0' h1' h2' h3') = let s1 = stmt_one h2 en eb (ap (λ z. next_line z) ei) h2' in let s2 = stmts_one h3 en ec eb (same_rest s1) h3' in cc
 
   pub stmt_one : {n n' : ℕ} {c c' : ℕ} {i i' : Input} {o o' : Outcome (List PlainStmt)} → IsStmt n c i o → n ≡ n' → c ≡ c' → i ≡ i' → IsStmt n' c' i' o' → o ≡ o'
-  stmt_one (stmt_if_stops_a h0 h1) en ec ei (stmt_if_stops_a h0' h1') = let s1 = arm_one h1 en ec (ap (λ z. next z) ei) h1' in cc
-  stmt_one (stmt_if_stops_a h0 h1) en ec ei (stmt_if_stops_bs h0' h1' h2') = let s1 = arm_one h1 en ec (ap (λ z. next z) ei) h1' in cc
-  stmt_one (stmt_if_stops_a h0 h1) en ec ei (stmt_if_stops_ys h0' h1' h2' h3') = let s1 = arm_one h1 en ec (ap (λ z. next z) ei) h1' in cc
-  stmt_one (stmt_if_stops_a h0 h1) en ec ei (stmt_if h0' h1' h2' h3') = let s1 = arm_one h1 en ec (ap (λ z. next z) ei) h1' in cc
-  stmt_one (stmt_if_stops_a h0 h1) en ec ei (stmt_while_stops_x h0' h1' h2') = cc
-  stmt_one (stmt_if_stops_a h0 h1) en ec ei (stmt_while_stops_ys h0' h1' h2' h3') = cc
-  stmt_one (stmt_if_stops_a h0 h1) en ec ei (stmt_while h0' h1' h2' h3') = cc
-  stmt_one (stmt_if_stops_a h0 h1) en ec ei (stmt_for_needs_name h0' h1' h2' h3') = cc
-  stmt_one (stmt_if_stops_a h0 h1) en ec ei (stmt_for_needs_in h0' h1' h2' h3' h4') = cc
-  stmt_one (stmt_if_stops_a h0 h1) en ec ei (stmt_for_stops_v h0' h1' h2' h3' h4' h5') = cc
-  stmt_one (stmt_if_stops_a h0 h1) en ec ei (stmt_for_stops_ys h0' h1' h2' h3' h4' h5' h6') = cc
-  stmt_one (stmt_if_stops_a h0 h1) en ec ei (stmt_for h0' h1' h2' h3' h4' h5' h6') = cc
-  stmt_one (stmt_if_stops_a h0 h1) en ec ei (stmt_simple h0' h1' h2' h3') = cc
-  stmt_one (stmt_if_stops_bs h0 h1 h2) en ec ei (stmt_if_stops_a h0' h1') = let s1 = arm_one h1 en ec (ap (λ z. next z) ei) h1' in cc
-  stmt_one (stmt_if_stops_bs h0 h1 h2) en ec ei (stmt_if_stops_bs h0' h1' h2') = let s1 = arm_one h1 en ec (ap (λ z. next z) ei) h1' in let s2 = arms_one h2 en ec (same_rest s1) h2' in cc
-  stmt_one (stmt_if_stops_bs h0 h1 h2) en ec ei (stmt_if_stops_ys h0' h1' h2' h3') = let s1 = arm_one h1 en ec (ap (λ z. next z) ei) h1' in let s2 = arms_one h2 en ec (same_rest s1) h2' in cc
-  stmt_one (stmt_if_stops_bs h0 h1 h2) en ec ei (stmt_if h0' h1' h2' h3') = let s1 = arm_one h1 en ec (ap (λ z. next z) ei) h1' in let s2 = arms_one h2 en ec (same_rest s1) h2' in cc
-  stmt_one (stmt_if_stops_bs h0 h1 h2) en ec ei (stmt_while_stops_x h0' h1' h2') = cc
-  stmt_one (stmt_if_stops_bs h0 h1 h2) en ec ei (stmt_while_stops_ys h0' h1' h2' h3') = cc
-  stmt_one (stmt_if_stops_bs h0 h1 h2) en ec ei (stmt_while h0' h1' h2' h3') = cc
-  stmt_one (stmt_if_stops_bs h0 h1 h2) en ec ei (stmt_for_needs_name h0' h1' h2' h3') = cc
-  stmt_one (stmt_if_stops_bs h0 h1 h2) en ec ei (stmt_for_needs_in h0' h1' h2' h3' h4') = cc
-  stmt_one (stmt_if_stops_bs h0 h1 h2) en ec ei (stmt_for_stops_v h0' h1' h2' h3' h4' h5') = cc
-  stmt_one (stmt_if_stops_bs h0 h1 h2) en ec ei (stmt_for_stops_ys h0' h1' h2' h3' h4' h5' h6') = cc
-  stmt_one (stmt_if_stops_bs h0 h1 h2) en ec ei (stmt_for h0' h1' h2' h3' h4' h5' h6') = cc
-  stmt_one (stmt_if_stops_bs h0 h1 h2) en ec ei (stmt_simple h0' h1' h2' h3') = cc
-  stmt_one (stmt_if_stops_ys h0 h1 h2 h3) en ec ei (stmt_if_stops_a h0' h1') = let s1 = arm_one h1 en ec (ap (λ z. next z) ei) h1' in cc
-  stmt_one (stmt_if_stops_ys h0 h1 h2 h3) en ec ei (stmt_if_stops_bs h0' h1' h2') = let s1 = arm_one h1 en ec (ap (λ z. next z) ei) h1' in let s2 = arms_one h2 en ec (same_rest s1) h2' in cc
-  stmt_one (stmt_if_stops_ys h0 h1 h2 h3) en ec ei (stmt_if_stops_ys h0' h1' h2' h3') = let s1 = arm_one h1 en ec (ap (λ z. next z) ei) h1' in let s2 = arms_one h2 en ec (same_rest s1) h2' in let s3 = other_one h3 en ec (same_rest s2) h3' in cc
-  stmt_one (stmt_if_stops_ys h0 h1 h2 h3) en ec ei (stmt_if h0' h1' h2' h3') = let s1 = arm_one h1 en ec (ap (λ z. next z) ei) h1' in let s2 = arms_one h2 en ec (same_rest s1) h2' in let s3 = other_one h3 en ec (same_rest s2) h3' in cc
-  stmt_one (stmt_if_stops_ys h0 h1 h2 h3) en ec ei (stmt_while_stops_x h0' h1' h2') = cc
-  stmt_one (stmt_if_stops_ys h0 h1 h2 h3) en ec ei (stmt_while_stops_ys h0' h1' h2' h3') = cc
-  stmt_one (stmt_if_stops_ys h0 h1 h2 h3) en ec ei (stmt_while h0' h1' h2' h3') = cc
-  stmt_one (stmt_if_stops_ys h0 h1 h2 h3) en ec ei (stmt_for_needs_name h0' h1' h2' h3') = cc
-  stmt_one (stmt_if_stops_ys h0 h1 h2 h3) en ec ei (stmt_for_needs_in h0' h1' h2' h3' h4') = cc
-  stmt_one (stmt_if_stops_ys h0 h1 h2 h3) en ec ei (stmt_for_stops_v h0' h1' h2' h3' h4' h5') = cc
-  stmt_one (stmt_if_stops_ys h0 h1 h2 h3) en ec ei (stmt_for_stops_ys h0' h1' h2' h3' h4' h5' h6') = cc
-  stmt_one (stmt_if_stops_ys h0 h1 h2 h3) en ec ei (stmt_for h0' h1' h2' h3' h4' h5' h6') = cc
-  stmt_one (stmt_if_stops_ys h0 h1 h2 h3) en ec ei (stmt_simple h0' h1' h2' h3') = cc
-  stmt_one (stmt_if h0 h1 h2 h3) en ec ei (stmt_if_stops_a h0' h1') = let s1 = arm_one h1 en ec (ap (λ z. next z) ei) h1' in cc
-  stmt_one (stmt_if h0 h1 h2 h3) en ec ei (stmt_if_stops_bs h0' h1' h2') = let s1 = arm_one h1 en ec (ap (λ z. next z) ei) h1' in let s2 = arms_one h2 en ec (same_rest s1) h2' in cc
-  stmt_one (stmt_if h0 h1 h2 h3) en ec ei (stmt_if_stops_ys h0' h1' h2' h3') = let s1 = arm_one h1 en ec (ap (λ z. next z) ei) h1' in let s2 = arms_one h2 en ec (same_rest s1) h2' in let s3 = other_one h3 en ec (same_rest s2) h3' in cc
-  stmt_one (stmt_if h0 h1 h2 h3) en ec ei (stmt_if h0' h1' h2' h3') = let s1 = arm_one h1 en ec (ap (λ z. next z) ei) h1' in let s2 = arms_one h2 en ec (same_rest s1) h2' in let s3 = other_one h3 en ec (same_rest s2) h3' in cc
-  stmt_one (stmt_if h0 h1 h2 h3) en ec ei (stmt_while_stops_x h0' h1' h2') = cc
-  stmt_one (stmt_if h0 h1 h2 h3) en ec ei (stmt_while_stops_ys h0' h1' h2' h3') = cc
-  stmt_one (stmt_if h0 h1 h2 h3) en ec ei (stmt_while h0' h1' h2' h3') = cc
-  stmt_one (stmt_if h0 h1 h2 h3) en ec ei (stmt_for_needs_name h0' h1' h2' h3') = cc
-  stmt_one (stmt_if h0 h1 h2 h3) en ec ei (stmt_for_needs_in h0' h1' h2' h3' h4') = cc
-  stmt_one (stmt_if h0 h1 h2 h3) en ec ei (stmt_for_stops_v h0' h1' h2' h3' h4' h5') = cc
-  stmt_one (stmt_if h0 h1 h2 h3) en ec ei (stmt_for_stops_ys h0' h1' h2' h3' h4' h5' h6') = cc
-  stmt_one (stmt_if h0 h1 h2 h3) en ec ei (stmt_for h0' h1' h2' h3' h4' h5' h6') = cc
-  stmt_one (stmt_if h0 h1 h2 h3) en ec ei (stmt_simple h0' h1' h2' h3') = cc
-  stmt_one (stmt_while_stops_x h0 h1 h2) en ec ei (stmt_if_stops_a h0' h1') = cc
-  stmt_one (stmt_while_stops_x h0 h1 h2) en ec ei (stmt_if_stops_bs h0' h1' h2') = cc
-  stmt_one (stmt_while_stops_x h0 h1 h2) en ec ei (stmt_if_stops_ys h0' h1' h2' h3') = cc
-  stmt_one (stmt_while_stops_x h0 h1 h2) en ec ei (stmt_if h0' h1' h2' h3') = cc
-  stmt_one (stmt_while_stops_x h0 h1 h2) en ec ei (stmt_while_stops_x h0' h1' h2') = let s1 = whole_one h2 en (ap (λ z. next z) ei) h2' in cc
-  stmt_one (stmt_while_stops_x h0 h1 h2) en ec ei (stmt_while_stops_ys h0' h1' h2' h3') = let s1 = whole_one h2 en (ap (λ z. next z) ei) h2' in cc
-  stmt_one (stmt_while_stops_x h0 h1 h2) en ec ei (stmt_while h0' h1' h2' h3') = let s1 = whole_one h2 en (ap (λ z. next z) ei) h2' in cc
-  stmt_one (stmt_while_stops_x h0 h1 h2) en ec ei (stmt_for_needs_name h0' h1' h2' h3') = cc
-  stmt_one (stmt_while_stops_x h0 h1 h2) en ec ei (stmt_for_needs_in h0' h1' h2' h3' h4') = cc
-  stmt_one (stmt_while_stops_x h0 h1 h2) en ec ei (stmt_for_stops_v h0' h1' h2' h3' h4' h5') = cc
-  stmt_one (stmt_while_stops_x h0 h1 h2) en ec ei (stmt_for_stops_ys h0' h1' h2' h3' h4' h5' h6') = cc
-  stmt_one (stmt_while_stops_x h0 h1 h2) en ec ei (stmt_for h0' h1' h2' h3' h4' h5' h6') = cc
+  stmt_one (stmt_if_stops_x h0 h1) en ec ei (stmt_if_stops_x h0' h1') = let s1 = if_one h1 en ec ei h1' in cc
+  stmt_one (stmt_if_stops_x h0 h1) en ec ei (stmt_if h0' h1') = let s1 = if_one h1 en ec ei h1' in cc
+  stmt_one (stmt_if_stops_x h0 h1) en ec ei (stmt_while_stops_x h0' h1' h2') = cc
+  stmt_one (stmt_if_stops_x h0 h1) en ec ei (stmt_while h0' h1' h2') = cc
+  stmt_one (stmt_if_stops_x h0 h1) en ec ei (stmt_for_stops_x h0' h1' h2' h3') = cc
+  stmt_one (stmt_if_stops_x h0 h1) en ec ei (stmt_for h0' h1' h2' h3') = cc
+  stmt_one (stmt_if_stops_x h0 h1) en ec ei (stmt_simple h0' h1' h2' h3') = cc
+  stmt_one (stmt_if h0 h1) en ec ei (stmt_if_stops_x h0' h1') = let s1 = if_one h1 en ec ei h1' in cc
+  stmt_one (stmt_if h0 h1) en ec ei (stmt_if h0' h1') = let s1 = if_one h1 en ec ei h1' in cc
+  stmt_one (stmt_if h0 h1) en ec ei (stmt_while_stops_x h0' h1' h2') = cc
+  stmt_one (stmt_if h0 h1) en ec ei (stmt_while h0' h1' h2') = cc
+  stmt_one (stmt_if h0 h1) en ec ei (stmt_for_stops_x h0' h1' h2' h3') = cc
+  stmt_one (stmt_if h0 h1) en ec ei (stmt_for h0' h1' h2' h3') = cc
+  stmt_one (stmt_if h0 h1) en ec ei (stmt_simple h0' h1' h2' h3') = cc
+  stmt_one (stmt_while_stops_x h0 h1 h2) en ec ei (stmt_if_stops_x h0' h1') = cc
+  stmt_one (stmt_while_stops_x h0 h1 h2) en ec ei (stmt_if h0' h1') = cc
+  stmt_one (stmt_while_stops_x h0 h1 h2) en ec ei (stmt_while_stops_x h0' h1' h2') = let s1 = while_one h2 en ec ei h2' in cc
+  stmt_one (stmt_while_stops_x h0 h1 h2) en ec ei (stmt_while h0' h1' h2') = let s1 = while_one h2 en ec ei h2' in cc
+  stmt_one (stmt_while_stops_x h0 h1 h2) en ec ei (stmt_for_stops_x h0' h1' h2' h3') = cc
+  stmt_one (stmt_while_stops_x h0 h1 h2) en ec ei (stmt_for h0' h1' h2' h3') = cc
   stmt_one (stmt_while_stops_x h0 h1 h2) en ec ei (stmt_simple h0' h1' h2' h3') = cc
-  stmt_one (stmt_while_stops_ys h0 h1 h2 h3) en ec ei (stmt_if_stops_a h0' h1') = cc
-  stmt_one (stmt_while_stops_ys h0 h1 h2 h3) en ec ei (stmt_if_stops_bs h0' h1' h2') = cc
-  stmt_one (stmt_while_stops_ys h0 h1 h2 h3) en ec ei (stmt_if_stops_ys h0' h1' h2' h3') = cc
-  stmt_one (stmt_while_stops_ys h0 h1 h2 h3) en ec ei (stmt_if h0' h1' h2' h3') = cc
-  stmt_one (stmt_while_stops_ys h0 h1 h2 h3) en ec ei (stmt_while_stops_x h0' h1' h2') = let s1 = whole_one h2 en (ap (λ z. next z) ei) h2' in cc
-  stmt_one (stmt_while_stops_ys h0 h1 h2 h3) en ec ei (stmt_while_stops_ys h0' h1' h2' h3') = let s1 = whole_one h2 en (ap (λ z. next z) ei) h2' in let s2 = body_one h3 en ec (same_rest s1) h3' in cc
-  stmt_one (stmt_while_stops_ys h0 h1 h2 h3) en ec ei (stmt_while h0' h1' h2' h3') = let s1 = whole_one h2 en (ap (λ z. next z) ei) h2' in let s2 = body_one h3 en ec (same_rest s1) h3' in cc
-  stmt_one (stmt_while_stops_ys h0 h1 h2 h3) en ec ei (stmt_for_needs_name h0' h1' h2' h3') = cc
-  stmt_one (stmt_while_stops_ys h0 h1 h2 h3) en ec ei (stmt_for_needs_in h0' h1' h2' h3' h4') = cc
-  stmt_one (stmt_while_stops_ys h0 h1 h2 h3) en ec ei (stmt_for_stops_v h0' h1' h2' h3' h4' h5') = cc
-  stmt_one (stmt_while_stops_ys h0 h1 h2 h3) en ec ei (stmt_for_stops_ys h0' h1' h2' h3' h4' h5' h6') = cc
-  stmt_one (stmt_while_stops_ys h0 h1 h2 h3) en ec ei (stmt_for h0' h1' h2' h3' h4' h5' h6') = cc
-  stmt_one (stmt_while_stops_ys h0 h1 h2 h3) en ec ei (stmt_simple h0' h1' h2' h3') = cc
-  stmt_one (stmt_while h0 h1 h2 h3) en ec ei (stmt_if_stops_a h0' h1') = cc
-  stmt_one (stmt_while h0 h1 h2 h3) en ec ei (stmt_if_stops_bs h0' h1' h2') = cc
-  stmt_one (stmt_while h0 h1 h2 h3) en ec ei (stmt_if_stops_ys h0' h1' h2' h3') = cc
-  stmt_one (stmt_while h0 h1 h2 h3) en ec ei (stmt_if h0' h1' h2' h3') = cc
-  stmt_one (stmt_while h0 h1 h2 h3) en ec ei (stmt_while_stops_x h0' h1' h2') = let s1 = whole_one h2 en (ap (λ z. next z) ei) h2' in cc
-  stmt_one (stmt_while h0 h1 h2 h3) en ec ei (stmt_while_stops_ys h0' h1' h2' h3') = let s1 = whole_one h2 en (ap (λ z. next z) ei) h2' in let s2 = body_one h3 en ec (same_rest s1) h3' in cc
-  stmt_one (stmt_while h0 h1 h2 h3) en ec ei (stmt_while h0' h1' h2' h3') = let s1 = whole_one h2 en (ap (λ z. next z) ei) h2' in let s2 = body_one h3 en ec (same_rest s1) h3' in cc
-  stmt_one (stmt_while h0 h1 h2 h3) en ec ei (stmt_for_needs_name h0' h1' h2' h3') = cc
-  stmt_one (stmt_while h0 h1 h2 h3) en ec ei (stmt_for_needs_in h0' h1' h2' h3' h4') = cc
-  stmt_one (stmt_while h0 h1 h2 h3) en ec ei (stmt_for_stops_v h0' h1' h2' h3' h4' h5') = cc
-  stmt_one (stmt_while h0 h1 h2 h3) en ec ei (stmt_for_stops_ys h0' h1' h2' h3' h4' h5' h6') = cc
-  stmt_one (stmt_while h0 h1 h2 h3) en ec ei (stmt_for h0' h1' h2' h3' h4' h5' h6') = cc
-  stmt_one (stmt_while h0 h1 h2 h3) en ec ei (stmt_simple h0' h1' h2' h3') = cc
-  stmt_one (stmt_for_needs_name h0 h1 h2 h3) en ec ei (stmt_if_stops_a h0' h1') = cc
-  stmt_one (stmt_for_needs_name h0 h1 h2 h3) en ec ei (stmt_if_stops_bs h0' h1' h2') = cc
-  stmt_one (stmt_for_needs_name h0 h1 h2 h3) en ec ei (stmt_if_stops_ys h0' h1' h2' h3') = cc
-  stmt_one (stmt_for_needs_name h0 h1 h2 h3) en ec ei (stmt_if h0' h1' h2' h3') = cc
-  stmt_one (stmt_for_needs_name h0 h1 h2 h3) en ec ei (stmt_while_stops_x h0' h1' h2') = cc
-  stmt_one (stmt_for_needs_name h0 h1 h2 h3) en ec ei (stmt_while_stops_ys h0' h1' h2' h3') = cc
-  stmt_one (stmt_for_needs_name h0 h1 h2 h3) en ec ei (stmt_while h0' h1' h2' h3') = cc
-  stmt_one (stmt_for_needs_name h0 h1 h2 h3) en ec ei (stmt_for_needs_name h0' h1' h2' h3') = cc
-  stmt_one (stmt_for_needs_name h0 h1 h2 h3) en ec ei (stmt_for_needs_in h0' h1' h2' h3' h4') = cc
-  stmt_one (stmt_for_needs_name h0 h1 h2 h3) en ec ei (stmt_for_stops_v h0' h1' h2' h3' h4' h5') = cc
-  stmt_one (stmt_for_needs_name h0 h1 h2 h3) en ec ei (stmt_for_stops_ys h0' h1' h2' h3' h4' h5' h6') = cc
-  stmt_one (stmt_for_needs_name h0 h1 h2 h3) en ec ei (stmt_for h0' h1' h2' h3' h4' h5' h6') = cc
-  stmt_one (stmt_for_needs_name h0 h1 h2 h3) en ec ei (stmt_simple h0' h1' h2' h3') = cc
-  stmt_one (stmt_for_needs_in h0 h1 h2 h3 h4) en ec ei (stmt_if_stops_a h0' h1') = cc
-  stmt_one (stmt_for_needs_in h0 h1 h2 h3 h4) en ec ei (stmt_if_stops_bs h0' h1' h2') = cc
-  stmt_one (stmt_for_needs_in h0 h1 h2 h3 h4) en ec ei (stmt_if_stops_ys h0' h1' h2' h3') = cc
-  stmt_one (stmt_for_needs_in h0 h1 h2 h3 h4) en ec ei (stmt_if h0' h1' h2' h3') = cc
-  stmt_one (stmt_for_needs_in h0 h1 h2 h3 h4) en ec ei (stmt_while_stops_x h0' h1' h2') = cc
-  stmt_one (stmt_for_needs_in h0 h1 h2 h3 h4) en ec ei (stmt_while_stops_ys h0' h1' h2' h3') = cc
-  stmt_one (stmt_for_needs_in h0 h1 h2 h3 h4) en ec ei (stmt_while h0' h1' h2' h3') = cc
-  stmt_one (stmt_for_needs_in h0 h1 h2 h3 h4) en ec ei (stmt_for_needs_name h0' h1' h2' h3') = cc
-  stmt_one (stmt_for_needs_in h0 h1 h2 h3 h4) en ec ei (stmt_for_needs_in h0' h1' h2' h3' h4') = cc
-  stmt_one (stmt_for_needs_in h0 h1 h2 h3 h4) en ec ei (stmt_for_stops_v h0' h1' h2' h3' h4' h5') = cc
-  stmt_one (stmt_for_needs_in h0 h1 h2 h3 h4) en ec ei (stmt_for_stops_ys h0' h1' h2' h3' h4' h5' h6') = cc
-  stmt_one (stmt_for_needs_in h0 h1 h2 h3 h4) en ec ei (stmt_for h0' h1' h2' h3' h4' h5' h6') = cc
-  stmt_one (stmt_for_needs_in h0 h1 h2 h3 h4) en ec ei (stmt_simple h0' h1' h2' h3') = cc
-  stmt_one (stmt_for_stops_v h0 h1 h2 h3 h4 h5) en ec ei (stmt_if_stops_a h0' h1') = cc
-  stmt_one (stmt_for_stops_v h0 h1 h2 h3 h4 h5) en ec ei (stmt_if_stops_bs h0' h1' h2') = cc
-  stmt_one (stmt_for_stops_v h0 h1 h2 h3 h4 h5) en ec ei (stmt_if_stops_ys h0' h1' h2' h3') = cc
-  stmt_one (stmt_for_stops_v h0 h1 h2 h3 h4 h5) en ec ei (stmt_if h0' h1' h2' h3') = cc
-  stmt_one (stmt_for_stops_v h0 h1 h2 h3 h4 h5) en ec ei (stmt_while_stops_x h0' h1' h2') = cc
-  stmt_one (stmt_for_stops_v h0 h1 h2 h3 h4 h5) en ec ei (stmt_while_stops_ys h0' h1' h2' h3') = cc
-  stmt_one (stmt_for_stops_v h0 h1 h2 h3 h4 h5) en ec ei (stmt_while h0' h1' h2' h3') = cc
-  stmt_one (stmt_for_stops_v h0 h1 h2 h3 h4 h5) en ec ei (stmt_for_needs_name h0' h1' h2' h3') = cc
-  stmt_one (stmt_for_stops_v h0 h1 h2 h3 h4 h5) en ec ei (stmt_for_needs_in h0' h1' h2' h3' h4') = cc
-  stmt_one (stmt_for_stops_v h0 h1 h2 h3 h4 h5) en ec ei (stmt_for_stops_v h0' h1' h2' h3' h4' h5') = let s1 = over_one h5 en (ap (λ z. next (named (next z))) ei) h5' in cc
-  stmt_one (stmt_for_stops_v h0 h1 h2 h3 h4 h5) en ec ei (stmt_for_stops_ys h0' h1' h2' h3' h4' h5' h6') = let s1 = over_one h5 en (ap (λ z. next (named (next z))) ei) h5' in cc
-  stmt_one (stmt_for_stops_v h0 h1 h2 h3 h4 h5) en ec ei (stmt_for h0' h1' h2' h3' h4' h5' h6') = let s1 = over_one h5 en (ap (λ z. next (named (next z))) ei) h5' in cc
-  stmt_one (stmt_for_stops_v h0 h1 h2 h3 h4 h5) en ec ei (stmt_simple h0' h1' h2' h3') = cc
-  stmt_one (stmt_for_stops_ys h0 h1 h2 h3 h4 h5 h6) en ec ei (stmt_if_stops_a h0' h1') = cc
-  stmt_one (stmt_for_stops_ys h0 h1 h2 h3 h4 h5 h6) en ec ei (stmt_if_stops_bs h0' h1' h2') = cc
-  stmt_one (stmt_for_stops_ys h0 h1 h2 h3 h4 h5 h6) en ec ei (stmt_if_stops_ys h0' h1' h2' h3') = cc
-  stmt_one (stmt_for_stops_ys h0 h1 h2 h3 h4 h5 h6) en ec ei (stmt_if h0' h1' h2' h3') = cc
-  stmt_one (stmt_for_stops_ys h0 h1 h2 h3 h4 h5 h6) en ec ei (stmt_while_stops_x h0' h1' h2') = cc
-  stmt_one (stmt_for_stops_ys h0 h1 h2 h3 h4 h5 h6) en ec ei (stmt_while_stops_ys h0' h1' h2' h3') = cc
-  stmt_one (stmt_for_stops_ys h0 h1 h2 h3 h4 h5 h6) en ec ei (stmt_while h0' h1' h2' h3') = cc
-  stmt_one (stmt_for_stops_ys h0 h1 h2 h3 h4 h5 h6) en ec ei (stmt_for_needs_name h0' h1' h2' h3') = cc
-  stmt_one (stmt_for_stops_ys h0 h1 h2 h3 h4 h5 h6) en ec ei (stmt_for_needs_in h0' h1' h2' h3' h4') = cc
-  stmt_one (stmt_for_stops_ys h0 h1 h2 h3 h4 h5 h6) en ec ei (stmt_for_stops_v h0' h1' h2' h3' h4' h5') = let s1 = over_one h5 en (ap (λ z. next (named (next z))) ei) h5' in cc
-  stmt_one (stmt_for_stops_ys h0 h1 h2 h3 h4 h5 h6) en ec ei (stmt_for_stops_ys h0' h1' h2' h3' h4' h5' h6') = let s1 = over_one h5 en (ap (λ z. next (named (next z))) ei) h5' in let s2 = body_one h6 en ec (same_rest s1) h6' in cc
-  stmt_one (stmt_for_stops_ys h0 h1 h2 h3 h4 h5 h6) en ec ei (stmt_for h0' h1' h2' h3' h4' h5' h6') = let s1 = over_one h5 en (ap (λ z. next (named (next z))) ei) h5' in let s2 = body_one h6 en ec (same_rest s1) h6' in cc
-  stmt_one (stmt_for_stops_ys h0 h1 h2 h3 h4 h5 h6) en ec ei (stmt_simple h0' h1' h2' h3') = cc
-  stmt_one (stmt_for h0 h1 h2 h3 h4 h5 h6) en ec ei (stmt_if_stops_a h0' h1') = cc
-  stmt_one (stmt_for h0 h1 h2 h3 h4 h5 h6) en ec ei (stmt_if_stops_bs h0' h1' h2') = cc
-  stmt_one (stmt_for h0 h1 h2 h3 h4 h5 h6) en ec ei (stmt_if_stops_ys h0' h1' h2' h3') = cc
-  stmt_one (stmt_for h0 h1 h2 h3 h4 h5 h6) en ec ei (stmt_if h0' h1' h2' h3') = cc
-  stmt_one (stmt_for h0 h1 h2 h3 h4 h5 h6) en ec ei (stmt_while_stops_x h0' h1' h2') = cc
-  stmt_one (stmt_for h0 h1 h2 h3 h4 h5 h6) en ec ei (stmt_while_stops_ys h0' h1' h2' h3') = cc
-  stmt_one (stmt_for h0 h1 h2 h3 h4 h5 h6) en ec ei (stmt_while h0' h1' h2' h3') = cc
-  stmt_one (stmt_for h0 h1 h2 h3 h4 h5 h6) en ec ei (stmt_for_needs_name h0' h1' h2' h3') = cc
-  stmt_one (stmt_for h0 h1 h2 h3 h4 h5 h6) en ec ei (stmt_for_needs_in h0' h1' h2' h3' h4') = cc
-  stmt_one (stmt_for h0 h1 h2 h3 h4 h5 h6) en ec ei (stmt_for_stops_v h0' h1' h2' h3' h4' h5') = let s1 = over_one h5 en (ap (λ z. next (named (next z))) ei) h5' in cc
-  stmt_one (stmt_for h0 h1 h2 h3 h4 h5 h6) en ec ei (stmt_for_stops_ys h0' h1' h2' h3' h4' h5' h6') = let s1 = over_one h5 en (ap (λ z. next (named (next z))) ei) h5' in let s2 = body_one h6 en ec (same_rest s1) h6' in cc
-  stmt_one (stmt_for h0 h1 h2 h3 h4 h5 h6) en ec ei (stmt_for h0' h1' h2' h3' h4' h5' h6') = let s1 = over_one h5 en (ap (λ z. next (named (next z))) ei) h5' in let s2 = body_one h6 en ec (same_rest s1) h6' in cc
-  stmt_one (stmt_for h0 h1 h2 h3 h4 h5 h6) en ec ei (stmt_simple h0' h1' h2' h3') = cc
-  stmt_one (stmt_simple h0 h1 h2 h3) en ec ei (stmt_if_stops_a h0' h1') = cc
-  stmt_one (stmt_simple h0 h1 h2 h3) en ec ei (stmt_if_stops_bs h0' h1' h2') = cc
-  stmt_one (stmt_simple h0 h1 h2 h3) en ec ei (stmt_if_stops_ys h0' h1' h2' h3') = cc
-  stmt_one (stmt_simple h0 h1 h2 h3) en ec ei (stmt_if h0' h1' h2' h3') = cc
+  stmt_one (stmt_while h0 h1 h2) en ec ei (stmt_if_stops_x h0' h1') = cc
+  stmt_one (stmt_while h0 h1 h2) en ec ei (stmt_if h0' h1') = cc
+  stmt_one (stmt_while h0 h1 h2) en ec ei (stmt_while_stops_x h0' h1' h2') = let s1 = while_one h2 en ec ei h2' in cc
+  stmt_one (stmt_while h0 h1 h2) en ec ei (stmt_while h0' h1' h2') = let s1 = while_one h2 en ec ei h2' in cc
+  stmt_one (stmt_while h0 h1 h2) en ec ei (stmt_for_stops_x h0' h1' h2' h3') = cc
+  stmt_one (stmt_while h0 h1 h2) en ec ei (stmt_for h0' h1' h2' h3') = cc
+  stmt_one (stmt_while h0 h1 h2) en ec ei (stmt_simple h0' h1' h2' h3') = cc
+  stmt_one (stmt_for_stops_x h0 h1 h2 h3) en ec ei (stmt_if_stops_x h0' h1') = cc
+  stmt_one (stmt_for_stops_x h0 h1 h2 h3) en ec ei (stmt_if h0' h1') = cc
+  stmt_one (stmt_for_stops_x h0 h1 h2 h3) en ec ei (stmt_while_stops_x h0' h1' h2') = cc
+  stmt_one (stmt_for_stops_x h0 h1 h2 h3) en ec ei (stmt_while h0' h1' h2') = cc
+  stmt_one (stmt_for_stops_x h0 h1 h2 h3) en ec ei (stmt_for_stops_x h0' h1' h2' h3') = let s1 = for_one h3 en ec ei h3' in cc
+  stmt_one (stmt_for_stops_x h0 h1 h2 h3) en ec ei (stmt_for h0' h1' h2' h3') = let s1 = for_one h3 en ec ei h3' in cc
+  stmt_one (stmt_for_stops_x h0 h1 h2 h3) en ec ei (stmt_simple h0' h1' h2' h3') = cc
+  stmt_one (stmt_for h0 h1 h2 h3) en ec ei (stmt_if_stops_x h0' h1') = cc
+  stmt_one (stmt_for h0 h1 h2 h3) en ec ei (stmt_if h0' h1') = cc
+  stmt_one (stmt_for h0 h1 h2 h3) en ec ei (stmt_while_stops_x h0' h1' h2') = cc
+  stmt_one (stmt_for h0 h1 h2 h3) en ec ei (stmt_while h0' h1' h2') = cc
+  stmt_one (stmt_for h0 h1 h2 h3) en ec ei (stmt_for_stops_x h0' h1' h2' h3') = let s1 = for_one h3 en ec ei h3' in cc
+  stmt_one (stmt_for h0 h1 h2 h3) en ec ei (stmt_for h0' h1' h2' h3') = let s1 = for_one h3 en ec ei h3' in cc
+  stmt_one (stmt_for h0 h1 h2 h3) en ec ei (stmt_simple h0' h1' h2' h3') = cc
+  stmt_one (stmt_simple h0 h1 h2 h3) en ec ei (stmt_if_stops_x h0' h1') = cc
+  stmt_one (stmt_simple h0 h1 h2 h3) en ec ei (stmt_if h0' h1') = cc
   stmt_one (stmt_simple h0 h1 h2 h3) en ec ei (stmt_while_stops_x h0' h1' h2') = cc
-  stmt_one (stmt_simple h0 h1 h2 h3) en ec ei (stmt_while_stops_ys h0' h1' h2' h3') = cc
-  stmt_one (stmt_simple h0 h1 h2 h3) en ec ei (stmt_while h0' h1' h2' h3') = cc
-  stmt_one (stmt_simple h0 h1 h2 h3) en ec ei (stmt_for_needs_name h0' h1' h2' h3') = cc
-  stmt_one (stmt_simple h0 h1 h2 h3) en ec ei (stmt_for_needs_in h0' h1' h2' h3' h4') = cc
-  stmt_one (stmt_simple h0 h1 h2 h3) en ec ei (stmt_for_stops_v h0' h1' h2' h3' h4' h5') = cc
-  stmt_one (stmt_simple h0 h1 h2 h3) en ec ei (stmt_for_stops_ys h0' h1' h2' h3' h4' h5' h6') = cc
-  stmt_one (stmt_simple h0 h1 h2 h3) en ec ei (stmt_for h0' h1' h2' h3' h4' h5' h6') = cc
+  stmt_one (stmt_simple h0 h1 h2 h3) en ec ei (stmt_while h0' h1' h2') = cc
+  stmt_one (stmt_simple h0 h1 h2 h3) en ec ei (stmt_for_stops_x h0' h1' h2' h3') = cc
+  stmt_one (stmt_simple h0 h1 h2 h3) en ec ei (stmt_for h0' h1' h2' h3') = cc
   stmt_one (stmt_simple h0 h1 h2 h3) en ec ei (stmt_simple h0' h1' h2' h3') = let s1 = line_one h3 en ei h3' in cc
+
+  pub if_one : {n n' : ℕ} {c c' : ℕ} {i i' : Input} {o o' : Outcome PlainStmt} → IsIf n c i o → n ≡ n' → c ≡ c' → i ≡ i' → IsIf n' c' i' o' → o ≡ o'
+  if_one (if_is_stops_a h0) en ec ei (if_is_stops_a h0') = let s1 = arm_one h0 en ec (ap (λ z. next z) ei) h0' in cc
+  if_one (if_is_stops_a h0) en ec ei (if_is_stops_bs h0' h1') = let s1 = arm_one h0 en ec (ap (λ z. next z) ei) h0' in cc
+  if_one (if_is_stops_a h0) en ec ei (if_is_stops_ys h0' h1' h2') = let s1 = arm_one h0 en ec (ap (λ z. next z) ei) h0' in cc
+  if_one (if_is_stops_a h0) en ec ei (if_is h0' h1' h2') = let s1 = arm_one h0 en ec (ap (λ z. next z) ei) h0' in cc
+  if_one (if_is_stops_bs h0 h1) en ec ei (if_is_stops_a h0') = let s1 = arm_one h0 en ec (ap (λ z. next z) ei) h0' in cc
+  if_one (if_is_stops_bs h0 h1) en ec ei (if_is_stops_bs h0' h1') = let s1 = arm_one h0 en ec (ap (λ z. next z) ei) h0' in let s2 = arms_one h1 en ec (same_rest s1) h1' in cc
+  if_one (if_is_stops_bs h0 h1) en ec ei (if_is_stops_ys h0' h1' h2') = let s1 = arm_one h0 en ec (ap (λ z. next z) ei) h0' in let s2 = arms_one h1 en ec (same_rest s1) h1' in cc
+  if_one (if_is_stops_bs h0 h1) en ec ei (if_is h0' h1' h2') = let s1 = arm_one h0 en ec (ap (λ z. next z) ei) h0' in let s2 = arms_one h1 en ec (same_rest s1) h1' in cc
+  if_one (if_is_stops_ys h0 h1 h2) en ec ei (if_is_stops_a h0') = let s1 = arm_one h0 en ec (ap (λ z. next z) ei) h0' in cc
+  if_one (if_is_stops_ys h0 h1 h2) en ec ei (if_is_stops_bs h0' h1') = let s1 = arm_one h0 en ec (ap (λ z. next z) ei) h0' in let s2 = arms_one h1 en ec (same_rest s1) h1' in cc
+  if_one (if_is_stops_ys h0 h1 h2) en ec ei (if_is_stops_ys h0' h1' h2') = let s1 = arm_one h0 en ec (ap (λ z. next z) ei) h0' in let s2 = arms_one h1 en ec (same_rest s1) h1' in let s3 = other_one h2 en ec (same_rest s2) h2' in cc
+  if_one (if_is_stops_ys h0 h1 h2) en ec ei (if_is h0' h1' h2') = let s1 = arm_one h0 en ec (ap (λ z. next z) ei) h0' in let s2 = arms_one h1 en ec (same_rest s1) h1' in let s3 = other_one h2 en ec (same_rest s2) h2' in cc
+  if_one (if_is h0 h1 h2) en ec ei (if_is_stops_a h0') = let s1 = arm_one h0 en ec (ap (λ z. next z) ei) h0' in cc
+  if_one (if_is h0 h1 h2) en ec ei (if_is_stops_bs h0' h1') = let s1 = arm_one h0 en ec (ap (λ z. next z) ei) h0' in let s2 = arms_one h1 en ec (same_rest s1) h1' in cc
+  if_one (if_is h0 h1 h2) en ec ei (if_is_stops_ys h0' h1' h2') = let s1 = arm_one h0 en ec (ap (λ z. next z) ei) h0' in let s2 = arms_one h1 en ec (same_rest s1) h1' in let s3 = other_one h2 en ec (same_rest s2) h2' in cc
+  if_one (if_is h0 h1 h2) en ec ei (if_is h0' h1' h2') = let s1 = arm_one h0 en ec (ap (λ z. next z) ei) h0' in let s2 = arms_one h1 en ec (same_rest s1) h1' in let s3 = other_one h2 en ec (same_rest s2) h2' in cc
+
+  pub while_one : {n n' : ℕ} {c c' : ℕ} {i i' : Input} {o o' : Outcome PlainStmt} → IsWhile n c i o → n ≡ n' → c ≡ c' → i ≡ i' → IsWhile n' c' i' o' → o ≡ o'
+  while_one (while_is_stops_x h0) en ec ei (while_is_stops_x h0') = let s1 = whole_one h0 en (ap (λ z. next z) ei) h0' in cc
+  while_one (while_is_stops_x h0) en ec ei (while_is_stops_ys h0' h1') = let s1 = whole_one h0 en (ap (λ z. next z) ei) h0' in cc
+  while_one (while_is_stops_x h0) en ec ei (while_is h0' h1') = let s1 = whole_one h0 en (ap (λ z. next z) ei) h0' in cc
+  while_one (while_is_stops_ys h0 h1) en ec ei (while_is_stops_x h0') = let s1 = whole_one h0 en (ap (λ z. next z) ei) h0' in cc
+  while_one (while_is_stops_ys h0 h1) en ec ei (while_is_stops_ys h0' h1') = let s1 = whole_one h0 en (ap (λ z. next z) ei) h0' in let s2 = body_one h1 en ec (same_rest s1) h1' in cc
+  while_one (while_is_stops_ys h0 h1) en ec ei (while_is h0' h1') = let s1 = whole_one h0 en (ap (λ z. next z) ei) h0' in let s2 = body_one h1 en ec (same_rest s1) h1' in cc
+  while_one (while_is h0 h1) en ec ei (while_is_stops_x h0') = let s1 = whole_one h0 en (ap (λ z. next z) ei) h0' in cc
+  while_one (while_is h0 h1) en ec ei (while_is_stops_ys h0' h1') = let s1 = whole_one h0 en (ap (λ z. next z) ei) h0' in let s2 = body_one h1 en ec (same_rest s1) h1' in cc
+  while_one (while_is h0 h1) en ec ei (while_is h0' h1') = let s1 = whole_one h0 en (ap (λ z. next z) ei) h0' in let s2 = body_one h1 en ec (same_rest s1) h1' in cc
+
+  pub for_one : {n n' : ℕ} {c c' : ℕ} {i i' : Input} {o o' : Outcome PlainStmt} → IsFor n c i o → n ≡ n' → c ≡ c' → i ≡ i' → IsFor n' c' i' o' → o ≡ o'
+  for_one (for_is_needs_name h0) en ec ei (for_is_needs_name h0') = cc
+  for_one (for_is_needs_name h0) en ec ei (for_is_needs_in h0' h1') = cc
+  for_one (for_is_needs_name h0) en ec ei (for_is_stops_v h0' h1' h2') = cc
+  for_one (for_is_needs_name h0) en ec ei (for_is_stops_ys h0' h1' h2' h3') = cc
+  for_one (for_is_needs_name h0) en ec ei (for_is h0' h1' h2' h3') = cc
+  for_one (for_is_needs_in h0 h1) en ec ei (for_is_needs_name h0') = cc
+  for_one (for_is_needs_in h0 h1) en ec ei (for_is_needs_in h0' h1') = cc
+  for_one (for_is_needs_in h0 h1) en ec ei (for_is_stops_v h0' h1' h2') = cc
+  for_one (for_is_needs_in h0 h1) en ec ei (for_is_stops_ys h0' h1' h2' h3') = cc
+  for_one (for_is_needs_in h0 h1) en ec ei (for_is h0' h1' h2' h3') = cc
+  for_one (for_is_stops_v h0 h1 h2) en ec ei (for_is_needs_name h0') = cc
+  for_one (for_is_stops_v h0 h1 h2) en ec ei (for_is_needs_in h0' h1') = cc
+  for_one (for_is_stops_v h0 h1 h2) en ec ei (for_is_stops_v h0' h1' h2') = let s1 = over_one h2 en (ap (λ z. next (named (next z))) ei) h2' in cc
+  for_one (for_is_stops_v h0 h1 h2) en ec ei (for_is_stops_ys h0' h1' h2' h3') = let s1 = over_one h2 en (ap (λ z. next (named (next z))) ei) h2' in cc
+  for_one (for_is_stops_v h0 h1 h2) en ec ei (for_is h0' h1' h2' h3') = let s1 = over_one h2 en (ap (λ z. next (named (next z))) ei) h2' in cc
+  for_one (for_is_stops_ys h0 h1 h2 h3) en ec ei (for_is_needs_name h0') = cc
+  for_one (for_is_stops_ys h0 h1 h2 h3) en ec ei (for_is_needs_in h0' h1') = cc
+  for_one (for_is_stops_ys h0 h1 h2 h3) en ec ei (for_is_stops_v h0' h1' h2') = let s1 = over_one h2 en (ap (λ z. next (named (next z))) ei) h2' in cc
+  for_one (for_is_stops_ys h0 h1 h2 h3) en ec ei (for_is_stops_ys h0' h1' h2' h3') = let s1 = over_one h2 en (ap (λ z. next (named (next z))) ei) h2' in let s2 = body_one h3 en ec (same_rest s1) h3' in cc
+  for_one (for_is_stops_ys h0 h1 h2 h3) en ec ei (for_is h0' h1' h2' h3') = let s1 = over_one h2 en (ap (λ z. next (named (next z))) ei) h2' in let s2 = body_one h3 en ec (same_rest s1) h3' in cc
+  for_one (for_is h0 h1 h2 h3) en ec ei (for_is_needs_name h0') = cc
+  for_one (for_is h0 h1 h2 h3) en ec ei (for_is_needs_in h0' h1') = cc
+  for_one (for_is h0 h1 h2 h3) en ec ei (for_is_stops_v h0' h1' h2') = let s1 = over_one h2 en (ap (λ z. next (named (next z))) ei) h2' in cc
+  for_one (for_is h0 h1 h2 h3) en ec ei (for_is_stops_ys h0' h1' h2' h3') = let s1 = over_one h2 en (ap (λ z. next (named (next z))) ei) h2' in let s2 = body_one h3 en ec (same_rest s1) h3' in cc
+  for_one (for_is h0 h1 h2 h3) en ec ei (for_is h0' h1' h2' h3') = let s1 = over_one h2 en (ap (λ z. next (named (next z))) ei) h2' in let s2 = body_one h3 en ec (same_rest s1) h3' in cc
 
   pub arm_one : {n n' : ℕ} {c c' : ℕ} {i i' : Input} {o o' : Outcome PlainArm} → IsArm n c i o → n ≡ n' → c ≡ c' → i ≡ i' → IsArm n' c' i' o' → o ≡ o'
   arm_one (arm_is_stops_x h0) en ec ei (arm_is_stops_x h0') = let s1 = whole_one h0 en ei h0' in cc

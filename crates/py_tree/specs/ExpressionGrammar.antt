@@ -161,13 +161,17 @@ mutual
     atom_true : {n : ℕ} {i : Input} → atom_start i ≡ atom.True → IsAtom n i (found (PBool (here i) true) (next i))
     atom_false : {n : ℕ} {i : Input} → atom_start i ≡ atom.False → IsAtom n i (found (PBool (here i) false) (next i))
     atom_nil : {n : ℕ} {i : Input} → atom_start i ≡ atom.Nil → IsAtom n i (found (PNil (here i)) (next i))
-    atom_group_deep : {n : ℕ} {i : Input} → atom_start i ≡ atom.Group → n ≡ 0 → IsAtom n i (stops (too_deep i))
-    atom_group_stops_x : {n : ℕ} {i : Input} {f : SyntaxFault} → atom_start i ≡ atom.Group → 0 < n → IsWhole (n - 1) (next i) (stops f) → IsAtom n i (stops f)
-    atom_group_needs_close : {n : ℕ} {i : Input} {x : PlainExpr} {m1 : Input} → atom_start i ≡ atom.Group → 0 < n → IsWhole (n - 1) (next i) (found x m1) → sees k.Close m1 ≡ false → IsAtom n i (stops (refused m1))
-    atom_group : {n : ℕ} {i : Input} {x : PlainExpr} {m1 : Input} → atom_start i ≡ atom.Group → 0 < n → IsWhole (n - 1) (next i) (found x m1) → sees k.Close m1 ≡ true → IsAtom n i (found x (next m1))
+    atom_group : {n : ℕ} {i : Input} {o : Outcome PlainExpr} → atom_start i ≡ atom.Group → IsGroup n i o → IsAtom n i o
     atom_list_stops_xs : {n : ℕ} {i : Input} {f : SyntaxFault} → atom_start i ≡ atom.List → IsEnclosed n k.CloseBracket i (stops f) → IsAtom n i (stops f)
     atom_list : {n : ℕ} {i : Input} {xs : List PlainExpr} {m1 : Input} → atom_start i ≡ atom.List → IsEnclosed n k.CloseBracket i (found xs m1) → IsAtom n i (found (PList (here i) (exprs_of xs)) m1)
     atom_other : {n : ℕ} {i : Input} → atom_start i ≡ atom.Other → IsAtom n i (stops (refused i))
+
+  -- '(' expr ')'
+  pub data IsGroup : ℕ → Input → Outcome PlainExpr → Type 0 where
+    group_is_deep : {n : ℕ} {i : Input} → n ≡ 0 → IsGroup n i (stops (too_deep i))
+    group_is_stops_x : {n : ℕ} {i : Input} {f : SyntaxFault} → 0 < n → IsWhole (n - 1) (next i) (stops f) → IsGroup n i (stops f)
+    group_is_needs_close : {n : ℕ} {i : Input} {x : PlainExpr} {m1 : Input} → 0 < n → IsWhole (n - 1) (next i) (found x m1) → sees k.Close m1 ≡ false → IsGroup n i (stops (refused m1))
+    group_is : {n : ℕ} {i : Input} {x : PlainExpr} {m1 : Input} → 0 < n → IsWhole (n - 1) (next i) (found x m1) → sees k.Close m1 ≡ true → IsGroup n i (found x (next m1))
 
   -- a name, called where a bracket follows
   pub data IsNamed : ℕ → Input → Outcome PlainExpr → Type 0 where

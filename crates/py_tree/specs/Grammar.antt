@@ -1,18 +1,18 @@
 -- The grammar of programs: the tree of logical lines with its names, or the first token that is refused. The rules are of the
 -- form of those of expressions.
-use Rattle.std.specs.Prelude.{◌≡◌, ℕ, ◌-◌, Bool, true, false, List, [], ◌∷◌}
+use Rattle.std.specs.Prelude.{◌≡◌, ℕ, ◌-◌, Bool, true, false, List, [], ◌∷◌, if◌then◌else◌, drop}
 use Rattle.std.specs.declared.option.Option.{Option}
 use Rattle.py_tree.specs.declared.names.PlacedName.{PlacedName}
 use Rattle.py_tree.specs.declared.fault.SyntaxFault.{SyntaxFault}
 use Rattle.py_tree.specs.declared.terminal.Terminal.{Terminal}
 use Rattle.py_tree.specs.declared.terminal.Terminal.TheVariants as k
 use Rattle.py_tree.specs.PlainTypes.{PlainWritten}
-use Rattle.py_tree.specs.PlainExpressions.{PStr}
+use Rattle.py_tree.specs.PlainExpressions.{PlainExpr, PStr}
 use Rattle.py_tree.specs.PlainStatements.{PlainStmt, PDo}
 use Rattle.py_tree.specs.PlainProgram.{PlainParam, PlainMethod, PlainClass, PlainProgram}
 use Rattle.py_tree.specs.Tokens.{PlainLine}
 use Rattle.py_tree.specs.ReservedNames.{reserved_names}
-use Rattle.py_tree.specs.Reading.{Input, Outcome, found, stops, Nothing, next, here, ends, sees, sees_name, sees_str, named, placed_name, refused, next_line, has_line, column, is_at, is_deeper, begins_docstring, begins_import, sees_module}
+use Rattle.py_tree.specs.Reading.{Input, Outcome, found, stops, Nothing, next, ends, sees, sees_name, named, placed_name, refused, next_line, has_line, column, is_at, is_deeper, begins_docstring, begins_string, begins_import, sees_module}
 use Rattle.py_tree.specs.TypeGrammar.{IsAnnotation}
 use Rattle.py_tree.specs.StatementGrammar.{IsBody}
 
@@ -29,10 +29,22 @@ method_of x ps t ys = record { name = x.name.0; place = x.place; params = ps; re
 abbrev pub class_of : PlacedName → List PlainMethod → PlainClass
 class_of x ds = record { name = x.name.0; place = x.place; members = ds }
 
--- a string alone as the first statement is dropped
+abbrev pub is_string : PlainExpr → Bool
+is_string (PStr at text) = true
+is_string _ = false
+
+abbrev pub is_docstring : PlainStmt → Bool
+is_docstring (PDo at x) = is_string x
+is_docstring _ = false
+
+-- a string alone is the first statement
+abbrev pub begins_with_string : List PlainStmt → Bool
+begins_with_string [] = false
+begins_with_string (y ∷ ys) = is_docstring y
+
+-- and is dropped
 abbrev pub without_docstring : List PlainStmt → List PlainStmt
-without_docstring (PDo at (PStr here text) ∷ ys) = ys
-without_docstring ys = ys
+without_docstring ys = if begins_with_string ys then drop 1 ys else ys
 
 -- { ',' NAME [':' type] } [',']
 pub data IsParams : ℕ → Input → Outcome (List PlainParam) → Type 0 where
@@ -52,17 +64,22 @@ pub data IsMarker : Terminal → Input → Outcome Nothing → Type 0 where
   marker_long_needs_line_end : {c : Terminal} {i : Input} → sees k.StateflowWord i ≡ true → sees k.Dot (next i) ≡ true → sees c (next (next i)) ≡ true → ends (next (next (next i))) ≡ false → IsMarker c i (stops (refused (next (next (next i)))))
   marker_long : {c : Terminal} {i : Input} → sees k.StateflowWord i ≡ true → sees k.Dot (next i) ≡ true → sees c (next (next i)) ≡ true → ends (next (next (next i))) ≡ true → IsMarker c i (found tt (next (next (next i))))
 
--- 'def' NAME '(' 'self' { ',' NAME [':' type] } [','] ')' ['->' type] ':' suite, of 64 levels
+-- '(' 'self' { ',' NAME [':' type] } [','] ')', whose bracket opens the first level
+pub data IsSignature : Input → Outcome (List PlainParam) → Type 0 where
+  signature_is_needs_open : {i : Input} → sees k.Open i ≡ false → IsSignature i (stops (refused i))
+  signature_is_needs_selfword : {i : Input} → sees k.Open i ≡ true → sees k.SelfWord (next i) ≡ false → IsSignature i (stops (refused (next i)))
+  signature_is_stops_ps : {i : Input} {f : SyntaxFault} → sees k.Open i ≡ true → sees k.SelfWord (next i) ≡ true → IsParams (levels - 1) (next (next i)) (stops f) → IsSignature i (stops f)
+  signature_is_needs_close : {i : Input} {ps : List PlainParam} {m1 : Input} → sees k.Open i ≡ true → sees k.SelfWord (next i) ≡ true → IsParams (levels - 1) (next (next i)) (found ps m1) → sees k.Close m1 ≡ false → IsSignature i (stops (refused m1))
+  signature_is : {i : Input} {ps : List PlainParam} {m1 : Input} → sees k.Open i ≡ true → sees k.SelfWord (next i) ≡ true → IsParams (levels - 1) (next (next i)) (found ps m1) → sees k.Close m1 ≡ true → IsSignature i (found ps (next m1))
+
+-- 'def' NAME signature ['->' type] ':' suite, on a line of column c
 pub data IsDef : ℕ → Input → Outcome PlainMethod → Type 0 where
   def_is_needs_def : {c : ℕ} {i : Input} → sees k.Def i ≡ false → IsDef c i (stops (refused i))
   def_is_needs_name : {c : ℕ} {i : Input} → sees k.Def i ≡ true → sees_name (next i) ≡ false → IsDef c i (stops (refused (next i)))
-  def_is_needs_open : {c : ℕ} {i : Input} → sees k.Def i ≡ true → sees_name (next i) ≡ true → sees k.Open (named (next i)) ≡ false → IsDef c i (stops (refused (named (next i))))
-  def_is_needs_selfword : {c : ℕ} {i : Input} → sees k.Def i ≡ true → sees_name (next i) ≡ true → sees k.Open (named (next i)) ≡ true → sees k.SelfWord (next (named (next i))) ≡ false → IsDef c i (stops (refused (next (named (next i)))))
-  def_is_stops_ps : {c : ℕ} {i : Input} {f : SyntaxFault} → sees k.Def i ≡ true → sees_name (next i) ≡ true → sees k.Open (named (next i)) ≡ true → sees k.SelfWord (next (named (next i))) ≡ true → IsParams (levels - 1) (next (next (named (next i)))) (stops f) → IsDef c i (stops f)
-  def_is_needs_close : {c : ℕ} {i : Input} {ps : List PlainParam} {m1 : Input} → sees k.Def i ≡ true → sees_name (next i) ≡ true → sees k.Open (named (next i)) ≡ true → sees k.SelfWord (next (named (next i))) ≡ true → IsParams (levels - 1) (next (next (named (next i)))) (found ps m1) → sees k.Close m1 ≡ false → IsDef c i (stops (refused m1))
-  def_is_stops_t : {c : ℕ} {i : Input} {ps : List PlainParam} {m1 : Input} {f : SyntaxFault} → sees k.Def i ≡ true → sees_name (next i) ≡ true → sees k.Open (named (next i)) ≡ true → sees k.SelfWord (next (named (next i))) ≡ true → IsParams (levels - 1) (next (next (named (next i)))) (found ps m1) → sees k.Close m1 ≡ true → IsAnnotation levels k.Arrow (next m1) (stops f) → IsDef c i (stops f)
-  def_is_stops_ys : {c : ℕ} {i : Input} {ps : List PlainParam} {m1 : Input} {t : Option PlainWritten} {m2 : Input} {f : SyntaxFault} → sees k.Def i ≡ true → sees_name (next i) ≡ true → sees k.Open (named (next i)) ≡ true → sees k.SelfWord (next (named (next i))) ≡ true → IsParams (levels - 1) (next (next (named (next i)))) (found ps m1) → sees k.Close m1 ≡ true → IsAnnotation levels k.Arrow (next m1) (found t m2) → IsBody levels c m2 (stops f) → IsDef c i (stops f)
-  def_is : {c : ℕ} {i : Input} {ps : List PlainParam} {m1 : Input} {t : Option PlainWritten} {m2 : Input} {ys : List PlainStmt} {m3 : Input} → sees k.Def i ≡ true → sees_name (next i) ≡ true → sees k.Open (named (next i)) ≡ true → sees k.SelfWord (next (named (next i))) ≡ true → IsParams (levels - 1) (next (next (named (next i)))) (found ps m1) → sees k.Close m1 ≡ true → IsAnnotation levels k.Arrow (next m1) (found t m2) → IsBody levels c m2 (found ys m3) → IsDef c i (found (method_of (placed_name (next i)) ps t (without_docstring ys)) m3)
+  def_is_stops_ps : {c : ℕ} {i : Input} {f : SyntaxFault} → sees k.Def i ≡ true → sees_name (next i) ≡ true → IsSignature (named (next i)) (stops f) → IsDef c i (stops f)
+  def_is_stops_t : {c : ℕ} {i : Input} {ps : List PlainParam} {m1 : Input} {f : SyntaxFault} → sees k.Def i ≡ true → sees_name (next i) ≡ true → IsSignature (named (next i)) (found ps m1) → IsAnnotation levels k.Arrow m1 (stops f) → IsDef c i (stops f)
+  def_is_stops_ys : {c : ℕ} {i : Input} {ps : List PlainParam} {m1 : Input} {t : Option PlainWritten} {m2 : Input} {f : SyntaxFault} → sees k.Def i ≡ true → sees_name (next i) ≡ true → IsSignature (named (next i)) (found ps m1) → IsAnnotation levels k.Arrow m1 (found t m2) → IsBody levels c m2 (stops f) → IsDef c i (stops f)
+  def_is : {c : ℕ} {i : Input} {ps : List PlainParam} {m1 : Input} {t : Option PlainWritten} {m2 : Input} {ys : List PlainStmt} {m3 : Input} → sees k.Def i ≡ true → sees_name (next i) ≡ true → IsSignature (named (next i)) (found ps m1) → IsAnnotation levels k.Arrow m1 (found t m2) → IsBody levels c m2 (found ys m3) → IsDef c i (found (method_of (placed_name (next i)) ps t (without_docstring ys)) m3)
 
 -- method : ['@' ['stateflow' '.'] 'transactional' NL] def, of column c
 pub data IsMethod : ℕ → Input → Outcome PlainMethod → Type 0 where
@@ -81,11 +98,11 @@ pub data IsMethods : ℕ → Input → Outcome (List PlainMethod) → Type 0 whe
 
 -- block( [STR NL] method { method } )
 pub data IsMembers : Input → Outcome (List PlainMethod) → Type 0 where
-  members_none : {i : Input} → is_deeper 0 i ≡ false → IsMembers i (stops (refused (next_line i)))
-  members_plain : {i : Input} {o : Outcome (List PlainMethod)} → is_deeper 0 i ≡ true → sees_str (next_line i) ≡ false → IsMethods (column i) i o → IsMembers i o
-  members_doc_needs_line_end : {i : Input} → is_deeper 0 i ≡ true → sees_str (next_line i) ≡ true → ends (next (next_line i)) ≡ false → IsMembers i (stops (refused (next (next_line i))))
-  members_doc_needs_method : {i : Input} → is_deeper 0 i ≡ true → sees_str (next_line i) ≡ true → ends (next (next_line i)) ≡ true → is_deeper 0 (next (next_line i)) ≡ false → IsMembers i (stops (refused (next_line (next (next_line i)))))
-  members_doc : {i : Input} {o : Outcome (List PlainMethod)} → is_deeper 0 i ≡ true → sees_str (next_line i) ≡ true → ends (next (next_line i)) ≡ true → is_deeper 0 (next (next_line i)) ≡ true → IsMethods (column i) (next (next_line i)) o → IsMembers i o
+  members_plain : {i : Input} {o : Outcome (List PlainMethod)} → begins_string i ≡ false → is_deeper 0 i ≡ true → IsMethods (column i) i o → IsMembers i o
+  members_none : {i : Input} → begins_string i ≡ false → is_deeper 0 i ≡ false → IsMembers i (stops (refused (next_line i)))
+  members_doc_needs_line_end : {i : Input} → begins_string i ≡ true → ends (next (next_line i)) ≡ false → IsMembers i (stops (refused (next (next_line i))))
+  members_doc_needs_method : {i : Input} → begins_string i ≡ true → ends (next (next_line i)) ≡ true → is_deeper 0 (next (next_line i)) ≡ false → IsMembers i (stops (refused (next_line (next (next_line i)))))
+  members_doc : {i : Input} {o : Outcome (List PlainMethod)} → begins_string i ≡ true → ends (next (next_line i)) ≡ true → is_deeper 0 (next (next_line i)) ≡ true → IsMethods (column i) (next (next_line i)) o → IsMembers i o
 
 -- ['(' ')']
 pub data IsBrackets : Input → Outcome Nothing → Type 0 where
@@ -129,17 +146,24 @@ pub data IsImported : Input → Outcome Nothing → Type 0 where
   imported_enclosed_needs_close : {i : Input} {u : Nothing} {m1 : Input} → sees k.Open i ≡ true → IsNames true (next i) (found u m1) → sees k.Close m1 ≡ false → IsImported i (stops (refused m1))
   imported_enclosed : {i : Input} {u : Nothing} {m1 : Input} → sees k.Open i ≡ true → IsNames true (next i) (found u m1) → sees k.Close m1 ≡ true → IsImported i (found tt (next m1))
 
--- import : 'from' MODULE 'import' ( names | '(' names [','] ')' ) NL | 'import' 'stateflow' NL
+-- NL
+pub data IsLineEnd : Input → Outcome Nothing → Type 0 where
+  line_end_is_needs_line_end : {i : Input} → ends i ≡ false → IsLineEnd i (stops (refused i))
+  line_end_is : {i : Input} → ends i ≡ true → IsLineEnd i (found tt i)
+
+-- MODULE 'import' ( names | '(' names [','] ')' ) NL
+pub data IsImportFrom : Input → Outcome Nothing → Type 0 where
+  import_from_is_needs_module : {i : Input} → sees_module i ≡ false → IsImportFrom i (stops (refused i))
+  import_from_is_needs_import : {i : Input} → sees_module i ≡ true → sees k.Import (next i) ≡ false → IsImportFrom i (stops (refused (next i)))
+  import_from_is_stops_u : {i : Input} {f : SyntaxFault} → sees_module i ≡ true → sees k.Import (next i) ≡ true → IsImported (next (next i)) (stops f) → IsImportFrom i (stops f)
+  import_from_is : {i : Input} {u : Nothing} {m1 : Input} {o : Outcome Nothing} → sees_module i ≡ true → sees k.Import (next i) ≡ true → IsImported (next (next i)) (found u m1) → IsLineEnd m1 o → IsImportFrom i o
+
+-- import : 'from' import_from | 'import' 'stateflow' NL
 pub data IsImport : Input → Outcome Nothing → Type 0 where
-  import_from_needs_module : {i : Input} → sees k.From i ≡ true → sees_module (next i) ≡ false → IsImport i (stops (refused (next i)))
-  import_from_needs_import : {i : Input} → sees k.From i ≡ true → sees_module (next i) ≡ true → sees k.Import (next (next i)) ≡ false → IsImport i (stops (refused (next (next i))))
-  import_from_stops_u : {i : Input} {f : SyntaxFault} → sees k.From i ≡ true → sees_module (next i) ≡ true → sees k.Import (next (next i)) ≡ true → IsImported (next (next (next i))) (stops f) → IsImport i (stops f)
-  import_from_needs_line_end : {i : Input} {u : Nothing} {m1 : Input} → sees k.From i ≡ true → sees_module (next i) ≡ true → sees k.Import (next (next i)) ≡ true → IsImported (next (next (next i))) (found u m1) → ends m1 ≡ false → IsImport i (stops (refused m1))
-  import_from : {i : Input} {u : Nothing} {m1 : Input} → sees k.From i ≡ true → sees_module (next i) ≡ true → sees k.Import (next (next i)) ≡ true → IsImported (next (next (next i))) (found u m1) → ends m1 ≡ true → IsImport i (found tt m1)
+  import_from : {i : Input} {o : Outcome Nothing} → sees k.From i ≡ true → IsImportFrom (next i) o → IsImport i o
   import_whole_needs_import : {i : Input} → sees k.From i ≡ false → sees k.Import i ≡ false → IsImport i (stops (refused i))
   import_whole_needs_stateflowword : {i : Input} → sees k.From i ≡ false → sees k.Import i ≡ true → sees k.StateflowWord (next i) ≡ false → IsImport i (stops (refused (next i)))
-  import_whole_needs_line_end : {i : Input} → sees k.From i ≡ false → sees k.Import i ≡ true → sees k.StateflowWord (next i) ≡ true → ends (next (next i)) ≡ false → IsImport i (stops (refused (next (next i))))
-  import_whole : {i : Input} → sees k.From i ≡ false → sees k.Import i ≡ true → sees k.StateflowWord (next i) ≡ true → ends (next (next i)) ≡ true → IsImport i (found tt (next (next i)))
+  import_whole : {i : Input} {o : Outcome Nothing} → sees k.From i ≡ false → sees k.Import i ≡ true → sees k.StateflowWord (next i) ≡ true → IsLineEnd (next (next i)) o → IsImport i o
 
 -- { import | class }, of column 0
 pub data IsItems : Input → Outcome (List PlainClass) → Type 0 where

@@ -48,5 +48,8 @@ plain_methods = map plain_method
 abbrev pub plain_class : Class → PlainClass
 plain_class c = record { name = c.name.0; place = c.place; members = plain_methods c.members }
 
+abbrev pub plain_classes : List Class → List PlainClass
+plain_classes = map plain_class
+
 abbrev pub plain_program : Program → PlainProgram
-plain_program p = map plain_class p.classes
+plain_program p = plain_classes p.classes

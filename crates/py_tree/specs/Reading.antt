@@ -1,5 +1,5 @@
 -- What is left to read of a program, what stands next there, and what reading a part comes to.
-use Rattle.std.specs.Prelude.{ℕ, ℤ, pos, ◌+◌, Bool, true, false, ◌||◌, ◌&&◌, ◌==◌, not, nat_lt, is_some, if◌then◌else◌, List, [], ◌∷◌, length, slice_index_or, unwrap_or, encode_utf8_all}
+use Rattle.std.specs.Prelude.{ℕ, ℤ, pos, ◌+◌, Bool, true, false, ◌||◌, ◌&&◌, ◌==◌, not, nat_lt, if◌then◌else◌, List, [], ◌∷◌, length, slice_index_or, unwrap_or, encode_utf8_all}
 use Rattle.std.specs.declared.option.Option.{Option}
 use Rattle.std.specs.declared.option.Option.TheVariants.{Some, None}
 use Rattle.py_tree.specs.declared.names.Place.{Place}
@@ -196,6 +196,10 @@ goes_on k c i = is_at c i && sees k (next_line i)
 unfoldable pub begins_docstring : Input → Bool
 begins_docstring i = is_at 0 i && sees_str (next_line i)
 
+-- a string stands first on the next line, which is deeper than column 0
+unfoldable pub begins_string : Input → Bool
+begins_string i = is_deeper 0 i && sees_str (next_line i)
+
 unfoldable pub comparison : Input → Option Cmp
 comparison i =
     if sees k.Equal i then Some cmp.Eq
@@ -259,9 +263,9 @@ atom_start i =
     else (if sees k.OpenBracket i then atom.List
     else atom.Other)))))))
 
--- a string whose text is a name
-unfoldable pub is_quoted_name : Input → Bool
-is_quoted_name i = sees_str i && is_name (text_of (first_token i.tokens))
+-- the text of a string is a name
+unfoldable pub quotes_name : Input → Bool
+quotes_name i = is_name (text_of (first_token i.tokens))
 
 -- `List`, `list` and `Optional` are names like others where no bracket follows
 unfoldable pub type_start : Input → TypeStart
@@ -273,12 +277,15 @@ type_start i =
     else (if (sees k.ListWord i || sees k.SmallListWord i) && sees k.OpenBracket (next i) then type.List
     else (if sees k.OptionalWord i && sees k.OpenBracket (next i) then type.Optional
     else (if sees_name i then type.Name
-    else (if is_quoted_name i then type.Quoted
+    else (if sees_str i then type.Quoted
     else type.Other)))))))
 
--- what follows a target that is assigned
+-- the signs that follow a target that is assigned
+abbrev pub assigning : List (List ℕ)
+assigning = spelling k.Colon ∷ spelling k.Assign ∷ spelling k.AddAssign ∷ spelling k.SubAssign ∷ spelling k.MulAssign ∷ spelling k.FloorDivAssign ∷ spelling k.ModAssign ∷ []
+
 unfoldable pub assigns : Input → Bool
-assigns i = sees k.Colon i || sees k.Assign i || is_some (augmentation i)
+assigns i = is_among assigning (first_token i.tokens).bytes
 
 unfoldable pub begins_local : Input → Bool
 begins_local i = sees_name i && assigns (next i)

@@ -24,14 +24,6 @@ pub data IsValue : ℕ → Input → Outcome (Option PlainExpr) → Type 0 where
   value_is_stops_x : {n : ℕ} {i : Input} {f : SyntaxFault} → begins_expr i ≡ true → IsWhole n i (stops f) → IsValue n i (stops f)
   value_is : {n : ℕ} {i : Input} {x : PlainExpr} {m1 : Input} → begins_expr i ≡ true → IsWhole n i (found x m1) → IsValue n i (found (Some x) m1)
 
--- ['(' [expr] ')']
-pub data IsMessage : ℕ → Input → Outcome (Option PlainExpr) → Type 0 where
-  message_none : {n : ℕ} {i : Input} → sees k.Open i ≡ false → IsMessage n i (found None i)
-  message_is_deep : {n : ℕ} {i : Input} → sees k.Open i ≡ true → n ≡ 0 → IsMessage n i (stops (too_deep i))
-  message_is_stops_v : {n : ℕ} {i : Input} {f : SyntaxFault} → sees k.Open i ≡ true → 0 < n → IsValue (n - 1) (next i) (stops f) → IsMessage n i (stops f)
-  message_is_needs_close : {n : ℕ} {i : Input} {v : Option PlainExpr} {m1 : Input} → sees k.Open i ≡ true → 0 < n → IsValue (n - 1) (next i) (found v m1) → sees k.Close m1 ≡ false → IsMessage n i (stops (refused m1))
-  message_is : {n : ℕ} {i : Input} {v : Option PlainExpr} {m1 : Input} → sees k.Open i ≡ true → 0 < n → IsValue (n - 1) (next i) (found v m1) → sees k.Close m1 ≡ true → IsMessage n i (found v (next m1))
-
 -- [',' expr]
 pub data IsDetail : ℕ → Input → Outcome (Option PlainExpr) → Type 0 where
   detail_none : {n : ℕ} {i : Input} → sees k.Comma i ≡ false → IsDetail n i (found None i)
@@ -50,6 +42,25 @@ pub data IsAssigned : ℕ → Place → Target → Input → Outcome PlainStmt �
   assigned_augmented : {n : ℕ} {at : Place} {t : Target} {i : Input} {op : BinOp} {x : PlainExpr} {m1 : Input} → sees k.Colon i ≡ false → sees k.Assign i ≡ false → augmentation i ≡ Some op → IsWhole n (next i) (found x m1) → IsAssigned n at t i (found (PAugment at t op (here i) x) m1)
   assigned_other : {n : ℕ} {at : Place} {t : Target} {i : Input} → sees k.Colon i ≡ false → sees k.Assign i ≡ false → augmentation i ≡ None → IsAssigned n at t i (stops (refused i))
 
+-- ['(' [expr] ')']
+pub data IsMessage : ℕ → Input → Outcome (Option PlainExpr) → Type 0 where
+  message_none : {n : ℕ} {i : Input} → sees k.Open i ≡ false → IsMessage n i (found None i)
+  message_is_deep : {n : ℕ} {i : Input} → sees k.Open i ≡ true → n ≡ 0 → IsMessage n i (stops (too_deep i))
+  message_is_stops_v : {n : ℕ} {i : Input} {f : SyntaxFault} → sees k.Open i ≡ true → 0 < n → IsValue (n - 1) (next i) (stops f) → IsMessage n i (stops f)
+  message_is_needs_close : {n : ℕ} {i : Input} {v : Option PlainExpr} {m1 : Input} → sees k.Open i ≡ true → 0 < n → IsValue (n - 1) (next i) (found v m1) → sees k.Close m1 ≡ false → IsMessage n i (stops (refused m1))
+  message_is : {n : ℕ} {i : Input} {v : Option PlainExpr} {m1 : Input} → sees k.Open i ≡ true → 0 < n → IsValue (n - 1) (next i) (found v m1) → sees k.Close m1 ≡ true → IsMessage n i (found v (next m1))
+
+-- 'raise' KIND ['(' [expr] ')']
+pub data IsRaise : ℕ → Input → Outcome PlainStmt → Type 0 where
+  raise_none : {n : ℕ} {i : Input} → failure_kind (next i) ≡ None → IsRaise n i (stops (refused (next i)))
+  raise_is_stops_v : {n : ℕ} {i : Input} {number : ℕ} {f : SyntaxFault} → failure_kind (next i) ≡ Some number → IsMessage n (next (next i)) (stops f) → IsRaise n i (stops f)
+  raise_is : {n : ℕ} {i : Input} {number : ℕ} {v : Option PlainExpr} {m1 : Input} → failure_kind (next i) ≡ Some number → IsMessage n (next (next i)) (found v m1) → IsRaise n i (found (PRaise (here i) number v) m1)
+
+-- a field that is assigned: its dot opens a level that ends with the target
+pub data IsField : ℕ → Input → Outcome PlainStmt → Type 0 where
+  field_deep : {n : ℕ} {i : Input} → n ≡ 0 → IsField n i (stops (too_deep (next i)))
+  field_is : {n : ℕ} {i : Input} {o : Outcome PlainStmt} → 0 < n → IsAssigned n (here i) (target.Field (placed_name (next (next i)))) (named (next (next i))) o → IsField n i o
+
 -- simple : 'pass' | 'break' | 'continue' | 'return' [expr] | 'raise' KIND ['(' [expr] ')'] | 'assert' expr [',' expr] | target [':' type] '=' expr | target ('+=' | '-=' | '*=' | '//=' | '%=') expr | expr
 pub data IsSimple : ℕ → Input → Outcome PlainStmt → Type 0 where
   simple_pass : {n : ℕ} {i : Input} → simple_start i ≡ simple.Pass → IsSimple n i (found (PPass (here i)) (next i))
@@ -57,15 +68,12 @@ pub data IsSimple : ℕ → Input → Outcome PlainStmt → Type 0 where
   simple_continue : {n : ℕ} {i : Input} → simple_start i ≡ simple.Continue → IsSimple n i (found (PContinue (here i)) (next i))
   simple_return_stops_v : {n : ℕ} {i : Input} {f : SyntaxFault} → simple_start i ≡ simple.Return → IsValue n (next i) (stops f) → IsSimple n i (stops f)
   simple_return : {n : ℕ} {i : Input} {v : Option PlainExpr} {m1 : Input} → simple_start i ≡ simple.Return → IsValue n (next i) (found v m1) → IsSimple n i (found (PReturn (here i) v) m1)
-  simple_raise_none : {n : ℕ} {i : Input} → simple_start i ≡ simple.Raise → failure_kind (next i) ≡ None → IsSimple n i (stops (refused (next i)))
-  simple_raise_stops_v : {n : ℕ} {i : Input} {number : ℕ} {f : SyntaxFault} → simple_start i ≡ simple.Raise → failure_kind (next i) ≡ Some number → IsMessage n (next (next i)) (stops f) → IsSimple n i (stops f)
-  simple_raise : {n : ℕ} {i : Input} {number : ℕ} {v : Option PlainExpr} {m1 : Input} → simple_start i ≡ simple.Raise → failure_kind (next i) ≡ Some number → IsMessage n (next (next i)) (found v m1) → IsSimple n i (found (PRaise (here i) number v) m1)
+  simple_raise : {n : ℕ} {i : Input} {o : Outcome PlainStmt} → simple_start i ≡ simple.Raise → IsRaise n i o → IsSimple n i o
   simple_assert_stops_x : {n : ℕ} {i : Input} {f : SyntaxFault} → simple_start i ≡ simple.Assert → IsWhole n (next i) (stops f) → IsSimple n i (stops f)
   simple_assert_stops_v : {n : ℕ} {i : Input} {x : PlainExpr} {m1 : Input} {f : SyntaxFault} → simple_start i ≡ simple.Assert → IsWhole n (next i) (found x m1) → IsDetail n m1 (stops f) → IsSimple n i (stops f)
   simple_assert : {n : ℕ} {i : Input} {x : PlainExpr} {m1 : Input} {v : Option PlainExpr} {m2 : Input} → simple_start i ≡ simple.Assert → IsWhole n (next i) (found x m1) → IsDetail n m1 (found v m2) → IsSimple n i (found (PAssert (here i) x v) m2)
   simple_local : {n : ℕ} {i : Input} {o : Outcome PlainStmt} → simple_start i ≡ simple.Local → IsAssigned n (here i) (target.Local (placed_name i)) (named i) o → IsSimple n i o
-  simple_field_deep : {n : ℕ} {i : Input} → simple_start i ≡ simple.Field → n ≡ 0 → IsSimple n i (stops (too_deep (next i)))
-  simple_field : {n : ℕ} {i : Input} {o : Outcome PlainStmt} → simple_start i ≡ simple.Field → 0 < n → IsAssigned n (here i) (target.Field (placed_name (next (next i)))) (named (next (next i))) o → IsSimple n i o
+  simple_field : {n : ℕ} {i : Input} {o : Outcome PlainStmt} → simple_start i ≡ simple.Field → IsField n i o → IsSimple n i o
   simple_expr_stops_x : {n : ℕ} {i : Input} {f : SyntaxFault} → simple_start i ≡ simple.Other → IsWhole n i (stops f) → IsSimple n i (stops f)
   simple_expr : {n : ℕ} {i : Input} {x : PlainExpr} {m1 : Input} → simple_start i ≡ simple.Other → IsWhole n i (found x m1) → IsSimple n i (found (PDo (here i) x) m1)
 
@@ -127,19 +135,34 @@ mutual
 
   -- stmt : simples NL | if | while | for, on a line of column c
   pub data IsStmt : ℕ → ℕ → Input → Outcome (List PlainStmt) → Type 0 where
-    stmt_if_stops_a : {n c : ℕ} {i : Input} {f : SyntaxFault} → sees k.If i ≡ true → IsArm n c (next i) (stops f) → IsStmt n c i (stops f)
-    stmt_if_stops_bs : {n c : ℕ} {i : Input} {a : PlainArm} {m1 : Input} {f : SyntaxFault} → sees k.If i ≡ true → IsArm n c (next i) (found a m1) → IsArms n c m1 (stops f) → IsStmt n c i (stops f)
-    stmt_if_stops_ys : {n c : ℕ} {i : Input} {a : PlainArm} {m1 : Input} {bs : List PlainArm} {m2 : Input} {f : SyntaxFault} → sees k.If i ≡ true → IsArm n c (next i) (found a m1) → IsArms n c m1 (found bs m2) → IsOther n c m2 (stops f) → IsStmt n c i (stops f)
-    stmt_if : {n c : ℕ} {i : Input} {a : PlainArm} {m1 : Input} {bs : List PlainArm} {m2 : Input} {ys : List PlainStmt} {m3 : Input} → sees k.If i ≡ true → IsArm n c (next i) (found a m1) → IsArms n c m1 (found bs m2) → IsOther n c m2 (found ys m3) → IsStmt n c i (found (PIf (here i) (arms_of (a ∷ bs)) (stmts_of ys) ∷ []) m3)
-    stmt_while_stops_x : {n c : ℕ} {i : Input} {f : SyntaxFault} → sees k.If i ≡ false → sees k.While i ≡ true → IsWhole n (next i) (stops f) → IsStmt n c i (stops f)
-    stmt_while_stops_ys : {n c : ℕ} {i : Input} {x : PlainExpr} {m1 : Input} {f : SyntaxFault} → sees k.If i ≡ false → sees k.While i ≡ true → IsWhole n (next i) (found x m1) → IsBody n c m1 (stops f) → IsStmt n c i (stops f)
-    stmt_while : {n c : ℕ} {i : Input} {x : PlainExpr} {m1 : Input} {ys : List PlainStmt} {m2 : Input} → sees k.If i ≡ false → sees k.While i ≡ true → IsWhole n (next i) (found x m1) → IsBody n c m1 (found ys m2) → IsStmt n c i (found (PWhile (here i) x (stmts_of ys) ∷ []) m2)
-    stmt_for_needs_name : {n c : ℕ} {i : Input} → sees k.If i ≡ false → sees k.While i ≡ false → sees k.For i ≡ true → sees_name (next i) ≡ false → IsStmt n c i (stops (refused (next i)))
-    stmt_for_needs_in : {n c : ℕ} {i : Input} → sees k.If i ≡ false → sees k.While i ≡ false → sees k.For i ≡ true → sees_name (next i) ≡ true → sees k.In (named (next i)) ≡ false → IsStmt n c i (stops (refused (named (next i))))
-    stmt_for_stops_v : {n c : ℕ} {i : Input} {f : SyntaxFault} → sees k.If i ≡ false → sees k.While i ≡ false → sees k.For i ≡ true → sees_name (next i) ≡ true → sees k.In (named (next i)) ≡ true → IsOver n (next (named (next i))) (stops f) → IsStmt n c i (stops f)
-    stmt_for_stops_ys : {n c : ℕ} {i : Input} {v : PlainOver} {m1 : Input} {f : SyntaxFault} → sees k.If i ≡ false → sees k.While i ≡ false → sees k.For i ≡ true → sees_name (next i) ≡ true → sees k.In (named (next i)) ≡ true → IsOver n (next (named (next i))) (found v m1) → IsBody n c m1 (stops f) → IsStmt n c i (stops f)
-    stmt_for : {n c : ℕ} {i : Input} {v : PlainOver} {m1 : Input} {ys : List PlainStmt} {m2 : Input} → sees k.If i ≡ false → sees k.While i ≡ false → sees k.For i ≡ true → sees_name (next i) ≡ true → sees k.In (named (next i)) ≡ true → IsOver n (next (named (next i))) (found v m1) → IsBody n c m1 (found ys m2) → IsStmt n c i (found (PFor (here i) (name_number (next i)) (here (next i)) v (stmts_of ys) ∷ []) m2)
+    stmt_if_stops_x : {n c : ℕ} {i : Input} {f : SyntaxFault} → sees k.If i ≡ true → IsIf n c i (stops f) → IsStmt n c i (stops f)
+    stmt_if : {n c : ℕ} {i : Input} {x : PlainStmt} {m1 : Input} → sees k.If i ≡ true → IsIf n c i (found x m1) → IsStmt n c i (found (x ∷ []) m1)
+    stmt_while_stops_x : {n c : ℕ} {i : Input} {f : SyntaxFault} → sees k.If i ≡ false → sees k.While i ≡ true → IsWhile n c i (stops f) → IsStmt n c i (stops f)
+    stmt_while : {n c : ℕ} {i : Input} {x : PlainStmt} {m1 : Input} → sees k.If i ≡ false → sees k.While i ≡ true → IsWhile n c i (found x m1) → IsStmt n c i (found (x ∷ []) m1)
+    stmt_for_stops_x : {n c : ℕ} {i : Input} {f : SyntaxFault} → sees k.If i ≡ false → sees k.While i ≡ false → sees k.For i ≡ true → IsFor n c i (stops f) → IsStmt n c i (stops f)
+    stmt_for : {n c : ℕ} {i : Input} {x : PlainStmt} {m1 : Input} → sees k.If i ≡ false → sees k.While i ≡ false → sees k.For i ≡ true → IsFor n c i (found x m1) → IsStmt n c i (found (x ∷ []) m1)
     stmt_simple : {n c : ℕ} {i : Input} {o : Outcome (List PlainStmt)} → sees k.If i ≡ false → sees k.While i ≡ false → sees k.For i ≡ false → IsLine n i o → IsStmt n c i o
+
+  -- if : 'if' expr ':' suite { 'elif' expr ':' suite } ['else' ':' suite], from its first word
+  pub data IsIf : ℕ → ℕ → Input → Outcome PlainStmt → Type 0 where
+    if_is_stops_a : {n c : ℕ} {i : Input} {f : SyntaxFault} → IsArm n c (next i) (stops f) → IsIf n c i (stops f)
+    if_is_stops_bs : {n c : ℕ} {i : Input} {a : PlainArm} {m1 : Input} {f : SyntaxFault} → IsArm n c (next i) (found a m1) → IsArms n c m1 (stops f) → IsIf n c i (stops f)
+    if_is_stops_ys : {n c : ℕ} {i : Input} {a : PlainArm} {m1 : Input} {bs : List PlainArm} {m2 : Input} {f : SyntaxFault} → IsArm n c (next i) (found a m1) → IsArms n c m1 (found bs m2) → IsOther n c m2 (stops f) → IsIf n c i (stops f)
+    if_is : {n c : ℕ} {i : Input} {a : PlainArm} {m1 : Input} {bs : List PlainArm} {m2 : Input} {ys : List PlainStmt} {m3 : Input} → IsArm n c (next i) (found a m1) → IsArms n c m1 (found bs m2) → IsOther n c m2 (found ys m3) → IsIf n c i (found (PIf (here i) (arms_of (a ∷ bs)) (stmts_of ys)) m3)
+
+  -- while : 'while' expr ':' suite, from its first word
+  pub data IsWhile : ℕ → ℕ → Input → Outcome PlainStmt → Type 0 where
+    while_is_stops_x : {n c : ℕ} {i : Input} {f : SyntaxFault} → IsWhole n (next i) (stops f) → IsWhile n c i (stops f)
+    while_is_stops_ys : {n c : ℕ} {i : Input} {x : PlainExpr} {m1 : Input} {f : SyntaxFault} → IsWhole n (next i) (found x m1) → IsBody n c m1 (stops f) → IsWhile n c i (stops f)
+    while_is : {n c : ℕ} {i : Input} {x : PlainExpr} {m1 : Input} {ys : List PlainStmt} {m2 : Input} → IsWhole n (next i) (found x m1) → IsBody n c m1 (found ys m2) → IsWhile n c i (found (PWhile (here i) x (stmts_of ys)) m2)
+
+  -- for : 'for' NAME 'in' ( 'range' '(' expr [',' expr] ')' | expr ) ':' suite, from its first word
+  pub data IsFor : ℕ → ℕ → Input → Outcome PlainStmt → Type 0 where
+    for_is_needs_name : {n c : ℕ} {i : Input} → sees_name (next i) ≡ false → IsFor n c i (stops (refused (next i)))
+    for_is_needs_in : {n c : ℕ} {i : Input} → sees_name (next i) ≡ true → sees k.In (named (next i)) ≡ false → IsFor n c i (stops (refused (named (next i))))
+    for_is_stops_v : {n c : ℕ} {i : Input} {f : SyntaxFault} → sees_name (next i) ≡ true → sees k.In (named (next i)) ≡ true → IsOver n (next (named (next i))) (stops f) → IsFor n c i (stops f)
+    for_is_stops_ys : {n c : ℕ} {i : Input} {v : PlainOver} {m1 : Input} {f : SyntaxFault} → sees_name (next i) ≡ true → sees k.In (named (next i)) ≡ true → IsOver n (next (named (next i))) (found v m1) → IsBody n c m1 (stops f) → IsFor n c i (stops f)
+    for_is : {n c : ℕ} {i : Input} {v : PlainOver} {m1 : Input} {ys : List PlainStmt} {m2 : Input} → sees_name (next i) ≡ true → sees k.In (named (next i)) ≡ true → IsOver n (next (named (next i))) (found v m1) → IsBody n c m1 (found ys m2) → IsFor n c i (found (PFor (here i) (name_number (next i)) (here (next i)) v (stmts_of ys)) m2)
 
   -- expr ':' suite
   pub data IsArm : ℕ → ℕ → Input → Outcome PlainArm → Type 0 where

@@ -95,10 +95,13 @@ is_letter b = (nat_le 65 b && nat_le b 90) || b == 95 || (nat_le 97 b && nat_le 
 abbrev pub is_digit : ℕ → Bool
 is_digit b = nat_le 48 b && nat_le b 57
 
+abbrev pub is_word_byte : ℕ → Bool
+is_word_byte b = is_letter b || is_digit b
+
 -- a letter, and letters and digits behind it; the underscore is a letter
 abbrev pub is_word : List ℕ → Bool
 is_word [] = false
-is_word (b ∷ bs) = is_letter b && list_all (λ b. is_letter b || is_digit b) bs
+is_word (b ∷ bs) = is_letter b && list_all is_word_byte bs
 
 -- a word that is no keyword
 abbrev pub is_name : List ℕ → Bool

@@ -1,5 +1,5 @@
 -- The grammar of types (Python Language Reference, annotations): the rules are of the form of those of expressions.
-use Rattle.std.specs.Prelude.{◌≡◌, ℕ, ◌-◌, ◌<◌, true, false}
+use Rattle.std.specs.Prelude.{◌≡◌, ℕ, ◌-◌, ◌<◌, Bool, true, false, List}
 use Rattle.std.specs.declared.option.Option.{Option}
 use Rattle.std.specs.declared.option.Option.TheVariants.{Some, None}
 use Rattle.py_tree.specs.declared.fault.SyntaxFault.{SyntaxFault}
@@ -7,7 +7,7 @@ use Rattle.py_tree.specs.declared.terminal.Terminal.{Terminal}
 use Rattle.py_tree.specs.declared.terminal.Terminal.TheVariants as k
 use Rattle.py_tree.specs.declared.starts.TypeStart.TheVariants as type
 use Rattle.py_tree.specs.PlainTypes.{PlainWritten, WInt, WBool, WStr, WNil, WList, WOptional, WEntity}
-use Rattle.py_tree.specs.Reading.{Input, Outcome, found, stops, next, here, sees, named, name_number, texted, text_number, refused, too_deep, type_start}
+use Rattle.py_tree.specs.Reading.{Input, Outcome, found, stops, next, here, sees, named, name_number, texted, text_number, quotes_name, refused, too_deep, type_start}
 
 mutual
   -- type : 'int' | 'bool' | 'str' | 'None' | ('List' | 'list' | 'Optional') '[' type ']' | NAME | STR
@@ -21,7 +21,8 @@ mutual
     type_optional_stops_t : {n : ℕ} {i : Input} {f : SyntaxFault} → type_start i ≡ type.Optional → IsInner n (next i) (stops f) → IsType n i (stops f)
     type_optional : {n : ℕ} {i : Input} {t : PlainWritten} {m1 : Input} → type_start i ≡ type.Optional → IsInner n (next i) (found t m1) → IsType n i (found (WOptional (here i) t) m1)
     type_name : {n : ℕ} {i : Input} → type_start i ≡ type.Name → IsType n i (found (WEntity (here i) (name_number i)) (named i))
-    type_quoted : {n : ℕ} {i : Input} → type_start i ≡ type.Quoted → IsType n i (found (WEntity (here i) (text_number i)) (texted i))
+    type_quoted_needs_name : {n : ℕ} {i : Input} → type_start i ≡ type.Quoted → quotes_name i ≡ false → IsType n i (stops (refused i))
+    type_quoted : {n : ℕ} {i : Input} → type_start i ≡ type.Quoted → quotes_name i ≡ true → IsType n i (found (WEntity (here i) (text_number i)) (texted i))
     type_other : {n : ℕ} {i : Input} → type_start i ≡ type.Other → IsType n i (stops (refused i))
 
   -- '[' type ']', from its bracket

@@ -27,7 +27,7 @@ pub enum TypeStart {
     List,
     Optional,
     Name,
-    /// A string whose text is a name.
+    /// A string.
     Quoted,
     /// No type begins with it.
     Other,

@@ -35,8 +35,8 @@ fn a_copied_statement_keeps_its_parts(rt: HostRuntime) -> Result<(), Fail> {
         name: Name(18),
         place: HERE,
     };
-    let field = attribute(rt.alloc(), self_of(HERE), name)?;
-    let copy = return_of(HERE, field).try_clone(rt.alloc())?;
+    let field = attribute(rt.alloc(), HERE, self_of(HERE), name)?;
+    let copy = return_of(HERE, Some(field)).try_clone(rt.alloc())?;
     let StmtKind::Return(Some(value)) = &copy.kind else {
         return Err(Fail::from("no return"));
     };

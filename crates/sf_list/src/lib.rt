@@ -4,7 +4,7 @@
 //! laws serves every list of the workspace, also where an element leads back to the list.
 #![tactic(auto)]
 
-ghost use Rattle.std.specs.Prelude.{◌≡◌, [], ◌∷◌, ◌++◌, ◌<◌, ◌↔◌, length, slice_get, slice_set, IsTrue, IfOk, OnOk, OnErr, OnSome};
+ghost use Rattle.std.specs.Prelude.{◌≡◌, [], ◌∷◌, ◌++◌, ◌+◌, ◌<◌, ◌↔◌, Some, length, take, drop, slice_get, slice_set, IsTrue, IfOk, OnOk, OnErr, OnSome};
 ghost use Rattle.std.specs.Option.{option_copied};
 ghost use Rattle.sf_list.specs.Copies.{AreCopies};
 
@@ -92,6 +92,15 @@ impl<T: Drop> Sequence<T> {
     {
         let mut other = other;
         self.items.append(&mut other.items)
+    }
+
+    /// Takes out the element at a place counted from 0. Those behind it move up.
+    pub fn remove(&mut self, at: usize) -> T
+        requires { at < length self.old }
+        ensures value { slice_get self.old at ≡ Some result }
+        ensures rest { self.new ≡ take at self.old ++ drop (at + 1) self.old }
+    {
+        self.items.remove(at)
     }
 
     /// Replaces the element at a place counted from 0.
