@@ -1,2 +1,5 @@
-pub mod GrammarRules
 pub mod Ahead
+pub mod GrammarRules
+pub mod NameTexts
+pub mod Places
+pub mod Tables

@@ -1,14 +1,17 @@
 //! What is left to read of a program: a reader over its lines of tokens.
-#![tactic(auto, unfolding(py_tree::specs::Reading::next, py_tree::specs::Reading::here, py_tree::specs::Reading::ends, py_tree::specs::Reading::left, py_tree::specs::Reading::lines_left, py_tree::specs::Reading::sees, py_tree::specs::Reading::sees_name, py_tree::specs::Reading::sees_int, py_tree::specs::Reading::sees_str, py_tree::specs::Reading::int_value, py_tree::specs::Reading::named, py_tree::specs::Reading::name_number, py_tree::specs::Reading::placed_name, py_tree::specs::Reading::texted, py_tree::specs::Reading::text_number, py_tree::specs::Reading::quotes_name, py_tree::specs::Reading::refused, py_tree::specs::Reading::too_deep, py_tree::specs::Reading::next_line, py_tree::specs::Reading::has_line, py_tree::specs::Reading::column, py_tree::specs::Reading::is_at, py_tree::specs::Reading::is_deeper))]
+#![tactic(auto, unfolding(py_tree::specs::Reading::next, py_tree::specs::Reading::here, py_tree::specs::Reading::ends, py_tree::specs::Reading::left, py_tree::specs::Reading::lines_left, py_tree::specs::Reading::sees, py_tree::specs::Reading::sees_name, py_tree::specs::Reading::sees_int, py_tree::specs::Reading::sees_str, py_tree::specs::Reading::int_value, py_tree::specs::Reading::named, py_tree::specs::Reading::name_number, py_tree::specs::Reading::placed_name, py_tree::specs::Reading::texted, py_tree::specs::Reading::text_number, py_tree::specs::Reading::quotes_name, py_tree::specs::Reading::refused, py_tree::specs::Reading::too_deep, py_tree::specs::Reading::next_line, py_tree::specs::Reading::has_line, py_tree::specs::Reading::column, py_tree::specs::Reading::is_at, py_tree::specs::Reading::is_deeper), using(crate::proofs::Ahead::ahead, crate::proofs::Places::place_rules))]
 
 ghost use Rattle.std.specs.Prelude.{◌≡◌, ◌<◌, ◌≤◌, false, [], length, slice_index_or, IsTrue, IfOk, OnOk};
 ghost use Rattle.py_tree.specs.Reading as spec;
 ghost use Rattle.py_lexer.specs.Spans.{LinesRise};
-ghost use Rattle.py_parser.specs.Reads.{input};
+ghost use Rattle.py_parser.specs.Reads.{input, tokens_of_first};
 
+use crate::numbering::numbered;
+use crate::spelling::{
+    begins_string, bytes_at, is_left_out, is_name, is_spelt, literal_text, past_token, text_of,
+};
 use crate::syntax_error::SyntaxError;
-use crate::spelling::{begins_string, bytes_at, is_left_out, is_name, past, text_of};
-use py_lexer::{Line, Token, TokenKind, str_text};
+use py_lexer::{Line, Token, TokenKind};
 use py_tree::{Name, Names, Place, PlacedName, SyntaxFault, SyntaxKind, Terminal};
 use std::alloc::{AllocError, Global};
 use std::marker::Model;
@@ -37,6 +40,16 @@ impl<'a> Model for Reader<'a> {
     ghost invariant = { λ r. IsReading r.text.now r.tokens.now r.lines.now r.names };
 }
 
+/// The tokens of the first line, of which there are none where no line is left.
+fn first_tokens(lines: &[Line]) -> &[Token]
+    ensures { result.now ≡ tokens_of_first lines.now }
+{
+    match lines {
+        [line, ..] => line.tokens.as_slice(),
+        [] => &[],
+    }
+}
+
 impl<'a> Reader<'a> {
     /// Before the first line, with these names numbered.
     pub fn new(text: &'a [u8], lines: &'a [Line], names: Names) -> Reader<'a>
@@ -56,7 +69,7 @@ impl<'a> Reader<'a> {
 
     /// The names so far, in place of the reader.
     pub fn into_names(self) -> Names
-        ensures names { result ≡ self.names }
+        ensures names { result ≡ self.entry.names }
         ensures few { length result ≤ 1048594 }
     {
         self.names
@@ -74,14 +87,14 @@ impl<'a> Reader<'a> {
         ensures sees { result ≡ spec.sees terminal self.now }
         ensures some { IsTrue result → 0 < spec.left self.now }
     {
-        self.bytes(0) == terminal.spelling()
+        is_spelt(self.bytes(0), terminal)
     }
 
     /// Whether the token behind the next one is this word or sign.
     pub fn sees_next(&self, terminal: Terminal) -> bool
         ensures { result ≡ spec.sees terminal (spec.next self.now) }
     {
-        self.bytes(1) == terminal.spelling()
+        is_spelt(self.bytes(1), terminal)
     }
 
     pub fn sees_name(&self) -> bool
@@ -112,10 +125,7 @@ impl<'a> Reader<'a> {
         ensures sees { result ≡ spec.sees_str self.now }
         ensures some { IsTrue result → 0 < spec.left self.now }
     {
-        match self.tokens {
-            [token, ..] => matches!(token.kind, TokenKind::Str),
-            [] => false,
-        }
+        begins_string(self.tokens)
     }
 
     /// Whether the text of the string that comes next is a name.
@@ -123,7 +133,7 @@ impl<'a> Reader<'a> {
         requires { IsTrue (spec.sees_str self.now) }
         ensures { IfOk result (λ is. is ≡ spec.quotes_name self.now) }
     {
-        let text = str_text(alloc, self.text, &self.tokens[0])?;
+        let text = literal_text(alloc, self.text, self.tokens)?;
         Ok(is_name(text.as_str().as_bytes()))
     }
 
@@ -162,6 +172,16 @@ impl<'a> Reader<'a> {
         }
     }
 
+    /// Just past the next token.
+    fn past_first(&self) -> Place
+        ensures { result ≡ spec.behind_first self.now.tokens self.now.behind }
+    {
+        match self.tokens.first() {
+            Some(token) => past_token(self.text, token),
+            None => self.behind,
+        }
+    }
+
     /// Passes the next token, if there is one.
     pub fn pass(&mut self)
         ensures next { self.new ≡ spec.next self.old }
@@ -169,9 +189,9 @@ impl<'a> Reader<'a> {
         ensures shorter { 0 < spec.left self.old → spec.left self.new < spec.left self.old }
         ensures same_lines { spec.lines_left self.new ≡ spec.lines_left self.old }
     {
-        if let [token, rest @ ..] = self.tokens {
-            self.behind = past(bytes_at(self.text, self.tokens, 0), token.place);
-            self.tokens = rest;
+        if !self.tokens.is_empty() {
+            self.behind = self.past_first();
+            self.tokens = &self.tokens[1..];
         }
     }
 
@@ -183,10 +203,11 @@ impl<'a> Reader<'a> {
         ensures shorter { OnOk result (spec.left self.new < spec.left self.old) }
         ensures same_lines { OnOk result (spec.lines_left self.new ≡ spec.lines_left self.old) }
     {
-        let word = self.bytes(0);
         let place = self.here();
-        let name = self.names.number(alloc, text_of(word))?;
-        self.behind = past(word, place);
+        let behind = self.past_first();
+        let word = text_of(self.bytes(0));
+        let name = numbered(alloc, &mut self.names, word)?;
+        self.behind = behind;
         self.tokens = &self.tokens[1..];
         Ok(PlacedName { name, place })
     }
@@ -199,11 +220,10 @@ impl<'a> Reader<'a> {
         ensures shorter { OnOk result (spec.left self.new < spec.left self.old) }
         ensures same_lines { OnOk result (spec.lines_left self.new ≡ spec.lines_left self.old) }
     {
-        let literal = self.bytes(0);
-        let place = self.here();
-        let text = str_text(alloc, self.text, &self.tokens[0])?;
-        let name = self.names.number(alloc, text.as_str())?;
-        self.behind = past(literal, place);
+        let behind = self.past_first();
+        let text = literal_text(alloc, self.text, self.tokens)?;
+        let name = numbered(alloc, &mut self.names, text.as_str())?;
+        self.behind = behind;
         self.tokens = &self.tokens[1..];
         Ok(name)
     }
@@ -239,12 +259,9 @@ impl<'a> Reader<'a> {
         ensures no_more { spec.lines_left self.new ≤ spec.lines_left self.old }
         ensures fewer { 0 < spec.lines_left self.old → spec.lines_left self.new < spec.lines_left self.old }
     {
-        match self.lines {
-            [line, rest @ ..] => {
-                self.tokens = line.tokens.as_slice();
-                self.lines = rest;
-            }
-            [] => self.tokens = &[],
+        self.tokens = first_tokens(self.lines);
+        if !self.lines.is_empty() {
+            self.lines = &self.lines[1..];
         }
     }
 
@@ -291,19 +308,13 @@ impl<'a> Reader<'a> {
     pub fn line_begins(&self, terminal: Terminal) -> bool
         ensures { result ≡ spec.sees terminal (spec.next_line self.now) }
     {
-        match self.lines {
-            [line, ..] => bytes_at(self.text, line.tokens.as_slice(), 0) == terminal.spelling(),
-            [] => false,
-        }
+        is_spelt(bytes_at(self.text, first_tokens(self.lines), 0), terminal)
     }
 
     /// Whether the next line begins with a string.
     pub fn line_begins_string(&self) -> bool
         ensures { result ≡ spec.sees_str (spec.next_line self.now) }
     {
-        match self.lines {
-            [line, ..] => begins_string(line.tokens.as_slice()),
-            [] => false,
-        }
+        begins_string(first_tokens(self.lines))
     }
 }

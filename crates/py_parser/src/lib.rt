@@ -9,6 +9,7 @@ mod classes;
 mod expressions;
 mod input;
 mod looking;
+mod numbering;
 mod program;
 mod reserved;
 mod simple_statements;

@@ -215,7 +215,8 @@ pub fn type_start(reader: &Reader<'_>) -> TypeStart
 }
 
 fn sees_list_word(reader: &Reader<'_>) -> bool
-    ensures { result ≡ spec.sees Terminal.ListWord reader.now || spec.sees Terminal.SmallListWord reader.now }
+    ensures some { IsTrue result → 0 < spec.left reader.now }
+    ensures list { result ≡ spec.sees Terminal.ListWord reader.now || spec.sees Terminal.SmallListWord reader.now }
 {
     reader.sees(Terminal::ListWord) || reader.sees(Terminal::SmallListWord)
 }

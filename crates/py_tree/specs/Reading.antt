@@ -51,10 +51,14 @@ abbrev pub other_tokens : List PlainToken → List PlainToken
 other_tokens [] = []
 other_tokens (t ∷ ts) = ts
 
+-- just past a byte here
+abbrev pub past_byte : ℕ → Place → Place
+past_byte b p = if b == 10 then record { line = p.line + 1; col = 1 } else record { line = p.line; col = p.col + 1 }
+
 -- just past these bytes, which begin here
 abbrev pub past_bytes : List ℕ → Place → Place
 past_bytes [] p = p
-past_bytes (b ∷ bs) p = past_bytes bs (if b == 10 then record { line = p.line + 1; col = 1 } else record { line = p.line; col = p.col + 1 })
+past_bytes (b ∷ bs) p = past_bytes bs (past_byte b p)
 
 abbrev pub behind_first : List PlainToken → Place → Place
 behind_first [] p = p
