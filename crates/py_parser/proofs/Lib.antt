@@ -1,5 +1,16 @@
 pub mod Ahead
+pub mod Digits
+pub mod Fails
 pub mod GrammarRules
+pub mod InputLaws
+pub mod LexRules
 pub mod NameTexts
+pub mod OneClass
+pub mod OneProgram
+pub mod OneText
 pub mod Places
+pub mod RuleLaws
+pub mod Rules
+pub mod Runs
 pub mod Tables
+pub mod TreeLaws

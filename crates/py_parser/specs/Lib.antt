@@ -1,1 +1,9 @@
+pub mod Input
+pub mod Kinds
+pub mod Lexed
 pub mod Reads
+pub mod SmallGrammar
+pub mod SmallProgram
+pub mod SmallRules
+pub mod SmallTokens
+pub mod SmallTrees

@@ -142,7 +142,13 @@ impl<'a> Reader<'a> {
         ensures { result ≡ spec.int_value self.now }
     {
         match self.tokens {
-            [Token { kind: TokenKind::Int(n), .. }, ..] => *n,
+            [
+                Token {
+                    kind: TokenKind::Int(n),
+                    ..
+                },
+                ..
+            ] => *n,
             _ => 0,
         }
     }

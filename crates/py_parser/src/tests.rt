@@ -24,7 +24,8 @@ fn at(line: u32, col: u32, kind: SyntaxKind) -> Option<SyntaxFault> {
     })
 }
 
-const COUNTER: &[u8] = b"from stateflow import entity\n@entity\nclass Counter:\n    def __init__(self, k: str, n: int):\n        self.k: str = k\n        self.n: int = n\n    def __key__(self):\n        return self.k\n    def add(self, d: int) -> int:\n        self.n = self.n + d\n        return self.n\n";
+const COUNTER: &[u8] =
+    b"from stateflow import entity\n@entity\nclass Counter:\n    def __init__(self, k: str, n: int):\n        self.k: str = k\n        self.n: int = n\n    def __key__(self):\n        return self.k\n    def add(self, d: int) -> int:\n        self.n = self.n + d\n        return self.n\n";
 
 #[test]
 fn a_program_has_a_tree(rt: HostRuntime) -> Result<(), Fail> {
@@ -38,7 +39,13 @@ fn a_program_has_a_tree(rt: HostRuntime) -> Result<(), Fail> {
 fn the_first_refused_token_is_told(rt: HostRuntime) -> Result<(), Fail> {
     assert_eq!(rt; fault_of(rt, b"x = 1\n")?, at(1, 1, SyntaxKind::Unexpected));
     assert_eq!(rt; fault_of(rt, b"with x\n")?, at(1, 1, SyntaxKind::LeftOut));
-    assert_eq!(rt; fault_of(rt, b"@entity\nclass C\n")?, at(2, 8, SyntaxKind::Unexpected));
-    assert_eq!(rt; fault_of(rt, b"@entity\nclass C:\n  def f(self): x: int\n")?, at(3, 22, SyntaxKind::Unexpected));
+    assert_eq!(rt;
+        fault_of(rt, b"@entity\nclass C\n")?,
+        at(2, 8, SyntaxKind::Unexpected)
+    );
+    assert_eq!(rt;
+        fault_of(rt, b"@entity\nclass C:\n  def f(self): x: int\n")?,
+        at(3, 22, SyntaxKind::Unexpected)
+    );
     Ok(())
 }
