@@ -4,7 +4,7 @@ use Rattle.py_tree.specs.declared.names.Place.{Place}
 use Rattle.py_tree.specs.declared.terminal.Terminal.{Terminal}
 use Rattle.py_tree.specs.PlainExpressions.{PlainExpr, PAttr, PCall, PIndex, PlainLink, exprs_of}
 use Rattle.py_tree.specs.Reading.{Input, Outcome, next, here, named, name_number}
-use Rattle.py_tree.specs.ExpressionGrammar.{IsWhole, IsOr, IsOrs, IsAnd, IsAnds, IsNot, IsCompare, IsSum, IsSums, IsTerm, IsTerms, IsUnary, IsPostfix, IsTails, IsEnclosed, IsArgs, IsMore, IsAtom, IsGroup, IsNamed, whole_plain_stops_x, whole_plain, whole_cond_stops_y, whole_cond_needs_else, whole_cond_deep, whole_cond_stops_z, whole_cond, or_is_stops_x, or_is_stops_xs, or_is, ors_end, ors_more_stops_x, ors_more_stops_xs, ors_more, and_is_stops_x, and_is_stops_xs, and_is, ands_end, ands_more_stops_x, ands_more_stops_xs, ands_more, not_is_deep, not_is_stops_x, not_is, not_as, compare_plain_stops_x, compare_plain, compare_is_stops_y, compare_is, compare_none_needs_none, compare_none, compare_some_needs_none, compare_some, sum_is_stops_x, sum_is_stops_ls, sum_is, sums_end, sums_more_stops_x, sums_more_stops_ls, sums_more, term_is_stops_x, term_is_stops_ls, term_is, terms_end, terms_more_stops_x, terms_more_stops_ls, terms_more, unary_minus_deep, unary_minus_stops_x, unary_minus, unary_plus_deep, unary_plus_stops_x, unary_plus, unary_as, postfix_is_stops_x, postfix_is, tails_end, tails_dot_deep, tails_dot_needs_name, tails_dot, tails_call_stops_xs, tails_call, tails_index_deep, tails_index_stops_y, tails_index_needs_closebracket, tails_index, enclosed_is_deep, enclosed_is_stops_xs, enclosed_is_needs_close, enclosed_is, args_none, args_is_stops_x, args_is_stops_xs, args_is, more_end, more_comma, more_is_stops_x, more_is_stops_xs, more_is, atom_name, atom_int, atom_str, atom_true, atom_false, atom_nil, atom_group, atom_list_stops_xs, atom_list, atom_other, group_is_deep, group_is_stops_x, group_is_needs_close, group_is, named_call_stops_xs, named_call, named_self, named_var}
+use Rattle.py_tree.specs.ExpressionGrammar.{IsWhole, IsOr, IsOrs, IsAnd, IsAnds, IsNot, IsCompare, IsSum, IsSums, IsTerm, IsTerms, IsUnary, IsPostfix, IsTails, IsEnclosed, IsArgs, IsMore, IsAtom, IsGroup, IsNamed, whole_plain_stops_x, whole_plain, whole_cond_stops_y, whole_cond_needs_else, whole_cond_deep, whole_cond_stops_z, whole_cond, or_is_stops_x, or_is_stops_xs, or_is, ors_end, ors_more_stops_x, ors_more_stops_xs, ors_more, and_is_stops_x, and_is_stops_xs, and_is, ands_end, ands_more_stops_x, ands_more_stops_xs, ands_more, not_is_deep, not_is_stops_x, not_is, not_as, compare_plain_stops_x, compare_plain, compare_by_stops_y, compare_by, compare_is_none_needs_none, compare_is_none, compare_is_not_none_needs_none, compare_is_not_none, sum_is_stops_x, sum_is_stops_ls, sum_is, sums_end, sums_more_stops_x, sums_more_stops_ls, sums_more, term_is_stops_x, term_is_stops_ls, term_is, terms_end, terms_more_stops_x, terms_more_stops_ls, terms_more, unary_minus_deep, unary_minus_stops_x, unary_minus, unary_plus_deep, unary_plus_stops_x, unary_plus, unary_as, postfix_is_stops_x, postfix_is, tails_end, tails_dot_deep, tails_dot_needs_name, tails_dot, tails_call_stops_xs, tails_call, tails_index_deep, tails_index_stops_y, tails_index_needs_closebracket, tails_index, enclosed_is_deep, enclosed_is_stops_xs, enclosed_is_needs_close, enclosed_is, args_none, args_is_stops_x, args_is_stops_xs, args_is, more_end, more_comma, more_is_stops_x, more_is_stops_xs, more_is, atom_name, atom_int, atom_str, atom_true, atom_false, atom_nil, atom_group, atom_list_stops_xs, atom_list, atom_other, group_is_deep, group_is_stops_x, group_is_needs_close, group_is, named_call_stops_xs, named_call, named_self, named_var}
 use Rattle.py_tree.proofs.OneOutcome.{same_rest, same_part}
 
 same_attribute : {at at' : Place} {x x' : PlainExpr} {i i' : Input} → at ≡ at' → x ≡ x' → i ≡ i' → (PAttr at x (name_number (next i)) (here (next i))) ≡ (PAttr at' x' (name_number (next i')) (here (next i')))
@@ -147,68 +147,68 @@ mutual
   pub compare_one : {n n' : ℕ} {i i' : Input} {o o' : Outcome PlainExpr} → IsCompare n i o → n ≡ n' → i ≡ i' → IsCompare n' i' o' → o ≡ o'
   compare_one (compare_plain_stops_x h0) en ei (compare_plain_stops_x h0') = let s1 = sum_one h0 en ei h0' in cc
   compare_one (compare_plain_stops_x h0) en ei (compare_plain h0' h1' h2') = let s1 = sum_one h0 en ei h0' in cc
-  compare_one (compare_plain_stops_x h0) en ei (compare_is_stops_y h0' h1' h2') = let s1 = sum_one h0 en ei h0' in cc
-  compare_one (compare_plain_stops_x h0) en ei (compare_is h0' h1' h2') = let s1 = sum_one h0 en ei h0' in cc
-  compare_one (compare_plain_stops_x h0) en ei (compare_none_needs_none h0' h1' h2' h3' h4') = let s1 = sum_one h0 en ei h0' in cc
-  compare_one (compare_plain_stops_x h0) en ei (compare_none h0' h1' h2' h3' h4') = let s1 = sum_one h0 en ei h0' in cc
-  compare_one (compare_plain_stops_x h0) en ei (compare_some_needs_none h0' h1' h2' h3' h4') = let s1 = sum_one h0 en ei h0' in cc
-  compare_one (compare_plain_stops_x h0) en ei (compare_some h0' h1' h2' h3' h4') = let s1 = sum_one h0 en ei h0' in cc
+  compare_one (compare_plain_stops_x h0) en ei (compare_by_stops_y h0' h1' h2') = let s1 = sum_one h0 en ei h0' in cc
+  compare_one (compare_plain_stops_x h0) en ei (compare_by h0' h1' h2') = let s1 = sum_one h0 en ei h0' in cc
+  compare_one (compare_plain_stops_x h0) en ei (compare_is_none_needs_none h0' h1' h2' h3' h4') = let s1 = sum_one h0 en ei h0' in cc
+  compare_one (compare_plain_stops_x h0) en ei (compare_is_none h0' h1' h2' h3' h4') = let s1 = sum_one h0 en ei h0' in cc
+  compare_one (compare_plain_stops_x h0) en ei (compare_is_not_none_needs_none h0' h1' h2' h3' h4') = let s1 = sum_one h0 en ei h0' in cc
+  compare_one (compare_plain_stops_x h0) en ei (compare_is_not_none h0' h1' h2' h3' h4') = let s1 = sum_one h0 en ei h0' in cc
   compare_one (compare_plain h0 h1 h2) en ei (compare_plain_stops_x h0') = let s1 = sum_one h0 en ei h0' in cc
   compare_one (compare_plain h0 h1 h2) en ei (compare_plain h0' h1' h2') = let s1 = sum_one h0 en ei h0' in cc
-  compare_one (compare_plain h0 h1 h2) en ei (compare_is_stops_y h0' h1' h2') = let s1 = sum_one h0 en ei h0' in cc
-  compare_one (compare_plain h0 h1 h2) en ei (compare_is h0' h1' h2') = let s1 = sum_one h0 en ei h0' in cc
-  compare_one (compare_plain h0 h1 h2) en ei (compare_none_needs_none h0' h1' h2' h3' h4') = let s1 = sum_one h0 en ei h0' in cc
-  compare_one (compare_plain h0 h1 h2) en ei (compare_none h0' h1' h2' h3' h4') = let s1 = sum_one h0 en ei h0' in cc
-  compare_one (compare_plain h0 h1 h2) en ei (compare_some_needs_none h0' h1' h2' h3' h4') = let s1 = sum_one h0 en ei h0' in cc
-  compare_one (compare_plain h0 h1 h2) en ei (compare_some h0' h1' h2' h3' h4') = let s1 = sum_one h0 en ei h0' in cc
-  compare_one (compare_is_stops_y h0 h1 h2) en ei (compare_plain_stops_x h0') = let s1 = sum_one h0 en ei h0' in cc
-  compare_one (compare_is_stops_y h0 h1 h2) en ei (compare_plain h0' h1' h2') = let s1 = sum_one h0 en ei h0' in cc
-  compare_one (compare_is_stops_y h0 h1 h2) en ei (compare_is_stops_y h0' h1' h2') = let s1 = sum_one h0 en ei h0' in let s2 = sum_one h2 en (ap (λ z. next z) (same_rest s1)) h2' in cc
-  compare_one (compare_is_stops_y h0 h1 h2) en ei (compare_is h0' h1' h2') = let s1 = sum_one h0 en ei h0' in let s2 = sum_one h2 en (ap (λ z. next z) (same_rest s1)) h2' in cc
-  compare_one (compare_is_stops_y h0 h1 h2) en ei (compare_none_needs_none h0' h1' h2' h3' h4') = let s1 = sum_one h0 en ei h0' in cc
-  compare_one (compare_is_stops_y h0 h1 h2) en ei (compare_none h0' h1' h2' h3' h4') = let s1 = sum_one h0 en ei h0' in cc
-  compare_one (compare_is_stops_y h0 h1 h2) en ei (compare_some_needs_none h0' h1' h2' h3' h4') = let s1 = sum_one h0 en ei h0' in cc
-  compare_one (compare_is_stops_y h0 h1 h2) en ei (compare_some h0' h1' h2' h3' h4') = let s1 = sum_one h0 en ei h0' in cc
-  compare_one (compare_is h0 h1 h2) en ei (compare_plain_stops_x h0') = let s1 = sum_one h0 en ei h0' in cc
-  compare_one (compare_is h0 h1 h2) en ei (compare_plain h0' h1' h2') = let s1 = sum_one h0 en ei h0' in cc
-  compare_one (compare_is h0 h1 h2) en ei (compare_is_stops_y h0' h1' h2') = let s1 = sum_one h0 en ei h0' in let s2 = sum_one h2 en (ap (λ z. next z) (same_rest s1)) h2' in cc
-  compare_one (compare_is h0 h1 h2) en ei (compare_is h0' h1' h2') = let s1 = sum_one h0 en ei h0' in let s2 = sum_one h2 en (ap (λ z. next z) (same_rest s1)) h2' in cc
-  compare_one (compare_is h0 h1 h2) en ei (compare_none_needs_none h0' h1' h2' h3' h4') = let s1 = sum_one h0 en ei h0' in cc
-  compare_one (compare_is h0 h1 h2) en ei (compare_none h0' h1' h2' h3' h4') = let s1 = sum_one h0 en ei h0' in cc
-  compare_one (compare_is h0 h1 h2) en ei (compare_some_needs_none h0' h1' h2' h3' h4') = let s1 = sum_one h0 en ei h0' in cc
-  compare_one (compare_is h0 h1 h2) en ei (compare_some h0' h1' h2' h3' h4') = let s1 = sum_one h0 en ei h0' in cc
-  compare_one (compare_none_needs_none h0 h1 h2 h3 h4) en ei (compare_plain_stops_x h0') = let s1 = sum_one h0 en ei h0' in cc
-  compare_one (compare_none_needs_none h0 h1 h2 h3 h4) en ei (compare_plain h0' h1' h2') = let s1 = sum_one h0 en ei h0' in cc
-  compare_one (compare_none_needs_none h0 h1 h2 h3 h4) en ei (compare_is_stops_y h0' h1' h2') = let s1 = sum_one h0 en ei h0' in cc
-  compare_one (compare_none_needs_none h0 h1 h2 h3 h4) en ei (compare_is h0' h1' h2') = let s1 = sum_one h0 en ei h0' in cc
-  compare_one (compare_none_needs_none h0 h1 h2 h3 h4) en ei (compare_none_needs_none h0' h1' h2' h3' h4') = let s1 = sum_one h0 en ei h0' in cc
-  compare_one (compare_none_needs_none h0 h1 h2 h3 h4) en ei (compare_none h0' h1' h2' h3' h4') = let s1 = sum_one h0 en ei h0' in cc
-  compare_one (compare_none_needs_none h0 h1 h2 h3 h4) en ei (compare_some_needs_none h0' h1' h2' h3' h4') = let s1 = sum_one h0 en ei h0' in cc
-  compare_one (compare_none_needs_none h0 h1 h2 h3 h4) en ei (compare_some h0' h1' h2' h3' h4') = let s1 = sum_one h0 en ei h0' in cc
-  compare_one (compare_none h0 h1 h2 h3 h4) en ei (compare_plain_stops_x h0') = let s1 = sum_one h0 en ei h0' in cc
-  compare_one (compare_none h0 h1 h2 h3 h4) en ei (compare_plain h0' h1' h2') = let s1 = sum_one h0 en ei h0' in cc
-  compare_one (compare_none h0 h1 h2 h3 h4) en ei (compare_is_stops_y h0' h1' h2') = let s1 = sum_one h0 en ei h0' in cc
-  compare_one (compare_none h0 h1 h2 h3 h4) en ei (compare_is h0' h1' h2') = let s1 = sum_one h0 en ei h0' in cc
-  compare_one (compare_none h0 h1 h2 h3 h4) en ei (compare_none_needs_none h0' h1' h2' h3' h4') = let s1 = sum_one h0 en ei h0' in cc
-  compare_one (compare_none h0 h1 h2 h3 h4) en ei (compare_none h0' h1' h2' h3' h4') = let s1 = sum_one h0 en ei h0' in cc
-  compare_one (compare_none h0 h1 h2 h3 h4) en ei (compare_some_needs_none h0' h1' h2' h3' h4') = let s1 = sum_one h0 en ei h0' in cc
-  compare_one (compare_none h0 h1 h2 h3 h4) en ei (compare_some h0' h1' h2' h3' h4') = let s1 = sum_one h0 en ei h0' in cc
-  compare_one (compare_some_needs_none h0 h1 h2 h3 h4) en ei (compare_plain_stops_x h0') = let s1 = sum_one h0 en ei h0' in cc
-  compare_one (compare_some_needs_none h0 h1 h2 h3 h4) en ei (compare_plain h0' h1' h2') = let s1 = sum_one h0 en ei h0' in cc
-  compare_one (compare_some_needs_none h0 h1 h2 h3 h4) en ei (compare_is_stops_y h0' h1' h2') = let s1 = sum_one h0 en ei h0' in cc
-  compare_one (compare_some_needs_none h0 h1 h2 h3 h4) en ei (compare_is h0' h1' h2') = let s1 = sum_one h0 en ei h0' in cc
-  compare_one (compare_some_needs_none h0 h1 h2 h3 h4) en ei (compare_none_needs_none h0' h1' h2' h3' h4') = let s1 = sum_one h0 en ei h0' in cc
-  compare_one (compare_some_needs_none h0 h1 h2 h3 h4) en ei (compare_none h0' h1' h2' h3' h4') = let s1 = sum_one h0 en ei h0' in cc
-  compare_one (compare_some_needs_none h0 h1 h2 h3 h4) en ei (compare_some_needs_none h0' h1' h2' h3' h4') = let s1 = sum_one h0 en ei h0' in cc
-  compare_one (compare_some_needs_none h0 h1 h2 h3 h4) en ei (compare_some h0' h1' h2' h3' h4') = let s1 = sum_one h0 en ei h0' in cc
-  compare_one (compare_some h0 h1 h2 h3 h4) en ei (compare_plain_stops_x h0') = let s1 = sum_one h0 en ei h0' in cc
-  compare_one (compare_some h0 h1 h2 h3 h4) en ei (compare_plain h0' h1' h2') = let s1 = sum_one h0 en ei h0' in cc
-  compare_one (compare_some h0 h1 h2 h3 h4) en ei (compare_is_stops_y h0' h1' h2') = let s1 = sum_one h0 en ei h0' in cc
-  compare_one (compare_some h0 h1 h2 h3 h4) en ei (compare_is h0' h1' h2') = let s1 = sum_one h0 en ei h0' in cc
-  compare_one (compare_some h0 h1 h2 h3 h4) en ei (compare_none_needs_none h0' h1' h2' h3' h4') = let s1 = sum_one h0 en ei h0' in cc
-  compare_one (compare_some h0 h1 h2 h3 h4) en ei (compare_none h0' h1' h2' h3' h4') = let s1 = sum_one h0 en ei h0' in cc
-  compare_one (compare_some h0 h1 h2 h3 h4) en ei (compare_some_needs_none h0' h1' h2' h3' h4') = let s1 = sum_one h0 en ei h0' in cc
-  compare_one (compare_some h0 h1 h2 h3 h4) en ei (compare_some h0' h1' h2' h3' h4') = let s1 = sum_one h0 en ei h0' in cc
+  compare_one (compare_plain h0 h1 h2) en ei (compare_by_stops_y h0' h1' h2') = let s1 = sum_one h0 en ei h0' in cc
+  compare_one (compare_plain h0 h1 h2) en ei (compare_by h0' h1' h2') = let s1 = sum_one h0 en ei h0' in cc
+  compare_one (compare_plain h0 h1 h2) en ei (compare_is_none_needs_none h0' h1' h2' h3' h4') = let s1 = sum_one h0 en ei h0' in cc
+  compare_one (compare_plain h0 h1 h2) en ei (compare_is_none h0' h1' h2' h3' h4') = let s1 = sum_one h0 en ei h0' in cc
+  compare_one (compare_plain h0 h1 h2) en ei (compare_is_not_none_needs_none h0' h1' h2' h3' h4') = let s1 = sum_one h0 en ei h0' in cc
+  compare_one (compare_plain h0 h1 h2) en ei (compare_is_not_none h0' h1' h2' h3' h4') = let s1 = sum_one h0 en ei h0' in cc
+  compare_one (compare_by_stops_y h0 h1 h2) en ei (compare_plain_stops_x h0') = let s1 = sum_one h0 en ei h0' in cc
+  compare_one (compare_by_stops_y h0 h1 h2) en ei (compare_plain h0' h1' h2') = let s1 = sum_one h0 en ei h0' in cc
+  compare_one (compare_by_stops_y h0 h1 h2) en ei (compare_by_stops_y h0' h1' h2') = let s1 = sum_one h0 en ei h0' in let s2 = sum_one h2 en (ap (λ z. next z) (same_rest s1)) h2' in cc
+  compare_one (compare_by_stops_y h0 h1 h2) en ei (compare_by h0' h1' h2') = let s1 = sum_one h0 en ei h0' in let s2 = sum_one h2 en (ap (λ z. next z) (same_rest s1)) h2' in cc
+  compare_one (compare_by_stops_y h0 h1 h2) en ei (compare_is_none_needs_none h0' h1' h2' h3' h4') = let s1 = sum_one h0 en ei h0' in cc
+  compare_one (compare_by_stops_y h0 h1 h2) en ei (compare_is_none h0' h1' h2' h3' h4') = let s1 = sum_one h0 en ei h0' in cc
+  compare_one (compare_by_stops_y h0 h1 h2) en ei (compare_is_not_none_needs_none h0' h1' h2' h3' h4') = let s1 = sum_one h0 en ei h0' in cc
+  compare_one (compare_by_stops_y h0 h1 h2) en ei (compare_is_not_none h0' h1' h2' h3' h4') = let s1 = sum_one h0 en ei h0' in cc
+  compare_one (compare_by h0 h1 h2) en ei (compare_plain_stops_x h0') = let s1 = sum_one h0 en ei h0' in cc
+  compare_one (compare_by h0 h1 h2) en ei (compare_plain h0' h1' h2') = let s1 = sum_one h0 en ei h0' in cc
+  compare_one (compare_by h0 h1 h2) en ei (compare_by_stops_y h0' h1' h2') = let s1 = sum_one h0 en ei h0' in let s2 = sum_one h2 en (ap (λ z. next z) (same_rest s1)) h2' in cc
+  compare_one (compare_by h0 h1 h2) en ei (compare_by h0' h1' h2') = let s1 = sum_one h0 en ei h0' in let s2 = sum_one h2 en (ap (λ z. next z) (same_rest s1)) h2' in cc
+  compare_one (compare_by h0 h1 h2) en ei (compare_is_none_needs_none h0' h1' h2' h3' h4') = let s1 = sum_one h0 en ei h0' in cc
+  compare_one (compare_by h0 h1 h2) en ei (compare_is_none h0' h1' h2' h3' h4') = let s1 = sum_one h0 en ei h0' in cc
+  compare_one (compare_by h0 h1 h2) en ei (compare_is_not_none_needs_none h0' h1' h2' h3' h4') = let s1 = sum_one h0 en ei h0' in cc
+  compare_one (compare_by h0 h1 h2) en ei (compare_is_not_none h0' h1' h2' h3' h4') = let s1 = sum_one h0 en ei h0' in cc
+  compare_one (compare_is_none_needs_none h0 h1 h2 h3 h4) en ei (compare_plain_stops_x h0') = let s1 = sum_one h0 en ei h0' in cc
+  compare_one (compare_is_none_needs_none h0 h1 h2 h3 h4) en ei (compare_plain h0' h1' h2') = let s1 = sum_one h0 en ei h0' in cc
+  compare_one (compare_is_none_needs_none h0 h1 h2 h3 h4) en ei (compare_by_stops_y h0' h1' h2') = let s1 = sum_one h0 en ei h0' in cc
+  compare_one (compare_is_none_needs_none h0 h1 h2 h3 h4) en ei (compare_by h0' h1' h2') = let s1 = sum_one h0 en ei h0' in cc
+  compare_one (compare_is_none_needs_none h0 h1 h2 h3 h4) en ei (compare_is_none_needs_none h0' h1' h2' h3' h4') = let s1 = sum_one h0 en ei h0' in cc
+  compare_one (compare_is_none_needs_none h0 h1 h2 h3 h4) en ei (compare_is_none h0' h1' h2' h3' h4') = let s1 = sum_one h0 en ei h0' in cc
+  compare_one (compare_is_none_needs_none h0 h1 h2 h3 h4) en ei (compare_is_not_none_needs_none h0' h1' h2' h3' h4') = let s1 = sum_one h0 en ei h0' in cc
+  compare_one (compare_is_none_needs_none h0 h1 h2 h3 h4) en ei (compare_is_not_none h0' h1' h2' h3' h4') = let s1 = sum_one h0 en ei h0' in cc
+  compare_one (compare_is_none h0 h1 h2 h3 h4) en ei (compare_plain_stops_x h0') = let s1 = sum_one h0 en ei h0' in cc
+  compare_one (compare_is_none h0 h1 h2 h3 h4) en ei (compare_plain h0' h1' h2') = let s1 = sum_one h0 en ei h0' in cc
+  compare_one (compare_is_none h0 h1 h2 h3 h4) en ei (compare_by_stops_y h0' h1' h2') = let s1 = sum_one h0 en ei h0' in cc
+  compare_one (compare_is_none h0 h1 h2 h3 h4) en ei (compare_by h0' h1' h2') = let s1 = sum_one h0 en ei h0' in cc
+  compare_one (compare_is_none h0 h1 h2 h3 h4) en ei (compare_is_none_needs_none h0' h1' h2' h3' h4') = let s1 = sum_one h0 en ei h0' in cc
+  compare_one (compare_is_none h0 h1 h2 h3 h4) en ei (compare_is_none h0' h1' h2' h3' h4') = let s1 = sum_one h0 en ei h0' in cc
+  compare_one (compare_is_none h0 h1 h2 h3 h4) en ei (compare_is_not_none_needs_none h0' h1' h2' h3' h4') = let s1 = sum_one h0 en ei h0' in cc
+  compare_one (compare_is_none h0 h1 h2 h3 h4) en ei (compare_is_not_none h0' h1' h2' h3' h4') = let s1 = sum_one h0 en ei h0' in cc
+  compare_one (compare_is_not_none_needs_none h0 h1 h2 h3 h4) en ei (compare_plain_stops_x h0') = let s1 = sum_one h0 en ei h0' in cc
+  compare_one (compare_is_not_none_needs_none h0 h1 h2 h3 h4) en ei (compare_plain h0' h1' h2') = let s1 = sum_one h0 en ei h0' in cc
+  compare_one (compare_is_not_none_needs_none h0 h1 h2 h3 h4) en ei (compare_by_stops_y h0' h1' h2') = let s1 = sum_one h0 en ei h0' in cc
+  compare_one (compare_is_not_none_needs_none h0 h1 h2 h3 h4) en ei (compare_by h0' h1' h2') = let s1 = sum_one h0 en ei h0' in cc
+  compare_one (compare_is_not_none_needs_none h0 h1 h2 h3 h4) en ei (compare_is_none_needs_none h0' h1' h2' h3' h4') = let s1 = sum_one h0 en ei h0' in cc
+  compare_one (compare_is_not_none_needs_none h0 h1 h2 h3 h4) en ei (compare_is_none h0' h1' h2' h3' h4') = let s1 = sum_one h0 en ei h0' in cc
+  compare_one (compare_is_not_none_needs_none h0 h1 h2 h3 h4) en ei (compare_is_not_none_needs_none h0' h1' h2' h3' h4') = let s1 = sum_one h0 en ei h0' in cc
+  compare_one (compare_is_not_none_needs_none h0 h1 h2 h3 h4) en ei (compare_is_not_none h0' h1' h2' h3' h4') = let s1 = sum_one h0 en ei h0' in cc
+  compare_one (compare_is_not_none h0 h1 h2 h3 h4) en ei (compare_plain_stops_x h0') = let s1 = sum_one h0 en ei h0' in cc
+  compare_one (compare_is_not_none h0 h1 h2 h3 h4) en ei (compare_plain h0' h1' h2') = let s1 = sum_one h0 en ei h0' in cc
+  compare_one (compare_is_not_none h0 h1 h2 h3 h4) en ei (compare_by_stops_y h0' h1' h2') = let s1 = sum_one h0 en ei h0' in cc
+  compare_one (compare_is_not_none h0 h1 h2 h3 h4) en ei (compare_by h0' h1' h2') = let s1 = sum_one h0 en ei h0' in cc
+  compare_one (compare_is_not_none h0 h1 h2 h3 h4) en ei (compare_is_none_needs_none h0' h1' h2' h3' h4') = let s1 = sum_one h0 en ei h0' in cc
+  compare_one (compare_is_not_none h0 h1 h2 h3 h4) en ei (compare_is_none h0' h1' h2' h3' h4') = let s1 = sum_one h0 en ei h0' in cc
+  compare_one (compare_is_not_none h0 h1 h2 h3 h4) en ei (compare_is_not_none_needs_none h0' h1' h2' h3' h4') = let s1 = sum_one h0 en ei h0' in cc
+  compare_one (compare_is_not_none h0 h1 h2 h3 h4) en ei (compare_is_not_none h0' h1' h2' h3' h4') = let s1 = sum_one h0 en ei h0' in cc
 
   pub sum_one : {n n' : ℕ} {i i' : Input} {o o' : Outcome PlainExpr} → IsSum n i o → n ≡ n' → i ≡ i' → IsSum n' i' o' → o ≡ o'
   sum_one (sum_is_stops_x h0) en ei (sum_is_stops_x h0') = let s1 = term_one h0 en ei h0' in cc

@@ -6,7 +6,7 @@ use Rattle.py_tree.specs.declared.stmt.Target.TheVariants as target
 use Rattle.py_tree.specs.PlainExpressions.{PlainExpr}
 use Rattle.py_tree.specs.PlainStatements.{PlainOver, PlainStmt, PlainArm}
 use Rattle.py_tree.specs.Reading.{Input, Outcome, next, here, named, placed_name, next_line, column}
-use Rattle.py_tree.specs.StatementGrammar.{IsSimple, IsValue, IsMessage, IsDetail, IsAssigned, IsRaise, IsField, IsSimples, IsMoreSimples, IsLine, simple_pass, simple_break, simple_continue, simple_return_stops_v, simple_return, simple_raise, simple_assert_stops_x, simple_assert_stops_v, simple_assert, simple_local, simple_field, simple_expr_stops_x, simple_expr, value_none, value_is_stops_x, value_is, message_none, message_is_deep, message_is_stops_v, message_is_needs_close, message_is, detail_none, detail_is_stops_x, detail_is, assigned_typed_stops_ty, assigned_typed_needs_assign, assigned_typed_stops_x, assigned_typed, assigned_plain_stops_x, assigned_plain, assigned_augmented_stops_x, assigned_augmented, assigned_other, raise_none, raise_is_stops_v, raise_is, field_deep, field_is, simples_is_stops_x, simples_is_stops_xs, simples_is, more_simples_end, more_simples_last, more_simples_more_stops_x, more_simples_more_stops_xs, more_simples_more, line_is_stops_xs, line_is_needs_line_end, line_is, IsBody, IsSuite, IsBlock, IsStmts, IsStmt, IsIf, IsWhile, IsFor, IsArm, IsArms, IsOther, IsOver, body_is_needs_colon, body_is_deep, body_is, suite_line, suite_block, block_none, block_is, stmts_end, stmts_shifted, stmts_more_stops_xs, stmts_more_stops_ys, stmts_more, stmt_if_stops_x, stmt_if, stmt_while_stops_x, stmt_while, stmt_for_stops_x, stmt_for, stmt_simple, if_is_stops_a, if_is_stops_bs, if_is_stops_ys, if_is, while_is_stops_x, while_is_stops_ys, while_is, for_is_needs_name, for_is_needs_in, for_is_stops_v, for_is_stops_ys, for_is, arm_is_stops_x, arm_is_stops_ys, arm_is, arms_end, arms_more_stops_a, arms_more_stops_bs, arms_more, other_none, other_is, over_items_stops_x, over_items, over_end_deep, over_end_stops_x, over_end_needs_close, over_end, over_ends_stops_y, over_ends_needs_close, over_ends}
+use Rattle.py_tree.specs.StatementGrammar.{IsSimple, IsValue, IsMessage, IsDetail, IsAssigned, IsRaise, IsField, IsSimples, IsMoreSimples, IsLine, simple_pass, simple_break, simple_continue, simple_return_stops_v, simple_return, simple_raise, simple_assert_stops_x, simple_assert_stops_v, simple_assert, simple_local, simple_field, simple_expr_stops_x, simple_expr, value_none, value_is_stops_x, value_is, message_none, message_is_deep, message_is_stops_v, message_is_needs_close, message_is, detail_none, detail_is_stops_x, detail_is, assigned_typed_stops_ty, assigned_typed_needs_assign, assigned_typed_stops_x, assigned_typed, assigned_plain_stops_x, assigned_plain, assigned_augmented_stops_x, assigned_augmented, assigned_other, raise_other, raise_is_stops_v, raise_is, field_deep, field_is, simples_is_stops_x, simples_is_stops_xs, simples_is, more_simples_end, more_simples_last, more_simples_more_stops_x, more_simples_more_stops_xs, more_simples_more, line_is_stops_xs, line_is_needs_line_end, line_is, IsBody, IsSuite, IsBlock, IsStmts, IsStmt, IsIf, IsWhile, IsFor, IsArm, IsArms, IsOther, IsOver, body_is_needs_colon, body_is_deep, body_is, suite_line, suite_block, block_missing, block_is, stmts_end, stmts_shifted, stmts_more_stops_xs, stmts_more_stops_ys, stmts_more, stmt_if_stops_x, stmt_if, stmt_while_stops_x, stmt_while, stmt_for_stops_x, stmt_for, stmt_simple, if_is_stops_a, if_is_stops_bs, if_is_stops_ys, if_is, while_is_stops_x, while_is_stops_ys, while_is, for_is_needs_name, for_is_needs_in, for_is_stops_v, for_is_stops_ys, for_is, arm_is_stops_x, arm_is_stops_ys, arm_is, arms_end, arms_more_stops_a, arms_more_stops_bs, arms_more, other_none, other_is, over_items_stops_x, over_items, over_end_deep, over_end_stops_x, over_end_needs_close, over_end, over_ends_stops_y, over_ends_needs_close, over_ends}
 use Rattle.py_tree.proofs.OneOutcome.{same_rest}
 use Rattle.py_tree.proofs.OneExpression.{whole_one}
 use Rattle.py_tree.proofs.OneType.{type_one}
@@ -144,13 +144,13 @@ message_one (message_is h0 h1 h2 h3) en ei (message_is_needs_close h0' h1' h2' h
 message_one (message_is h0 h1 h2 h3) en ei (message_is h0' h1' h2' h3') = let s1 = value_one h2 (ap (λ z. z - 1) en) (ap (λ z. next z) ei) h2' in cc
 
 pub raise_one : {n n' : ℕ} {i i' : Input} {o o' : Outcome PlainStmt} → IsRaise n i o → n ≡ n' → i ≡ i' → IsRaise n' i' o' → o ≡ o'
-raise_one (raise_none h0) en ei (raise_none h0') = cc
-raise_one (raise_none h0) en ei (raise_is_stops_v h0' h1') = cc
-raise_one (raise_none h0) en ei (raise_is h0' h1') = cc
-raise_one (raise_is_stops_v h0 h1) en ei (raise_none h0') = cc
+raise_one (raise_other h0) en ei (raise_other h0') = cc
+raise_one (raise_other h0) en ei (raise_is_stops_v h0' h1') = cc
+raise_one (raise_other h0) en ei (raise_is h0' h1') = cc
+raise_one (raise_is_stops_v h0 h1) en ei (raise_other h0') = cc
 raise_one (raise_is_stops_v h0 h1) en ei (raise_is_stops_v h0' h1') = let s1 = message_one h1 en (ap (λ z. next (next z)) ei) h1' in cc
 raise_one (raise_is_stops_v h0 h1) en ei (raise_is h0' h1') = let s1 = message_one h1 en (ap (λ z. next (next z)) ei) h1' in cc
-raise_one (raise_is h0 h1) en ei (raise_none h0') = cc
+raise_one (raise_is h0 h1) en ei (raise_other h0') = cc
 raise_one (raise_is h0 h1) en ei (raise_is_stops_v h0' h1') = let s1 = message_one h1 en (ap (λ z. next (next z)) ei) h1' in cc
 raise_one (raise_is h0 h1) en ei (raise_is h0' h1') = let s1 = message_one h1 en (ap (λ z. next (next z)) ei) h1' in cc
 
@@ -482,9 +482,9 @@ mutual
   suite_one (suite_block h0 h1) en ec ei (suite_block h0' h1') = let s1 = block_one h1 en ec ei h1' in cc
 
   pub block_one : {n n' : ℕ} {c c' : ℕ} {i i' : Input} {o o' : Outcome (List PlainStmt)} → IsBlock n c i o → n ≡ n' → c ≡ c' → i ≡ i' → IsBlock n' c' i' o' → o ≡ o'
-  block_one (block_none h0) en ec ei (block_none h0') = cc
-  block_one (block_none h0) en ec ei (block_is h0' h1') = cc
-  block_one (block_is h0 h1) en ec ei (block_none h0') = cc
+  block_one (block_missing h0) en ec ei (block_missing h0') = cc
+  block_one (block_missing h0) en ec ei (block_is h0' h1') = cc
+  block_one (block_is h0 h1) en ec ei (block_missing h0') = cc
   block_one (block_is h0 h1) en ec ei (block_is h0' h1') = let s1 = stmts_one h1 en ec (ap (λ z. column z) ei) ei h1' in cc
 
   pub stmts_one : {n n' : ℕ} {c c' : ℕ} {b b' : ℕ} {i i' : Input} {o o' : Outcome (List PlainStmt)} → IsStmts n c b i o → n ≡ n' → c ≡ c' → b ≡ b' → i ≡ i' → IsStmts n' c' b' i' o' → o ≡ o'

@@ -1,7 +1,8 @@
 -- The grammar of expressions (Python Language Reference, expressions): reading a part, with so many levels left, finds a tree
 -- and what is left behind it, or stops at the token that is refused. Each line of the grammar is a family of rules, a rule for
--- each way in which it ends. A rule named `stops` ends where a part of it does, `needs` where another token stands than the one
--- that it needs, `deep` where no level is left for the token that opens one.
+-- each way in which it ends. A rule whose name ends in `stops_x` ends where its part x does, in `needs_t` where another token
+-- stands than t, and in `deep` where no level is left for the token that opens one. `other` refuses a token that begins no
+-- alternative, `missing` and `shifted` a line that isn't there or has another column.
 use Rattle.std.specs.Prelude.{◌≡◌, ℕ, ◌-◌, ◌<◌, true, false, List, [], ◌∷◌}
 use Rattle.std.specs.declared.option.Option.TheVariants.{Some, None}
 use Rattle.py_tree.specs.declared.names.Place.{Place}
@@ -73,12 +74,12 @@ mutual
   pub data IsCompare : ℕ → Input → Outcome PlainExpr → Type 0 where
     compare_plain_stops_x : {n : ℕ} {i : Input} {f : SyntaxFault} → IsSum n i (stops f) → IsCompare n i (stops f)
     compare_plain : {n : ℕ} {i : Input} {x : PlainExpr} {m1 : Input} → IsSum n i (found x m1) → comparison m1 ≡ None → sees k.Is m1 ≡ false → IsCompare n i (found x m1)
-    compare_is_stops_y : {n : ℕ} {i : Input} {x : PlainExpr} {m1 : Input} {c : Cmp} {f : SyntaxFault} → IsSum n i (found x m1) → comparison m1 ≡ Some c → IsSum n (next m1) (stops f) → IsCompare n i (stops f)
-    compare_is : {n : ℕ} {i : Input} {x : PlainExpr} {m1 : Input} {c : Cmp} {y : PlainExpr} {m2 : Input} → IsSum n i (found x m1) → comparison m1 ≡ Some c → IsSum n (next m1) (found y m2) → IsCompare n i (found (PCompare (here i) c (here m1) x y) m2)
-    compare_none_needs_none : {n : ℕ} {i : Input} {x : PlainExpr} {m1 : Input} → IsSum n i (found x m1) → comparison m1 ≡ None → sees k.Is m1 ≡ true → sees k.Not (next m1) ≡ false → sees k.None (next m1) ≡ false → IsCompare n i (stops (refused (next m1)))
-    compare_none : {n : ℕ} {i : Input} {x : PlainExpr} {m1 : Input} → IsSum n i (found x m1) → comparison m1 ≡ None → sees k.Is m1 ≡ true → sees k.Not (next m1) ≡ false → sees k.None (next m1) ≡ true → IsCompare n i (found (PIsNone (here i) x true) (next (next m1)))
-    compare_some_needs_none : {n : ℕ} {i : Input} {x : PlainExpr} {m1 : Input} → IsSum n i (found x m1) → comparison m1 ≡ None → sees k.Is m1 ≡ true → sees k.Not (next m1) ≡ true → sees k.None (next (next m1)) ≡ false → IsCompare n i (stops (refused (next (next m1))))
-    compare_some : {n : ℕ} {i : Input} {x : PlainExpr} {m1 : Input} → IsSum n i (found x m1) → comparison m1 ≡ None → sees k.Is m1 ≡ true → sees k.Not (next m1) ≡ true → sees k.None (next (next m1)) ≡ true → IsCompare n i (found (PIsNone (here i) x false) (next (next (next m1))))
+    compare_by_stops_y : {n : ℕ} {i : Input} {x : PlainExpr} {m1 : Input} {c : Cmp} {f : SyntaxFault} → IsSum n i (found x m1) → comparison m1 ≡ Some c → IsSum n (next m1) (stops f) → IsCompare n i (stops f)
+    compare_by : {n : ℕ} {i : Input} {x : PlainExpr} {m1 : Input} {c : Cmp} {y : PlainExpr} {m2 : Input} → IsSum n i (found x m1) → comparison m1 ≡ Some c → IsSum n (next m1) (found y m2) → IsCompare n i (found (PCompare (here i) c (here m1) x y) m2)
+    compare_is_none_needs_none : {n : ℕ} {i : Input} {x : PlainExpr} {m1 : Input} → IsSum n i (found x m1) → comparison m1 ≡ None → sees k.Is m1 ≡ true → sees k.Not (next m1) ≡ false → sees k.None (next m1) ≡ false → IsCompare n i (stops (refused (next m1)))
+    compare_is_none : {n : ℕ} {i : Input} {x : PlainExpr} {m1 : Input} → IsSum n i (found x m1) → comparison m1 ≡ None → sees k.Is m1 ≡ true → sees k.Not (next m1) ≡ false → sees k.None (next m1) ≡ true → IsCompare n i (found (PIsNone (here i) x true) (next (next m1)))
+    compare_is_not_none_needs_none : {n : ℕ} {i : Input} {x : PlainExpr} {m1 : Input} → IsSum n i (found x m1) → comparison m1 ≡ None → sees k.Is m1 ≡ true → sees k.Not (next m1) ≡ true → sees k.None (next (next m1)) ≡ false → IsCompare n i (stops (refused (next (next m1))))
+    compare_is_not_none : {n : ℕ} {i : Input} {x : PlainExpr} {m1 : Input} → IsSum n i (found x m1) → comparison m1 ≡ None → sees k.Is m1 ≡ true → sees k.Not (next m1) ≡ true → sees k.None (next (next m1)) ≡ true → IsCompare n i (found (PIsNone (here i) x false) (next (next (next m1))))
 
   -- sum : term { ('+' | '-') term }
   pub data IsSum : ℕ → Input → Outcome PlainExpr → Type 0 where

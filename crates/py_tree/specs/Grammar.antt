@@ -88,7 +88,7 @@ pub data IsMethod : ℕ → Input → Outcome PlainMethod → Type 0 where
   method_marked : {c : ℕ} {i : Input} {u : Nothing} {m1 : Input} {o : Outcome PlainMethod} → sees k.At i ≡ true → IsMarker k.TransactionalWord (next i) (found u m1) → is_at c m1 ≡ true → IsDef c (next_line m1) o → IsMethod c i o
   method_plain : {c : ℕ} {i : Input} {o : Outcome PlainMethod} → sees k.At i ≡ false → IsDef c i o → IsMethod c i o
 
--- method { method }, of column c
+-- { method }, of column c
 pub data IsMethods : ℕ → Input → Outcome (List PlainMethod) → Type 0 where
   methods_end : {c : ℕ} {i : Input} → is_deeper 0 i ≡ false → IsMethods c i (found [] i)
   methods_shifted : {c : ℕ} {i : Input} → is_deeper 0 i ≡ true → is_at c i ≡ false → IsMethods c i (stops (refused (next_line i)))
@@ -99,7 +99,7 @@ pub data IsMethods : ℕ → Input → Outcome (List PlainMethod) → Type 0 whe
 -- block( [STR NL] method { method } )
 pub data IsMembers : Input → Outcome (List PlainMethod) → Type 0 where
   members_plain : {i : Input} {o : Outcome (List PlainMethod)} → begins_string i ≡ false → is_deeper 0 i ≡ true → IsMethods (column i) i o → IsMembers i o
-  members_none : {i : Input} → begins_string i ≡ false → is_deeper 0 i ≡ false → IsMembers i (stops (refused (next_line i)))
+  members_missing : {i : Input} → begins_string i ≡ false → is_deeper 0 i ≡ false → IsMembers i (stops (refused (next_line i)))
   members_doc_needs_line_end : {i : Input} → begins_string i ≡ true → ends (next (next_line i)) ≡ false → IsMembers i (stops (refused (next (next_line i))))
   members_doc_needs_method : {i : Input} → begins_string i ≡ true → ends (next (next_line i)) ≡ true → is_deeper 0 (next (next_line i)) ≡ false → IsMembers i (stops (refused (next_line (next (next_line i)))))
   members_doc : {i : Input} {o : Outcome (List PlainMethod)} → begins_string i ≡ true → ends (next (next_line i)) ≡ true → is_deeper 0 (next (next_line i)) ≡ true → IsMethods (column i) (next (next_line i)) o → IsMembers i o

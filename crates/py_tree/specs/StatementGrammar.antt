@@ -52,7 +52,7 @@ pub data IsMessage : ℕ → Input → Outcome (Option PlainExpr) → Type 0 whe
 
 -- 'raise' KIND ['(' [expr] ')']
 pub data IsRaise : ℕ → Input → Outcome PlainStmt → Type 0 where
-  raise_none : {n : ℕ} {i : Input} → failure_kind (next i) ≡ None → IsRaise n i (stops (refused (next i)))
+  raise_other : {n : ℕ} {i : Input} → failure_kind (next i) ≡ None → IsRaise n i (stops (refused (next i)))
   raise_is_stops_v : {n : ℕ} {i : Input} {number : ℕ} {f : SyntaxFault} → failure_kind (next i) ≡ Some number → IsMessage n (next (next i)) (stops f) → IsRaise n i (stops f)
   raise_is : {n : ℕ} {i : Input} {number : ℕ} {v : Option PlainExpr} {m1 : Input} → failure_kind (next i) ≡ Some number → IsMessage n (next (next i)) (found v m1) → IsRaise n i (found (PRaise (here i) number v) m1)
 
@@ -122,7 +122,7 @@ mutual
 
   -- the lines that follow and are deeper than column c: the first gives the block's column
   pub data IsBlock : ℕ → ℕ → Input → Outcome (List PlainStmt) → Type 0 where
-    block_none : {n c : ℕ} {i : Input} → is_deeper c i ≡ false → IsBlock n c i (stops (refused (next_line i)))
+    block_missing : {n c : ℕ} {i : Input} → is_deeper c i ≡ false → IsBlock n c i (stops (refused (next_line i)))
     block_is : {n c : ℕ} {i : Input} {o : Outcome (List PlainStmt)} → is_deeper c i ≡ true → IsStmts n c (column i) i o → IsBlock n c i o
 
   -- the lines of a block at column b
