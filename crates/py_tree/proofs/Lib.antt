@@ -3,3 +3,4 @@ pub mod NameLaws
 pub mod ProgramCopies
 pub mod Views
 mod StringExamples
+mod ClassRuleExamples

@@ -5,3 +5,4 @@ pub mod PlainStatements
 pub mod PlainProgram
 pub mod Tokens
 pub mod StringText
+pub mod ClassRules

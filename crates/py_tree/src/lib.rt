@@ -11,6 +11,7 @@ mod expr;
 mod names;
 pub mod nodes;
 mod program;
+mod rule;
 mod stmt;
 #[cfg(test)]
 mod tests;
@@ -19,5 +20,6 @@ mod ty;
 pub use expr::{BinOp, Cmp, Expr, ExprKind, Exprs, Link, Links};
 pub use names::{Name, Names, Place, PlacedName};
 pub use program::{Class, Classes, Method, Methods, Param, Params, Program};
+pub use rule::{Rule, RuleFault};
 pub use stmt::{Arm, Arms, Over, Stmt, StmtKind, Stmts, Target};
 pub use ty::{Ty, WrittenKind, WrittenTy};
