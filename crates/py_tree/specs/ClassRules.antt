@@ -174,16 +174,24 @@ field_of s = None
 unfoldable pub fields_of : List PlainStmt → List PlainField
 fields_of body = filter_map field_of body
 
-unfoldable pub is_field : List PlainField → ℕ → Bool
-is_field fields name = list_any (λ f. f.name == name) fields
+-- and its name alone
+abbrev pub field_name : PlainStmt → Option ℕ
+field_name (PAssign at (Field f) (Some ty) value) = Some f.name.0
+field_name s = None
+
+unfoldable pub field_names : List PlainStmt → List ℕ
+field_names body = filter_map field_name body
+
+unfoldable pub is_field : List ℕ → ℕ → Bool
+is_field fields name = list_any (λ f. f == name) fields
 
 abbrev pub is_self : PlainExpr → Bool
 is_self (PSelf at) = true
 is_self e = false
 
--- an expression calls a method, makes an entity, or has `self` for more than to read one of these fields
+-- an expression calls a method, makes an entity, or has `self` for more than to read a field of these names
 unfoldable mutual
-  pub acts : PlainProgram → List PlainField → PlainExpr → Bool
+  pub acts : PlainProgram → List ℕ → PlainExpr → Bool
   acts program fields (PInt at n) = false
   acts program fields (PBool at b) = false
   acts program fields (PStr at text) = false
@@ -205,15 +213,15 @@ unfoldable mutual
   acts program fields (PIsNone at a positive) = acts program fields a
   acts program fields (PCond at test a b) = acts program fields test || acts program fields a || acts program fields b
 
-  pub any_acts : PlainProgram → List PlainField → PlainExprs → Bool
+  pub any_acts : PlainProgram → List ℕ → PlainExprs → Bool
   any_acts program fields PNoExpr = false
   any_acts program fields (PExpr x xs) = acts program fields x || any_acts program fields xs
 
-  pub any_link_acts : PlainProgram → List PlainField → PlainLinks → Bool
+  pub any_link_acts : PlainProgram → List ℕ → PlainLinks → Bool
   any_link_acts program fields PNoLink = false
   any_link_acts program fields (PMoreLinks (PLink op at right) ls) = acts program fields right || any_link_acts program fields ls
 
-abbrev pub option_acts : PlainProgram → List PlainField → Option PlainExpr → Bool
+abbrev pub option_acts : PlainProgram → List ℕ → Option PlainExpr → Bool
 option_acts program fields None = false
 option_acts program fields (Some x) = acts program fields x
 
@@ -231,8 +239,8 @@ place_of_stmt (PIf at arms other) = at
 place_of_stmt (PWhile at test body) = at
 place_of_stmt (PFor at name name_at over body) = at
 
--- of a statement in a class with these members, where these fields are declared before it
-abbrev pub init_stmt_fault : PlainProgram → List PlainMethod → List PlainField → PlainStmt → Option RuleFault
+-- of a statement in a class with these members, where fields of these names are declared before it
+abbrev pub init_stmt_fault : PlainProgram → List PlainMethod → List ℕ → PlainStmt → Option RuleFault
 init_stmt_fault program members fields (PAssign at (Field f) (Some ty) value) =
     first_of
     (broken InitForm at (acts program fields value)
@@ -245,7 +253,7 @@ init_stmt_fault program members fields s = broken InitForm (place_of_stmt s) tru
 
 -- of the body of `__init__`
 unfoldable pub init_body_fault : PlainProgram → List PlainMethod → List PlainStmt → Option RuleFault
-init_body_fault program members body = first_in (λ before s. init_stmt_fault program members (fields_of before) s) body
+init_body_fault program members body = first_in (λ before s. init_stmt_fault program members (field_names before) s) body
 
 -- of a member, behind these others: its name, its parameters with their types, its result type, its body
 unfoldable pub member_fault : List (List ℕ) → PlainProgram → List PlainMethod → List PlainMethod → PlainMethod → Option RuleFault
