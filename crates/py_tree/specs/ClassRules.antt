@@ -1,9 +1,11 @@
 -- Class tables and class rules: the first rule that the classes of a program break, and the tables of one that breaks none.
 -- The rules look at names, parameters, written types, and at what `__init__` and `__key__` consist of. They type no expression.
-use Rattle.std.specs.Prelude.{ℕ, Bool, true, false, not, ◌||◌, ◌&&◌, ◌==◌, nat_lt, nat_eq, if◌then◌else◌, List, [], ◌∷◌, ◌++◌, map, length, filter, filter_map, find, position, slice_get, slice_index_or, codes, bytes_eq, Some, None, is_none, unwrap_or, option_and_then}
+use Rattle.std.specs.Prelude.{ℕ, Bool, true, false, not, ◌||◌, ◌&&◌, ◌==◌, nat_lt, nat_eq, if◌then◌else◌, List, [], ◌∷◌, ◌++◌, map, length, filter, filter_map, find, position, slice_get, slice_index_or, codes, bytes_eq, Some, None, is_none, unwrap_or, option_and_then, option_map}
+use Rattle.std.specs.Option.{option_map_or}
 use Rattle.std.specs.List.{list_any, starts_with, ends_with}
 use Rattle.std.specs.declared.option.Option.{Option}
 use Rattle.py_tree.specs.declared.names.Place.{Place}
+use Rattle.py_tree.specs.declared.names.PlacedName.{PlacedName}
 use Rattle.py_tree.specs.declared.rule.Rule.{Rule}
 use Rattle.py_tree.specs.declared.rule.Rule.TheVariants.{TooMany, ReservedName, DuplicateClass, DuplicateMember, MissingAnnotation, UnknownType, NestedOptional, InitForm, KeyForm}
 use Rattle.py_tree.specs.declared.rule.RuleFault.{RuleFault}
@@ -166,21 +168,23 @@ pub record PlainField : Type 0 where
   pub name : ℕ
   pub ty : PlainTy
 
--- the field that a statement declares
-abbrev pub field_of : PlainStmt → Option PlainField
-field_of (PAssign at (Field f) (Some ty) value) = Some (record { name = f.name.0; ty = type_of ty })
-field_of s = None
+-- a statement `self.f: T = e`: the f with its place, the T and the e
+pub record Declaration : Type 0 where
+  pub field : PlacedName
+  pub ty : PlainWritten
+  pub value : PlainExpr
 
+abbrev pub declaration : PlainStmt → Option Declaration
+declaration (PAssign at (Field f) (Some ty) value) = Some (record { field = f; ty = ty; value = value })
+declaration s = None
+
+-- the fields that statements declare
 unfoldable pub fields_of : List PlainStmt → List PlainField
-fields_of body = filter_map field_of body
+fields_of body = filter_map (λ s. option_map (λ d. record { name = d.field.name.0; ty = type_of d.ty }) (declaration s)) body
 
--- and its name alone
-abbrev pub field_name : PlainStmt → Option ℕ
-field_name (PAssign at (Field f) (Some ty) value) = Some f.name.0
-field_name s = None
-
+-- and their names alone
 unfoldable pub field_names : List PlainStmt → List ℕ
-field_names body = filter_map field_name body
+field_names body = filter_map (λ s. option_map (λ d. d.field.name.0) (declaration s)) body
 
 unfoldable pub is_field : List ℕ → ℕ → Bool
 is_field fields name = list_any (λ f. f == name) fields
@@ -239,17 +243,27 @@ place_of_stmt (PIf at arms other) = at
 place_of_stmt (PWhile at test body) = at
 place_of_stmt (PFor at name name_at over body) = at
 
--- of a statement in a class with these members, where fields of these names are declared before it
-abbrev pub init_stmt_fault : PlainProgram → List PlainMethod → List ℕ → PlainStmt → Option RuleFault
-init_stmt_fault program members fields (PAssign at (Field f) (Some ty) value) =
+-- of a declaration that begins here, in a class with these members, where fields of these names are declared before it
+abbrev pub declaration_fault : PlainProgram → List PlainMethod → List ℕ → Place → Declaration → Option RuleFault
+declaration_fault program members fields at d =
     first_of
-    (broken InitForm at (acts program fields value)
-    ∷ broken TooMany f.place (is_full (length fields))
-    ∷ broken DuplicateMember f.place (is_field fields f.name.0 || is_member members f.name.0)
-    ∷ written_fault program ty
+    (broken InitForm at (acts program fields d.value)
+    ∷ broken TooMany d.field.place (is_full (length fields))
+    ∷ broken DuplicateMember d.field.place (is_field fields d.field.name.0 || is_member members d.field.name.0)
+    ∷ written_fault program d.ty
     ∷ [])
-init_stmt_fault program members fields (PAssert at test message) = broken InitForm at (acts program fields test || option_acts program fields message)
-init_stmt_fault program members fields s = broken InitForm (place_of_stmt s) true
+
+-- an assert that only computes with these fields
+abbrev pub is_plain_assert : PlainProgram → List ℕ → PlainStmt → Bool
+is_plain_assert program fields (PAssert at test message) = not (acts program fields test || option_acts program fields message)
+is_plain_assert program fields s = false
+
+abbrev pub other_fault : PlainProgram → List ℕ → PlainStmt → Option RuleFault
+other_fault program fields s = broken InitForm (place_of_stmt s) (not (is_plain_assert program fields s))
+
+-- of a statement: it declares a field, or is such an assert
+unfoldable pub init_stmt_fault : PlainProgram → List PlainMethod → List ℕ → PlainStmt → Option RuleFault
+init_stmt_fault program members fields s = option_map_or (declaration_fault program members fields (place_of_stmt s)) (declaration s) (other_fault program fields s)
 
 -- of the body of `__init__`
 unfoldable pub init_body_fault : PlainProgram → List PlainMethod → List PlainStmt → Option RuleFault
@@ -313,8 +327,7 @@ key_name m = if is_empty m.params && may_be_str m.result then returned_field m.b
 
 -- the p of `self.f: str = p`, for this f
 abbrev pub source_in : ℕ → PlainStmt → Option ℕ
-source_in name (PAssign at (Field f) (Some ty) value) = if f.name.0 == name && is_str ty then variable value else None
-source_in name s = None
+source_in name s = option_and_then (λ d. if d.field.name.0 == name && is_str d.ty then variable d.value else None) (declaration s)
 
 abbrev pub source_of : List PlainStmt → ℕ → Option ℕ
 source_of body name = slice_get (filter_map (source_in name) body) 0
