@@ -149,11 +149,14 @@ param_fault program before x =
     ∷ annotation_fault program x.place x.ty
     ∷ [])
 
+abbrev pub is_more_than_none : PlainWritten → Bool
+is_more_than_none (WNil at) = false
+is_more_than_none ty = true
+
 -- a result type is there, and isn't None
 abbrev pub gives_more : Option PlainWritten → Bool
 gives_more None = false
-gives_more (Some (WNil at)) = false
-gives_more (Some ty) = true
+gives_more (Some ty) = is_more_than_none ty
 
 -- of a member's result type, which `__init__` and `__key__` may leave out
 unfoldable pub result_fault : List (List ℕ) → PlainProgram → PlainMethod → Option RuleFault
