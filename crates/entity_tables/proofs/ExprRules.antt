@@ -1,5 +1,6 @@
 -- What the rules of `__init__` say at each kind of expression, one equation each.
-use Rattle.std.proofs.Common.{◌≡◌, ℕ, ℤ, Bool, Option, List, [], ◌∷◌, true, false, not, ◌||◌, if◌then◌else◌, Some, None, refl, sym, ap, ◌∙◌}
+use Rattle.std.proofs.Common.{◌≡◌, ℕ, ℤ, Bool, Option, List, [], ◌∷◌, true, false, not, ◌||◌, if◌then◌else◌, Some, None, refl, sym, ap, ◌∙◌, suc, arith, ◌+◌, ◌<◌, ◌≤◌, length, drop, get_or, drop-cons}
+use Rattle.std.proofs.lemmas.List.{drop_all}
 use Rattle.std.specs.declared.alloc.Global.{Global}
 use Rattle.std.specs.declared.boxed.Box.{Box}
 use Rattle.py_tree.specs.declared.names.Name.{Name}
@@ -175,4 +176,34 @@ pub ruleset self_rules = (self-Int, self-Bool, self-Str, self-Nil, self-Var, sel
 
 pub ruleset acts_rules = (acts-Int, acts-Bool, acts-Str, acts-Nil, acts-Var, acts-SelfRef, acts-Attr, acts-Call, acts-Apply, acts-Index, acts-List, acts-Neg, acts-Pos, acts-Not, acts-Chain, acts-And, acts-Or, acts-Compare, acts-IsNone, acts-Cond)
 
-pub ruleset any_rules = (any-no, any-more, link-no, link-more)
+-- expressions, from one of them on
+any_split : (p : PlainProgram) (fields : List ℕ) (es : List Expr) (i : ℕ) (x : Expr) → i < length es → x ≡ get_or es i x → any_acts p fields (exprs_of (plain_exprs (drop i es))) ≡ (acts p fields (plain_expr x) || any_acts p fields (exprs_of (plain_exprs (drop (i + 1) es))))
+any_split p fields es i x within is =
+    let next : suc i ≡ i + 1 = omega arith in
+    ap (λ ys. any_acts p fields (exprs_of (plain_exprs ys))) (drop-cons es i x within ∙ (λ j. sym is j ∷ drop (next j) es)) ∙ any-more p fields (plain_expr x) (exprs_of (plain_exprs (drop (i + 1) es)))
+
+pub any_passes : (p : PlainProgram) (fields : List ℕ) (es : List Expr) (i : ℕ) (x : Expr) → i < length es → x ≡ get_or es i x → acts p fields (plain_expr x) ≡ false → any_acts p fields (exprs_of (plain_exprs (drop i es))) ≡ any_acts p fields (exprs_of (plain_exprs (drop (i + 1) es)))
+any_passes p fields es i x within is not_one = any_split p fields es i x within is ∙ ap (λ b. b || any_acts p fields (exprs_of (plain_exprs (drop (i + 1) es)))) not_one
+
+pub any_stops : (p : PlainProgram) (fields : List ℕ) (es : List Expr) (i : ℕ) (x : Expr) → i < length es → x ≡ get_or es i x → acts p fields (plain_expr x) ≡ true → any_acts p fields (exprs_of (plain_exprs (drop i es))) ≡ true
+any_stops p fields es i x within is is_one = any_split p fields es i x within is ∙ ap (λ b. b || any_acts p fields (exprs_of (plain_exprs (drop (i + 1) es)))) is_one
+
+pub any_ends : (p : PlainProgram) (fields : List ℕ) (es : List Expr) (i : ℕ) → length es ≤ i → any_acts p fields (exprs_of (plain_exprs (drop i es))) ≡ false
+any_ends p fields es i past = ap (λ ys. any_acts p fields (exprs_of (plain_exprs ys))) (drop_all i es past) ∙ any-no p fields
+
+-- links, from one of them on
+link_split : (p : PlainProgram) (fields : List ℕ) (es : List Link) (i : ℕ) (x : Link) → i < length es → x ≡ get_or es i x → any_link_acts p fields (links_of (plain_links (drop i es))) ≡ (acts p fields (plain_expr x.right) || any_link_acts p fields (links_of (plain_links (drop (i + 1) es))))
+link_split p fields es i x within is =
+    let next : suc i ≡ i + 1 = omega arith in
+    ap (λ ys. any_link_acts p fields (links_of (plain_links ys))) (drop-cons es i x within ∙ (λ j. sym is j ∷ drop (next j) es)) ∙ link-more p fields x (links_of (plain_links (drop (i + 1) es)))
+
+pub link_passes : (p : PlainProgram) (fields : List ℕ) (es : List Link) (i : ℕ) (x : Link) → i < length es → x ≡ get_or es i x → acts p fields (plain_expr x.right) ≡ false → any_link_acts p fields (links_of (plain_links (drop i es))) ≡ any_link_acts p fields (links_of (plain_links (drop (i + 1) es)))
+link_passes p fields es i x within is not_one = link_split p fields es i x within is ∙ ap (λ b. b || any_link_acts p fields (links_of (plain_links (drop (i + 1) es)))) not_one
+
+pub link_stops : (p : PlainProgram) (fields : List ℕ) (es : List Link) (i : ℕ) (x : Link) → i < length es → x ≡ get_or es i x → acts p fields (plain_expr x.right) ≡ true → any_link_acts p fields (links_of (plain_links (drop i es))) ≡ true
+link_stops p fields es i x within is is_one = link_split p fields es i x within is ∙ ap (λ b. b || any_link_acts p fields (links_of (plain_links (drop (i + 1) es)))) is_one
+
+pub link_ends : (p : PlainProgram) (fields : List ℕ) (es : List Link) (i : ℕ) → length es ≤ i → any_link_acts p fields (links_of (plain_links (drop i es))) ≡ false
+link_ends p fields es i past = ap (λ ys. any_link_acts p fields (links_of (plain_links ys))) (drop_all i es past) ∙ link-no p fields
+
+pub ruleset any_rules = (any_passes, any_stops, any_ends, link_passes, link_stops, link_ends)

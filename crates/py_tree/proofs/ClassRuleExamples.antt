@@ -12,7 +12,7 @@ use Rattle.py_tree.specs.PlainTypes.{TInt, TBool, TStr, PlainWritten, WInt, WBoo
 use Rattle.py_tree.specs.PlainExpressions.{PlainExpr, PInt, PVar, PSelf, PAttr, PApply, PNoExpr}
 use Rattle.py_tree.specs.PlainStatements.{PlainStmt, PReturn, PAssign}
 use Rattle.py_tree.specs.PlainProgram.{PlainParam, PlainMethod, PlainClass}
-use Rattle.py_tree.specs.ClassRules.{reserved, text_of, is_init, is_key, is_called, is_dunder, is_class, is_param, is_member, class_name_fault, methods_of, field_names, member_name_fault, param_fault, result_fault, fields_of, is_field, acts, init_stmt_fault, init_body_fault, member_fault, init_of, key_method, key_name, field_number, param_number, key_among, key_of, whole_fault, class_fault, program_fault, table_of, tables_of}
+use Rattle.py_tree.specs.ClassRules.{reserved, text_of, is_init, is_key, is_called, is_dunder, is_class, is_param, is_member, class_name_fault, methods_of, field_names, member_name_fault, param_fault, result_fault, fields_of, is_field, acts, init_stmt_fault, init_body_fault, member_fault, init_of, key_method, key_name, field_place, param_place, source_of, key_among, key_of, whole_fault, class_fault, program_fault, table_of, tables_of}
 
 -- after the reserved names: Item, __init__, __key__, name, cost, stock, price, amount, update_stock, __add__
 abbrev names : List (List ℕ)
@@ -70,7 +70,7 @@ abbrev item : List PlainMethod → PlainClass
 item more = class 2 (maker declarations ∷ key ∷ more)
 
 item_is_accepted : program_fault names (item (price ∷ []) ∷ []) ≡ None
-unfolding program_fault class_fault class_name_fault member_fault member_name_fault param_fault result_fault init_body_fault whole_fault is_init is_key is_called text_of is_dunder is_class is_param is_member is_field methods_of fields_of field_names init_stmt_fault init_of key_method key_name key_of key_among field_number param_number acts
+unfolding program_fault class_fault class_name_fault member_fault member_name_fault param_fault result_fault init_body_fault whole_fault is_init is_key is_called text_of is_dunder is_class is_param is_member is_field methods_of fields_of field_names init_stmt_fault init_of key_method key_name key_of key_among field_place param_place source_of acts
 item_is_accepted = refl
 
 -- its key is the field 0, which is the parameter 0
@@ -82,7 +82,7 @@ item_table : tables_of names (item (price ∷ []) ∷ []) ≡ record {
   methods = record { name = 24; params = []; result = TInt } ∷ [];
   init = record { name = 21; ty = TStr } ∷ record { name = 22; ty = TInt } ∷ [];
 } ∷ []
-unfolding table_of is_init is_key is_called text_of methods_of fields_of field_names init_of key_method key_name key_of key_among field_number param_number
+unfolding table_of is_init is_key is_called text_of methods_of fields_of field_names init_of key_method key_name key_of key_among field_place param_place source_of
 item_table = refl
 
 abbrev fault : Rule → Place → Option RuleFault
@@ -90,65 +90,65 @@ fault rule place = Some (record { rule = rule; place = place })
 
 -- two classes of one name: at the second, whatever is wrong in the first
 a_second_class : program_fault names (class 2 [] ∷ class 20 [] ∷ []) ≡ fault DuplicateClass (at 20 7)
-unfolding program_fault class_fault class_name_fault member_fault member_name_fault param_fault result_fault init_body_fault whole_fault is_init is_key is_called text_of is_dunder is_class is_param is_member is_field methods_of fields_of field_names init_stmt_fault init_of key_method key_name key_of key_among field_number param_number acts
+unfolding program_fault class_fault class_name_fault member_fault member_name_fault param_fault result_fault init_body_fault whole_fault is_init is_key is_called text_of is_dunder is_class is_param is_member is_field methods_of fields_of field_names init_stmt_fault init_of key_method key_name key_of key_among field_place param_place source_of acts
 a_second_class = refl
 
 -- a class without members has no __init__, which is told before its key
 no_init : program_fault names (class 2 [] ∷ []) ≡ fault InitForm (at 2 7)
-unfolding program_fault class_fault class_name_fault member_fault member_name_fault param_fault result_fault init_body_fault whole_fault is_init is_key is_called text_of is_dunder is_class is_param is_member is_field methods_of fields_of field_names init_stmt_fault init_of key_method key_name key_of key_among field_number param_number acts
+unfolding program_fault class_fault class_name_fault member_fault member_name_fault param_fault result_fault init_body_fault whole_fault is_init is_key is_called text_of is_dunder is_class is_param is_member is_field methods_of fields_of field_names init_stmt_fault init_of key_method key_name key_of key_among field_place param_place source_of acts
 no_init = refl
 
 -- a class without __key__
 no_key : program_fault names (class 2 (maker declarations ∷ []) ∷ []) ≡ fault KeyForm (at 2 7)
-unfolding program_fault class_fault class_name_fault member_fault member_name_fault param_fault result_fault init_body_fault whole_fault is_init is_key is_called text_of is_dunder is_class is_param is_member is_field methods_of fields_of field_names init_stmt_fault init_of key_method key_name key_of key_among field_number param_number acts
+unfolding program_fault class_fault class_name_fault member_fault member_name_fault param_fault result_fault init_body_fault whole_fault is_init is_key is_called text_of is_dunder is_class is_param is_member is_field methods_of fields_of field_names init_stmt_fault init_of key_method key_name key_of key_among field_place param_place source_of acts
 no_key = refl
 
 -- a key that is no text
 an_int_as_key : program_fault names (class 2 (maker declarations ∷ method 8 20 [] None (PReturn (at 9 9) (Some (own 22)) ∷ []) ∷ []) ∷ []) ≡ fault KeyForm (at 8 9)
-unfolding program_fault class_fault class_name_fault member_fault member_name_fault param_fault result_fault init_body_fault whole_fault is_init is_key is_called text_of is_dunder is_class is_param is_member is_field methods_of fields_of field_names init_stmt_fault init_of key_method key_name key_of key_among field_number param_number acts
+unfolding program_fault class_fault class_name_fault member_fault member_name_fault param_fault result_fault init_body_fault whole_fault is_init is_key is_called text_of is_dunder is_class is_param is_member is_field methods_of fields_of field_names init_stmt_fault init_of key_method key_name key_of key_among field_place param_place source_of acts
 an_int_as_key = refl
 
 -- a field that has the name of a later method
 a_field_named_as_a_method : program_fault names (class 2 (maker (declarations ++ declares 7 24 (WInt (at 7 20)) (PInt (at 7 26) (pos 0)) ∷ []) ∷ key ∷ price ∷ []) ∷ []) ≡ fault DuplicateMember (at 7 14)
-unfolding program_fault class_fault class_name_fault member_fault member_name_fault param_fault result_fault init_body_fault whole_fault is_init is_key is_called text_of is_dunder is_class is_param is_member is_field methods_of fields_of field_names init_stmt_fault init_of key_method key_name key_of key_among field_number param_number acts
+unfolding program_fault class_fault class_name_fault member_fault member_name_fault param_fault result_fault init_body_fault whole_fault is_init is_key is_called text_of is_dunder is_class is_param is_member is_field methods_of fields_of field_names init_stmt_fault init_of key_method key_name key_of key_among field_place param_place source_of acts
 a_field_named_as_a_method = refl
 
 -- a parameter without a type
 an_untyped_parameter : program_fault names (item (method 11 26 (param 28 25 None ∷ []) int [] ∷ []) ∷ []) ≡ fault MissingAnnotation (at 3 28)
-unfolding program_fault class_fault class_name_fault member_fault member_name_fault param_fault result_fault init_body_fault whole_fault is_init is_key is_called text_of is_dunder is_class is_param is_member is_field methods_of fields_of field_names init_stmt_fault init_of key_method key_name key_of key_among field_number param_number acts
+unfolding program_fault class_fault class_name_fault member_fault member_name_fault param_fault result_fault init_body_fault whole_fault is_init is_key is_called text_of is_dunder is_class is_param is_member is_field methods_of fields_of field_names init_stmt_fault init_of key_method key_name key_of key_among field_place param_place source_of acts
 an_untyped_parameter = refl
 
 -- a result type that is left out is told at the method's name
 no_result_type : program_fault names (item (method 11 24 [] None [] ∷ []) ∷ []) ≡ fault MissingAnnotation (at 11 9)
-unfolding program_fault class_fault class_name_fault member_fault member_name_fault param_fault result_fault init_body_fault whole_fault is_init is_key is_called text_of is_dunder is_class is_param is_member is_field methods_of fields_of field_names init_stmt_fault init_of key_method key_name key_of key_among field_number param_number acts
+unfolding program_fault class_fault class_name_fault member_fault member_name_fault param_fault result_fault init_body_fault whole_fault is_init is_key is_called text_of is_dunder is_class is_param is_member is_field methods_of fields_of field_names init_stmt_fault init_of key_method key_name key_of key_among field_place param_place source_of acts
 no_result_type = refl
 
 -- a parameter is looked at before the result type
 a_class_as_parameter : program_fault names (item (method 11 26 (param 28 18 int ∷ []) None [] ∷ []) ∷ []) ≡ fault ReservedName (at 3 28)
-unfolding program_fault class_fault class_name_fault member_fault member_name_fault param_fault result_fault init_body_fault whole_fault is_init is_key is_called text_of is_dunder is_class is_param is_member is_field methods_of fields_of field_names init_stmt_fault init_of key_method key_name key_of key_among field_number param_number acts
+unfolding program_fault class_fault class_name_fault member_fault member_name_fault param_fault result_fault init_body_fault whole_fault is_init is_key is_called text_of is_dunder is_class is_param is_member is_field methods_of fields_of field_names init_stmt_fault init_of key_method key_name key_of key_among field_place param_place source_of acts
 a_class_as_parameter = refl
 
 -- two underscores at both ends of a method's name
 a_dunder : program_fault names (item (method 11 27 [] int [] ∷ []) ∷ []) ≡ fault ReservedName (at 11 9)
-unfolding program_fault class_fault class_name_fault member_fault member_name_fault param_fault result_fault init_body_fault whole_fault is_init is_key is_called text_of is_dunder is_class is_param is_member is_field methods_of fields_of field_names init_stmt_fault init_of key_method key_name key_of key_among field_number param_number acts
+unfolding program_fault class_fault class_name_fault member_fault member_name_fault param_fault result_fault init_body_fault whole_fault is_init is_key is_called text_of is_dunder is_class is_param is_member is_field methods_of fields_of field_names init_stmt_fault init_of key_method key_name key_of key_among field_place param_place source_of acts
 a_dunder = refl
 
 -- Optional[None], and a type that is no class
 an_optional_none : program_fault names (item (method 11 26 (param 28 25 (Some (WOptional (at 3 36) (WNil (at 3 45)))) ∷ []) int [] ∷ []) ∷ []) ≡ fault NestedOptional (at 3 45)
-unfolding program_fault class_fault class_name_fault member_fault member_name_fault param_fault result_fault init_body_fault whole_fault is_init is_key is_called text_of is_dunder is_class is_param is_member is_field methods_of fields_of field_names init_stmt_fault init_of key_method key_name key_of key_among field_number param_number acts
+unfolding program_fault class_fault class_name_fault member_fault member_name_fault param_fault result_fault init_body_fault whole_fault is_init is_key is_called text_of is_dunder is_class is_param is_member is_field methods_of fields_of field_names init_stmt_fault init_of key_method key_name key_of key_among field_place param_place source_of acts
 an_optional_none = refl
 
 -- a name in a type that is no class
 an_unknown_type : program_fault names (item (method 11 26 (param 28 25 (Some (WOptional (at 3 36) (WEntity (at 3 45) 21))) ∷ []) int [] ∷ []) ∷ []) ≡ fault UnknownType (at 3 45)
-unfolding program_fault class_fault class_name_fault member_fault member_name_fault param_fault result_fault init_body_fault whole_fault is_init is_key is_called text_of is_dunder is_class is_param is_member is_field methods_of fields_of field_names init_stmt_fault init_of key_method key_name key_of key_among field_number param_number acts
+unfolding program_fault class_fault class_name_fault member_fault member_name_fault param_fault result_fault init_body_fault whole_fault is_init is_key is_called text_of is_dunder is_class is_param is_member is_field methods_of fields_of field_names init_stmt_fault init_of key_method key_name key_of key_among field_place param_place source_of acts
 an_unknown_type = refl
 
 -- a field is read before it is declared, in a statement that also repeats a field
 an_early_read : program_fault names (class 2 (maker (declares 4 22 (WInt (at 4 20)) (own 22) ∷ declarations) ∷ key ∷ []) ∷ []) ≡ fault InitForm (at 4 9)
-unfolding program_fault class_fault class_name_fault member_fault member_name_fault param_fault result_fault init_body_fault whole_fault is_init is_key is_called text_of is_dunder is_class is_param is_member is_field methods_of fields_of field_names init_stmt_fault init_of key_method key_name key_of key_among field_number param_number acts
+unfolding program_fault class_fault class_name_fault member_fault member_name_fault param_fault result_fault init_body_fault whole_fault is_init is_key is_called text_of is_dunder is_class is_param is_member is_field methods_of fields_of field_names init_stmt_fault init_of key_method key_name key_of key_among field_place param_place source_of acts
 an_early_read = refl
 
 -- an entity is made in __init__
 a_creation : program_fault names (class 2 (maker (declares 4 22 (WInt (at 4 20)) (PApply (at 4 26) 18 PNoExpr) ∷ declarations) ∷ key ∷ []) ∷ []) ≡ fault InitForm (at 4 9)
-unfolding program_fault class_fault class_name_fault member_fault member_name_fault param_fault result_fault init_body_fault whole_fault is_init is_key is_called text_of is_dunder is_class is_param is_member is_field methods_of fields_of field_names init_stmt_fault init_of key_method key_name key_of key_among field_number param_number acts
+unfolding program_fault class_fault class_name_fault member_fault member_name_fault param_fault result_fault init_body_fault whole_fault is_init is_key is_called text_of is_dunder is_class is_param is_member is_field methods_of fields_of field_names init_stmt_fault init_of key_method key_name key_of key_among field_place param_place source_of acts
 a_creation = refl

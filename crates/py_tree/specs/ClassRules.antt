@@ -1,6 +1,6 @@
 -- Class tables and class rules: the first rule that the classes of a program break, and the tables of one that breaks none.
 -- The rules look at names, parameters, written types, and at what `__init__` and `__key__` consist of. They type no expression.
-use Rattle.std.specs.Prelude.{ℕ, Bool, true, false, not, ◌||◌, ◌&&◌, ◌==◌, nat_lt, nat_eq, if◌then◌else◌, List, [], ◌∷◌, ◌++◌, map, length, filter, filter_map, find, position, slice_get, slice_index_or, codes, bytes_eq, Some, None, is_none, unwrap_or, option_and_then, option_map}
+use Rattle.std.specs.Prelude.{ℕ, Bool, true, false, not, ◌||◌, ◌&&◌, ◌==◌, ◌+◌, nat_lt, nat_eq, if◌then◌else◌, List, [], ◌∷◌, ◌++◌, map, length, filter, filter_map, find, slice_get, slice_index_or, codes, bytes_eq, Some, None, is_none, unwrap_or, option_and_then, option_map}
 use Rattle.std.specs.Option.{option_map_or}
 use Rattle.std.specs.List.{list_any, starts_with, ends_with}
 use Rattle.std.specs.declared.option.Option.{Option}
@@ -300,7 +300,7 @@ body_of (Some m) = m.body
 
 -- the f of `self.f`
 abbrev pub self_field : PlainExpr → Option ℕ
-self_field (PAttr at (PSelf self_at) name name_at) = Some name
+self_field (PAttr at on name name_at) = if is_self on then Some name else None
 self_field e = None
 
 abbrev pub variable : PlainExpr → Option ℕ
@@ -315,9 +315,14 @@ abbrev pub may_be_str : Option PlainWritten → Bool
 may_be_str None = true
 may_be_str (Some ty) = is_str ty
 
--- the f of a body that is `return self.f`
+-- the f of `return self.f`
+abbrev pub returned : PlainStmt → Option ℕ
+returned (PReturn at (Some value)) = self_field value
+returned s = None
+
+-- the f of a body that is this alone
 abbrev pub returned_field : List PlainStmt → Option ℕ
-returned_field (PReturn at (Some value) ∷ []) = self_field value
+returned_field (s ∷ []) = returned s
 returned_field body = None
 
 abbrev pub is_empty : List PlainParam → Bool
@@ -332,7 +337,8 @@ key_name m = if is_empty m.params && may_be_str m.result then returned_field m.b
 abbrev pub source_in : ℕ → PlainStmt → Option ℕ
 source_in name s = option_and_then (λ d. if d.field.name.0 == name && is_str d.ty then variable d.value else None) (declaration s)
 
-abbrev pub source_of : List PlainStmt → ℕ → Option ℕ
+-- by the first declaration that is one; where no rule is broken there is one of this f at most
+unfoldable pub source_of : List PlainStmt → ℕ → Option ℕ
 source_of body name = slice_get (filter_map (source_in name) body) 0
 
 -- where the key stands: the number of its field, and of the parameter of `__init__` that the field is declared as
@@ -344,15 +350,20 @@ abbrev pub key_at : Option ℕ → Option ℕ → Option PlainKey
 key_at (Some field) (Some param) = Some (record { field = field; param = param })
 key_at field param = None
 
-unfoldable pub field_number : List PlainField → ℕ → Option ℕ
-field_number fields name = position (λ f. f.name == name) fields
+-- the place of a name among others, counted from 0
+abbrev pub place_among : List ℕ → ℕ → Option ℕ
+place_among [] name = None
+place_among (x ∷ xs) name = if x == name then Some 0 else option_map (λ k. k + 1) (place_among xs name)
 
-unfoldable pub param_number : List PlainParam → ℕ → Option ℕ
-param_number params name = position (λ x. x.name == name) params
+unfoldable pub field_place : List PlainField → ℕ → Option ℕ
+field_place fields name = place_among (map (λ f. f.name) fields) name
+
+unfoldable pub param_place : List PlainParam → ℕ → Option ℕ
+param_place params name = place_among (map (λ x. x.name) params) name
 
 -- the key of this name, with an `__init__` of these parameters and this body
 unfoldable pub key_among : List PlainParam → List PlainStmt → ℕ → Option PlainKey
-key_among params body name = key_at (field_number (fields_of body) name) (option_and_then (param_number params) (source_of body name))
+key_among params body name = key_at (field_place (fields_of body) name) (option_and_then (param_place params) (source_of body name))
 
 unfoldable pub key_of : List (List ℕ) → List PlainMethod → Option PlainKey
 key_of names members =
