@@ -1,3 +1,5 @@
 pub mod Lists
 pub mod Rules
 pub mod ExprRules
+pub mod StmtRules
+pub mod InitLaws

@@ -3,7 +3,9 @@
 
 mod acts;
 mod classes;
+mod declarations;
 mod fault;
+mod init;
 mod members;
 mod names;
 mod table;
