@@ -12,7 +12,7 @@ use Rattle.py_tree.specs.declared.expr.Link.{Link}
 use Rattle.py_tree.specs.declared.expr.ExprKind as e
 use Rattle.py_tree.specs.PlainExpressions.{plain_kind, plain_expr, plain_exprs, exprs_of, plain_links, links_of, PNoExpr, PExpr, PlainExpr, PlainExprs, PLink, PlainLink, PlainLinks, PNoLink, PMoreLinks}
 use Rattle.py_tree.specs.PlainProgram.{PlainProgram}
-use Rattle.py_tree.specs.ClassRules.{is_class, is_field, is_self, acts, any_acts, any_link_acts}
+use Rattle.py_tree.specs.ClassRules.{is_class, is_field, is_self, acts, any_acts, any_link_acts, self_field, variable}
 use Rattle.py_tree.proofs.Views.{plain-Int, plain-Bool, plain-Str, plain-Nil, plain-Var, plain-SelfRef, plain-Attr, plain-Call, plain-Apply, plain-Index, plain-List, plain-Neg, plain-Pos, plain-Not, plain-Chain, plain-And, plain-Or, plain-Compare, plain-IsNone, plain-Cond}
 
 module _ (at : Place) where
@@ -207,3 +207,128 @@ pub link_ends : (p : PlainProgram) (fields : List ℕ) (es : List Link) (i : ℕ
 link_ends p fields es i past = ap (λ ys. any_link_acts p fields (links_of (plain_links ys))) (drop_all i es past) ∙ link-no p fields
 
 pub ruleset any_rules = (any_passes, any_stops, any_ends, link_passes, link_stops, link_ends)
+
+module _ (at : Place) where
+  pub field-Int : (n : ℤ) → self_field (plain_kind (e.Int n) at) ≡ None
+  field-Int n = ap self_field (plain-Int at n)
+
+  pub field-Bool : (b : Bool) → self_field (plain_kind (e.Bool b) at) ≡ None
+  field-Bool b = ap self_field (plain-Bool at b)
+
+  pub field-Str : (x : Name) → self_field (plain_kind (e.Str x) at) ≡ None
+  field-Str x = ap self_field (plain-Str at x)
+
+  pub field-Nil : self_field (plain_kind e.Nil at) ≡ None
+  field-Nil = ap self_field (plain-Nil at)
+
+  pub field-Var : (x : Name) → self_field (plain_kind (e.Var x) at) ≡ None
+  field-Var x = ap self_field (plain-Var at x)
+
+  pub field-SelfRef : self_field (plain_kind e.SelfRef at) ≡ None
+  field-SelfRef = ap self_field (plain-SelfRef at)
+
+  pub field-Attr : (a : Box Expr Global) (x : PlacedName) → self_field (plain_kind (e.Attr a x) at) ≡ if is_self (plain_expr a.value) then Some x.name.0 else None
+  field-Attr a x = ap self_field (plain-Attr at a x)
+
+  pub field-Call : (a : Box Expr Global) (x : PlacedName) (es : List Expr) → self_field (plain_kind (e.Call a x es) at) ≡ None
+  field-Call a x es = ap self_field (plain-Call at a x es)
+
+  pub field-Apply : (x : Name) (es : List Expr) → self_field (plain_kind (e.Apply x es) at) ≡ None
+  field-Apply x es = ap self_field (plain-Apply at x es)
+
+  pub field-Index : (a b : Box Expr Global) → self_field (plain_kind (e.Index a b) at) ≡ None
+  field-Index a b = ap self_field (plain-Index at a b)
+
+  pub field-List : (es : List Expr) → self_field (plain_kind (e.List es) at) ≡ None
+  field-List es = ap self_field (plain-List at es)
+
+  pub field-Neg : (a : Box Expr Global) → self_field (plain_kind (e.Neg a) at) ≡ None
+  field-Neg a = ap self_field (plain-Neg at a)
+
+  pub field-Pos : (a : Box Expr Global) → self_field (plain_kind (e.Pos a) at) ≡ None
+  field-Pos a = ap self_field (plain-Pos at a)
+
+  pub field-Not : (a : Box Expr Global) → self_field (plain_kind (e.Not a) at) ≡ None
+  field-Not a = ap self_field (plain-Not at a)
+
+  pub field-Chain : (a : Box Expr Global) (ls : List Link) → self_field (plain_kind (e.Chain a ls) at) ≡ None
+  field-Chain a ls = ap self_field (plain-Chain at a ls)
+
+  pub field-And : (es : List Expr) → self_field (plain_kind (e.And es) at) ≡ None
+  field-And es = ap self_field (plain-And at es)
+
+  pub field-Or : (es : List Expr) → self_field (plain_kind (e.Or es) at) ≡ None
+  field-Or es = ap self_field (plain-Or at es)
+
+  pub field-Compare : (op : Cmp) (op_at : Place) (a b : Box Expr Global) → self_field (plain_kind (e.Compare op op_at a b) at) ≡ None
+  field-Compare op op_at a b = ap self_field (plain-Compare at op op_at a b)
+
+  pub field-IsNone : (a : Box Expr Global) (positive : Bool) → self_field (plain_kind (e.IsNone a positive) at) ≡ None
+  field-IsNone a positive = ap self_field (plain-IsNone at a positive)
+
+  pub field-Cond : (a b c : Box Expr Global) → self_field (plain_kind (e.Cond a b c) at) ≡ None
+  field-Cond a b c = ap self_field (plain-Cond at a b c)
+
+  pub variable-Int : (n : ℤ) → variable (plain_kind (e.Int n) at) ≡ None
+  variable-Int n = ap variable (plain-Int at n)
+
+  pub variable-Bool : (b : Bool) → variable (plain_kind (e.Bool b) at) ≡ None
+  variable-Bool b = ap variable (plain-Bool at b)
+
+  pub variable-Str : (x : Name) → variable (plain_kind (e.Str x) at) ≡ None
+  variable-Str x = ap variable (plain-Str at x)
+
+  pub variable-Nil : variable (plain_kind e.Nil at) ≡ None
+  variable-Nil = ap variable (plain-Nil at)
+
+  pub variable-Var : (x : Name) → variable (plain_kind (e.Var x) at) ≡ Some x.0
+  variable-Var x = ap variable (plain-Var at x)
+
+  pub variable-SelfRef : variable (plain_kind e.SelfRef at) ≡ None
+  variable-SelfRef = ap variable (plain-SelfRef at)
+
+  pub variable-Attr : (a : Box Expr Global) (x : PlacedName) → variable (plain_kind (e.Attr a x) at) ≡ None
+  variable-Attr a x = ap variable (plain-Attr at a x)
+
+  pub variable-Call : (a : Box Expr Global) (x : PlacedName) (es : List Expr) → variable (plain_kind (e.Call a x es) at) ≡ None
+  variable-Call a x es = ap variable (plain-Call at a x es)
+
+  pub variable-Apply : (x : Name) (es : List Expr) → variable (plain_kind (e.Apply x es) at) ≡ None
+  variable-Apply x es = ap variable (plain-Apply at x es)
+
+  pub variable-Index : (a b : Box Expr Global) → variable (plain_kind (e.Index a b) at) ≡ None
+  variable-Index a b = ap variable (plain-Index at a b)
+
+  pub variable-List : (es : List Expr) → variable (plain_kind (e.List es) at) ≡ None
+  variable-List es = ap variable (plain-List at es)
+
+  pub variable-Neg : (a : Box Expr Global) → variable (plain_kind (e.Neg a) at) ≡ None
+  variable-Neg a = ap variable (plain-Neg at a)
+
+  pub variable-Pos : (a : Box Expr Global) → variable (plain_kind (e.Pos a) at) ≡ None
+  variable-Pos a = ap variable (plain-Pos at a)
+
+  pub variable-Not : (a : Box Expr Global) → variable (plain_kind (e.Not a) at) ≡ None
+  variable-Not a = ap variable (plain-Not at a)
+
+  pub variable-Chain : (a : Box Expr Global) (ls : List Link) → variable (plain_kind (e.Chain a ls) at) ≡ None
+  variable-Chain a ls = ap variable (plain-Chain at a ls)
+
+  pub variable-And : (es : List Expr) → variable (plain_kind (e.And es) at) ≡ None
+  variable-And es = ap variable (plain-And at es)
+
+  pub variable-Or : (es : List Expr) → variable (plain_kind (e.Or es) at) ≡ None
+  variable-Or es = ap variable (plain-Or at es)
+
+  pub variable-Compare : (op : Cmp) (op_at : Place) (a b : Box Expr Global) → variable (plain_kind (e.Compare op op_at a b) at) ≡ None
+  variable-Compare op op_at a b = ap variable (plain-Compare at op op_at a b)
+
+  pub variable-IsNone : (a : Box Expr Global) (positive : Bool) → variable (plain_kind (e.IsNone a positive) at) ≡ None
+  variable-IsNone a positive = ap variable (plain-IsNone at a positive)
+
+  pub variable-Cond : (a b c : Box Expr Global) → variable (plain_kind (e.Cond a b c) at) ≡ None
+  variable-Cond a b c = ap variable (plain-Cond at a b c)
+
+pub ruleset field_rules = (field-Int, field-Bool, field-Str, field-Nil, field-Var, field-SelfRef, field-Attr, field-Call, field-Apply, field-Index, field-List, field-Neg, field-Pos, field-Not, field-Chain, field-And, field-Or, field-Compare, field-IsNone, field-Cond)
+
+pub ruleset variable_rules = (variable-Int, variable-Bool, variable-Str, variable-Nil, variable-Var, variable-SelfRef, variable-Attr, variable-Call, variable-Apply, variable-Index, variable-List, variable-Neg, variable-Pos, variable-Not, variable-Chain, variable-And, variable-Or, variable-Compare, variable-IsNone, variable-Cond)

@@ -3,3 +3,4 @@ pub mod Rules
 pub mod ExprRules
 pub mod StmtRules
 pub mod InitLaws
+pub mod KeyLaws

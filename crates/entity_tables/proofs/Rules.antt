@@ -10,7 +10,7 @@ use Rattle.py_tree.specs.declared.ty.WrittenKind.{WrittenKind}
 use Rattle.py_tree.specs.declared.ty.WrittenKind as w
 use Rattle.py_tree.specs.PlainTypes.{plain_written_kind, plain_written}
 use Rattle.py_tree.specs.PlainProgram.{PlainProgram}
-use Rattle.py_tree.specs.ClassRules.{is_class, broken, first_of, place_of_written, has_none, written_fault, is_more_than_none}
+use Rattle.py_tree.specs.ClassRules.{is_class, broken, first_of, place_of_written, has_none, written_fault, is_more_than_none, is_str}
 use Rattle.py_tree.proofs.Views.{written-Int, written-Bool, written-Str, written-Nil, written-List, written-Optional, written-Entity}
 
 -- a written type has its first token's place
@@ -94,3 +94,27 @@ module _ (at : Place) where
   more-Entity x = ap is_more_than_none (written-Entity at x)
 
 pub ruleset more_rules = (more-Int, more-Bool, more-Str, more-Nil, more-List, more-Optional, more-Entity)
+
+module _ (at : Place) where
+  pub str-Int : is_str (plain_written_kind w.Int at) ≡ false
+  str-Int = ap is_str (written-Int at)
+
+  pub str-Bool : is_str (plain_written_kind w.Bool at) ≡ false
+  str-Bool = ap is_str (written-Bool at)
+
+  pub str-Str : is_str (plain_written_kind w.Str at) ≡ true
+  str-Str = ap is_str (written-Str at)
+
+  pub str-Nil : is_str (plain_written_kind w.Nil at) ≡ false
+  str-Nil = ap is_str (written-Nil at)
+
+  pub str-List : (a : Box WrittenTy Global) → is_str (plain_written_kind (w.List a) at) ≡ false
+  str-List a = ap is_str (written-List at a)
+
+  pub str-Optional : (a : Box WrittenTy Global) → is_str (plain_written_kind (w.Optional a) at) ≡ false
+  str-Optional a = ap is_str (written-Optional at a)
+
+  pub str-Entity : (x : Name) → is_str (plain_written_kind (w.Entity x) at) ≡ false
+  str-Entity x = ap is_str (written-Entity at x)
+
+pub ruleset str_rules = (str-Int, str-Bool, str-Str, str-Nil, str-List, str-Optional, str-Entity)

@@ -1,5 +1,6 @@
 -- What the class rules say at each kind of statement, one equation each.
 use Rattle.std.proofs.Common.{◌≡◌, ℕ, Bool, Option, List, true, false, not, ◌||◌, Some, None, refl, sym, ap, ◌∙◌}
+use Rattle.std.specs.Prelude.{option_and_then}
 use Rattle.py_tree.specs.declared.names.Place.{Place}
 use Rattle.py_tree.specs.declared.names.PlacedName.{PlacedName}
 use Rattle.py_tree.specs.declared.ty.WrittenTy.{WrittenTy}
@@ -13,7 +14,7 @@ use Rattle.py_tree.specs.declared.stmt.StmtKind.{StmtKind}
 use Rattle.py_tree.specs.declared.stmt.StmtKind as s
 use Rattle.py_tree.specs.PlainTypes.{plain_written}
 use Rattle.py_tree.specs.PlainExpressions.{plain_expr}
-use Rattle.py_tree.specs.PlainStatements.{plain_option, plain_stmt_kind, PAssign, PReturn}
+use Rattle.py_tree.specs.PlainStatements.{plain_option, plain_stmt_kind, PAssign}
 use Rattle.py_tree.specs.PlainProgram.{PlainProgram}
 use Rattle.py_tree.specs.ClassRules.{acts, option_acts, declaration, is_plain_assert, place_of_stmt, self_field, returned}
 use Rattle.py_tree.proofs.Views.{stmt-Pass, stmt-Break, stmt-Continue, stmt-Expr, stmt-Return, stmt-Raise, stmt-Assert, stmt-Assign, stmt-Augment, stmt-If, stmt-While, stmt-For}
@@ -119,11 +120,8 @@ module _ (at : Place) where
   pub returned-Expr : (x : Expr) → returned (plain_stmt_kind (s.Expr x) at) ≡ None
   returned-Expr x = ap returned (stmt-Expr at x)
 
-  pub returned-Some : (x : Expr) → returned (plain_stmt_kind (s.Return (Some x)) at) ≡ self_field (plain_expr x)
-  returned-Some x = ap returned (stmt-Return at (Some x))
-
-  pub returned-None : returned (plain_stmt_kind (s.Return None) at) ≡ None
-  returned-None = ap returned (stmt-Return at None)
+  pub returned-Return : (x : Option Expr) → returned (plain_stmt_kind (s.Return x) at) ≡ option_and_then self_field (plain_option plain_expr x)
+  returned-Return x = ap returned (stmt-Return at x)
 
   pub returned-Raise : (kind : ℕ) (x : Option Expr) → returned (plain_stmt_kind (s.Raise kind x) at) ≡ None
   returned-Raise kind x = ap returned (stmt-Raise at kind x)
@@ -150,6 +148,6 @@ pub ruleset declaration_rules = (declared-Pass, declared-Break, declared-Continu
 
 pub ruleset assert_rules = (assert-Pass, assert-Break, assert-Continue, assert-Expr, assert-Return, assert-Raise, assert-Assert, assert-Assign, assert-Augment, assert-If, assert-While, assert-For)
 
-pub ruleset returned_rules = (returned-Pass, returned-Break, returned-Continue, returned-Expr, returned-Some, returned-None, returned-Raise, returned-Assert, returned-Assign, returned-Augment, returned-If, returned-While, returned-For)
+pub ruleset returned_rules = (returned-Pass, returned-Break, returned-Continue, returned-Expr, returned-Return, returned-Raise, returned-Assert, returned-Assign, returned-Augment, returned-If, returned-While, returned-For)
 
 pub ruleset place_rules = (place_is)

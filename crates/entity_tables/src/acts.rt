@@ -24,7 +24,7 @@ pub fn has_field(fields: &[Name], name: Name) -> bool
 }
 
 #[tactic(auto, using(crate::proofs::ExprRules::self_rules))]
-fn is_self(expr: &Expr) -> bool
+pub fn is_self(expr: &Expr) -> bool
     ensures { result ≡ spec.is_self (plain_expr expr.now) }
 {
     match expr.kind {

@@ -6,6 +6,7 @@ mod classes;
 mod declarations;
 mod fault;
 mod init;
+mod key;
 mod members;
 mod names;
 mod table;

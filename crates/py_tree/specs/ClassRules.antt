@@ -317,7 +317,7 @@ may_be_str (Some ty) = is_str ty
 
 -- the f of `return self.f`
 abbrev pub returned : PlainStmt → Option ℕ
-returned (PReturn at (Some value)) = self_field value
+returned (PReturn at value) = option_and_then self_field value
 returned s = None
 
 -- the f of a body that is this alone
@@ -334,8 +334,11 @@ unfoldable pub key_name : PlainMethod → Option ℕ
 key_name m = if is_empty m.params && may_be_str m.result then returned_field m.body else None
 
 -- the p of `self.f: str = p`, for this f
+abbrev pub source_by : ℕ → Declaration → Option ℕ
+source_by name d = if d.field.name.0 == name && is_str d.ty then variable d.value else None
+
 abbrev pub source_in : ℕ → PlainStmt → Option ℕ
-source_in name s = option_and_then (λ d. if d.field.name.0 == name && is_str d.ty then variable d.value else None) (declaration s)
+source_in name s = option_and_then (source_by name) (declaration s)
 
 -- by the first declaration that is one; where no rule is broken there is one of this f at most
 unfoldable pub source_of : List PlainStmt → ℕ → Option ℕ
@@ -365,9 +368,12 @@ param_place params name = place_among (map (λ x. x.name) params) name
 unfoldable pub key_among : List PlainParam → List PlainStmt → ℕ → Option PlainKey
 key_among params body name = key_at (field_place (fields_of body) name) (option_and_then (param_place params) (source_of body name))
 
+-- the key that this `__key__` tells
+abbrev pub key_told : PlainMethod → List PlainParam → List PlainStmt → Option PlainKey
+key_told method params body = option_and_then (key_among params body) (key_name method)
+
 unfoldable pub key_of : List (List ℕ) → List PlainMethod → Option PlainKey
-key_of names members =
-    option_and_then (λ k. option_and_then (key_among (params_of (init_of names members)) (body_of (init_of names members))) (key_name k)) (key_method names members)
+key_of names members = option_and_then (λ method. key_told method (params_of (init_of names members)) (body_of (init_of names members))) (key_method names members)
 
 -- no key: at the method's name where there is one, else at the class's
 abbrev pub key_fault : Place → Option PlainMethod → Option PlainKey → Option RuleFault
