@@ -4,3 +4,7 @@ pub mod ExprRules
 pub mod StmtRules
 pub mod InitLaws
 pub mod KeyLaws
+pub mod BuildLaws
+pub mod SmallLaws
+pub mod WholeLaws
+pub mod TableLaws

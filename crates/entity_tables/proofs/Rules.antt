@@ -8,7 +8,7 @@ use Rattle.py_tree.specs.declared.rule.Rule.TheVariants.{UnknownType, NestedOpti
 use Rattle.py_tree.specs.declared.ty.WrittenTy.{WrittenTy}
 use Rattle.py_tree.specs.declared.ty.WrittenKind.{WrittenKind}
 use Rattle.py_tree.specs.declared.ty.WrittenKind as w
-use Rattle.py_tree.specs.PlainTypes.{plain_written_kind, plain_written}
+use Rattle.py_tree.specs.PlainTypes.{TInt, TBool, TStr, TNil, TList, TOptional, TEntity, type_of, plain_written_kind, plain_written}
 use Rattle.py_tree.specs.PlainProgram.{PlainProgram}
 use Rattle.py_tree.specs.ClassRules.{is_class, broken, first_of, place_of_written, has_none, written_fault, is_more_than_none, is_str}
 use Rattle.py_tree.proofs.Views.{written-Int, written-Bool, written-Str, written-Nil, written-List, written-Optional, written-Entity}
@@ -118,3 +118,27 @@ module _ (at : Place) where
   str-Entity x = ap is_str (written-Entity at x)
 
 pub ruleset str_rules = (str-Int, str-Bool, str-Str, str-Nil, str-List, str-Optional, str-Entity)
+
+module _ (at : Place) where
+  pub type-Int : type_of (plain_written_kind w.Int at) ≡ TInt
+  type-Int = ap type_of (written-Int at)
+
+  pub type-Bool : type_of (plain_written_kind w.Bool at) ≡ TBool
+  type-Bool = ap type_of (written-Bool at)
+
+  pub type-Str : type_of (plain_written_kind w.Str at) ≡ TStr
+  type-Str = ap type_of (written-Str at)
+
+  pub type-Nil : type_of (plain_written_kind w.Nil at) ≡ TNil
+  type-Nil = ap type_of (written-Nil at)
+
+  pub type-List : (a : Box WrittenTy Global) → type_of (plain_written_kind (w.List a) at) ≡ TList (type_of (plain_written a.value))
+  type-List a = ap type_of (written-List at a)
+
+  pub type-Optional : (a : Box WrittenTy Global) → type_of (plain_written_kind (w.Optional a) at) ≡ TOptional (type_of (plain_written a.value))
+  type-Optional a = ap type_of (written-Optional at a)
+
+  pub type-Entity : (x : Name) → type_of (plain_written_kind (w.Entity x) at) ≡ TEntity x.0
+  type-Entity x = ap type_of (written-Entity at x)
+
+pub ruleset type_rules = (type-Int, type-Bool, type-Str, type-Nil, type-List, type-Optional, type-Entity)
