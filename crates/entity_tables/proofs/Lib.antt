@@ -8,3 +8,4 @@ pub mod BuildLaws
 pub mod SmallLaws
 pub mod WholeLaws
 pub mod TableLaws
+pub mod TableCopies

@@ -11,6 +11,7 @@ mod acts;
 mod build;
 mod class;
 mod classes;
+mod copy;
 mod declarations;
 mod fault;
 mod init;

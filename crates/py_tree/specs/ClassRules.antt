@@ -181,9 +181,12 @@ abbrev pub declaration : PlainStmt → Option Declaration
 declaration (PAssign at (Field f) (Some ty) value) = Some (record { field = f; ty = ty; value = value })
 declaration s = None
 
+abbrev pub field_declared : Declaration → PlainField
+field_declared d = record { name = d.field.name.0; ty = type_of d.ty }
+
 -- the fields that statements declare
 unfoldable pub fields_of : List PlainStmt → List PlainField
-fields_of body = filter_map (λ s. option_map (λ d. record { name = d.field.name.0; ty = type_of d.ty }) (declaration s)) body
+fields_of body = filter_map (λ s. option_map field_declared (declaration s)) body
 
 -- and their names alone
 unfoldable pub field_names : List PlainStmt → List ℕ
