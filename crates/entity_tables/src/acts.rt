@@ -88,9 +88,7 @@ pub fn acts(classes: &[Class], fields: &[Name], expr: &Expr) -> bool
             acts(classes, fields, a) || acts(classes, fields, b)
         }
         ExprKind::Cond { test, yes, no } => {
-            acts(classes, fields, test)
-                || acts(classes, fields, yes)
-                || acts(classes, fields, no)
+            acts(classes, fields, test) || acts(classes, fields, yes) || acts(classes, fields, no)
         }
     }
 }

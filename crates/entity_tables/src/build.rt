@@ -77,12 +77,7 @@ fn sig_of(alloc: Global, method: &Method) -> Result<Sig, AllocError>
 
 /// Adds a member, where it is called by name.
 #[tactic(auto, unfolding(py_tree::specs::ClassRules::methods_of))]
-fn add_sig(
-    alloc: Global,
-    sigs: &mut Sigs,
-    names: &Names,
-    member: &Method,
-) -> Result<(), AllocError>
+fn add_sig(alloc: Global, sigs: &mut Sigs, names: &Names, member: &Method) -> Result<(), AllocError>
     ensures { OnOk result (map plain_sig sigs.new ≡ map plain_sig sigs.old ++ map spec.sig_of (spec.methods_of names.now (plain_method member.now ∷ []))) }
 {
     if is_called(names, member.name) {

@@ -29,7 +29,11 @@ fn check_class_name(before: &[Class], class: &Class) -> Result<(), RuleFault>
 {
     refuse(is_full(before.len()), Rule::TooMany, class.place)?;
     refuse(is_reserved(class.name), Rule::ReservedName, class.place)?;
-    refuse(has_class(before, class.name), Rule::DuplicateClass, class.place)
+    refuse(
+        has_class(before, class.name),
+        Rule::DuplicateClass,
+        class.place,
+    )
 }
 
 /// The rules of the names of all classes.

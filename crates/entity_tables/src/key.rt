@@ -53,13 +53,7 @@ fn self_field(expr: &Expr) -> Option<Name>
     ensures { option_map (λ name. name.0) result ≡ spec.self_field (plain_expr expr.now) }
 {
     match &expr.kind {
-        ExprKind::Attr(on, name) => {
-            if is_self(on) {
-                Some(name.name)
-            } else {
-                None
-            }
-        }
+        ExprKind::Attr(on, name) => { if is_self(on) { Some(name.name) } else { None } }
         ExprKind::Int(_)
         | ExprKind::Bool(_)
         | ExprKind::Str(_)

@@ -19,14 +19,15 @@ mod key;
 mod members;
 mod names;
 mod table;
+#[cfg(test)]
+mod tests;
 mod written;
 
 pub use fault::RuleError;
 pub use py_tree::{Rule, RuleFault};
-pub use table::{ClassTable, Field, Fields, Sig, SigParam, SigParams, Sigs, Tables};
-
 use py_tree::{Names, Program};
 use std::alloc::Global;
+pub use table::{ClassTable, Field, Fields, Sig, SigParam, SigParams, Sigs, Tables};
 
 /// The tables of a program whose classes break no rule, or the first rule that they break. The
 /// types of expressions, and statements outside `__init__`, aren't looked at.

@@ -42,11 +42,7 @@ fn count_called(names: &Names, members: &[Method]) -> usize
 
 /// The rules of a member's name, behind the other members.
 #[tactic(auto, unfolding(py_tree::specs::ClassRules::member_name_fault))]
-pub fn check_member_name(
-    names: &Names,
-    before: &[Method],
-    member: &Method,
-) -> Result<(), RuleFault>
+pub fn check_member_name(names: &Names, before: &[Method], member: &Method) -> Result<(), RuleFault>
     ensures { fault_of result ≡ spec.member_name_fault names.now (map plain_method before.now) (plain_method member.now) }
 {
     let called = is_called(names, member.name);
@@ -54,7 +50,11 @@ pub fn check_member_name(
     refuse(is_too_many, Rule::TooMany, member.place)?;
     let is_reserved = called && is_dunder(names, member.name);
     refuse(is_reserved, Rule::ReservedName, member.place)?;
-    refuse(has_member(before, member.name), Rule::DuplicateMember, member.place)
+    refuse(
+        has_member(before, member.name),
+        Rule::DuplicateMember,
+        member.place,
+    )
 }
 
 #[tactic(auto, unfolding(py_tree::specs::ClassRules::is_param))]
@@ -77,7 +77,11 @@ fn check_param(classes: &[Class], before: &[Param], param: &Param) -> Result<(),
     refuse(is_full(before.len()), Rule::TooMany, param.place)?;
     let is_taken = is_reserved(param.name) || has_class(classes, param.name);
     refuse(is_taken, Rule::ReservedName, param.place)?;
-    refuse(has_param(before, param.name), Rule::DuplicateMember, param.place)?;
+    refuse(
+        has_param(before, param.name),
+        Rule::DuplicateMember,
+        param.place,
+    )?;
     check_annotation(classes, param.place, &param.ty)
 }
 
