@@ -75,7 +75,9 @@ fn at(line: u32, col: u32) -> Place {
 fn names(alloc: Global) -> Result<Names, AllocError> {
     let mut names = Names::new(alloc);
     for text in TEXTS {
-        names.number(alloc, text)?;
+        if names.count() < u32::MAX {
+            names.number(alloc, text)?;
+        }
     }
     Ok(names)
 }

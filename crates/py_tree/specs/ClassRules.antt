@@ -98,7 +98,7 @@ has_none (WStr at) = false
 has_none (WList at element) = false
 has_none (WEntity at class) = false
 
--- from the outside in
+-- the first fault of a written type, from the outside in
 abbrev pub written_fault : PlainProgram → PlainWritten → Option RuleFault
 written_fault program (WEntity at class) = broken UnknownType at (not (is_class program class))
 written_fault program (WList at element) = written_fault program element
@@ -108,19 +108,19 @@ written_fault program (WBool at) = None
 written_fault program (WStr at) = None
 written_fault program (WNil at) = None
 
--- a type that may be left out
+-- the first fault of a type that may be left out
 abbrev pub optional_fault : PlainProgram → Option PlainWritten → Option RuleFault
 optional_fault program None = None
 optional_fault program (Some ty) = written_fault program ty
 
--- a type that belongs to the name at this place
+-- the first fault of a type that must stand behind the name at this place
 abbrev pub annotation_fault : PlainProgram → Place → Option PlainWritten → Option RuleFault
 annotation_fault program place None = Some (record { rule = MissingAnnotation; place = place })
 annotation_fault program place (Some ty) = written_fault program ty
 
 -- The names of classes
 
--- of a class, behind these others
+-- the first fault of a class's name, behind the classes before it
 unfoldable pub class_name_fault : List PlainClass → PlainClass → Option RuleFault
 class_name_fault before c = first_of (broken TooMany c.place (is_full (length before)) ∷ broken ReservedName c.place (is_reserved c.name) ∷ broken DuplicateClass c.place (is_class before c.name) ∷ [])
 
@@ -130,7 +130,7 @@ class_name_fault before c = first_of (broken TooMany c.place (is_full (length be
 unfoldable pub methods_of : List (List ℕ) → List PlainMethod → List PlainMethod
 methods_of names members = filter (λ m. is_called names m.name) members
 
--- of a member's name, behind these others
+-- the first fault of a member's name, behind the members before it
 unfoldable pub member_name_fault : List (List ℕ) → List PlainMethod → PlainMethod → Option RuleFault
 member_name_fault names before m =
     first_of
@@ -139,7 +139,7 @@ member_name_fault names before m =
     ∷ broken DuplicateMember m.place (is_member before m.name)
     ∷ [])
 
--- of a parameter, behind these others
+-- the first fault of a parameter, behind the parameters before it
 unfoldable pub param_fault : PlainProgram → List PlainParam → PlainParam → Option RuleFault
 param_fault program before x =
     first_of
@@ -158,7 +158,7 @@ abbrev pub gives_more : Option PlainWritten → Bool
 gives_more None = false
 gives_more (Some ty) = is_more_than_none ty
 
--- of a member's result type, which `__init__` and `__key__` may leave out
+-- the first fault of a member's result type, which `__init__` and `__key__` may leave out
 unfoldable pub result_fault : List (List ℕ) → PlainProgram → PlainMethod → Option RuleFault
 result_fault names program m =
     if is_called names m.name then annotation_fault program m.place m.result
@@ -249,7 +249,7 @@ place_of_stmt (PIf at arms other) = at
 place_of_stmt (PWhile at test body) = at
 place_of_stmt (PFor at name name_at over body) = at
 
--- of a declaration that begins here, in a class with these members, where fields of these names are declared before it
+-- the first fault of a declaration that begins here, in a class with these members, behind the declarations of fields of these names
 abbrev pub declaration_fault : PlainProgram → List PlainMethod → List ℕ → Place → Declaration → Option RuleFault
 declaration_fault program members fields at d =
     first_of
@@ -264,18 +264,19 @@ abbrev pub is_plain_assert : PlainProgram → List ℕ → PlainStmt → Bool
 is_plain_assert program fields (PAssert at test message) = not (acts program fields test || option_acts program fields message)
 is_plain_assert program fields s = false
 
+-- the fault of a statement that declares nothing, unless it is such an assert
 abbrev pub other_fault : PlainProgram → List ℕ → PlainStmt → Option RuleFault
 other_fault program fields s = broken InitForm (place_of_stmt s) (not (is_plain_assert program fields s))
 
--- of a statement: it declares a field, or is such an assert
+-- the first fault of a statement of `__init__`
 unfoldable pub init_stmt_fault : PlainProgram → List PlainMethod → List ℕ → PlainStmt → Option RuleFault
 init_stmt_fault program members fields s = option_map_or (declaration_fault program members fields (place_of_stmt s)) (declaration s) (other_fault program fields s)
 
--- of the body of `__init__`
+-- the first fault of the body of `__init__`
 unfoldable pub init_body_fault : PlainProgram → List PlainMethod → List PlainStmt → Option RuleFault
 init_body_fault program members body = first_in (λ before s. init_stmt_fault program members (field_names before) s) body
 
--- of a member, behind these others: its name, its parameters with their types, its result type, its body
+-- the first fault of a member, behind the members before it: its name, its parameters with their types, its result type, its body
 unfoldable pub member_fault : List (List ℕ) → PlainProgram → List PlainMethod → List PlainMethod → PlainMethod → Option RuleFault
 member_fault names program members before m =
     first_of
@@ -287,6 +288,7 @@ member_fault names program members before m =
 
 -- The class as a whole
 
+-- the first `__init__`, and the first `__key__`
 unfoldable pub init_of : List (List ℕ) → List PlainMethod → Option PlainMethod
 init_of names members = find (λ m. is_init names m.name) members
 
@@ -343,7 +345,7 @@ source_by name d = if d.field.name.0 == name && is_str d.ty then variable d.valu
 abbrev pub source_in : ℕ → PlainStmt → Option ℕ
 source_in name s = option_and_then (source_by name) (declaration s)
 
--- by the first declaration that is one; where no rule is broken there is one of this f at most
+-- of the first statement that is one; where no rule is broken there is one for each f at most
 unfoldable pub source_of : List PlainStmt → ℕ → Option ℕ
 source_of body name = slice_get (filter_map (source_in name) body) 0
 
@@ -375,18 +377,20 @@ key_among params body name = key_at (field_place (fields_of body) name) (option_
 abbrev pub key_told : PlainMethod → List PlainParam → List PlainStmt → Option PlainKey
 key_told method params body = option_and_then (key_among params body) (key_name method)
 
+-- the key of a class with these members
 unfoldable pub key_of : List (List ℕ) → List PlainMethod → Option PlainKey
 key_of names members = option_and_then (λ method. key_told method (params_of (init_of names members)) (body_of (init_of names members))) (key_method names members)
 
--- no key: at the method's name where there is one, else at the class's
+-- a class without a key: told at the name of its `__key__` where it has one, else at its own
 abbrev pub key_fault : Place → Option PlainMethod → Option PlainKey → Option RuleFault
 key_fault place None key = Some (record { rule = KeyForm; place = place })
 key_fault place (Some m) key = broken KeyForm m.place (is_none key)
 
--- of a class, when its members keep the rules
+-- the first fault of a class as a whole
 unfoldable pub whole_fault : List (List ℕ) → PlainClass → Option RuleFault
 whole_fault names c = first_of (broken InitForm c.place (is_none (init_of names c.members)) ∷ key_fault c.place (key_method names c.members) (key_of names c.members) ∷ [])
 
+-- the first fault of a class: its members in their order, and then the whole
 unfoldable pub class_fault : List (List ℕ) → PlainProgram → PlainClass → Option RuleFault
 class_fault names program c = first_of (first_in (member_fault names program c.members) c.members ∷ whole_fault names c ∷ [])
 
