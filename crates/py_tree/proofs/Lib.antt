@@ -8,3 +8,4 @@ pub mod OneExpression
 pub mod OneType
 pub mod OneStatement
 pub mod OneProgram
+mod ClassRuleExamples

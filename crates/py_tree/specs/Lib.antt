@@ -12,3 +12,4 @@ pub mod ExpressionGrammar
 pub mod TypeGrammar
 pub mod StatementGrammar
 pub mod Grammar
+pub mod ClassRules

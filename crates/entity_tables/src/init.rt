@@ -1,0 +1,96 @@
+//! The rules of the body of `__init__`.
+
+ghost use Rattle.std.specs.Prelude.{◌≡◌, map};
+ghost use Rattle.py_tree.specs.PlainStatements.{plain_stmt, plain_stmts};
+ghost use Rattle.py_tree.specs.PlainProgram.{plain_class, plain_method};
+ghost use Rattle.py_tree.specs.ClassRules as spec;
+ghost use Rattle.entity_tables.specs.Answers.{fault_of, Finds, numbers_of};
+ghost use Rattle.entity_tables.specs.Views.{plain_declaration};
+
+use crate::acts::{acts, has_field, option_acts};
+use crate::declarations::{Declaration, add_declared, declared_by};
+use crate::fault::{RuleError, is_full, refuse};
+use crate::members::has_member;
+use crate::written::check_written;
+use py_tree::{Class, Method, Name, Place, Rule, RuleFault, Stmt, StmtKind};
+use sf_list::Sequence;
+use std::alloc::Global;
+
+/// The rules of a declaration that begins at a place, in a class with these members, behind the
+/// declarations of these fields.
+fn check_declaration(
+    classes: &[Class],
+    members: &[Method],
+    declared: &[Name],
+    place: Place,
+    found: &Declaration<'_>,
+) -> Result<(), RuleFault>
+    ensures { fault_of result ≡ spec.declaration_fault (map plain_class classes.now) (map plain_method members.now) (numbers_of declared.now) place (plain_declaration found.now) }
+{
+    refuse(acts(classes, declared, found.value), Rule::InitForm, place)?;
+    refuse(is_full(declared.len()), Rule::TooMany, found.field.place)?;
+    let name = found.field.name;
+    let is_taken = has_field(declared, name) || has_member(members, name);
+    refuse(is_taken, Rule::DuplicateMember, found.field.place)?;
+    check_written(classes, found.ty)
+}
+
+/// Whether a statement is an assert that only computes with these fields.
+#[tactic(auto, using(crate::proofs::StmtRules::assert_rules))]
+fn is_plain_assert(classes: &[Class], declared: &[Name], stmt: &Stmt) -> bool
+    ensures { result ≡ spec.is_plain_assert (map plain_class classes.now) (numbers_of declared.now) (plain_stmt stmt.now) }
+{
+    match &stmt.kind {
+        StmtKind::Assert(test, message) => {
+            !(acts(classes, declared, test) || option_acts(classes, declared, message))
+        }
+        StmtKind::Pass
+        | StmtKind::Break
+        | StmtKind::Continue
+        | StmtKind::Expr(_)
+        | StmtKind::Return(_)
+        | StmtKind::Raise(..)
+        | StmtKind::Assign { .. }
+        | StmtKind::Augment { .. }
+        | StmtKind::If { .. }
+        | StmtKind::While { .. }
+        | StmtKind::For { .. } => false,
+    }
+}
+
+/// The rules of a statement of `__init__`.
+#[tactic(auto, using(crate::proofs::StmtRules::place_rules), unfolding(py_tree::specs::ClassRules::init_stmt_fault))]
+fn check_stmt(
+    classes: &[Class],
+    members: &[Method],
+    declared: &[Name],
+    stmt: &Stmt,
+) -> Result<(), RuleFault>
+    ensures { fault_of result ≡ spec.init_stmt_fault (map plain_class classes.now) (map plain_method members.now) (numbers_of declared.now) (plain_stmt stmt.now) }
+{
+    match declared_by(stmt) {
+        Some(found) => check_declaration(classes, members, declared, stmt.place, &found),
+        None => {
+            let is_assert = is_plain_assert(classes, declared, stmt);
+            refuse(!is_assert, Rule::InitForm, stmt.place)
+        }
+    }
+}
+
+/// The rules of the body of `__init__`.
+#[tactic(auto, using(crate::proofs::InitLaws::init_laws), unfolding(py_tree::specs::ClassRules::init_body_fault))]
+pub fn check_init_body(
+    alloc: Global,
+    classes: &[Class],
+    members: &[Method],
+    body: &[Stmt],
+) -> Result<(), RuleError>
+    ensures { Finds (spec.init_body_fault (map plain_class classes.now) (map plain_method members.now) (plain_stmts body.now)) result }
+{
+    let mut declared = Sequence::new(alloc);
+    for stmt in body {
+        check_stmt(classes, members, declared.as_slice(), stmt)?;
+        add_declared(alloc, &mut declared, stmt)?;
+    }
+    Ok(())
+}
