@@ -10,6 +10,7 @@ use Rattle.py_tree.specs.declared.rule.Rule.{Rule}
 use Rattle.py_tree.specs.declared.rule.Rule.TheVariants.{TooMany, ReservedName, DuplicateClass, DuplicateMember, MissingAnnotation, UnknownType, NestedOptional, InitForm, KeyForm}
 use Rattle.py_tree.specs.declared.rule.RuleFault.{RuleFault}
 use Rattle.py_tree.specs.declared.stmt.Target.TheVariants.{Local, Field}
+use Rattle.py_tree.specs.ReservedNames.{reserved_names}
 use Rattle.py_tree.specs.PlainTypes.{PlainTy, TNil, PlainWritten, WInt, WBool, WStr, WNil, WList, WOptional, WEntity, type_of}
 use Rattle.py_tree.specs.PlainExpressions.{PlainExpr, PInt, PBool, PStr, PNil, PVar, PSelf, PAttr, PCall, PApply, PIndex, PList, PNeg, PPos, PNot, PChain, PAnd, POr, PCompare, PIsNone, PCond, PlainExprs, PNoExpr, PExpr, PLink, PlainLinks, PNoLink, PMoreLinks}
 use Rattle.py_tree.specs.PlainStatements.{PlainStmt, PPass, PBreak, PContinue, PDo, PReturn, PRaise, PAssert, PAssign, PAugment, PIf, PWhile, PFor}
@@ -17,14 +18,9 @@ use Rattle.py_tree.specs.PlainProgram.{PlainParam, PlainMethod, PlainClass, Plai
 
 -- Names
 
--- the reserved texts; a program's table of names begins with them, so the reserved names are those of the least numbers
-abbrev pub reserved : List (List ℕ)
-reserved =
-    codes "self" ∷ codes "int" ∷ codes "bool" ∷ codes "str" ∷ codes "list" ∷ codes "List" ∷ codes "Optional" ∷ codes "len" ∷ codes "abs" ∷ codes "min" ∷ codes "max" ∷ codes "range"
-    ∷ codes "entity" ∷ codes "transactional" ∷ codes "stateflow" ∷ codes "Exception" ∷ codes "ValueError" ∷ codes "RuntimeError" ∷ []
-
+-- the names of a program begin with the reserved ones, so these have the least numbers
 abbrev pub is_reserved : ℕ → Bool
-is_reserved name = nat_lt name (length reserved)
+is_reserved name = nat_lt name (length reserved_names)
 
 -- the text of a name
 unfoldable pub text_of : List (List ℕ) → ℕ → List ℕ
