@@ -12,11 +12,12 @@ use Rattle.py_tree.specs.PlainTypes.{TInt, TBool, TStr, PlainWritten, WInt, WBoo
 use Rattle.py_tree.specs.PlainExpressions.{PlainExpr, PInt, PVar, PSelf, PAttr, PApply, PNoExpr}
 use Rattle.py_tree.specs.PlainStatements.{PlainStmt, PReturn, PAssign}
 use Rattle.py_tree.specs.PlainProgram.{PlainParam, PlainMethod, PlainClass}
-use Rattle.py_tree.specs.ClassRules.{reserved, text_of, is_init, is_key, is_called, is_dunder, is_class, is_param, is_member, class_name_fault, methods_of, field_names, member_name_fault, param_fault, result_fault, fields_of, is_field, acts, init_stmt_fault, init_body_fault, member_fault, init_of, key_method, key_name, field_place, param_place, source_of, key_among, key_of, whole_fault, class_fault, program_fault, table_of, tables_of}
+use Rattle.py_tree.specs.ReservedNames.{reserved_names}
+use Rattle.py_tree.specs.ClassRules.{text_of, is_init, is_key, is_called, is_dunder, is_class, is_param, is_member, class_name_fault, methods_of, field_names, member_name_fault, param_fault, result_fault, fields_of, is_field, acts, init_stmt_fault, init_body_fault, member_fault, init_of, key_method, key_name, field_place, param_place, source_of, key_among, key_of, whole_fault, class_fault, program_fault, table_of, tables_of}
 
 -- after the reserved names: Item, __init__, __key__, name, cost, stock, price, amount, update_stock, __add__
 abbrev names : List (List ℕ)
-names = reserved ++ codes "Item" ∷ codes "__init__" ∷ codes "__key__" ∷ codes "name" ∷ codes "cost" ∷ codes "stock" ∷ codes "price" ∷ codes "amount" ∷ codes "update_stock" ∷ codes "__add__" ∷ []
+names = reserved_names ++ codes "Item" ∷ codes "__init__" ∷ codes "__key__" ∷ codes "name" ∷ codes "cost" ∷ codes "stock" ∷ codes "price" ∷ codes "amount" ∷ codes "update_stock" ∷ codes "__add__" ∷ []
 
 abbrev at : ℕ → ℕ → Place
 at line col = record { line = line; col = col }
