@@ -478,7 +478,12 @@ pub fn param_of(name: PlacedName, ty: Option<WrittenTy>) -> Param
     }
 }
 
-pub fn method_of(name: PlacedName, params: Params, returns: Option<WrittenTy>, body: Stmts) -> Method
+pub fn method_of(
+    name: PlacedName,
+    params: Params,
+    returns: Option<WrittenTy>,
+    body: Stmts,
+) -> Method
     ensures { plain_method result ≡ Grammar.method_of name (plain_params params) (plain_option plain_written returns) (plain_stmts body) }
 {
     Method {
