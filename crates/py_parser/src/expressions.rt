@@ -94,7 +94,7 @@ fn or(alloc: Global, reader: &mut Reader<'_>, levels: u32) -> Result<Expr, Synta
 }
 
 #[cycle(expr)]
-#[tactic(auto, using(crate::proofs::GrammarRules::ors_rules))]
+#[tactic(auto, using(crate::proofs::GrammarRules::ors_rules, crate::proofs::Loops::ors_loop))]
 fn ors(alloc: Global, reader: &mut Reader<'_>, levels: u32) -> Result<Exprs, SyntaxError>
     ensures comes { Comes plain_exprs (IsOrs levels reader.old) result reader.new }
     ensures no_longer { OnOk result (left reader.new ≤ left reader.old) }
@@ -122,7 +122,7 @@ fn and(alloc: Global, reader: &mut Reader<'_>, levels: u32) -> Result<Expr, Synt
 }
 
 #[cycle(expr)]
-#[tactic(auto, using(crate::proofs::GrammarRules::ands_rules))]
+#[tactic(auto, using(crate::proofs::GrammarRules::ands_rules, crate::proofs::Loops::ands_loop))]
 fn ands(alloc: Global, reader: &mut Reader<'_>, levels: u32) -> Result<Exprs, SyntaxError>
     ensures comes { Comes plain_exprs (IsAnds levels reader.old) result reader.new }
     ensures no_longer { OnOk result (left reader.new ≤ left reader.old) }
@@ -199,7 +199,7 @@ fn sum(alloc: Global, reader: &mut Reader<'_>, levels: u32) -> Result<Expr, Synt
 }
 
 #[cycle(expr)]
-#[tactic(auto, using(crate::proofs::GrammarRules::sums_rules))]
+#[tactic(auto, using(crate::proofs::GrammarRules::sums_rules, crate::proofs::Loops::sums_loop))]
 fn sums(alloc: Global, reader: &mut Reader<'_>, levels: u32) -> Result<Links, SyntaxError>
     ensures comes { Comes plain_links (IsSums levels reader.old) result reader.new }
     ensures no_longer { OnOk result (left reader.new ≤ left reader.old) }
@@ -229,7 +229,7 @@ fn term(alloc: Global, reader: &mut Reader<'_>, levels: u32) -> Result<Expr, Syn
 }
 
 #[cycle(expr)]
-#[tactic(auto, using(crate::proofs::GrammarRules::terms_rules))]
+#[tactic(auto, using(crate::proofs::GrammarRules::terms_rules, crate::proofs::Loops::terms_loop))]
 fn terms(alloc: Global, reader: &mut Reader<'_>, levels: u32) -> Result<Links, SyntaxError>
     ensures comes { Comes plain_links (IsTerms levels reader.old) result reader.new }
     ensures no_longer { OnOk result (left reader.new ≤ left reader.old) }
@@ -378,7 +378,7 @@ fn args(alloc: Global, reader: &mut Reader<'_>, levels: u32) -> Result<Exprs, Sy
 }
 
 #[cycle(expr)]
-#[tactic(auto, using(crate::proofs::GrammarRules::more_rules))]
+#[tactic(auto, using(crate::proofs::GrammarRules::more_rules, crate::proofs::Loops::more_loop))]
 fn more_args(alloc: Global, reader: &mut Reader<'_>, levels: u32) -> Result<Exprs, SyntaxError>
     ensures comes { Comes plain_exprs (IsMore levels reader.old) result reader.new }
     ensures no_longer { OnOk result (left reader.new ≤ left reader.old) }
