@@ -286,7 +286,7 @@ fn postfix(alloc: Global, reader: &mut Reader<'_>, levels: u32) -> Result<Expr, 
 
 /// What follows an atom that begins at `place`. A dot and an index each take one of the levels.
 #[cycle(expr)]
-#[tactic(auto, using(crate::proofs::GrammarRules::tails_rules))]
+#[tactic(auto, unfolding(py_tree::specs::Reading::placed_name), using(crate::proofs::GrammarRules::tails_rules))]
 fn tails(
     alloc: Global,
     reader: &mut Reader<'_>,
@@ -454,7 +454,7 @@ fn group(alloc: Global, reader: &mut Reader<'_>, levels: u32) -> Result<Expr, Sy
 
 /// A name, called where a bracket follows.
 #[cycle(expr)]
-#[tactic(auto, using(crate::proofs::GrammarRules::named_rules))]
+#[tactic(auto, unfolding(py_tree::specs::Reading::placed_name), using(crate::proofs::GrammarRules::named_rules))]
 fn named(alloc: Global, reader: &mut Reader<'_>, levels: u32) -> Result<Expr, SyntaxError>
     requires { IsTrue (sees_name reader.old) }
     ensures comes { Comes plain_expr (IsNamed levels reader.old) result reader.new }
