@@ -52,10 +52,6 @@ ors_pushed n start now mid items all x g h0 u e = pushed plain_expr (IsOrs n) st
 pub ors_stopped : (n : ℕ) (start now : Input) (items : List PlainExpr) (f : SyntaxFault) → GoesOn (IsOrs n) start now items → sees k.Or now ≡ true → IsAnd n (next now) (stops f) → IsOrs n start (stops f)
 ors_stopped n start now items f g h0 u = g (stops f) (ors_more_stops_x h0 u)
 
-pub ors_fails : (n : ℕ) (start now after mid new : Input) (items : List PlainExpr) (e : SyntaxError) → GoesOn (IsOrs n) start now items → sees k.Or now ≡ true → after ≡ next now → Comes plain_expr (IsAnd n after) (Err e) mid → Comes plain_exprs (IsOrs n start) (Err e) new
-ors_fails n start now after mid new items errors.NoMemory g h0 s u = tt
-ors_fails n start now after mid new items (errors.Fault f) g h0 s u = ors_stopped n start now items f g h0 (subst (λ (i : Input). IsAnd n i (stops f)) s u)
-
 ands_one_more : (n : ℕ) (now mid : Input) (x : PlainExpr) (o : Outcome (List PlainExpr)) → sees k.And now ≡ true → IsNot n (next now) (found x mid) → IsAnds n mid o → IsAnds n now (after_one x o)
 ands_one_more n now mid x (found xs rest) h0 u h = ands_more h0 u h
 ands_one_more n now mid x (stops f) h0 u h = ands_more_stops_xs h0 u h
@@ -68,10 +64,6 @@ ands_pushed n start now mid items all x g h0 u e = pushed plain_expr (IsAnds n) 
 
 pub ands_stopped : (n : ℕ) (start now : Input) (items : List PlainExpr) (f : SyntaxFault) → GoesOn (IsAnds n) start now items → sees k.And now ≡ true → IsNot n (next now) (stops f) → IsAnds n start (stops f)
 ands_stopped n start now items f g h0 u = g (stops f) (ands_more_stops_x h0 u)
-
-pub ands_fails : (n : ℕ) (start now after mid new : Input) (items : List PlainExpr) (e : SyntaxError) → GoesOn (IsAnds n) start now items → sees k.And now ≡ true → after ≡ next now → Comes plain_expr (IsNot n after) (Err e) mid → Comes plain_exprs (IsAnds n start) (Err e) new
-ands_fails n start now after mid new items errors.NoMemory g h0 s u = tt
-ands_fails n start now after mid new items (errors.Fault f) g h0 s u = ands_stopped n start now items f g h0 (subst (λ (i : Input). IsNot n i (stops f)) s u)
 
 sums_one_more : {w : BinOp} (n : ℕ) (now mid : Input) (x : PlainExpr) (o : Outcome (List PlainLink)) → addition now ≡ Some w → IsTerm n (next now) (found x mid) → IsSums n mid o → IsSums n now (after_one (PLink w (here now) x) o)
 sums_one_more {w = w} n now mid x (found xs rest) h u more = sums_more h u more
@@ -120,15 +112,15 @@ more_pushed n start now mid items all x g h0 h1 u e = pushed plain_expr (IsMore 
 pub more_stopped : (n : ℕ) (start now : Input) (items : List PlainExpr) (f : SyntaxFault) → GoesOn (IsMore n) start now items → sees k.Comma now ≡ true → begins_expr (next now) ≡ true → IsWhole n (next now) (stops f) → IsMore n start (stops f)
 more_stopped n start now items f g h0 h1 u = g (stops f) (more_is_stops_x h0 h1 u)
 
-pub more_fails : (n : ℕ) (start now after mid new : Input) (items : List PlainExpr) (e : SyntaxError) → GoesOn (IsMore n) start now items → sees k.Comma now ≡ true → begins_expr (next now) ≡ true → after ≡ next now → Comes plain_expr (IsWhole n after) (Err e) mid → Comes plain_exprs (IsMore n start) (Err e) new
-more_fails n start now after mid new items errors.NoMemory g h0 h1 s u = tt
-more_fails n start now after mid new items (errors.Fault f) g h0 h1 s u = more_stopped n start now items f g h0 h1 (subst (λ (i : Input). IsWhole n i (stops f)) s u)
-
 pub more_trailing : (n : ℕ) (start now : Input) (items : List PlainExpr) → GoesOn (IsMore n) start now items → sees k.Comma now ≡ true → begins_expr (next now) ≡ false → IsMore n start (found items (next now))
 more_trailing n start now items g h h1 = nothing_more (IsMore n) start now (next now) items g (more_comma h h1)
 
 pub ruleset ors_loop = (ors_done, ors_pushed, ors_stopped)
+
 pub ruleset ands_loop = (ands_done, ands_pushed, ands_stopped)
+
 pub ruleset sums_loop = (sums_done, sums_pushed, sums_stopped)
+
 pub ruleset terms_loop = (terms_done, terms_pushed, terms_stopped)
+
 pub ruleset more_loop = (more_done, more_pushed, more_stopped, more_trailing)

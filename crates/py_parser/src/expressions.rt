@@ -9,8 +9,7 @@ ghost use Rattle.py_parser.specs.Reads.{Comes};
 use crate::input::Reader;
 use crate::looking::{addition, atom_start, begins_expr, comparison, multiplication};
 use crate::syntax_error::SyntaxError;
-use py_tree::nodes;
-use py_tree::{AtomStart, Expr, Exprs, Links, Place, Terminal};
+use py_tree::{AtomStart, Expr, Exprs, Links, Place, Terminal, nodes};
 use sf_list::Sequence;
 use std::alloc::{AllocError, Global};
 

@@ -10,8 +10,7 @@ ghost use Rattle.py_parser.specs.Reads.{Comes};
 use crate::input::Reader;
 use crate::looking::type_start;
 use crate::syntax_error::SyntaxError;
-use py_tree::nodes;
-use py_tree::{Terminal, TypeStart, WrittenTy};
+use py_tree::{Terminal, TypeStart, WrittenTy, nodes};
 use std::alloc::Global;
 
 /// A type, with so many levels left.
