@@ -4,6 +4,7 @@ pub mod Fails
 pub mod GrammarRules
 pub mod InputLaws
 pub mod LexRules
+pub mod Loops
 pub mod NameTexts
 pub mod OneClass
 pub mod OneProgram

@@ -93,7 +93,7 @@ fn or(alloc: Global, reader: &mut Reader<'_>, levels: u32) -> Result<Expr, Synta
 }
 
 #[cycle(expr)]
-#[tactic(auto, using(crate::proofs::GrammarRules::ors_rules))]
+#[tactic(auto, using(crate::proofs::GrammarRules::ors_rules, crate::proofs::Loops::ors_loop))]
 fn ors(alloc: Global, reader: &mut Reader<'_>, levels: u32) -> Result<Exprs, SyntaxError>
     ensures comes { Comes plain_exprs (IsOrs levels reader.old) result reader.new }
     ensures no_longer { OnOk result (left reader.new ≤ left reader.old) }
@@ -121,7 +121,7 @@ fn and(alloc: Global, reader: &mut Reader<'_>, levels: u32) -> Result<Expr, Synt
 }
 
 #[cycle(expr)]
-#[tactic(auto, using(crate::proofs::GrammarRules::ands_rules))]
+#[tactic(auto, using(crate::proofs::GrammarRules::ands_rules, crate::proofs::Loops::ands_loop))]
 fn ands(alloc: Global, reader: &mut Reader<'_>, levels: u32) -> Result<Exprs, SyntaxError>
     ensures comes { Comes plain_exprs (IsAnds levels reader.old) result reader.new }
     ensures no_longer { OnOk result (left reader.new ≤ left reader.old) }
@@ -198,7 +198,7 @@ fn sum(alloc: Global, reader: &mut Reader<'_>, levels: u32) -> Result<Expr, Synt
 }
 
 #[cycle(expr)]
-#[tactic(auto, using(crate::proofs::GrammarRules::sums_rules))]
+#[tactic(auto, using(crate::proofs::GrammarRules::sums_rules, crate::proofs::Loops::sums_loop))]
 fn sums(alloc: Global, reader: &mut Reader<'_>, levels: u32) -> Result<Links, SyntaxError>
     ensures comes { Comes plain_links (IsSums levels reader.old) result reader.new }
     ensures no_longer { OnOk result (left reader.new ≤ left reader.old) }
@@ -228,7 +228,7 @@ fn term(alloc: Global, reader: &mut Reader<'_>, levels: u32) -> Result<Expr, Syn
 }
 
 #[cycle(expr)]
-#[tactic(auto, using(crate::proofs::GrammarRules::terms_rules))]
+#[tactic(auto, using(crate::proofs::GrammarRules::terms_rules, crate::proofs::Loops::terms_loop))]
 fn terms(alloc: Global, reader: &mut Reader<'_>, levels: u32) -> Result<Links, SyntaxError>
     ensures comes { Comes plain_links (IsTerms levels reader.old) result reader.new }
     ensures no_longer { OnOk result (left reader.new ≤ left reader.old) }
@@ -285,7 +285,7 @@ fn postfix(alloc: Global, reader: &mut Reader<'_>, levels: u32) -> Result<Expr, 
 
 /// What follows an atom that begins at `place`. A dot and an index each take one of the levels.
 #[cycle(expr)]
-#[tactic(auto, using(crate::proofs::GrammarRules::tails_rules))]
+#[tactic(auto, unfolding(py_tree::specs::Reading::placed_name), using(crate::proofs::GrammarRules::tails_rules))]
 fn tails(
     alloc: Global,
     reader: &mut Reader<'_>,
@@ -377,7 +377,7 @@ fn args(alloc: Global, reader: &mut Reader<'_>, levels: u32) -> Result<Exprs, Sy
 }
 
 #[cycle(expr)]
-#[tactic(auto, using(crate::proofs::GrammarRules::more_rules))]
+#[tactic(auto, using(crate::proofs::GrammarRules::more_rules, crate::proofs::Loops::more_loop))]
 fn more_args(alloc: Global, reader: &mut Reader<'_>, levels: u32) -> Result<Exprs, SyntaxError>
     ensures comes { Comes plain_exprs (IsMore levels reader.old) result reader.new }
     ensures no_longer { OnOk result (left reader.new ≤ left reader.old) }
@@ -453,7 +453,7 @@ fn group(alloc: Global, reader: &mut Reader<'_>, levels: u32) -> Result<Expr, Sy
 
 /// A name, called where a bracket follows.
 #[cycle(expr)]
-#[tactic(auto, using(crate::proofs::GrammarRules::named_rules))]
+#[tactic(auto, unfolding(py_tree::specs::Reading::placed_name), using(crate::proofs::GrammarRules::named_rules))]
 fn named(alloc: Global, reader: &mut Reader<'_>, levels: u32) -> Result<Expr, SyntaxError>
     requires { IsTrue (sees_name reader.old) }
     ensures comes { Comes plain_expr (IsNamed levels reader.old) result reader.new }

@@ -15,7 +15,7 @@ use std::alloc::Global;
 
 /// A type, with so many levels left.
 #[cycle(ty)]
-#[tactic(auto, using(crate::proofs::GrammarRules::type_rules))]
+#[tactic(auto, unfolding(py_tree::specs::Reading::placed_name), using(crate::proofs::GrammarRules::type_rules))]
 pub fn ty(alloc: Global, reader: &mut Reader<'_>, levels: u32) -> Result<WrittenTy, SyntaxError>
     ensures comes { Comes plain_written (IsType levels reader.old) result reader.new }
     ensures shorter { OnOk result (left reader.new < left reader.old) }
