@@ -1,2 +1,3 @@
 pub mod GrammarRules
 pub mod Ahead
+pub mod BlockLoops
