@@ -2,6 +2,7 @@
 use Rattle.std.proofs.Common.{◌≡◌, ℕ, Bool, true, false, List, [], ◌∷◌, ◌++◌, map, Option, Result, Ok, Err, refl, sym, ap, subst, ◌∙◌, append_assoc}
 use Rattle.std.proofs.lemmas.List.{append-nil, map-append}
 use Rattle.py_tree.specs.declared.terminal.Terminal.TheVariants as k
+use Rattle.py_tree.specs.declared.names.PlacedName.{PlacedName}
 use Rattle.py_tree.specs.declared.fault.SyntaxFault.{SyntaxFault}
 use Rattle.py_tree.specs.declared.stmt.Stmt.{Stmt}
 use Rattle.py_tree.specs.declared.stmt.Arm.{Arm}
@@ -10,11 +11,11 @@ use Rattle.py_tree.specs.declared.program.Param.{Param}
 use Rattle.py_tree.specs.declared.program.Method.{Method}
 use Rattle.py_tree.specs.declared.program.Class.{Class}
 use Rattle.py_tree.specs.PlainTypes.{PlainWritten, plain_written}
-use Rattle.py_tree.specs.PlainStatements.{PlainStmt, PlainArm, plain_stmt, plain_stmts, plain_arm, plain_arms, plain_option}
+use Rattle.py_tree.specs.PlainStatements.{PlainOver, PlainStmt, PlainArm, PFor, stmts_of, plain_stmt, plain_stmts, plain_arm, plain_arms, plain_option}
 use Rattle.py_tree.specs.PlainProgram.{PlainParam, PlainMethod, PlainClass, plain_param, plain_params, plain_method, plain_methods, plain_class, plain_classes}
-use Rattle.py_tree.specs.Reading.{Input, Outcome, found, stops, Nothing, next, ends, sees, sees_name, named, placed_name, refused, next_line, has_line, is_at, is_deeper, goes_on, begins_import}
+use Rattle.py_tree.specs.Reading.{Input, Outcome, found, stops, Nothing, next, here, ends, sees, sees_name, named, placed_name, refused, next_line, has_line, is_at, is_deeper, goes_on, begins_import}
 use Rattle.py_tree.specs.TypeGrammar.{IsAnnotation}
-use Rattle.py_tree.specs.StatementGrammar.{IsSimple, IsMoreSimples, IsStmt, IsStmts, IsArm, IsArms, more_simples_end, more_simples_last, more_simples_more_stops_x, more_simples_more_stops_xs, more_simples_more, stmts_end, stmts_shifted, stmts_more_stops_xs, stmts_more_stops_ys, stmts_more, arms_end, arms_more_stops_a, arms_more_stops_bs, arms_more}
+use Rattle.py_tree.specs.StatementGrammar.{IsSimple, IsMoreSimples, IsStmt, IsStmts, IsArm, IsArms, IsOver, IsBody, IsFor, for_is, more_simples_end, more_simples_last, more_simples_more_stops_x, more_simples_more_stops_xs, more_simples_more, stmts_end, stmts_shifted, stmts_more_stops_xs, stmts_more_stops_ys, stmts_more, arms_end, arms_more_stops_a, arms_more_stops_bs, arms_more}
 use Rattle.py_tree.specs.Grammar.{param_of, IsParams, IsMethod, IsMethods, IsMoreNames, IsImport, IsClass, IsItems, params_end, params_last, params_more_stops_t, params_more_stops_ps, params_more, methods_end, methods_shifted, methods_more_stops_d, methods_more_stops_ds, methods_more, more_names_end, more_names_more, more_names_last, more_names_other, items_end, items_shifted, items_import_stops_u, items_import, items_class_stops_d, items_class_stops_ds, items_class}
 use Rattle.py_parser.specs.declared.syntax_error.SyntaxError.{SyntaxError}
 use Rattle.py_parser.specs.declared.syntax_error.SyntaxError.TheVariants.{Fault, NoMemory}
@@ -73,6 +74,9 @@ stmts_done n c b start now items g d = nothing_more (IsStmts n c b) start now no
 pub stmts_moved : (n c b : ℕ) (start now : Input) (items : List PlainStmt) → GoesOn (IsStmts n c b) start now items → is_deeper c now ≡ true → is_at b now ≡ false → IsStmts n c b start (stops (refused (next_line now)))
 stmts_moved n c b start now items g d a = g (stops (refused (next_line now))) (stmts_shifted d a)
 
+pub stmts_refuses : (n c b : ℕ) (start now after new : Input) (items : List PlainStmt) (e : SyntaxError) → GoesOn (IsStmts n c b) start now items → is_deeper c now ≡ true → is_at b now ≡ false → after ≡ next_line now → e ≡ Fault (refused after) → Comes plain_stmts (IsStmts n c b start) (Err e) new
+stmts_refuses n c b start now after new items e g d a is r = subst (λ (x : SyntaxError). Comes plain_stmts (IsStmts n c b start) (Err x) new) (sym r) (subst (λ (i : Input). IsStmts n c b start (stops (refused i))) (sym is) (stmts_moved n c b start now items g d a))
+
 pub stmts_stopped : (n c b : ℕ) (start now : Input) (items : List PlainStmt) (f : SyntaxFault) → GoesOn (IsStmts n c b) start now items → is_deeper c now ≡ true → is_at b now ≡ true → IsStmt n b (next_line now) (stops f) → IsStmts n c b start (stops f)
 stmts_stopped n c b start now items f g d a u = g (stops f) (stmts_more_stops_xs d a u)
 
@@ -82,6 +86,11 @@ stmts_appended n c b start now mid items xs all g d a u is = viewed plain_stmt (
 pub stmts_fails : (n c b : ℕ) (start now after mid new : Input) (items : List PlainStmt) (e : SyntaxError) → GoesOn (IsStmts n c b) start now items → is_deeper c now ≡ true → is_at b now ≡ true → after ≡ next_line now → Comes plain_stmts (IsStmt n b after) (Err e) mid → Comes plain_stmts (IsStmts n c b start) (Err e) new
 stmts_fails n c b start now after mid new items NoMemory g d a is u = tt
 stmts_fails n c b start now after mid new items (Fault f) g d a is u = stmts_stopped n c b start now items f g d a (subst (λ (i : Input). IsStmt n b i (stops f)) is u)
+
+-- a `for`, by the name that it binds
+pub for_named : (n c : ℕ) (i m1 m2 : Input) (x : PlacedName) (v : PlainOver) (ys : List PlainStmt) → sees_name (next i) ≡ true → sees k.In (named (next i)) ≡ true → IsOver n (next (named (next i))) (found v m1) → IsBody n c m1 (found ys m2) → x ≡ placed_name (next i) → IsFor n c i (found (PFor (here i) x.name.0 x.place v (stmts_of ys)) m2)
+unfolding placed_name
+for_named n c i m1 m2 x v ys w s o b e = subst (λ (y : PlacedName). IsFor n c i (found (PFor (here i) y.name.0 y.place v (stmts_of ys)) m2)) (sym e) (for_is w s o b)
 
 -- arms of an `if`
 arms_one : (n c : ℕ) (now mid : Input) (x : PlainArm) → goes_on k.Elif c now ≡ true → IsArm n c (next (next_line now)) (found x mid) → (o : Outcome (List PlainArm)) → IsArms n c mid o → IsArms n c now (with_front (x ∷ []) o)
@@ -136,6 +145,9 @@ methods_done c start now items g d = nothing_more (IsMethods c) start now now it
 pub methods_moved : (c : ℕ) (start now : Input) (items : List PlainMethod) → GoesOn (IsMethods c) start now items → is_deeper 0 now ≡ true → is_at c now ≡ false → IsMethods c start (stops (refused (next_line now)))
 methods_moved c start now items g d a = g (stops (refused (next_line now))) (methods_shifted d a)
 
+pub methods_refuses : (c : ℕ) (start now after new : Input) (items : List PlainMethod) (e : SyntaxError) → GoesOn (IsMethods c) start now items → is_deeper 0 now ≡ true → is_at c now ≡ false → after ≡ next_line now → e ≡ Fault (refused after) → Comes plain_methods (IsMethods c start) (Err e) new
+methods_refuses c start now after new items e g d a is r = subst (λ (x : SyntaxError). Comes plain_methods (IsMethods c start) (Err x) new) (sym r) (subst (λ (i : Input). IsMethods c start (stops (refused i))) (sym is) (methods_moved c start now items g d a))
+
 pub methods_stopped : (c : ℕ) (start now : Input) (items : List PlainMethod) (f : SyntaxFault) → GoesOn (IsMethods c) start now items → is_deeper 0 now ≡ true → is_at c now ≡ true → IsMethod c (next_line now) (stops f) → IsMethods c start (stops f)
 methods_stopped c start now items f g d a u = g (stops f) (methods_more_stops_d d a u)
 
@@ -172,6 +184,9 @@ items_done start now items g l = nothing_more IsItems start now now items g (ite
 
 pub items_moved : (start now : Input) (items : List PlainClass) → GoesOn IsItems start now items → has_line now ≡ true → is_at 0 now ≡ false → IsItems start (stops (refused (next_line now)))
 items_moved start now items g l a = g (stops (refused (next_line now))) (items_shifted l a)
+
+pub items_refuses : (start now after new : Input) (items : List PlainClass) (e : SyntaxError) → GoesOn IsItems start now items → has_line now ≡ true → is_at 0 now ≡ false → after ≡ next_line now → e ≡ Fault (refused after) → Comes plain_classes (IsItems start) (Err e) new
+items_refuses start now after new items e g l a is r = subst (λ (x : SyntaxError). Comes plain_classes (IsItems start) (Err x) new) (sym r) (subst (λ (i : Input). IsItems start (stops (refused i))) (sym is) (items_moved start now items g l a))
 
 pub items_import_stopped : (start now : Input) (items : List PlainClass) (f : SyntaxFault) → GoesOn IsItems start now items → has_line now ≡ true → is_at 0 now ≡ true → begins_import (next_line now) ≡ true → IsImport (next_line now) (stops f) → IsItems start (stops f)
 items_import_stopped start now items f g l a b u = g (stops f) (items_import_stops_u l a b u)
