@@ -1,4 +1,5 @@
 pub mod Ahead
+pub mod BlockLoops
 pub mod Digits
 pub mod Fails
 pub mod GrammarRules

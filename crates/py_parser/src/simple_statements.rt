@@ -198,7 +198,7 @@ fn simples(alloc: Global, reader: &mut Reader<'_>, levels: u32) -> Result<Stmts,
     Ok(all_of(alloc, first, more)?)
 }
 
-#[tactic(auto, using(crate::proofs::GrammarRules::more_simples_rules))]
+#[tactic(auto, using(crate::proofs::BlockLoops::more_simples_loop))]
 fn more_simples(alloc: Global, reader: &mut Reader<'_>, levels: u32) -> Result<Stmts, SyntaxError>
     ensures comes { Comes plain_stmts (IsMoreSimples levels reader.old) result reader.new }
     ensures same_lines { OnOk result (lines_left reader.new ≡ lines_left reader.old) }

@@ -97,7 +97,7 @@ fn block(
 
 /// The statements of a block at column `inner`, whose head stands at `column`.
 #[cycle(block)]
-#[tactic(auto, using(crate::proofs::GrammarRules::stmts_rules))]
+#[tactic(auto, using(crate::proofs::BlockLoops::stmts_loop))]
 fn stmts(
     alloc: Global,
     reader: &mut Reader<'_>,
@@ -182,7 +182,7 @@ fn while_stmt(
 }
 
 #[cycle(block)]
-#[tactic(auto, using(crate::proofs::GrammarRules::for_rules))]
+#[tactic(auto, using(crate::proofs::GrammarRules::for_rules, crate::proofs::BlockLoops::for_named))]
 fn for_stmt(
     alloc: Global,
     reader: &mut Reader<'_>,
@@ -221,7 +221,7 @@ fn arm(alloc: Global, reader: &mut Reader<'_>, levels: u32, column: u32) -> Resu
 
 /// The `elif` lines at this column.
 #[cycle(block)]
-#[tactic(auto, using(crate::proofs::GrammarRules::arms_rules))]
+#[tactic(auto, using(crate::proofs::BlockLoops::arms_loop))]
 fn arms(
     alloc: Global,
     reader: &mut Reader<'_>,
