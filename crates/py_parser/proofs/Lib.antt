@@ -1,3 +1,4 @@
 pub mod GrammarRules
 pub mod Ahead
 pub mod BlockLoops
+pub mod Docstrings
