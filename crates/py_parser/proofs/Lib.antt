@@ -1,6 +1,7 @@
 pub mod Ahead
 pub mod BlockLoops
 pub mod Digits
+pub mod Docstrings
 pub mod Fails
 pub mod GrammarRules
 pub mod InputLaws

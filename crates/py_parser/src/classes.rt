@@ -1,10 +1,11 @@
 //! Classes and their methods (Python Language Reference, function and class definitions).
 
 ghost use Rattle.std.specs.Prelude.{◌≡◌, ◌<◌, ◌≤◌, OnOk};
-ghost use Rattle.py_tree.specs.PlainStatements.{plain_stmts};
+ghost use Rattle.py_tree.specs.PlainStatements.{plain_stmt, plain_stmts};
+ghost use Rattle.py_tree.specs.PlainExpressions.{plain_expr};
 ghost use Rattle.py_tree.specs.PlainProgram.{plain_params, plain_method, plain_methods, plain_class};
 ghost use Rattle.py_tree.specs.Reading.{left, lines_left};
-ghost use Rattle.py_tree.specs.Grammar.{IsParams, IsMarker, IsSignature, IsDef, IsMethod, IsMethods, IsMembers, IsBrackets, IsHead, IsClass, begins_with_string, without_docstring as Without};
+ghost use Rattle.py_tree.specs.Grammar.{IsParams, IsMarker, IsSignature, IsDef, IsMethod, IsMethods, IsMembers, IsBrackets, IsHead, IsClass, begins_with_string, is_string as Text, is_docstring as Docstring, without_docstring as Without};
 ghost use Rattle.py_parser.specs.Reads.{Comes, Passes};
 
 use crate::input::Reader;
@@ -12,7 +13,7 @@ use crate::looking::begins_string;
 use crate::statements::body;
 use crate::syntax_error::SyntaxError;
 use crate::types::annotation;
-use py_tree::{Class, ExprKind, Method, Methods, Params, StmtKind, Stmts, Terminal, nodes};
+use py_tree::{Class, Expr, ExprKind, Method, Methods, Params, Stmt, StmtKind, Stmts, Terminal, nodes};
 use sf_list::Sequence;
 use std::alloc::Global;
 
@@ -20,7 +21,7 @@ use std::alloc::Global;
 const LEVELS: u32 = 64;
 
 /// The parameters behind `self`.
-#[tactic(auto, using(crate::proofs::GrammarRules::params_rules))]
+#[tactic(auto, using(crate::proofs::BlockLoops::params_loop))]
 fn params(alloc: Global, reader: &mut Reader<'_>, levels: u32) -> Result<Params, SyntaxError>
     ensures comes { Comes plain_params (IsParams levels reader.old) result reader.new }
     ensures same_lines { OnOk result (lines_left reader.new ≡ lines_left reader.old) }
@@ -61,20 +62,68 @@ fn marker(reader: &mut Reader<'_>, name: Terminal) -> Result<(), SyntaxError>
     Ok(())
 }
 
+#[tactic(auto, using(py_tree::proofs::Views::expr_views))]
+fn is_string(value: &Expr) -> bool
+    ensures { result ≡ Text (plain_expr value.now) }
+{
+    match &value.kind {
+        ExprKind::Str(_) => true,
+        ExprKind::Int(_)
+        | ExprKind::Bool(_)
+        | ExprKind::Nil
+        | ExprKind::Var(_)
+        | ExprKind::SelfRef
+        | ExprKind::Attr(..)
+        | ExprKind::Call(..)
+        | ExprKind::Apply(..)
+        | ExprKind::Index(..)
+        | ExprKind::List(_)
+        | ExprKind::Neg(_)
+        | ExprKind::Pos(_)
+        | ExprKind::Not(_)
+        | ExprKind::Chain(..)
+        | ExprKind::And(_)
+        | ExprKind::Or(_)
+        | ExprKind::Compare(..)
+        | ExprKind::IsNone(..)
+        | ExprKind::Cond { .. } => false,
+    }
+}
+
+/// Whether a statement is a string alone.
+#[tactic(auto, using(py_tree::proofs::Views::stmt_views))]
+fn is_docstring(stmt: &Stmt) -> bool
+    ensures { result ≡ Docstring (plain_stmt stmt.now) }
+{
+    match &stmt.kind {
+        StmtKind::Expr(value) => is_string(value),
+        StmtKind::Pass
+        | StmtKind::Break
+        | StmtKind::Continue
+        | StmtKind::Return(_)
+        | StmtKind::Raise(..)
+        | StmtKind::Assert(..)
+        | StmtKind::Assign { .. }
+        | StmtKind::Augment { .. }
+        | StmtKind::If { .. }
+        | StmtKind::While { .. }
+        | StmtKind::For { .. } => false,
+    }
+}
+
 /// Whether a string alone is the first statement.
+#[tactic(auto, using(crate::proofs::Docstrings::docstrings))]
 fn has_docstring(body: &Stmts) -> bool
     ensures { result ≡ begins_with_string (plain_stmts body.now) }
 {
     let Some(first) = body.get(0) else {
         return false;
     };
-    match &first.kind {
-        StmtKind::Expr(value) => matches!(value.kind, ExprKind::Str(_)),
-        _ => false,
-    }
+    is_docstring(first)
 }
 
 /// The statements without a string that stands alone as the first.
+#[tactic(auto, using(crate::proofs::Docstrings::docstrings))]
 fn without_docstring(body: Stmts) -> Stmts
     ensures { plain_stmts result ≡ Without (plain_stmts body) }
 {
@@ -146,7 +195,7 @@ fn method(alloc: Global, reader: &mut Reader<'_>, column: u32) -> Result<Method,
 }
 
 /// The methods at this column.
-#[tactic(auto, using(crate::proofs::GrammarRules::methods_rules))]
+#[tactic(auto, using(crate::proofs::BlockLoops::methods_loop))]
 fn methods(alloc: Global, reader: &mut Reader<'_>, column: u32) -> Result<Methods, SyntaxError>
     ensures comes { Comes plain_methods (IsMethods column reader.old) result reader.new }
     ensures no_more { OnOk result (lines_left reader.new ≤ lines_left reader.old) }
