@@ -127,8 +127,8 @@ params_stopped n start now items f g s w u = g (stops f) (params_more_stops_t s 
 pub params_pushed : (n : ℕ) (start now mid : Input) (items all : List Param) (x : Param) (t : Option WrittenTy) → GoesOn (IsParams n) start now (plain_params items) → sees k.Comma now ≡ true → sees_name (next now) ≡ true → IsAnnotation n k.Colon (named (next now)) (found (plain_option plain_written t) mid) → plain_param x ≡ param_of (placed_name (next now)) (plain_option plain_written t) → all ≡ items ++ x ∷ [] → GoesOn (IsParams n) start mid (plain_params all)
 params_pushed n start now mid items all x t g s w u v is =
     viewed plain_param (IsParams n) start mid items (x ∷ []) all is
-        (subst (λ (y : PlainParam). GoesOn (IsParams n) start mid (plain_params items ++ y ∷ [])) (sym v)
-            (grown (IsParams n) start now mid (plain_params items) (param_of (placed_name (next now)) (plain_option plain_written t) ∷ []) g (params_one n now mid (plain_option plain_written t) s w u)))
+    (subst (λ (y : PlainParam). GoesOn (IsParams n) start mid (plain_params items ++ y ∷ [])) (sym v)
+    (grown (IsParams n) start now mid (plain_params items) (param_of (placed_name (next now)) (plain_option plain_written t) ∷ []) g (params_one n now mid (plain_option plain_written t) s w u)))
 
 pub params_fails : (n : ℕ) (start now after mid new : Input) (items : List PlainParam) (e : SyntaxError) → GoesOn (IsParams n) start now items → sees k.Comma now ≡ true → sees_name (next now) ≡ true → after ≡ named (next now) → Comes (plain_option plain_written) (IsAnnotation n k.Colon after) (Err e) mid → Comes plain_params (IsParams n start) (Err e) new
 params_fails n start now after mid new items NoMemory g s w is u = tt
@@ -209,9 +209,15 @@ items_class_fails start now after mid new items NoMemory g l a b is u = tt
 items_class_fails start now after mid new items (Fault f) g l a b is u = items_class_stopped start now items f g l a (subst (λ (i : Input). begins_import i ≡ false) is b) (subst (λ (i : Input). IsClass i (stops f)) is u)
 
 pub ruleset more_simples_loop = (more_simples_done, more_simples_trailing, more_simples_stopped, more_simples_pushed)
+
 pub ruleset stmts_loop = (stmts_done, stmts_moved, stmts_stopped, stmts_appended)
+
 pub ruleset arms_loop = (arms_done, arms_stopped, arms_pushed)
+
 pub ruleset params_loop = (params_done, params_trailing, params_stopped, params_pushed)
+
 pub ruleset methods_loop = (methods_done, methods_moved, methods_stopped, methods_pushed)
+
 pub ruleset more_names_loop = (more_names_done, more_names_step, more_names_trailing, more_names_refused)
+
 pub ruleset items_loop = (items_done, items_moved, items_import_stopped, items_imported, items_class_stopped, items_pushed)

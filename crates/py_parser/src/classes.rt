@@ -13,8 +13,9 @@ use crate::looking::begins_string;
 use crate::statements::body;
 use crate::syntax_error::SyntaxError;
 use crate::types::annotation;
-use py_tree::nodes;
-use py_tree::{Class, Expr, ExprKind, Method, Methods, Params, Stmt, StmtKind, Stmts, Terminal};
+use py_tree::{
+    Class, Expr, ExprKind, Method, Methods, Params, Stmt, StmtKind, Stmts, Terminal, nodes,
+};
 use sf_list::Sequence;
 use std::alloc::Global;
 

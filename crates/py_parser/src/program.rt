@@ -34,7 +34,11 @@ fn more_names(reader: &mut Reader<'_>, is_enclosed: bool) -> Result<(), SyntaxEr
     'more_names: while reader.sees(Terminal::Comma) {
         reader.pass();
         if !reader.sees_name() {
-            return if is_enclosed { Ok(()) } else { Err(reader.refusal()) };
+            return if is_enclosed {
+                Ok(())
+            } else {
+                Err(reader.refusal())
+            };
         }
         reader.pass();
     }

@@ -12,8 +12,7 @@ use crate::input::Reader;
 use crate::looking::{augmentation, begins_expr, failure_kind, simple_start};
 use crate::syntax_error::SyntaxError;
 use crate::types::ty;
-use py_tree::nodes;
-use py_tree::{Expr, Place, SimpleStart, Stmt, Stmts, Target, Terminal};
+use py_tree::{Expr, Place, SimpleStart, Stmt, Stmts, Target, Terminal, nodes};
 use sf_list::Sequence;
 use std::alloc::{AllocError, Global};
 

@@ -11,8 +11,7 @@ use crate::input::Reader;
 use crate::looking::{begins_range, goes_on};
 use crate::simple_statements::line;
 use crate::syntax_error::SyntaxError;
-use py_tree::nodes;
-use py_tree::{Arm, Arms, Over, Stmt, Stmts, Terminal};
+use py_tree::{Arm, Arms, Over, Stmt, Stmts, Terminal, nodes};
 use sf_list::Sequence;
 use std::alloc::{AllocError, Global};
 
@@ -211,12 +210,7 @@ fn for_stmt(
 /// A test and its suite.
 #[cycle(block)]
 #[tactic(auto, using(crate::proofs::GrammarRules::arm_rules))]
-fn arm(
-    alloc: Global,
-    reader: &mut Reader<'_>,
-    levels: u32,
-    column: u32,
-) -> Result<Arm, SyntaxError>
+fn arm(alloc: Global, reader: &mut Reader<'_>, levels: u32, column: u32) -> Result<Arm, SyntaxError>
     ensures comes { Comes plain_arm (IsArm levels column reader.old) result reader.new }
     ensures no_more { OnOk result (lines_left reader.new ≤ lines_left reader.old) }
 {
