@@ -26,7 +26,7 @@ pub struct Parsed {
 }
 
 /// The names behind a first one. Within brackets a last comma may end them.
-#[tactic(auto, using(crate::proofs::GrammarRules::more_names_rules))]
+#[tactic(auto, using(crate::proofs::BlockLoops::more_names_loop))]
 fn more_names(reader: &mut Reader<'_>, is_enclosed: bool) -> Result<(), SyntaxError>
     ensures comes { Passes (IsMoreNames is_enclosed reader.old) result reader.new }
     ensures same_lines { OnOk result (lines_left reader.new ≡ lines_left reader.old) }
@@ -127,7 +127,7 @@ fn end_line(reader: &mut Reader<'_>) -> Result<(), SyntaxError>
 }
 
 /// The classes of the lines that are left.
-#[tactic(auto, using(crate::proofs::GrammarRules::items_rules))]
+#[tactic(auto, using(crate::proofs::BlockLoops::items_loop))]
 fn items(alloc: Global, reader: &mut Reader<'_>) -> Result<Classes, SyntaxError>
     ensures { Comes plain_classes (IsItems reader.old) result reader.new }
 {
