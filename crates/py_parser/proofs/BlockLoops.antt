@@ -20,17 +20,7 @@ use Rattle.py_tree.specs.Grammar.{param_of, IsParams, IsMethod, IsMethods, IsMor
 use Rattle.py_parser.specs.declared.syntax_error.SyntaxError.{SyntaxError}
 use Rattle.py_parser.specs.declared.syntax_error.SyntaxError.TheVariants.{Fault, NoMemory}
 use Rattle.py_parser.specs.Reads.{Comes, Passes}
-
-abbrev pub with_front : {A : Type 0} → List A → Outcome (List A) → Outcome (List A)
-with_front front (found xs rest) = found (front ++ xs) rest
-with_front front (stops f) = stops f
-
--- what follows the items so far makes the whole
-abbrev pub GoesOn : {A : Type 0} → (Input → Outcome (List A) → Type 0) → Input → Input → List A → Type 0
-GoesOn {A} P start now items = (o : Outcome (List A)) → P now o → P start (with_front items o)
-
-nothing_more : {A : Type 0} (P : Input → Outcome (List A) → Type 0) (start now rest : Input) (items : List A) → GoesOn P start now items → P now (found [] rest) → P start (found items rest)
-nothing_more P start now rest items g e = subst (λ xs. P start (found xs rest)) (append-nil items) (g (found [] rest) e)
+use Rattle.py_parser.proofs.Loops.{with_front, GoesOn, nothing_more}
 
 regrouped : {A : Type 0} (P : Input → Outcome (List A) → Type 0) (start : Input) (items xs : List A) (o : Outcome (List A)) → P start (with_front items (with_front xs o)) → P start (with_front (items ++ xs) o)
 regrouped P start items xs (found ys rest) h = rw append_assoc h

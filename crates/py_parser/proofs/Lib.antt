@@ -12,6 +12,7 @@ pub mod OneClass
 pub mod OneProgram
 pub mod OneText
 pub mod Places
+pub mod ProgramLaws
 pub mod RuleLaws
 pub mod Rules
 pub mod Runs

@@ -2,7 +2,7 @@ use Rattle.std.proofs.Common.{◌≤◌}
 use Rattle.py_tree.specs.PlainProgram.{plain_methods}
 use Rattle.py_tree.specs.Reading.{lines_left}
 use Rattle.py_tree.specs.Grammar.{IsMethods}
-use Rattle.py_parser.proofs.BlockLoops.{GoesOn}
+use Rattle.py_parser.proofs.Loops.{GoesOn}
 use Rattle.py_parser.proofs.classes.methods.Given as goal
 
 abbrev pub invariant-methods : goal.invariant-methods

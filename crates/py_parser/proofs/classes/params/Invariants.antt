@@ -2,7 +2,7 @@ use Rattle.std.proofs.Common.{◌≡◌}
 use Rattle.py_tree.specs.PlainProgram.{plain_params}
 use Rattle.py_tree.specs.Reading.{left, lines_left}
 use Rattle.py_tree.specs.Grammar.{IsParams}
-use Rattle.py_parser.proofs.BlockLoops.{GoesOn}
+use Rattle.py_parser.proofs.Loops.{GoesOn}
 use Rattle.py_parser.proofs.classes.params.Given as goal
 
 abbrev pub invariant-params : goal.invariant-params

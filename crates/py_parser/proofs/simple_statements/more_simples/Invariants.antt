@@ -2,7 +2,7 @@ use Rattle.std.proofs.Common.{◌≡◌}
 use Rattle.py_tree.specs.PlainStatements.{plain_stmts}
 use Rattle.py_tree.specs.Reading.{left, lines_left}
 use Rattle.py_tree.specs.StatementGrammar.{IsMoreSimples}
-use Rattle.py_parser.proofs.BlockLoops.{GoesOn}
+use Rattle.py_parser.proofs.Loops.{GoesOn}
 use Rattle.py_parser.proofs.simple_statements.more_simples.Given as goal
 
 abbrev pub invariant-more_simples : goal.invariant-more_simples

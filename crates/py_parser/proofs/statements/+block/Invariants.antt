@@ -2,7 +2,7 @@ use Rattle.std.proofs.Common.{◌≤◌, ◌+◌, ◌*◌}
 use Rattle.py_tree.specs.PlainStatements.{plain_stmts, plain_arms}
 use Rattle.py_tree.specs.Reading.{lines_left}
 use Rattle.py_tree.specs.StatementGrammar.{IsStmts, IsArms}
-use Rattle.py_parser.proofs.BlockLoops.{GoesOn}
+use Rattle.py_parser.proofs.Loops.{GoesOn}
 use Rattle.py_parser.proofs.statements.+block.Given as goal
 
 abbrev pub decreases-body : goal.decreases-body
