@@ -1,5 +1,5 @@
 -- What the rules of `__init__` say at each kind of expression, one equation each.
-use Rattle.std.proofs.Common.{◌≡◌, ℕ, ℤ, Bool, Option, List, [], ◌∷◌, true, false, not, ◌||◌, if◌then◌else◌, Some, None, refl, sym, ap, ◌∙◌, suc, arith, ◌+◌, ◌<◌, ◌≤◌, length, drop, get_or, drop-cons}
+use Rattle.std.proofs.Common.{◌≡◌, ℕ, ℤ, Bool, List, ◌∷◌, true, false, not, ◌||◌, if◌then◌else◌, Some, None, refl, sym, ap, ◌∙◌, suc, arith, ◌+◌, ◌<◌, ◌≤◌, length, drop, get_or, drop-cons}
 use Rattle.std.proofs.lemmas.List.{drop_all}
 use Rattle.std.specs.declared.alloc.Global.{Global}
 use Rattle.std.specs.declared.boxed.Box.{Box}
@@ -10,7 +10,7 @@ use Rattle.py_tree.specs.declared.expr.Cmp.{Cmp}
 use Rattle.py_tree.specs.declared.expr.Expr.{Expr}
 use Rattle.py_tree.specs.declared.expr.Link.{Link}
 use Rattle.py_tree.specs.declared.expr.ExprKind as e
-use Rattle.py_tree.specs.PlainExpressions.{plain_kind, plain_expr, plain_exprs, exprs_of, plain_links, links_of, PNoExpr, PExpr, PlainExpr, PlainExprs, PLink, PlainLink, PlainLinks, PNoLink, PMoreLinks}
+use Rattle.py_tree.specs.PlainExpressions.{plain_kind, plain_expr, plain_exprs, exprs_of, plain_links, links_of, PNoExpr, PExpr, PlainExpr, PlainExprs, PLink, PlainLinks, PNoLink, PMoreLinks}
 use Rattle.py_tree.specs.PlainProgram.{PlainProgram}
 use Rattle.py_tree.specs.ClassRules.{is_class, is_field, is_self, acts, any_acts, any_link_acts, self_field, variable}
 use Rattle.py_tree.proofs.Views.{plain-Int, plain-Bool, plain-Str, plain-Nil, plain-Var, plain-SelfRef, plain-Attr, plain-Call, plain-Apply, plain-Index, plain-List, plain-Neg, plain-Pos, plain-Not, plain-Chain, plain-And, plain-Or, plain-Compare, plain-IsNone, plain-Cond}

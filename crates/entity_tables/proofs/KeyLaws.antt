@@ -1,9 +1,8 @@
 -- The place of a name in a list, and the first source of a field.
-use Rattle.std.proofs.Common.{◌≡◌, ℕ, suc, arith, nat_eq, true, false, if◌then◌else◌, ◌+◌, ◌<◌, ◌≤◌, Option, Some, None, List, [], ◌∷◌, ◌++◌, length, map, drop, get_or, drop-cons, refl, sym, ap, ◌∙◌}
+use Rattle.std.proofs.Common.{◌≡◌, ℕ, suc, arith, nat_eq, true, false, if◌then◌else◌, ◌+◌, ◌<◌, ◌≤◌, Option, Some, None, List, ◌∷◌, length, map, drop, get_or, drop-cons, refl, sym, ap, ◌∙◌}
 use Rattle.std.specs.Prelude.{option_map, filter_map, slice_get}
 use Rattle.std.specs.List.{cons_option}
 use Rattle.std.proofs.lemmas.List.{drop_all}
-use Rattle.py_tree.specs.declared.names.Name.{Name}
 use Rattle.py_tree.specs.declared.stmt.Stmt.{Stmt}
 use Rattle.py_tree.specs.declared.program.Param.{Param}
 use Rattle.py_tree.specs.PlainStatements.{plain_stmt, plain_stmts}

@@ -1,5 +1,5 @@
 -- What the class rules say at each variant of a tree, one equation each.
-use Rattle.std.proofs.Common.{◌≡◌, ℕ, Bool, Option, List, [], ◌∷◌, true, false, not, None, refl, sym, ap, ◌∙◌}
+use Rattle.std.proofs.Common.{◌≡◌, [], ◌∷◌, true, false, not, None, refl, ap}
 use Rattle.std.specs.declared.alloc.Global.{Global}
 use Rattle.std.specs.declared.boxed.Box.{Box}
 use Rattle.py_tree.specs.declared.names.Name.{Name}

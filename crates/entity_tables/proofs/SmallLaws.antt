@@ -1,5 +1,5 @@
 -- How many fields and parameters there are where no rule is broken.
-use Rattle.std.proofs.Common.{◌≡◌, ℕ, suc, arith, nat_lt, true, false, Bool, ◌+◌, ◌<◌, ◌≤◌, Option, Some, None, List, [], ◌∷◌, ◌++◌, length, append_assoc, append-nil, length-append, refl, sym, ap, ◌∙◌, subst}
+use Rattle.std.proofs.Common.{◌≡◌, ℕ, suc, arith, true, false, Bool, ◌+◌, ◌≤◌, Option, Some, None, List, [], ◌∷◌, ◌++◌, length, append_assoc, append-nil, length-append, refl, sym, ap, ◌∙◌, subst}
 use Rattle.std.specs.Prelude.{find, cond, if◌then◌else◌, option_map, unwrap_or, ◌||◌}
 use Rattle.std.specs.List.{cons_option}
 use Rattle.std.specs.Option.{option_map_or}

@@ -1,5 +1,5 @@
 -- What the class rules say at each kind of statement, one equation each.
-use Rattle.std.proofs.Common.{◌≡◌, ℕ, Bool, Option, List, true, false, not, ◌||◌, Some, None, refl, sym, ap, ◌∙◌}
+use Rattle.std.proofs.Common.{◌≡◌, ℕ, Option, List, false, not, ◌||◌, None, refl, ap}
 use Rattle.std.specs.Prelude.{option_and_then}
 use Rattle.py_tree.specs.declared.names.Place.{Place}
 use Rattle.py_tree.specs.declared.names.PlacedName.{PlacedName}

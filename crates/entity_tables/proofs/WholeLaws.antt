@@ -1,5 +1,5 @@
 -- A class as a whole: its faults and its table, by its `__init__` and `__key__`.
-use Rattle.std.proofs.Common.{◌≡◌, ℕ, Option, Some, None, List, [], ◌∷◌, map, refl, sym, ap, ◌∙◌}
+use Rattle.std.proofs.Common.{◌≡◌, ℕ, Option, Some, None, List, [], ◌∷◌, map, ap, ◌∙◌}
 use Rattle.std.specs.Prelude.{is_none, option_and_then}
 use Rattle.py_tree.specs.declared.rule.Rule.TheVariants.{InitForm, KeyForm}
 use Rattle.py_tree.specs.PlainProgram.{PlainMethod, PlainClass}

@@ -1,5 +1,5 @@
 -- Tables and their parts as plain ones.
-use Rattle.std.specs.Prelude.{ℕ, List, map}
+use Rattle.std.specs.Prelude.{List, map}
 use Rattle.py_tree.specs.PlainTypes.{plain_ty, plain_written}
 use Rattle.py_tree.specs.PlainExpressions.{plain_expr}
 use Rattle.py_tree.specs.ClassRules.{PlainKey, PlainField, PlainSigParam, PlainSig, PlainTable}

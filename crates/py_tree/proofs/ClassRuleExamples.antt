@@ -8,7 +8,7 @@ use Rattle.py_tree.specs.declared.rule.Rule.{Rule}
 use Rattle.py_tree.specs.declared.rule.Rule.TheVariants.{ReservedName, DuplicateClass, DuplicateMember, MissingAnnotation, UnknownType, NestedOptional, InitForm, KeyForm}
 use Rattle.py_tree.specs.declared.rule.RuleFault.{RuleFault}
 use Rattle.py_tree.specs.declared.stmt.Target.TheVariants.{Field}
-use Rattle.py_tree.specs.PlainTypes.{TInt, TBool, TStr, PlainWritten, WInt, WBool, WStr, WNil, WOptional, WEntity}
+use Rattle.py_tree.specs.PlainTypes.{TInt, TStr, PlainWritten, WInt, WStr, WNil, WOptional, WEntity}
 use Rattle.py_tree.specs.PlainExpressions.{PlainExpr, PInt, PVar, PSelf, PAttr, PApply, PNoExpr}
 use Rattle.py_tree.specs.PlainStatements.{PlainStmt, PReturn, PAssign}
 use Rattle.py_tree.specs.PlainProgram.{PlainParam, PlainMethod, PlainClass}

@@ -9,7 +9,7 @@ use Rattle.py_tree.specs.declared.names.PlacedName.{PlacedName}
 use Rattle.py_tree.specs.declared.rule.Rule.{Rule}
 use Rattle.py_tree.specs.declared.rule.Rule.TheVariants.{TooMany, ReservedName, DuplicateClass, DuplicateMember, MissingAnnotation, UnknownType, NestedOptional, InitForm, KeyForm}
 use Rattle.py_tree.specs.declared.rule.RuleFault.{RuleFault}
-use Rattle.py_tree.specs.declared.stmt.Target.TheVariants.{Local, Field}
+use Rattle.py_tree.specs.declared.stmt.Target.TheVariants.{Field}
 use Rattle.py_tree.specs.ReservedNames.{reserved_names}
 use Rattle.py_tree.specs.PlainTypes.{PlainTy, TNil, PlainWritten, WInt, WBool, WStr, WNil, WList, WOptional, WEntity, type_of}
 use Rattle.py_tree.specs.PlainExpressions.{PlainExpr, PInt, PBool, PStr, PNil, PVar, PSelf, PAttr, PCall, PApply, PIndex, PList, PNeg, PPos, PNot, PChain, PAnd, POr, PCompare, PIsNone, PCond, PlainExprs, PNoExpr, PExpr, PLink, PlainLinks, PNoLink, PMoreLinks}
