@@ -1,5 +1,5 @@
 -- Reading an expression has one outcome at most.
-use Rattle.std.proofs.Common.{◌≡◌, ℕ, ◌-◌, Bool, List, [], ◌∷◌, Option, Some, None, arith, refl, ap}
+use Rattle.std.proofs.Common.{◌≡◌, ℕ, ◌-◌, List, arith, refl, ap}
 use Rattle.py_tree.specs.declared.names.Place.{Place}
 use Rattle.py_tree.specs.declared.terminal.Terminal.{Terminal}
 use Rattle.py_tree.specs.PlainExpressions.{PlainExpr, PAttr, PCall, PIndex, PlainLink, exprs_of}

@@ -1,10 +1,10 @@
 -- Reading a program has one outcome at most.
-use Rattle.std.proofs.Common.{◌≡◌, ℕ, ◌-◌, Bool, List, [], ◌∷◌, Option, Some, None, arith, refl, ap}
+use Rattle.std.proofs.Common.{◌≡◌, ℕ, Bool, List, refl, ap}
 use Rattle.py_tree.specs.declared.terminal.Terminal.{Terminal}
 use Rattle.py_tree.specs.PlainProgram.{PlainParam, PlainMethod, PlainClass}
 use Rattle.py_tree.specs.Reading.{Input, Outcome, Nothing, next, named, next_line, column}
 use Rattle.py_tree.specs.Tokens.{PlainLine}
-use Rattle.py_tree.specs.Grammar.{levels, Parse, first_input, IsParams, IsMarker, IsSignature, IsDef, IsMethod, IsMethods, IsMembers, IsBrackets, IsHead, IsClass, IsMoreNames, IsNames, IsImported, IsLineEnd, IsImportFrom, IsImport, IsItems, IsFile, params_end, params_last, params_more_stops_t, params_more_stops_ps, params_more, marker_plain_needs_name, marker_plain_needs_line_end, marker_plain, marker_long_needs_dot, marker_long_needs_name, marker_long_needs_line_end, marker_long, signature_is_needs_open, signature_is_needs_selfword, signature_is_stops_ps, signature_is_needs_close, signature_is, def_is_needs_def, def_is_needs_name, def_is_stops_ps, def_is_stops_t, def_is_stops_ys, def_is, method_marked_stops_u, method_marked_needs_line, method_marked, method_plain, methods_end, methods_shifted, methods_more_stops_d, methods_more_stops_ds, methods_more, members_plain, members_missing, members_doc_needs_line_end, members_doc_needs_method, members_doc, brackets_none, brackets_is_needs_close, brackets_is, head_is_needs_class, head_is_needs_name, head_is_stops_u, head_is_needs_colon, head_is_needs_line_end, head_is_stops_ds, head_is, class_is_needs_at, class_is_stops_u, class_is_needs_line, class_is, more_names_end, more_names_more, more_names_last, more_names_other, names_is_needs_name, names_is, imported_plain, imported_enclosed_stops_u, imported_enclosed_needs_close, imported_enclosed, line_end_is_needs_line_end, line_end_is, import_from_is_needs_module, import_from_is_needs_import, import_from_is_stops_u, import_from_is, import_from, import_whole_needs_import, import_whole_needs_stateflowword, import_whole, items_end, items_shifted, items_import_stops_u, items_import, items_class_stops_d, items_class_stops_ds, items_class, file_doc_needs_line_end, file_doc, file_plain, IsProgram, program_is, program_stops}
+use Rattle.py_tree.specs.Grammar.{Parse, first_input, IsParams, IsMarker, IsSignature, IsDef, IsMethod, IsMethods, IsMembers, IsBrackets, IsHead, IsClass, IsMoreNames, IsNames, IsImported, IsLineEnd, IsImportFrom, IsImport, IsItems, IsFile, params_end, params_last, params_more_stops_t, params_more_stops_ps, params_more, marker_plain_needs_name, marker_plain_needs_line_end, marker_plain, marker_long_needs_dot, marker_long_needs_name, marker_long_needs_line_end, marker_long, signature_is_needs_open, signature_is_needs_selfword, signature_is_stops_ps, signature_is_needs_close, signature_is, def_is_needs_def, def_is_needs_name, def_is_stops_ps, def_is_stops_t, def_is_stops_ys, def_is, method_marked_stops_u, method_marked_needs_line, method_marked, method_plain, methods_end, methods_shifted, methods_more_stops_d, methods_more_stops_ds, methods_more, members_plain, members_missing, members_doc_needs_line_end, members_doc_needs_method, members_doc, brackets_none, brackets_is_needs_close, brackets_is, head_is_needs_class, head_is_needs_name, head_is_stops_u, head_is_needs_colon, head_is_needs_line_end, head_is_stops_ds, head_is, class_is_needs_at, class_is_stops_u, class_is_needs_line, class_is, more_names_end, more_names_more, more_names_last, more_names_other, names_is_needs_name, names_is, imported_plain, imported_enclosed_stops_u, imported_enclosed_needs_close, imported_enclosed, line_end_is_needs_line_end, line_end_is, import_from_is_needs_module, import_from_is_needs_import, import_from_is_stops_u, import_from_is, import_from, import_whole_needs_import, import_whole_needs_stateflowword, import_whole, items_end, items_shifted, items_import_stops_u, items_import, items_class_stops_d, items_class_stops_ds, items_class, file_doc_needs_line_end, file_doc, file_plain, IsProgram, program_is, program_stops}
 use Rattle.py_tree.proofs.OneOutcome.{same_rest, same_part}
 use Rattle.py_tree.proofs.OneType.{annotation_one}
 use Rattle.py_tree.proofs.OneStatement.{body_one}

@@ -1,5 +1,5 @@
 -- Reading a type has one outcome at most.
-use Rattle.std.proofs.Common.{◌≡◌, ℕ, ◌-◌, Bool, List, [], ◌∷◌, Option, Some, None, arith, refl, ap}
+use Rattle.std.proofs.Common.{◌≡◌, ℕ, ◌-◌, Option, arith, ap}
 use Rattle.py_tree.specs.declared.terminal.Terminal.{Terminal}
 use Rattle.py_tree.specs.PlainTypes.{PlainWritten}
 use Rattle.py_tree.specs.Reading.{Input, Outcome, next}

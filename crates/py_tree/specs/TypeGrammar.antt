@@ -1,5 +1,5 @@
 -- The grammar of types (Python Language Reference, annotations): the rules are of the form of those of expressions.
-use Rattle.std.specs.Prelude.{◌≡◌, ℕ, ◌-◌, ◌<◌, Bool, true, false, List}
+use Rattle.std.specs.Prelude.{◌≡◌, ℕ, ◌-◌, ◌<◌, true, false}
 use Rattle.std.specs.declared.option.Option.{Option}
 use Rattle.std.specs.declared.option.Option.TheVariants.{Some, None}
 use Rattle.py_tree.specs.declared.fault.SyntaxFault.{SyntaxFault}
