@@ -1,5 +1,5 @@
 -- The tokens behind the next one, by their places.
-use Rattle.std.proofs.Common.{◌≡◌, ℕ, zero, suc, List, [], ◌∷◌, refl}
+use Rattle.std.proofs.Common.{◌≡◌, ℕ, suc, List, [], ◌∷◌, refl}
 use Rattle.std.specs.Prelude.{slice_index_or}
 use Rattle.py_tree.specs.Tokens.{PlainToken}
 use Rattle.py_tree.specs.Reading.{no_token, first_token, other_tokens}

@@ -1,7 +1,5 @@
 -- A program is what its lines are, from the first.
-use Rattle.std.proofs.Common.{◌≡◌, ◌≤◌, ℕ, List, [], map, length, Err, refl, sym, ap, subst, ◌∙◌, arith}
-use Rattle.py_tree.specs.declared.fault.SyntaxFault.{SyntaxFault}
-use Rattle.py_tree.specs.declared.program.Class.{Class}
+use Rattle.std.proofs.Common.{◌≡◌, ◌≤◌, ℕ, List, [], map, length, Err, sym, ap, subst, ◌∙◌, arith}
 use Rattle.py_tree.specs.PlainProgram.{PlainClass, plain_classes}
 use Rattle.py_tree.specs.Tokens.{PlainLine}
 use Rattle.py_tree.specs.ReservedNames.{reserved_names}

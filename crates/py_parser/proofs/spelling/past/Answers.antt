@@ -1,4 +1,4 @@
-use Rattle.std.proofs.Common.{◌+◌, ◌≤◌, arith}
+use Rattle.std.proofs.Common.{arith}
 use Rattle.py_parser.proofs.Places.{past_step}
 use Rattle.py_parser.proofs.spelling.past.Goals as goal
 

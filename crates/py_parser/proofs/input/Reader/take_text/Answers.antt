@@ -1,4 +1,4 @@
-use Rattle.std.proofs.Common.{◌≡◌, ap, sym, ◌∙◌}
+use Rattle.std.proofs.Common.{ap, sym, ◌∙◌}
 use Rattle.py_tree.specs.Reading.{sees_str}
 use Rattle.py_parser.proofs.Places.{are_of, reading_passes, first-string, string-some}
 use Rattle.py_parser.proofs.input.Reader.take_text.Goals as goal

@@ -1,0 +1,21 @@
+use Rattle.std.proofs.Common.{◌∙◌, ℕ, List, [], map, sym, ap, subst}
+use Rattle.std.proofs.lemmas.Result.{err_from_is_err_and}
+use Rattle.py_tree.specs.PlainProgram.{plain_classes}
+use Rattle.py_tree.specs.Grammar.{IsProgram, has_tree}
+use Rattle.py_lexer.specs.declared.token.Line.{Line}
+use Rattle.py_lexer.specs.Views.{plain_line}
+use Rattle.py_parser.specs.Reads.{input}
+use Rattle.py_parser.proofs.ProgramLaws.{parsed, refused}
+use Rattle.py_parser.proofs.program.parse.Goals as goal
+
+pub returns-in_err-classes : goal.returns-in_err-classes
+returns-in_err-classes c =
+    let p = err_from_is_err_and c.from_residual-in_err-classes.result c.from_residual-in_err-classes.ensures.1 in
+    let begun = c.new-reader.ensures ∙ ap (λ (ls : List Line). input c.args.text.now [] (record { line = 1; col = 1 }) ls c.in_ok-reserved_names.field-0) c.as_slice.ensures in
+    rw (p.1, p.2) (refused c.args.text.now c.args.lines.now c.in_ok-reserved_names.field-0 c.new-reader.result c.file.new.reader c.in_err-classes.field-0.0 c.in_ok-reserved_names.ensures begun c.in_err-classes.ensures)
+
+pub returns : goal.returns
+returns c =
+    let begun = c.new-reader.ensures ∙ ap (λ (ls : List Line). input c.args.text.now [] (record { line = 1; col = 1 }) ls c.in_ok-reserved_names.field-0) c.as_slice.ensures in
+    let whole = parsed c.args.text.now c.args.lines.now c.in_ok-reserved_names.field-0 c.new-reader.result c.file.new.reader (plain_classes c.in_ok-classes.classes) c.in_ok-reserved_names.ensures begun c.in_ok-classes.ensures in
+    subst (λ (ns : List (List ℕ)). IsProgram (map (plain_line c.args.text.now) c.args.lines.now) (has_tree (plain_classes c.in_ok-classes.classes) ns)) (sym c.into_names.ensures.names) whole
