@@ -9,10 +9,8 @@ const HEAD: &[u8] = b"@entity\nclass A:\n    def g(self): pass\n    def f(self) 
 
 /// Puts a piece behind a text so many times.
 fn repeat(text: &mut Vec<u8>, piece: &[u8], count: u32) -> Result<(), AllocError> {
-    let mut left = count;
-    while left > 0 {
+    for _ in 0..count {
         text.extend_from_slice(piece)?;
-        left -= 1;
     }
     Ok(())
 }
@@ -139,17 +137,18 @@ fn each_opener_within_an_expression_opens_64_levels_and_no_more(
     Ok(())
 }
 
-/// Lines that each hold the next, from the method's on.
+/// What the parser makes of a method whose lines each hold the next.
 fn suites(alloc: Global, count: u32) -> Result<String, AllocError> {
     let mut text = Vec::new(alloc);
+    let mut indent = Vec::new(alloc);
     text.extend_from_slice(b"@entity\nclass A:\n def f(self):\n")?;
-    let mut depth = 0;
-    while depth < count {
-        repeat(&mut text, b" ", depth + 2)?;
+    indent.extend_from_slice(b"  ")?;
+    for _ in 0..count {
+        text.extend_from_slice(indent.as_slice())?;
         text.extend_from_slice(b"while x:\n")?;
-        depth += 1;
+        indent.push(b' ')?;
     }
-    repeat(&mut text, b" ", count + 2)?;
+    text.extend_from_slice(indent.as_slice())?;
     text.extend_from_slice(b"pass\n")?;
     outcome(alloc, text.as_slice())
 }
