@@ -30,8 +30,6 @@ mod small_tests;
 mod spelling;
 mod statements;
 mod syntax_error;
-#[cfg(test)]
-mod tests;
 mod token;
 mod tokens;
 mod types;
