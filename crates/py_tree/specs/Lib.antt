@@ -13,3 +13,4 @@ pub mod TypeGrammar
 pub mod StatementGrammar
 pub mod Grammar
 pub mod ClassRules
+pub mod Bounded
