@@ -8,4 +8,7 @@ pub mod OneExpression
 pub mod OneType
 pub mod OneStatement
 pub mod OneProgram
+pub mod Taken
+pub mod Fits
+pub mod ExpressionsFit
 mod ClassRuleExamples
