@@ -10,7 +10,7 @@ use Rattle.py_tree.specs.PlainExpressions.{PlainExpr, PInt, PBool, PStr, PNil, P
 use Rattle.py_tree.specs.ExpressionGrammar.{joined_or, joined_and, chained}
 use Rattle.py_tree.specs.Reading.{Input}
 use Rattle.py_tree.specs.Bounded.{nesting, expr_size, exprs_size, link_size, links_size, expr_depth, exprs_depth, link_depth, links_depth, TypeNames, ExprNames, ExprsNames, LinkNames, LinksNames}
-use Rattle.py_tree.proofs.Taken.{tokens_left, Reads, then, stays}
+use Rattle.py_tree.proofs.Taken.{tokens_left, Reads, reads_on, stays}
 
 -- how deep an atom can be where so many levels are left; its dots and indices take one each, and those of a part that a bracket
 -- encloses end with it
@@ -39,50 +39,50 @@ pub above_by : (a b c k : ℕ) → 1 + a + c ≤ k → 1 + b + c ≤ k → 1 + m
 above_by a b c k p q = let m = above a b (k - c) (omega arith) (omega arith) in omega arith
 
 -- more names are more room
-pub type_more : {c d : ℕ} → c ≤ d → (t : PlainWritten) → TypeNames c t → TypeNames d t
+pub type_kept : {c d : ℕ} → c ≤ d → (t : PlainWritten) → TypeNames c t → TypeNames d t
 unfolding TypeNames
-type_more h (WInt at) p = tt
-type_more h (WBool at) p = tt
-type_more h (WStr at) p = tt
-type_more h (WNil at) p = tt
-type_more h (WList at element) p = type_more h element p
-type_more h (WOptional at inner) p = type_more h inner p
-type_more h (WEntity at class) p = omega arith
+type_kept h (WInt at) p = tt
+type_kept h (WBool at) p = tt
+type_kept h (WStr at) p = tt
+type_kept h (WNil at) p = tt
+type_kept h (WList at element) p = type_kept h element p
+type_kept h (WOptional at inner) p = type_kept h inner p
+type_kept h (WEntity at class) p = omega arith
 
 mutual
   unfolding ExprNames ExprsNames LinkNames LinksNames
-  pub expr_more : {c d : ℕ} → c ≤ d → (x : PlainExpr) → ExprNames c x → ExprNames d x
-  expr_more h (PInt at n) p = tt
-  expr_more h (PBool at b) p = tt
-  expr_more h (PStr at text) p = omega arith
-  expr_more h (PNil at) p = tt
-  expr_more h (PVar at name) p = omega arith
-  expr_more h (PSelf at) p = tt
-  expr_more h (PAttr at on name name_at) p = (expr_more h on p.0, omega arith)
-  expr_more h (PCall at on name name_at args) p = (expr_more h on p.0, omega arith, exprs_more h args p.2)
-  expr_more h (PApply at name args) p = (omega arith, exprs_more h args p.1)
-  expr_more h (PIndex at on index) p = (expr_more h on p.0, expr_more h index p.1)
-  expr_more h (PList at items) p = exprs_more h items p
-  expr_more h (PNeg at a) p = expr_more h a p
-  expr_more h (PPos at a) p = expr_more h a p
-  expr_more h (PNot at a) p = expr_more h a p
-  expr_more h (PChain at first links) p = (expr_more h first p.0, links_more h links p.1)
-  expr_more h (PAnd at items) p = exprs_more h items p
-  expr_more h (POr at items) p = exprs_more h items p
-  expr_more h (PCompare at op op_at left right) p = (expr_more h left p.0, expr_more h right p.1)
-  expr_more h (PIsNone at a positive) p = expr_more h a p
-  expr_more h (PCond at test chosen other) p = (expr_more h test p.0, expr_more h chosen p.1, expr_more h other p.2)
+  pub expr_kept : {c d : ℕ} → c ≤ d → (x : PlainExpr) → ExprNames c x → ExprNames d x
+  expr_kept h (PInt at n) p = tt
+  expr_kept h (PBool at b) p = tt
+  expr_kept h (PStr at text) p = omega arith
+  expr_kept h (PNil at) p = tt
+  expr_kept h (PVar at name) p = omega arith
+  expr_kept h (PSelf at) p = tt
+  expr_kept h (PAttr at on name name_at) p = (expr_kept h on p.0, omega arith)
+  expr_kept h (PCall at on name name_at args) p = (expr_kept h on p.0, omega arith, exprs_kept h args p.2)
+  expr_kept h (PApply at name args) p = (omega arith, exprs_kept h args p.1)
+  expr_kept h (PIndex at on index) p = (expr_kept h on p.0, expr_kept h index p.1)
+  expr_kept h (PList at items) p = exprs_kept h items p
+  expr_kept h (PNeg at a) p = expr_kept h a p
+  expr_kept h (PPos at a) p = expr_kept h a p
+  expr_kept h (PNot at a) p = expr_kept h a p
+  expr_kept h (PChain at first links) p = (expr_kept h first p.0, links_kept h links p.1)
+  expr_kept h (PAnd at items) p = exprs_kept h items p
+  expr_kept h (POr at items) p = exprs_kept h items p
+  expr_kept h (PCompare at op op_at left right) p = (expr_kept h left p.0, expr_kept h right p.1)
+  expr_kept h (PIsNone at a positive) p = expr_kept h a p
+  expr_kept h (PCond at test chosen other) p = (expr_kept h test p.0, expr_kept h chosen p.1, expr_kept h other p.2)
 
-  pub exprs_more : {c d : ℕ} → c ≤ d → (xs : PlainExprs) → ExprsNames c xs → ExprsNames d xs
-  exprs_more h PNoExpr p = tt
-  exprs_more h (PExpr x xs) p = (expr_more h x p.0, exprs_more h xs p.1)
+  pub exprs_kept : {c d : ℕ} → c ≤ d → (xs : PlainExprs) → ExprsNames c xs → ExprsNames d xs
+  exprs_kept h PNoExpr p = tt
+  exprs_kept h (PExpr x xs) p = (expr_kept h x p.0, exprs_kept h xs p.1)
 
-  pub link_more : {c d : ℕ} → c ≤ d → (l : PlainLink) → LinkNames c l → LinkNames d l
-  link_more h (PLink op at right) p = expr_more h right p
+  pub link_kept : {c d : ℕ} → c ≤ d → (l : PlainLink) → LinkNames c l → LinkNames d l
+  link_kept h (PLink op at right) p = expr_kept h right p
 
-  pub links_more : {c d : ℕ} → c ≤ d → (ls : PlainLinks) → LinksNames c ls → LinksNames d ls
-  links_more h PNoLink p = tt
-  links_more h (PMoreLinks l ls) p = (link_more h l p.0, links_more h ls p.1)
+  pub links_kept : {c d : ℕ} → c ≤ d → (ls : PlainLinks) → LinksNames c ls → LinksNames d ls
+  links_kept h PNoLink p = tt
+  links_kept h (PMoreLinks l ls) p = (link_kept h l p.0, links_kept h ls p.1)
 
 pub record TypeFits (deep : ℕ) (i : Input) (t : PlainWritten) (m : Input) : Type 0 where
   pub read : Reads i m
@@ -119,15 +119,15 @@ no_links deep h i = record { read = stays i; names = tt; size = omega arith; dep
 -- a part and more of its kind
 pub joined_or_fits : {d e : ℕ} {i m n : Input} (at : Place) (x : PlainExpr) (xs : List PlainExpr) → 1 + d ≤ e → ExprFits d i x m → ExprsFit e m xs n → ExprFits e i (joined_or at x xs) n
 unfolding ExprNames ExprsNames expr_size exprs_size expr_depth exprs_depth
-joined_or_fits at x [] h s t = record { read = then s.read t.read; names = expr_more t.read.more x s.names; size = omega arith; depth = omega arith }
-joined_or_fits at x (y ∷ ys) h s t = record { read = then s.read t.read; names = (expr_more t.read.more x s.names, t.names); size = omega arith; depth = above _ _ _ (omega arith) (omega arith) }
+joined_or_fits at x [] h s t = record { read = reads_on s.read t.read; names = expr_kept t.read.more x s.names; size = omega arith; depth = omega arith }
+joined_or_fits at x (y ∷ ys) h s t = record { read = reads_on s.read t.read; names = (expr_kept t.read.more x s.names, t.names); size = omega arith; depth = above _ _ _ (omega arith) (omega arith) }
 
 pub joined_and_fits : {d e : ℕ} {i m n : Input} (at : Place) (x : PlainExpr) (xs : List PlainExpr) → 1 + d ≤ e → ExprFits d i x m → ExprsFit e m xs n → ExprFits e i (joined_and at x xs) n
 unfolding ExprNames ExprsNames expr_size exprs_size expr_depth exprs_depth
-joined_and_fits at x [] h s t = record { read = then s.read t.read; names = expr_more t.read.more x s.names; size = omega arith; depth = omega arith }
-joined_and_fits at x (y ∷ ys) h s t = record { read = then s.read t.read; names = (expr_more t.read.more x s.names, t.names); size = omega arith; depth = above _ _ _ (omega arith) (omega arith) }
+joined_and_fits at x [] h s t = record { read = reads_on s.read t.read; names = expr_kept t.read.more x s.names; size = omega arith; depth = omega arith }
+joined_and_fits at x (y ∷ ys) h s t = record { read = reads_on s.read t.read; names = (expr_kept t.read.more x s.names, t.names); size = omega arith; depth = above _ _ _ (omega arith) (omega arith) }
 
 pub chained_fits : {d e : ℕ} {i m n : Input} (at : Place) (x : PlainExpr) (ls : List PlainLink) → 1 + d ≤ e → ExprFits d i x m → LinksFit e m ls n → ExprFits e i (chained at x ls) n
 unfolding ExprNames LinksNames expr_size links_size expr_depth links_depth
-chained_fits at x [] h s t = record { read = then s.read t.read; names = expr_more t.read.more x s.names; size = omega arith; depth = omega arith }
-chained_fits at x (l ∷ ls) h s t = record { read = then s.read t.read; names = (expr_more t.read.more x s.names, t.names); size = omega arith; depth = above _ _ _ (omega arith) (omega arith) }
+chained_fits at x [] h s t = record { read = reads_on s.read t.read; names = expr_kept t.read.more x s.names; size = omega arith; depth = omega arith }
+chained_fits at x (l ∷ ls) h s t = record { read = reads_on s.read t.read; names = (expr_kept t.read.more x s.names, t.names); size = omega arith; depth = above _ _ _ (omega arith) (omega arith) }

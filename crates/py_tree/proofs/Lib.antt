@@ -11,4 +11,7 @@ pub mod OneProgram
 pub mod Taken
 pub mod Fits
 pub mod ExpressionsFit
+pub mod TypesFit
+pub mod StatementFits
+pub mod StatementsFit
 mod ClassRuleExamples

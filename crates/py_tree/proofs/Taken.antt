@@ -43,8 +43,8 @@ pub record Takes (i : Input) : Type 0 where
 pub stays : (i : Input) → Reads i i
 stays i = record { others = []; front = sym (append-nil i.names); few = omega arith; more = omega arith; less = omega arith }
 
-pub then : {i m n : Input} → Reads i m → Reads m n → Reads i n
-then {i = i} r s = record { others = r.others ++ s.others; front = s.front ∙ ap (λ (ns : List (List ℕ)). ns ++ s.others) r.front ∙ append_assoc i.names r.others s.others; few = omega arith; more = omega arith; less = omega arith }
+pub reads_on : {i m n : Input} → Reads i m → Reads m n → Reads i n
+reads_on {i = i} r s = record { others = r.others ++ s.others; front = s.front ∙ ap (λ (ns : List (List ℕ)). ns ++ s.others) r.front ∙ append_assoc i.names r.others s.others; few = omega arith; more = omega arith; less = omega arith }
 
 tested : (a b : ℕ) → nat_lt a b ≡ true → a < b
 tested a b h = grind (arith, nat_tests)
