@@ -1,15 +1,14 @@
 -- What is read fits what was there to read: its names are numbered, it has two nodes at most for each token, and it is no deeper
 -- than the levels allow.
-use Rattle.std.proofs.Common.{◌≡◌, ◌<◌, ◌≤◌, ◌+◌, ◌*◌, ◌-◌, ℕ, zero, suc, List, [], ◌∷◌, ◌++◌, length, refl, ap, arith}
-use Rattle.std.specs.Prelude.{max, IfSome, Some, None}
-use Rattle.std.specs.declared.option.Option.{Option}
+use Rattle.std.proofs.Common.{◌≡◌, ◌<◌, ◌≤◌, ◌+◌, ◌*◌, ◌-◌, ℕ, zero, suc, List, [], ◌∷◌, length, ap, arith}
+use Rattle.std.specs.Prelude.{max}
 use Rattle.std.proofs.Math.Nat.{max-le}
 use Rattle.py_tree.specs.declared.names.Place.{Place}
 use Rattle.py_tree.specs.PlainTypes.{PlainWritten, WInt, WBool, WStr, WNil, WList, WOptional, WEntity}
 use Rattle.py_tree.specs.PlainExpressions.{PlainExpr, PInt, PBool, PStr, PNil, PVar, PSelf, PAttr, PCall, PApply, PIndex, PList, PNeg, PPos, PNot, PChain, PAnd, POr, PCompare, PIsNone, PCond, PlainExprs, PNoExpr, PExpr, PlainLink, PLink, PlainLinks, PNoLink, PMoreLinks, exprs_of, links_of}
 use Rattle.py_tree.specs.ExpressionGrammar.{joined_or, joined_and, chained}
 use Rattle.py_tree.specs.Reading.{Input}
-use Rattle.py_tree.specs.Bounded.{nesting, expr_size, exprs_size, link_size, links_size, expr_depth, exprs_depth, link_depth, links_depth, TypeNames, ExprNames, ExprsNames, LinkNames, LinksNames}
+use Rattle.py_tree.specs.Bounded.{nesting, expr_size, exprs_size, links_size, expr_depth, exprs_depth, links_depth, TypeNames, ExprNames, ExprsNames, LinkNames, LinksNames}
 use Rattle.py_tree.proofs.Taken.{tokens_left, Reads, reads_on, stays}
 
 -- how deep an atom can be where so many levels are left; its dots and indices take one each, and those of a part that a bracket
@@ -51,6 +50,7 @@ type_kept h (WEntity at class) p = omega arith
 
 mutual
   unfolding ExprNames ExprsNames LinkNames LinksNames
+
   pub expr_kept : {c d : ℕ} → c ≤ d → (x : PlainExpr) → ExprNames c x → ExprNames d x
   expr_kept h (PInt at n) p = tt
   expr_kept h (PBool at b) p = tt

@@ -14,4 +14,6 @@ pub mod ExpressionsFit
 pub mod TypesFit
 pub mod StatementFits
 pub mod StatementsFit
+pub mod ProgramFits
 mod ClassRuleExamples
+mod BoundedExamples

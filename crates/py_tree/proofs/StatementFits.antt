@@ -1,5 +1,5 @@
 -- What it is for a statement and its parts to fit what was there to read.
-use Rattle.std.proofs.Common.{◌≡◌, ◌<◌, ◌≤◌, ◌+◌, ◌*◌, ℕ, List, [], ◌∷◌, ◌++◌, length, refl, arith}
+use Rattle.std.proofs.Common.{◌≡◌, ◌≤◌, ◌+◌, ◌*◌, ℕ, List, [], ◌∷◌, ◌++◌, length, arith}
 use Rattle.std.specs.Prelude.{max, IfSome, Some, None, drop, if◌then◌else◌, Bool, true, false}
 use Rattle.std.specs.declared.option.Option.{Option}
 use Rattle.std.proofs.Math.Nat.{max-le, le-max_left, le-max_right}
@@ -9,7 +9,7 @@ use Rattle.py_tree.specs.PlainTypes.{PlainWritten}
 use Rattle.py_tree.specs.PlainExpressions.{PlainExpr}
 use Rattle.py_tree.specs.PlainStatements.{PlainOver, PRange, PItems, PlainStmt, PPass, PBreak, PContinue, PDo, PReturn, PRaise, PAssert, PAssign, PAugment, PIf, PWhile, PFor, PlainStmts, PNoStmt, PStmt, PlainArm, PArm, PlainArms, PNoArm, PMoreArms, stmts_of, arms_of}
 use Rattle.py_tree.specs.Reading.{Input}
-use Rattle.py_tree.specs.Bounded.{of_option, over_size, over_depth, OverNames, target_name, stmt_size, stmts_size, arm_size, arms_size, stmt_depth, stmts_depth, arm_depth, arms_depth, ExprNames, TypeNames, StmtNames, StmtsNames, ArmNames, ArmsNames, EachStmt, EachOfStmts, EachOfArm, EachOfArms, RaisesFailure, DeclaresFlat, nesting_limit, expr_size, expr_depth}
+use Rattle.py_tree.specs.Bounded.{of_option, over_size, over_depth, OverNames, stmt_size, stmts_size, arm_size, arms_size, stmt_depth, stmts_depth, arm_depth, arms_depth, ExprNames, TypeNames, StmtNames, StmtsNames, ArmNames, ArmsNames, EachStmt, EachOfStmts, EachOfArm, EachOfArms, RaisesFailure, DeclaresFlat, nesting_limit, expr_size, expr_depth}
 use Rattle.py_tree.proofs.Taken.{tokens_left, Reads, reads_on, stays}
 use Rattle.py_tree.proofs.Fits.{type_kept, expr_kept}
 
@@ -27,6 +27,7 @@ over_kept h (PItems items) p = expr_kept h items p
 
 mutual
   unfolding StmtNames StmtsNames ArmNames ArmsNames
+
   pub stmt_kept : {c d : ℕ} → c ≤ d → (x : PlainStmt) → StmtNames c x → StmtNames d x
   stmt_kept h (PPass at) p = tt
   stmt_kept h (PBreak at) p = tt

@@ -1,6 +1,6 @@
 -- What reading takes: tokens go, each name that comes takes one, and the names before stay in front.
-use Rattle.std.proofs.Common.{◌≡◌, ◌<◌, ◌≤◌, ◌+◌, ℕ, suc, zero, Bool, true, false, cond, Option, Some, None, List, [], ◌∷◌, ◌++◌, length, refl, sym, ap, ◌∙◌, subst, arith, length-append, append_assoc}
-use Rattle.std.specs.Prelude.{is_some, not, nat_lt, ◌&&◌, unwrap_or, bytes_eq, position}
+use Rattle.std.proofs.Common.{◌≡◌, ◌<◌, ◌≤◌, ◌+◌, ℕ, Bool, true, false, cond, Some, None, List, [], ◌∷◌, ◌++◌, length, refl, sym, ap, ◌∙◌, arith, length-append, append_assoc}
+use Rattle.std.specs.Prelude.{is_some, not, nat_lt, ◌&&◌, unwrap_or, bytes_eq}
 use Rattle.std.specs.List.{prefix_len}
 use Rattle.std.proofs.lemmas.Bool.Decides.{nat_tests}
 use Rattle.std.proofs.lemmas.List.{append-nil}
@@ -20,11 +20,16 @@ use Rattle.py_tree.specs.NameTable.{place_of, with_name}
 use Rattle.py_tree.specs.Tokens.{PlainToken, PlainLine}
 use Rattle.py_tree.specs.Terminals.{spelling, is_name}
 use Rattle.py_tree.specs.Bounded.{tokens_of}
-use Rattle.py_tree.specs.Reading.{Input, next, named, texted, next_line, other_tokens, first_token, other_lines, first_of_lines, sees, sees_name, sees_int, sees_str, number_of, name_number, text_number, text_of, comparison, addition, multiplication, augmentation, failure_kind, atom_start, type_start, simple_start, begins_local, begins_field, begins_range, assigns}
+use Rattle.py_tree.specs.Reading.{Input, next, named, texted, next_line, other_tokens, first_token, other_lines, first_of_lines, sees, sees_name, sees_int, sees_str, number_of, name_number, text_number, text_of, comparison, addition, multiplication, augmentation, failure_kind, atom_start, type_start, simple_start, begins_local, begins_field, assigns}
 
 -- the tokens that are left, of this line and of the lines behind it
 pub tokens_left : Input → ℕ
 tokens_left i = length i.tokens + tokens_of i.lines
+
+-- where no token is left of the line
+pub left_of_lines : (behind : Place) (lines : List PlainLine) (names : List (List ℕ)) → tokens_left (record { tokens = []; behind = behind; lines = lines; names = names }) ≡ tokens_of lines
+unfolding tokens_left
+left_of_lines behind lines names = omega arith
 
 -- from one place to a later one
 pub record Reads (i m : Input) : Type 0 where

@@ -1,15 +1,14 @@
 -- Types that are read fit what was there to read.
-use Rattle.std.proofs.Common.{◌≡◌, ◌<◌, ◌≤◌, ◌+◌, ◌-◌, ℕ, length, refl, arith}
-use Rattle.std.specs.Prelude.{IfSome, Some, None}
+use Rattle.std.proofs.Common.{◌≤◌, ◌+◌, ℕ, length, refl, arith}
+use Rattle.std.specs.Prelude.{IfSome}
 use Rattle.std.specs.declared.option.Option.{Option}
 use Rattle.py_tree.specs.declared.terminal.Terminal.{Terminal}
-use Rattle.py_tree.specs.declared.terminal.Terminal.TheVariants as k
 use Rattle.py_tree.specs.declared.starts.TypeStart.TheVariants as type
 use Rattle.py_tree.specs.PlainTypes.{PlainWritten}
-use Rattle.py_tree.specs.Reading.{Input, found, next, named, texted}
+use Rattle.py_tree.specs.Reading.{Input, found}
 use Rattle.py_tree.specs.TypeGrammar.{IsType, IsInner, IsAnnotation, type_int, type_bool, type_str, type_nil, type_list, type_optional, type_name, type_quoted, inner_is, annotation_none, annotation_is}
 use Rattle.py_tree.specs.Bounded.{nesting, TypeNames}
-use Rattle.py_tree.proofs.Taken.{Reads, reads_on, stays, passed, passed_name, passed_text, name_stands, text_stands, taken, taken_type}
+use Rattle.py_tree.proofs.Taken.{Reads, reads_on, stays, passed, passed_name, passed_text, name_stands, text_stands, taken_type}
 use Rattle.py_tree.proofs.Fits.{type_kept, TypeFits}
 
 -- a type that may stand there
@@ -26,6 +25,7 @@ pub record InnerFits (deep : ℕ) (i : Input) (t : PlainWritten) (m : Input) : T
 
 mutual
   unfolding nesting TypeNames
+
   pub type_fits : {n : ℕ} {i : Input} {t : PlainWritten} {m : Input} → IsType n i (found t m) → TypeFits n i t m
   type_fits (type_int {i = i} _) = record { read = passed i; names = tt; flat = omega arith }
   type_fits (type_bool {i = i} _) = record { read = passed i; names = tt; flat = omega arith }
