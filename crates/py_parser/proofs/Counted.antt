@@ -5,7 +5,7 @@ use Rattle.py_tree.specs.PlainProgram.{PlainProgram}
 use Rattle.py_tree.specs.Tokens.{PlainToken}
 use Rattle.py_tree.specs.Bounded.{tokens_of, IsBounded, HasReserved}
 use Rattle.py_tree.specs.Grammar.{IsProgram, has_tree}
-use Rattle.py_tree.proofs.ProgramFits.{program_fits}
+use Rattle.py_tree.proofs.ProgramsFit.{program_fits}
 use Rattle.py_lexer.specs.declared.token.Token.{Token}
 use Rattle.py_lexer.specs.declared.token.Line.{Line}
 use Rattle.py_lexer.specs.Spans.{Rise, LinesRise, risen, rise, lines_risen, lines_rise}

@@ -9,7 +9,7 @@ use Rattle.py_tree.specs.Reading.{Input, found, next, named, here}
 use Rattle.py_tree.specs.ExpressionGrammar.{IsWhole, IsOr, IsOrs, IsAnd, IsAnds, IsNot, IsCompare, IsSum, IsSums, IsTerm, IsTerms, IsUnary, IsPostfix, IsTails, IsEnclosed, IsArgs, IsMore, IsAtom, IsGroup, IsNamed, whole_plain, whole_cond, or_is, ors_end, ors_more, and_is, ands_end, ands_more, not_is, not_as, compare_plain, compare_by, compare_is_none, compare_is_not_none, sum_is, sums_end, sums_more, term_is, terms_end, terms_more, unary_minus, unary_plus, unary_as, postfix_is, tails_end, tails_dot, tails_call, tails_index, enclosed_is, args_none, args_is, more_end, more_comma, more_is, atom_name, atom_int, atom_str, atom_true, atom_false, atom_nil, atom_group, atom_list, group_is, named_call, named_self, named_var}
 use Rattle.py_tree.specs.Bounded.{expr_size, exprs_size, link_size, links_size, expr_depth, exprs_depth, link_depth, links_depth, ExprNames, ExprsNames, LinkNames, LinksNames}
 use Rattle.py_tree.proofs.Taken.{tokens_left, Reads, Takes, reads_on, stays, passed, passed_name, passed_text, name_stands, text_stands, taken, taken_name, taken_comparison, taken_addition, taken_multiplication, taken_atom}
-use Rattle.py_tree.proofs.Fits.{atom_depth, leaf_depth, deeper, above, above_by, expr_kept, exprs_kept, ExprFits, ExprsFit, LinksFit, no_exprs, no_links, joined_or_fits, joined_and_fits, chained_fits}
+use Rattle.py_tree.proofs.ExpressionBounds.{atom_depth, leaf_depth, deeper, above, above_by, expr_kept, exprs_kept, ExprFits, ExprsFit, LinksFit, no_exprs, no_links, joined_or_fits, joined_and_fits, chained_fits}
 
 -- expressions within brackets
 pub record EnclosedFit (deep : ℕ) (i : Input) (xs : List PlainExpr) (m : Input) : Type 0 where

@@ -9,11 +9,11 @@ pub mod OneType
 pub mod OneStatement
 pub mod OneProgram
 pub mod Taken
-pub mod Fits
+pub mod ExpressionBounds
 pub mod ExpressionsFit
 pub mod TypesFit
-pub mod StatementFits
+pub mod StatementBounds
 pub mod StatementsFit
-pub mod ProgramFits
+pub mod ProgramsFit
 mod ClassRuleExamples
 mod BoundedExamples

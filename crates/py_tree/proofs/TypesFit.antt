@@ -9,7 +9,7 @@ use Rattle.py_tree.specs.Reading.{Input, found}
 use Rattle.py_tree.specs.TypeGrammar.{IsType, IsInner, IsAnnotation, type_int, type_bool, type_str, type_nil, type_list, type_optional, type_name, type_quoted, inner_is, annotation_none, annotation_is}
 use Rattle.py_tree.specs.Bounded.{nesting, TypeNames}
 use Rattle.py_tree.proofs.Taken.{Reads, reads_on, stays, passed, passed_name, passed_text, name_stands, text_stands, taken_type}
-use Rattle.py_tree.proofs.Fits.{type_kept, TypeFits}
+use Rattle.py_tree.proofs.ExpressionBounds.{type_kept, TypeFits}
 
 -- a type that may stand there
 pub record AnnotationFits (deep : ℕ) (i : Input) (t : Option PlainWritten) (m : Input) : Type 0 where

@@ -1,4 +1,4 @@
-use Rattle.py_tree.proofs.ProgramFits.{program_fits}
+use Rattle.py_tree.proofs.ProgramsFit.{program_fits}
 use Rattle.py_tree.proofs.laws.has_bounded_program.Goals as goal
 
 pub returns : goal.returns

@@ -11,7 +11,7 @@ use Rattle.py_tree.specs.PlainStatements.{PlainOver, PRange, PItems, PlainStmt, 
 use Rattle.py_tree.specs.Reading.{Input}
 use Rattle.py_tree.specs.Bounded.{of_option, over_size, over_depth, OverNames, stmt_size, stmts_size, arm_size, arms_size, stmt_depth, stmts_depth, arm_depth, arms_depth, ExprNames, TypeNames, StmtNames, StmtsNames, ArmNames, ArmsNames, EachStmt, EachOfStmts, EachOfArm, EachOfArms, RaisesFailure, DeclaresFlat, nesting_limit, expr_size, expr_depth}
 use Rattle.py_tree.proofs.Taken.{tokens_left, Reads, reads_on, stays}
-use Rattle.py_tree.proofs.Fits.{type_kept, expr_kept}
+use Rattle.py_tree.proofs.ExpressionBounds.{type_kept, expr_kept}
 
 pub written_kept : {c d : ℕ} → c ≤ d → (t : Option PlainWritten) → IfSome t (TypeNames c) → IfSome t (TypeNames d)
 written_kept h None p = tt

@@ -14,9 +14,9 @@ use Rattle.py_tree.specs.Reading.{Input, found, Nothing, next, next_line, placed
 use Rattle.py_tree.specs.Grammar.{begins_with_string, IsParams, IsMarker, IsSignature, IsDef, IsMethod, IsMethods, IsMembers, IsBrackets, IsHead, IsClass, IsMoreNames, IsNames, IsImported, IsLineEnd, IsImportFrom, IsImport, IsItems, IsFile, params_end, params_last, params_more, marker_plain, marker_long, signature_is, def_is, method_marked, method_plain, methods_end, methods_more, members_plain, members_doc, brackets_none, brackets_is, head_is, class_is, more_names_end, more_names_more, more_names_last, names_is, imported_plain, imported_enclosed, line_end_is, import_from_is, import_from, import_whole, items_end, items_import, items_class, file_doc, file_plain, IsProgram, has_tree, program_is}
 use Rattle.py_tree.specs.Bounded.{IsBoundedParam, IsBoundedMethod, IsBoundedClass, IsBounded, HasReserved, nesting, tokens_of}
 use Rattle.py_tree.proofs.Taken.{tokens_left, left_of_lines, Reads, reads_on, stays, passed, passed_name, begun, name_stands, taken_name}
-use Rattle.py_tree.proofs.Fits.{shallow}
+use Rattle.py_tree.proofs.ExpressionBounds.{shallow}
 use Rattle.py_tree.proofs.TypesFit.{annotation_fits}
-use Rattle.py_tree.proofs.StatementFits.{written_kept, stmts_kept, fewer_stmts}
+use Rattle.py_tree.proofs.StatementBounds.{written_kept, stmts_kept, fewer_stmts}
 use Rattle.py_tree.proofs.StatementsFit.{body_fits}
 
 param_kept : {c d : ℕ} → c ≤ d → (p : PlainParam) → IsBoundedParam c p → IsBoundedParam d p
