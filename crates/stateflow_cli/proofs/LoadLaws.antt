@@ -5,7 +5,6 @@ use Rattle.std.proofs.lemmas.List.{take_all, length-take, length-take-le, length
 use Rattle.std.specs.declared.option.Option.{Option}
 use Rattle.std.specs.declared.result.Result.{Result}
 use Rattle.sf_outside.specs.Bytes.{ReadsAt}
-use Rattle.py_tree.specs.declared.names.Place.{Place}
 use Rattle.std.specs.Prelude.{◌↔◌, IsTrue}
 use Rattle.py_tree.specs.Tokens.{PlainLine}
 use Rattle.py_tree.specs.PlainProgram.{PlainProgram}
@@ -15,7 +14,7 @@ use Rattle.py_lexer.specs.declared.fault.LexFault.{LexFault}
 use Rattle.py_lexer.specs.declared.fault.LexError.{LexError}
 use Rattle.py_lexer.specs.declared.fault.LexError.TheVariants as lex
 use Rattle.py_lexer.specs.declared.token.Line.{Line}
-use Rattle.py_lexer.specs.LogicalLines.{Lexed, has_lines, has_fault, IsText, text_too_long, text_stops, text_lines}
+use Rattle.py_lexer.specs.LogicalLines.{has_lines, has_fault, IsText, text_too_long, text_stops, text_lines}
 use Rattle.py_lexer.specs.Views.{Lexes, plain_line}
 use Rattle.py_parser.specs.declared.program.Parsed.{Parsed}
 use Rattle.py_parser.specs.declared.syntax_error.SyntaxError.{SyntaxError}

@@ -1,5 +1,5 @@
 -- A text is a program of today with one tree, or has one fault.
-use Rattle.std.proofs.Common.{◌≡◌, ℕ, List, refl, sym, ap, subst, ◌∙◌}
+use Rattle.std.proofs.Common.{◌≡◌, ℕ, List, refl, ap, subst}
 use Rattle.py_tree.specs.declared.fault.SyntaxFault.{SyntaxFault}
 use Rattle.py_tree.specs.Tokens.{PlainLine}
 use Rattle.py_tree.specs.PlainProgram.{PlainProgram}

@@ -71,7 +71,14 @@ fn longest_input_is_served_and_a_longer_one_told(rt: HostRuntime) -> Result<(), 
         (LONGEST_INPUT + 1, 9, b"stateflow: input too long\n"),
     ] {
         let mut input = LineEnds { left };
-        let answer = run_text(rt.alloc(), "counter.py", "1", COUNTER, &mut input, NO_FAULTS)?;
+        let answer = run_text(
+            rt.alloc(),
+            "counter.py",
+            "1",
+            COUNTER,
+            &mut input,
+            NO_FAULTS,
+        )?;
         assert_eq!(rt; answer.status, status, "at {left}");
         assert_eq!(rt; input.left, 0);
         assert_eq!(rt; answer.out.bytes(), b"".as_slice());

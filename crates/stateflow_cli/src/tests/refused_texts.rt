@@ -17,7 +17,10 @@ fn line_less_deep_than_its_suite_is_a_bad_dedent(rt: HostRuntime) -> Result<(), 
     let text = b"@entity\nclass L:\n    def f(self) -> None:\n        pass\n      pass\n";
     let (status, line) = said(rt.alloc(), "bad.py", text)?;
     assert_eq!(rt; status, 1);
-    assert_eq!(rt; line.as_slice(), b"stateflow: bad.py:5:7: BadDedent\n".as_slice());
+    assert_eq!(rt;
+        line.as_slice(),
+        b"stateflow: bad.py:5:7: BadDedent\n".as_slice()
+    );
     Ok(())
 }
 
@@ -48,7 +51,10 @@ fn each_lexical_fault_is_told_by_its_name(rt: HostRuntime) -> Result<(), Fail> {
 #[test]
 fn each_syntax_fault_is_told_by_its_name(rt: HostRuntime) -> Result<(), Fail> {
     let rows: [(&[u8], &[u8]); 4] = [
-        (b"import stateflow;\n", b"stateflow: b.py:1:17: Unexpected\n"),
+        (
+            b"import stateflow;\n",
+            b"stateflow: b.py:1:17: Unexpected\n",
+        ),
         (b"  try\n", b"stateflow: b.py:1:3: LeftOut\n"),
         (
             b"@entity\nclass A:\n  def f(self) -> int:\n    return ((((((((((((((((((((((((((((((((((((((((((((((((((((((((((((((((1))))))))))))))))))))))))))))))))))))))))))))))))))))))))))))))))\n",
@@ -80,7 +86,10 @@ fn programs_that_are_not_run_today_are_unsupported(rt: HostRuntime) -> Result<()
     for text in &rows {
         let (status, line) = said(rt.alloc(), "c.py", text)?;
         assert_eq!(rt; status, 1);
-        assert_eq!(rt; line.as_slice(), b"stateflow: c.py:1:1: Unsupported\n".as_slice());
+        assert_eq!(rt;
+            line.as_slice(),
+            b"stateflow: c.py:1:1: Unsupported\n".as_slice()
+        );
     }
     Ok(())
 }

@@ -107,9 +107,11 @@ fn is_told_each_way(alloc: Global, token: &Token) -> Result<bool, AllocError> {
     let mut twice = Vec::from_slice(alloc, own)?;
     twice.push(b' ')?;
     twice.extend_from_slice(own)?;
-    Ok(is_told(alloc, token, b" ")?
-        && is_told(alloc, token, twice.as_slice())?
-        && is_told(alloc, token, b" else ")?)
+    Ok(
+        is_told(alloc, token, b" ")?
+            && is_told(alloc, token, twice.as_slice())?
+            && is_told(alloc, token, b" else ")?,
+    )
 }
 
 /// How many tokens stand on these lines of the program, if each is told.

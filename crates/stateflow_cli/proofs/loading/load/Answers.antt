@@ -1,7 +1,6 @@
-use Rattle.std.proofs.Common.{◌∙◌, ap, sym, subst, Err}
-use Rattle.std.proofs.lemmas.Result.{err_from_is_err_and}
+use Rattle.std.proofs.Common.{sym, subst}
 use Rattle.stateflow_cli.specs.Loading.{MayBegin}
-use Rattle.stateflow_cli.proofs.LoadLaws.{gives, gives_none}
+use Rattle.stateflow_cli.proofs.LoadLaws.{gives}
 use Rattle.stateflow_cli.proofs.loading.load.Goals as goal
 
 pub returns-clause-gives : goal.returns-clause-gives
