@@ -32,7 +32,7 @@ Gives Is (Err errors.NoMemory) = Unit {0}
 
 -- what stands past the last token
 abbrev pub nothing : Token
-nothing = record { kind = k.End; name = record { 0 = 0 }; value = pos 0; place = record { line = 0; col = 0 } }
+nothing = record { kind = k.Other; name = record { 0 = 0 }; value = pos 0; place = record { line = 0; col = 0 } }
 
 -- the token with so many before it
 unfoldable pub token : ℕ → List Token → Token

@@ -28,7 +28,7 @@ code k.Equals = 20
 code k.Plus = 21
 code k.Minus = 22
 code k.Arrow = 23
-code k.End = 24
+code k.Other = 24
 
 -- the words that may be names
 abbrev pub is_name : Kind → Bool

@@ -1,9 +1,7 @@
+pub mod FirstPath
 pub mod Input
 pub mod Kinds
-pub mod Lexed
 pub mod Reads
 pub mod SmallGrammar
-pub mod SmallProgram
 pub mod SmallRules
 pub mod SmallTokens
-pub mod SmallTrees

@@ -1,10 +1,10 @@
-//! Why a text has no small program.
+//! Why lines are no small class.
 
 use std::alloc::AllocError;
 
 #[derive(Clone, Copy, PartialEq, Eq, Debug)]
 pub enum SmallError {
-    /// The text isn't a small program.
+    /// The lines aren't a small class.
     Unsupported,
     NoMemory,
 }

@@ -5,15 +5,13 @@
 //! once, from the left, and the next token decides; recursion is bounded by the 64 levels.
 #![tactic(auto)]
 
-mod build;
 mod check;
 mod class;
 mod classes;
 mod expressions;
 mod fault;
+mod first_path;
 mod input;
-mod keywords;
-mod lex;
 mod lines;
 mod looking;
 mod names;
@@ -21,21 +19,18 @@ mod numbering;
 mod program;
 mod reader;
 mod reserved;
-mod scanner;
 mod simple_statements;
 mod small;
-mod small_parse;
-#[cfg(test)]
-mod small_tests;
+mod small_tokens;
 mod spelling;
 mod statements;
 mod syntax_error;
+#[cfg(test)]
+mod tests;
 mod token;
 mod tokens;
 mod types;
-mod words;
 
-pub use fault::SmallError;
+pub use first_path::is_first_path;
 pub use program::{Parsed, parse};
-pub use small_parse::{has_one_tree, parse_small};
 pub use syntax_error::SyntaxError;

@@ -149,7 +149,7 @@ pub fn is_spelt(bytes: &[u8], terminal: Terminal) -> bool
 }
 
 /// The bytes of a token.
-fn bytes_of<'a>(text: &'a [u8], token: &Token) -> &'a [u8]
+pub fn bytes_of<'a>(text: &'a [u8], token: &Token) -> &'a [u8]
     requires { IsOf text.now token.now }
     ensures bytes { result.now ≡ views.bytes_of text.now token.now }
     ensures size { length result.now + token.now.start ≡ token.now.end }

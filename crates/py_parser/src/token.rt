@@ -1,4 +1,4 @@
-//! Tokens and the lines that they stand on.
+//! Tokens of small programs, and the lines that they stand on.
 
 ghost use Rattle.std.specs.Prelude.{◌≡◌};
 ghost use Rattle.py_parser.specs.Kinds as spec;
@@ -33,8 +33,8 @@ pub enum Kind {
     Plus,
     Minus,
     Arrow,
-    /// What stands past the last token of a line.
-    End,
+    /// What no small program has, and what stands past the last token of a line.
+    Other,
 }
 
 impl Kind {
@@ -66,7 +66,7 @@ impl Kind {
             Kind::Plus => 21,
             Kind::Minus => 22,
             Kind::Arrow => 23,
-            Kind::End => 24,
+            Kind::Other => 24,
         }
     }
 

@@ -68,14 +68,14 @@ impl<'a> Tokens<'a> {
         are(self.rest, kinds)
     }
 
-    /// The token with `n` before it. Past the last it is of the kind `End`.
+    /// The token with `n` before it. Past the last it is of the kind `Other`.
     pub fn token(&self, n: usize) -> Token
         ensures { result ≡ spec.token n self.now }
     {
         match self.rest.get(n) {
             Some(token) => *token,
             None => Token {
-                kind: Kind::End,
+                kind: Kind::Other,
                 name: Name(0),
                 value: 0,
                 place: Place { line: 0, col: 0 },

@@ -6,21 +6,22 @@ use Rattle.std.specs.Io.KnownBytes.{Consumes, IsAtEnd}
 use Rattle.sf_outside.specs.Causes.{Rose}
 use Rattle.sf_outside.specs.declared.gains.WriteStop.TheVariants as stop
 use Rattle.py_tree.specs.PlainProgram.{PlainProgram}
-use Rattle.py_parser.specs.SmallProgram.{IsSmall}
 use Rattle.session.specs.declared.feeding.InputEnd.{InputEnd}
 use Rattle.session.specs.declared.feeding.InputEnd.TheVariants as input
 use Rattle.session.specs.Served.{Answered, AnsweredOver}
 use Rattle.session.proofs.SerialOutputLaws.{Served-serial}
 use Rattle.source_meaning.specs.ClassTables.{Source}
 use Rattle.request_json.specs.Actions.{all_lines}
+use Rattle.stateflow_cli.proofs.OneReading.{no_fault}
 use Rattle.stateflow_cli.specs.Devices.{Devices, Untouched}
-use Rattle.stateflow_cli.specs.Loading.{MayHold, Refuses, source_in}
+use Rattle.stateflow_cli.specs.Loading.{MayHold, Refuses, IsProgramText, source_in}
 use Rattle.stateflow_cli.specs.Endings.{EndsOn, Ends}
 use Rattle.stateflow_cli.specs.StatusLines.{status_of, line_of}
 use Rattle.stateflow_cli.specs.Telling.{Told, Whole, Part}
 use Rattle.stateflow_cli.specs.Answers.{Answers, Completes, PrintsSerially, IsRefused, FileRose, IsLonger, IsWithin, HasCauses, IsUndisturbed, RunsOut}
 use Rattle.stateflow_cli.specs.declared.ending.Ending.{Ending}
-use Rattle.stateflow_cli.specs.declared.ending.Ending.TheVariants.{Misused, Unsupported, FileFault, NoMemory, Served, Stopped}
+use Rattle.stateflow_cli.specs.declared.fault.TextFault.{TextFault}
+use Rattle.stateflow_cli.specs.declared.ending.Ending.TheVariants.{Misused, Refused, FileFault, NoMemory, Served, Stopped}
 
 -- a status other than that of a write fault is the ending's own
 own_status : (line : List ℕ) (own : ℕ) (said said' : Option (List ℕ)) (errors errors' status n : ℕ) → Told line own said said' errors errors' status → status ≡ n → (4 ≡ n → ⊥) → own ≡ n
@@ -48,7 +49,7 @@ module _ (limit : ℕ) (before after : Devices) where
   completes : (asked : Option (List ℕ)) (e : Ending) → Ends limit asked before after e → status_of e ≡ 0 → Completes limit asked before after
   completes None e ends s = absurd (omega (arith, ap status_of ends.0, s))
   completes (Some file) Misused ends s = absurd (omega (arith, s))
-  completes (Some file) Unsupported ends s = absurd (omega (arith, s))
+  completes (Some file) (Refused f) ends s = absurd (omega (arith, s))
   completes (Some file) FileFault ends s = absurd (omega (arith, s))
   completes (Some file) NoMemory ends s = absurd (omega (arith, s))
   completes (Some file) (Served input.End) ends s = ends
@@ -60,7 +61,7 @@ module _ (limit : ℕ) (before after : Devices) where
   input_within : (asked : Option (List ℕ)) (e : Ending) → Ends limit asked before after e → status_of e ≡ 0 → IsWithin limit before.left
   input_within None e ends s = absurd (omega (arith, ap status_of ends.0, s))
   input_within (Some file) Misused ends s = absurd (omega (arith, s))
-  input_within (Some file) Unsupported ends s = absurd (omega (arith, s))
+  input_within (Some file) (Refused f) ends s = absurd (omega (arith, s))
   input_within (Some file) FileFault ends s = absurd (omega (arith, s))
   input_within (Some file) NoMemory ends s = absurd (omega (arith, s))
   input_within (Some file) (Served input.End) ends s = within _ limit _ _ _ _ ends.served.0 ends.served.1
@@ -72,7 +73,7 @@ module _ (limit : ℕ) (before after : Devices) where
   is_refused : (asked : Option (List ℕ)) (e : Ending) → Ends limit asked before after e → status_of e ≡ 1 → IsRefused asked before × Untouched before after
   is_refused None e ends s = absurd (omega (arith, ap status_of ends.0, s))
   is_refused (Some file) Misused ends s = absurd (omega (arith, s))
-  is_refused (Some file) Unsupported ends s = ends
+  is_refused (Some file) (Refused f) ends s = ((f, ends.0), ends.1)
   is_refused (Some file) FileFault ends s = absurd (omega (arith, s))
   is_refused (Some file) NoMemory ends s = absurd (omega (arith, s))
   is_refused (Some file) (Served input.End) ends s = absurd (omega (arith, s))
@@ -84,7 +85,7 @@ module _ (limit : ℕ) (before after : Devices) where
   is_misused : (asked : Option (List ℕ)) (e : Ending) → Ends limit asked before after e → status_of e ≡ 2 → (asked ≡ None) × Untouched before after
   is_misused None e ends s = (refl, ends.1)
   is_misused (Some file) Misused ends s = absurd ends
-  is_misused (Some file) Unsupported ends s = absurd (omega (arith, s))
+  is_misused (Some file) (Refused f) ends s = absurd (omega (arith, s))
   is_misused (Some file) FileFault ends s = absurd (omega (arith, s))
   is_misused (Some file) NoMemory ends s = absurd (omega (arith, s))
   is_misused (Some file) (Served input.End) ends s = absurd (omega (arith, s))
@@ -96,7 +97,7 @@ module _ (limit : ℕ) (before after : Devices) where
   is_unread : (asked : Option (List ℕ)) (e : Ending) → Ends limit asked before after e → status_of e ≡ 3 → FileRose asked before after ⊎ Rose before.input_faults after.input_faults
   is_unread None e ends s = absurd (omega (arith, ap status_of ends.0, s))
   is_unread (Some file) Misused ends s = absurd (omega (arith, s))
-  is_unread (Some file) Unsupported ends s = absurd (omega (arith, s))
+  is_unread (Some file) (Refused f) ends s = absurd (omega (arith, s))
   is_unread (Some file) FileFault ends s = inl ends.0
   is_unread (Some file) NoMemory ends s = absurd (omega (arith, s))
   is_unread (Some file) (Served input.End) ends s = absurd (omega (arith, s))
@@ -108,7 +109,7 @@ module _ (limit : ℕ) (before after : Devices) where
   out_rose : (asked : Option (List ℕ)) (e : Ending) → Ends limit asked before after e → status_of e ≡ 4 → Rose before.out_faults after.out_faults
   out_rose None e ends s = absurd (omega (arith, ap status_of ends.0, s))
   out_rose (Some file) Misused ends s = absurd (omega (arith, s))
-  out_rose (Some file) Unsupported ends s = absurd (omega (arith, s))
+  out_rose (Some file) (Refused f) ends s = absurd (omega (arith, s))
   out_rose (Some file) FileFault ends s = absurd (omega (arith, s))
   out_rose (Some file) NoMemory ends s = absurd (omega (arith, s))
   out_rose (Some file) (Served input.End) ends s = absurd (omega (arith, s))
@@ -120,7 +121,7 @@ module _ (limit : ℕ) (before after : Devices) where
   input_longer : (asked : Option (List ℕ)) (e : Ending) → Ends limit asked before after e → status_of e ≡ 9 → IsLonger limit before.left
   input_longer None e ends s = absurd (omega (arith, ap status_of ends.0, s))
   input_longer (Some file) Misused ends s = absurd (omega (arith, s))
-  input_longer (Some file) Unsupported ends s = absurd (omega (arith, s))
+  input_longer (Some file) (Refused f) ends s = absurd (omega (arith, s))
   input_longer (Some file) FileFault ends s = absurd (omega (arith, s))
   input_longer (Some file) NoMemory ends s = absurd (omega (arith, s))
   input_longer (Some file) (Served input.End) ends s = absurd (omega (arith, s))
@@ -133,20 +134,20 @@ module _ (limit : ℕ) (before after : Devices) where
   pub prints_serially : (asked : Option (List ℕ)) (e : Ending) → Ends limit asked before after e → PrintsSerially asked before after
   prints_serially None e ends = ends.1.held
   prints_serially (Some file) Misused ends = absurd ends
-  prints_serially (Some file) Unsupported ends = inl ends.1.held
+  prints_serially (Some file) (Refused f) ends = inl ends.1.held
   prints_serially (Some file) FileFault ends = inl ends.1.held
   prints_serially (Some file) NoMemory ends = inl ends.held
   prints_serially (Some file) (Served end) ends = inr (ends.loaded, Served-serial (source_in (before.content file) ends.loaded) limit before.left after.left before.held after.held (Ok end) ends.served)
   prints_serially (Some file) (Stopped stopped) ends = inr (ends.loaded, Served-serial (source_in (before.content file) ends.loaded) limit before.left after.left before.held after.held (Err stopped) ends.served)
 
-  -- a file that holds a small program isn't refused
-  no_refusal : (content : Option (List ℕ)) (text : List ℕ) (program : PlainProgram) (names : List (List ℕ)) → content ≡ Some text → IsSmall text program names → Refuses content → ⊥
-  no_refusal content text program names holds small r = r.refused program names (subst (λ t. IsSmall t program names) (sym (subst (λ o. MayHold o r.text) holds r.told)) small)
+  -- a file that holds a program of today isn't refused
+  no_refusal : (content : Option (List ℕ)) (text : List ℕ) (program : PlainProgram) (names : List (List ℕ)) (f : TextFault) → content ≡ Some text → IsProgramText text program names → Refuses content f → ⊥
+  no_refusal content text program names f holds is r = no_fault r.text program names f (subst (λ t. IsProgramText t program names) (sym (subst (λ o. MayHold o r.text) holds r.told)) is) r.has_fault
 
   module _ (errors errors' status : ℕ) where
     ran_out : (asked : Option (List ℕ)) → (u : IsUndisturbed asked before after errors errors') → (e : Ending) → EndsOn limit u.file before after e → status ≡ status_of e → RunsOut status
     ran_out asked u Misused ends s = absurd ends
-    ran_out asked u Unsupported ends s = absurd (no_refusal (before.content u.file) u.text u.program u.names u.holds u.small ends.0)
+    ran_out asked u (Refused f) ends s = absurd (no_refusal (before.content u.file) u.text u.program u.names f u.holds u.is_program ends.0)
     ran_out asked u FileFault ends s = absurd (u.file_still ends.0)
     ran_out asked u NoMemory ends s = inr (inl s)
     ran_out asked u (Served input.End) ends s = inl s

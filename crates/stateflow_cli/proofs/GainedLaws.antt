@@ -1,6 +1,8 @@
 -- What the error stream gained, piece after piece.
-use Rattle.std.proofs.Common.{◌≡◌, ℕ, ◌+◌, ◌≤◌, false, ◌==◌, List, [], ◌++◌, length, take, min, Ok, Err, OnOk, OnErr, refl, sym, ap, ◌∙◌, subst, append-nil, arith}
-use Rattle.std.proofs.lemmas.List.{take_at}
+use Rattle.std.proofs.Common.{◌≡◌, ℕ, ◌+◌, ◌<◌, ◌≤◌, false, ◌==◌, List, [], ◌∷◌, ◌++◌, length, map, take, drop, get_or, take-append-drop, min, Ok, Err, OnOk, OnErr, refl, sym, ap, ◌∙◌, subst, append-nil, arith}
+use Rattle.std.proofs.lemmas.List.{take_at, take_more, map-append}
+use Rattle.std.proofs.lemmas.List.Folds.{concat-append}
+use Rattle.std.specs.List.{concat}
 use Rattle.std.proofs.KnownBytes.{Appends-trans, Appends-nil, Appends-kept}
 use Rattle.std.specs.declared.option.Option.{Option}
 use Rattle.std.specs.declared.result.Result.{Result}
@@ -26,16 +28,27 @@ prefix_more a b xs ys p = (min p.0 (length xs), subst (Appends a b) (sym (take_f
 pub prefix_after : (a b c : Option (List ℕ)) (xs ys : List ℕ) → Appends a b xs → AppendsPrefix b c ys → AppendsPrefix a c (xs ++ ys)
 prefix_after a b c xs ys p q = (length xs + q.0, subst (Appends a c) (sym (take_into xs ys q.0)) (Appends-trans a b c xs (take q.0 ys) p q.1))
 
--- three pieces, written one after another, each whole or, at a fault, in part
-module _ (a b c d : Option (List ℕ)) (xs ys zs : List ℕ) where
-  pub three_whole : Appends a b xs → Appends b c ys → Appends c d zs → Appends a d (xs ++ (ys ++ zs))
-  three_whole p q r = Appends-trans a b d xs (ys ++ zs) p (Appends-trans b c d ys zs q r)
+-- pieces, written one after another
+module _ {X : Type 0} (text : X → List ℕ) (pieces : List X) (i : ℕ) (d : X) (within : i < length pieces) where
+  concat_more : concat (map text (take (i + 1) pieces)) ≡ concat (map text (take i pieces)) ++ text (get_or pieces i d)
+  concat_more =
+      ap (λ ps. concat (map text ps)) (take_more pieces i d within) ∙ ap concat (map-append text (take i pieces) (get_or pieces i d ∷ []))
+      ∙ concat-append (map text (take i pieces)) (text (get_or pieces i d) ∷ []) ∙ ap (λ l. concat (map text (take i pieces)) ++ l) (append-nil (text (get_or pieces i d)))
 
-  pub three_last : Appends a b xs → Appends b c ys → AppendsPrefix c d zs → AppendsPrefix a d (xs ++ (ys ++ zs))
-  three_last p q r = prefix_after a b d xs (ys ++ zs) p (prefix_after b c d ys zs q r)
+  concat_split : concat (map text pieces) ≡ (concat (map text (take i pieces)) ++ text (get_or pieces i d)) ++ concat (map text (drop (i + 1) pieces))
+  concat_split =
+      ap (λ ps. concat (map text ps)) (sym (take-append-drop (i + 1) pieces)) ∙ ap concat (map-append text (take (i + 1) pieces) (drop (i + 1) pieces))
+      ∙ concat-append (map text (take (i + 1) pieces)) (map text (drop (i + 1) pieces)) ∙ ap (λ l. l ++ concat (map text (drop (i + 1) pieces))) concat_more
 
-pub three_second : (a b c : Option (List ℕ)) (xs ys zs : List ℕ) → Appends a b xs → AppendsPrefix b c ys → AppendsPrefix a c (xs ++ (ys ++ zs))
-three_second a b c xs ys zs p q = prefix_after a b c xs (ys ++ zs) p (prefix_more b c ys zs q)
+  module _ (a b c : Option (List ℕ)) (so_far : Appends a b (concat (map text (take i pieces)))) where
+    -- one more, whole
+    pub one_more : Appends b c (text (get_or pieces i d)) → Appends a c (concat (map text (take (i + 1) pieces)))
+    one_more p = subst (Appends a c) (sym concat_more) (Appends-trans a b c (concat (map text (take i pieces))) (text (get_or pieces i d)) so_far p)
+
+    -- one more, in part
+    pub part_more : AppendsPrefix b c (text (get_or pieces i d)) → AppendsPrefix a c (concat (map text pieces))
+    part_more p = subst (AppendsPrefix a c) (sym concat_split)
+        (prefix_more a c (concat (map text (take i pieces)) ++ text (get_or pieces i d)) (concat (map text (drop (i + 1) pieces))) (prefix_after a b c (concat (map text (take i pieces))) (text (get_or pieces i d)) so_far p))
 
 -- what is kept after a line was written whole is a prefix of it
 pub prefix_kept : (a b c : Option (List ℕ)) (xs : List ℕ) → Appends a b xs → Keeps b c → AppendsPrefix a c xs

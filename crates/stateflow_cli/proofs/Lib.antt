@@ -1,3 +1,4 @@
 pub mod LoadLaws
+pub mod OneReading
 pub mod GainedLaws
 pub mod AnswerLaws

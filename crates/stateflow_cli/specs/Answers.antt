@@ -4,15 +4,15 @@ use Rattle.std.specs.declared.option.Option.{Option}
 use Rattle.std.specs.Io.KnownBytes.{Keeps}
 use Rattle.sf_outside.specs.Causes.{Rose}
 use Rattle.py_tree.specs.PlainProgram.{PlainProgram}
-use Rattle.py_parser.specs.SmallProgram.{IsSmall}
 use Rattle.session.specs.declared.feeding.InputEnd.TheVariants.{End}
 use Rattle.session.specs.SerialOutput.{SerialRun}
 use Rattle.stateflow_cli.specs.Devices.{Devices, Untouched}
-use Rattle.stateflow_cli.specs.Loading.{Refuses, Loaded, source_in}
+use Rattle.stateflow_cli.specs.Loading.{IsProgramText, Refuses, Loaded, source_in}
 use Rattle.stateflow_cli.specs.Endings.{Ends, Ran}
 use Rattle.stateflow_cli.specs.StatusLines.{status_of, line_of}
 use Rattle.stateflow_cli.specs.Telling.{Told}
 use Rattle.stateflow_cli.specs.declared.ending.Ending.{Ending}
+use Rattle.stateflow_cli.specs.declared.fault.TextFault.{TextFault}
 
 -- the file that was asked for, or no name
 abbrev pub file_in : Option (List ℕ) → List ℕ
@@ -35,10 +35,10 @@ abbrev pub PrintsSerially : Option (List ℕ) → Devices → Devices → Type 0
 PrintsSerially None before after = Keeps before.held after.held
 PrintsSerially (Some file) before after = Keeps before.held after.held ⊎ ((l : Loaded (before.content file)) × SerialRun (source_in (before.content file) l) before.held after.held)
 
--- the file that is asked for is not a small program
+-- the text of the file that is asked for has a fault
 abbrev pub IsRefused : Option (List ℕ) → Devices → Type 0
 IsRefused None before = ⊥
-IsRefused (Some file) before = Refuses (before.content file)
+IsRefused (Some file) before = (fault : TextFault) × Refuses (before.content file) fault
 
 -- a fault of the file that is asked for was counted
 abbrev pub FileRose : Option (List ℕ) → Devices → Devices → Type 0
@@ -63,7 +63,7 @@ pub record HasCauses (limit : ℕ) (asked : Option (List ℕ)) (before after : D
   pub unwritten : status ≡ 4 → Rose before.out_faults after.out_faults ⊎ Rose errors errors'
   pub too_long : status ≡ 9 → IsLonger limit before.left
 
--- a small program is asked for, and no fault was counted
+-- a program of today is asked for, and no fault was counted
 pub record IsUndisturbed (asked : Option (List ℕ)) (before after : Devices) (errors errors' : ℕ) : Type 0 where
   pub file : List ℕ
   pub is_asked : asked ≡ Some file
@@ -71,7 +71,7 @@ pub record IsUndisturbed (asked : Option (List ℕ)) (before after : Devices) (e
   pub holds : before.content file ≡ Some text
   pub program : PlainProgram
   pub names : List (List ℕ)
-  pub small : IsSmall text program names
+  pub is_program : IsProgramText text program names
   pub file_still : Rose (before.file_faults file) (after.file_faults file) → ⊥
   pub input_still : Rose before.input_faults after.input_faults → ⊥
   pub out_still : Rose before.out_faults after.out_faults → ⊥

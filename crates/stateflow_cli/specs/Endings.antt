@@ -11,7 +11,7 @@ use Rattle.session.specs.declared.feeding.InputEnd.TheVariants.{ReadFault}
 use Rattle.stateflow_cli.specs.Devices.{Devices, Untouched}
 use Rattle.stateflow_cli.specs.Loading.{Refuses, Loaded, source_in}
 use Rattle.stateflow_cli.specs.declared.ending.Ending.{Ending}
-use Rattle.stateflow_cli.specs.declared.ending.Ending.TheVariants.{Misused, Unsupported, FileFault, NoMemory, Served, Stopped}
+use Rattle.stateflow_cli.specs.declared.ending.Ending.TheVariants.{Misused, Refused, FileFault, NoMemory, Served, Stopped}
 
 -- the most bytes of input that a call takes in
 abbrev pub longest_input : ℕ
@@ -26,7 +26,7 @@ pub record Ran (limit : ℕ) (file : List ℕ) (before after : Devices) (result 
 
 abbrev pub EndsOn : ℕ → List ℕ → Devices → Devices → Ending → Type 0
 EndsOn limit file before after Misused = ⊥
-EndsOn limit file before after Unsupported = Refuses (before.content file) × Untouched before after
+EndsOn limit file before after (Refused fault) = Refuses (before.content file) fault × Untouched before after
 EndsOn limit file before after FileFault = Rose (before.file_faults file) (after.file_faults file) × Untouched before after
 EndsOn limit file before after NoMemory = Untouched before after
 EndsOn limit file before after (Served end) = Ran limit file before after (Ok end)

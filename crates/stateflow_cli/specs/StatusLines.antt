@@ -1,15 +1,23 @@
 -- The status and the line on the error stream of each ending.
-use Rattle.std.specs.Prelude.{ℕ, List, [], ◌++◌, codes}
+use Rattle.std.specs.Prelude.{ℕ, List, [], ◌∷◌, codes, decimal}
+use Rattle.std.specs.List.{concat}
+use Rattle.py_tree.specs.declared.fault.SyntaxKind.{SyntaxKind}
+use Rattle.py_tree.specs.declared.fault.SyntaxKind.TheVariants.{Unexpected, LeftOut, TooDeep}
+use Rattle.py_lexer.specs.declared.fault.LexKind.{LexKind}
+use Rattle.py_lexer.specs.declared.fault.LexKind.TheVariants as lex
 use Rattle.sf_outside.specs.declared.gains.WriteStop.{WriteStop}
 use Rattle.sf_outside.specs.declared.gains.WriteStop.TheVariants as stop
 use Rattle.session.specs.declared.feeding.InputEnd.{InputEnd}
 use Rattle.session.specs.declared.feeding.InputEnd.TheVariants as input
+use Rattle.stateflow_cli.specs.declared.fault.FaultKind.{FaultKind}
+use Rattle.stateflow_cli.specs.declared.fault.FaultKind.TheVariants.{Lexical, Syntax, Unsupported}
+use Rattle.stateflow_cli.specs.declared.fault.TextFault.{TextFault}
 use Rattle.stateflow_cli.specs.declared.ending.Ending.{Ending}
-use Rattle.stateflow_cli.specs.declared.ending.Ending.TheVariants.{Misused, Unsupported, FileFault, NoMemory, Served, Stopped}
+use Rattle.stateflow_cli.specs.declared.ending.Ending.TheVariants.{Misused, Refused, FileFault, NoMemory, Served, Stopped}
 
 abbrev pub status_of : Ending → ℕ
 status_of Misused = 2
-status_of Unsupported = 1
+status_of (Refused fault) = 1
 status_of FileFault = 3
 status_of NoMemory = 8
 status_of (Served input.End) = 0
@@ -21,8 +29,34 @@ status_of (Stopped stop.WriteFault) = 4
 abbrev pub usage_line : List ℕ
 usage_line = codes "usage: stateflow check FILE | compile FILE | local FILE | run FILE [options] | gen [options]\n"
 
-abbrev pub unsupported_line : List ℕ → List ℕ
-unsupported_line file = codes "stateflow: " ++ file ++ codes ":1:1: Unsupported\n"
+abbrev pub lex_name : LexKind → List ℕ
+lex_name lex.TooLong = codes "TooLong"
+lex_name lex.NotUtf8 = codes "NotUtf8"
+lex_name lex.TabIndent = codes "TabIndent"
+lex_name lex.BadDedent = codes "BadDedent"
+lex_name lex.BadEscape = codes "BadEscape"
+lex_name lex.OpenString = codes "OpenString"
+lex_name lex.BadNumber = codes "BadNumber"
+lex_name lex.LiteralTooWide = codes "LiteralTooWide"
+lex_name lex.BadCharacter = codes "BadCharacter"
+lex_name lex.OpenBracket = codes "OpenBracket"
+
+abbrev pub syntax_name : SyntaxKind → List ℕ
+syntax_name Unexpected = codes "Unexpected"
+syntax_name LeftOut = codes "LeftOut"
+syntax_name TooDeep = codes "TooDeep"
+
+abbrev pub kind_name : FaultKind → List ℕ
+kind_name (Lexical kind) = lex_name kind
+kind_name (Syntax kind) = syntax_name kind
+kind_name Unsupported = codes "Unsupported"
+
+-- `stateflow: FILE:LINE:COL: KIND`
+abbrev pub placed_line : List ℕ → List ℕ → List ℕ → List ℕ → List ℕ
+placed_line file line col kind = concat (codes "stateflow: " ∷ file ∷ codes ":" ∷ line ∷ codes ":" ∷ col ∷ codes ": " ∷ kind ∷ codes "\n" ∷ [])
+
+abbrev pub fault_line : List ℕ → TextFault → List ℕ
+fault_line file f = placed_line file (decimal f.place.line) (decimal f.place.col) (kind_name f.kind)
 
 abbrev pub read_fault_line : List ℕ
 read_fault_line = codes "stateflow: read fault\n"
@@ -49,7 +83,7 @@ stop_line stop.WriteFault = write_fault_line
 -- what is said of a call that ran this file
 abbrev pub line_of : List ℕ → Ending → List ℕ
 line_of file Misused = usage_line
-line_of file Unsupported = unsupported_line file
+line_of file (Refused fault) = fault_line file fault
 line_of file FileFault = read_fault_line
 line_of file NoMemory = no_memory_line
 line_of file (Served end) = end_line end

@@ -3,6 +3,7 @@
 ghost use Rattle.std.specs.Prelude.{◌≡◌};
 ghost use Rattle.stateflow_cli.specs.StatusLines.{status_of};
 
+use crate::fault::TextFault;
 use session::InputEnd;
 use sf_outside::WriteStop;
 
@@ -10,8 +11,8 @@ use sf_outside::WriteStop;
 pub enum Ending {
     /// The words ask for nothing that can be done.
     Misused,
-    /// The file holds no small program.
-    Unsupported,
+    /// The file's text has this fault.
+    Refused(TextFault),
     /// The file could not be read.
     FileFault,
     /// Memory ran out before the input was read.
@@ -28,7 +29,7 @@ impl Ending {
     {
         match self {
             Ending::Served(InputEnd::End) => 0,
-            Ending::Unsupported => 1,
+            Ending::Refused(_) => 1,
             Ending::Misused => 2,
             Ending::FileFault | Ending::Served(InputEnd::ReadFault) => 3,
             Ending::Stopped(WriteStop::WriteFault) => 4,

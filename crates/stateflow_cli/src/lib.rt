@@ -2,6 +2,8 @@
 #![tactic(auto)]
 
 mod ending;
+mod fault;
+mod laws;
 mod loading;
 mod real_devices;
 mod running;
@@ -11,5 +13,7 @@ mod tests;
 mod top_call;
 mod words;
 
+pub use fault::{FaultKind, TextFault};
+pub use laws::has_one_reading;
 pub use real_devices::{NamedFiles, Reading, Writing};
 pub use top_call::stateflow;

@@ -1,11 +1,14 @@
 //! From a file to its program.
 
 ghost use Rattle.std.specs.Prelude.{◌≡◌, ◌≤◌, ◌<◌, min, IfOk, Err};
-ghost use Rattle.py_tree.specs.PlainProgram.{plain_program};
 ghost use Rattle.sf_outside.specs.Causes.{Rose};
-ghost use Rattle.stateflow_cli.specs.Loading.{MayBegin, Loads, Refuses};
+ghost use Rattle.stateflow_cli.specs.Loading.{MayBegin, Reads, Gives};
+ghost use Rattle.stateflow_cli.specs.declared.fault.TextFault.{TextFault as AFault};
 
-use py_parser::{Parsed, SmallError, parse_small};
+use crate::fault::{FaultKind, TextFault};
+use py_lexer::{LexError, lex};
+use py_parser::{Parsed, SyntaxError, is_first_path, parse};
+use py_tree::Place;
 use sf_outside::{Failed, Files};
 use std::alloc::{AllocError, Global};
 
@@ -15,10 +18,16 @@ const PIECE: usize = 16384;
 /// How many bytes of a file are read: one more than a program may have.
 const LONGEST_READ: usize = 1_048_577;
 
+/// What is told of a program that isn't run today.
+const UNSUPPORTED: TextFault = TextFault {
+    place: Place { line: 1, col: 1 },
+    kind: FaultKind::Unsupported,
+};
+
 /// Why a file gives no program.
 #[derive(Clone, Copy, PartialEq, Eq, Debug)]
 pub enum LoadStop {
-    Unsupported,
+    Refused(TextFault),
     FileFault,
     NoMemory,
 }
@@ -45,16 +54,36 @@ impl From<Failed> for LoadStop {
     }
 }
 
-impl From<SmallError> for LoadStop {
+impl From<LexError> for LoadStop {
     ghost use Rattle.std.specs.Prelude.{◌≡◌};
-    ghost use Rattle.stateflow_cli.specs.Loading.{stop_of};
+    ghost use Rattle.stateflow_cli.specs.Loading.{lex_stop};
 
-    ghost from_gives = { λ error stop. stop ≡ stop_of error };
+    ghost from_gives = { λ error stop. stop ≡ lex_stop error };
 
-    fn from(error: SmallError) -> LoadStop {
+    fn from(error: LexError) -> LoadStop {
         match error {
-            SmallError::Unsupported => LoadStop::Unsupported,
-            SmallError::NoMemory => LoadStop::NoMemory,
+            LexError::Fault(fault) => LoadStop::Refused(TextFault {
+                place: fault.place,
+                kind: FaultKind::Lexical(fault.kind),
+            }),
+            LexError::NoMemory => LoadStop::NoMemory,
+        }
+    }
+}
+
+impl From<SyntaxError> for LoadStop {
+    ghost use Rattle.std.specs.Prelude.{◌≡◌};
+    ghost use Rattle.stateflow_cli.specs.Loading.{syntax_stop};
+
+    ghost from_gives = { λ error stop. stop ≡ syntax_stop error };
+
+    fn from(error: SyntaxError) -> LoadStop {
+        match error {
+            SyntaxError::Fault(fault) => LoadStop::Refused(TextFault {
+                place: fault.place,
+                kind: FaultKind::Syntax(fault.kind),
+            }),
+            SyntaxError::NoMemory => LoadStop::NoMemory,
         }
     }
 }
@@ -78,7 +107,7 @@ fn read_first<F: Files>(
     ensures begins { IfOk result (λ text. MayBegin (F.content files.old name.now) bound text.items) }
     ensures later { F.faults files.old name.now ≤ F.faults files.new name.now }
     ensures cause { result ≡ Err LoadStop.FileFault → Rose (F.faults files.old name.now) (F.faults files.new name.now) }
-    ensures refused { result ≡ Err LoadStop.Unsupported → ⊥ }
+    ensures refused { (fault : AFault) → result ≡ Err (LoadStop.Refused fault) → ⊥ }
 {
     let mut text = Vec::new(alloc);
     let mut piece = [0; PIECE];
@@ -93,12 +122,23 @@ fn read_first<F: Files>(
     Ok(text)
 }
 
+/// The program of a text.
+fn read_program(alloc: Global, text: &[u8]) -> Result<Parsed, LoadStop>
+    ensures { Reads text.now result }
+{
+    let lines = lex(alloc, text)?;
+    let parsed = parse(alloc, &lines, text)?;
+    if !is_first_path(alloc, text, &lines, &parsed.names)? {
+        return Err(LoadStop::Refused(UNSUPPORTED));
+    }
+    Ok(parsed)
+}
+
 /// Reads a file's program.
 pub(crate) fn load<F: Files>(alloc: Global, files: &mut F, name: &str) -> Result<Parsed, LoadStop>
-    ensures loads { IfOk result (λ parsed. Loads (F.content files.old name.now) (plain_program parsed.program) parsed.names) }
-    ensures refused { result ≡ Err LoadStop.Unsupported → Refuses (F.content files.old name.now) }
+    ensures gives { Gives (F.content files.old name.now) result }
     ensures cause { result ≡ Err LoadStop.FileFault → Rose (F.faults files.old name.now) (F.faults files.new name.now) }
 {
     let text = read_first(alloc, LONGEST_READ, files, name)?;
-    Ok(parse_small(alloc, text.as_slice())?)
+    read_program(alloc, text.as_slice())
 }

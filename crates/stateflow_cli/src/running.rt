@@ -28,7 +28,7 @@ pub(crate) fn run_file<F: Files, S: Source, K: Sink>(
 {
     let parsed = match load(alloc, files, file) {
         Ok(parsed) => parsed,
-        Err(LoadStop::Unsupported) => return Ending::Unsupported,
+        Err(LoadStop::Refused(fault)) => return Ending::Refused(fault),
         Err(LoadStop::FileFault) => return Ending::FileFault,
         Err(LoadStop::NoMemory) => return Ending::NoMemory,
     };

@@ -1,13 +1,16 @@
 //! Telling an ending: its line, written without memory, and its status.
 
-ghost use Rattle.std.specs.Prelude.{◌≡◌, OnOk, OnErr};
+ghost use Rattle.std.specs.Prelude.{◌≡◌, map, OnOk, OnErr};
+ghost use Rattle.std.specs.List.{concat};
 ghost use Rattle.std.specs.Io.KnownBytes.{Appends};
 ghost use Rattle.sf_outside.specs.Bytes.{AppendsPrefix};
 ghost use Rattle.sf_outside.specs.Causes.{HasCause};
-ghost use Rattle.stateflow_cli.specs.StatusLines.{status_of, line_of, end_line, stop_line, unsupported_line};
+ghost use Rattle.stateflow_cli.specs.StatusLines.{status_of, line_of, end_line, stop_line, placed_line, fault_line};
 ghost use Rattle.stateflow_cli.specs.Telling.{Told};
 
 use crate::ending::Ending;
+use crate::fault::TextFault;
+use itoa::Buffer;
 use session::InputEnd;
 use sf_outside::{Failed, Sink, WriteStop};
 
@@ -25,14 +28,60 @@ const NO_MEMORY_LINE: &[u8] = b"stateflow: out of memory\n";
 
 const TOO_LONG_LINE: &[u8] = b"stateflow: input too long\n";
 
-fn say_unsupported<E: Sink>(err: &mut E, file: &str) -> Result<(), Failed>
-    ensures whole { OnOk result (Appends (E.held err.old) (E.held err.new) (unsupported_line file.now)) }
-    ensures part { OnErr result (AppendsPrefix (E.held err.old) (E.held err.new) (unsupported_line file.now)) }
+/// Writes pieces one after another.
+fn write_pieces<E: Sink>(err: &mut E, pieces: &[&[u8]]) -> Result<(), Failed>
+    ensures whole { OnOk result (Appends (E.held err.old) (E.held err.new) (concat (map (λ piece. piece.now) pieces.now))) }
+    ensures part { OnErr result (AppendsPrefix (E.held err.old) (E.held err.new) (concat (map (λ piece. piece.now) pieces.now))) }
     ensures cause { HasCause (E.faults err.old) (E.faults err.new) result }
 {
-    err.write(b"stateflow: ")?;
-    err.write(file.as_bytes())?;
-    err.write(b":1:1: Unsupported\n")
+    for piece in pieces {
+        err.write(piece)?;
+    }
+    Ok(())
+}
+
+/// Says what a file's fault is, where the digits of its line and column are given.
+fn say_placed<E: Sink>(
+    err: &mut E,
+    file: &[u8],
+    line: &[u8],
+    col: &[u8],
+    kind: &[u8],
+) -> Result<(), Failed>
+    ensures whole { OnOk result (Appends (E.held err.old) (E.held err.new) (placed_line file.now line.now col.now kind.now)) }
+    ensures part { OnErr result (AppendsPrefix (E.held err.old) (E.held err.new) (placed_line file.now line.now col.now kind.now)) }
+    ensures cause { HasCause (E.faults err.old) (E.faults err.new) result }
+{
+    write_pieces(
+        err,
+        &[
+            b"stateflow: ",
+            file,
+            b":",
+            line,
+            b":",
+            col,
+            b": ",
+            kind,
+            b"\n",
+        ],
+    )
+}
+
+fn say_fault<E: Sink>(err: &mut E, file: &str, fault: TextFault) -> Result<(), Failed>
+    ensures whole { OnOk result (Appends (E.held err.old) (E.held err.new) (fault_line file.now fault)) }
+    ensures part { OnErr result (AppendsPrefix (E.held err.old) (E.held err.new) (fault_line file.now fault)) }
+    ensures cause { HasCause (E.faults err.old) (E.faults err.new) result }
+{
+    let mut line = Buffer::new();
+    let mut col = Buffer::new();
+    say_placed(
+        err,
+        file.as_bytes(),
+        line.format(fault.place.line).as_bytes(),
+        col.format(fault.place.col).as_bytes(),
+        fault.kind.name(),
+    )
 }
 
 fn say_end<E: Sink>(err: &mut E, end: InputEnd) -> Result<(), Failed>
@@ -65,7 +114,7 @@ fn say<E: Sink>(err: &mut E, file: &str, ending: Ending) -> Result<(), Failed>
 {
     match ending {
         Ending::Misused => err.write(USAGE_LINE),
-        Ending::Unsupported => say_unsupported(err, file),
+        Ending::Refused(fault) => say_fault(err, file, fault),
         Ending::FileFault => err.write(READ_FAULT_LINE),
         Ending::NoMemory => err.write(NO_MEMORY_LINE),
         Ending::Served(end) => say_end(err, end),

@@ -1,8 +1,14 @@
 //! The top call over forms in memory: one run, and each call of a device failing in turn.
 
 mod bounds;
+mod levels;
 mod lexing;
 mod order;
+mod parsing;
+mod refused_texts;
+mod refused_tokens;
+mod shop;
+mod trees;
 
 use crate::stateflow;
 use sf_outside::{MemFiles, MemSink, MemSource, Source};
@@ -60,25 +66,26 @@ struct Answer {
     err: MemSink,
 }
 
-/// The words that run the counter's file, with this one for the size of a batch.
-fn run_words(alloc: Global, size: &str) -> Result<Vec<String>, AllocError> {
+/// The words that run a file, with this one for the size of a batch.
+fn run_words(alloc: Global, file: &str, size: &str) -> Result<Vec<String>, AllocError> {
     let mut words = Vec::new(alloc);
-    for word in ["run", "counter.py", "--batch", size] {
+    for word in ["run", file, "--batch", size] {
         words.push(String::from_str(alloc, word)?)?;
     }
     Ok(words)
 }
 
-/// Runs a text as the counter's file on an input, with this word for the size of a batch.
+/// Runs a text as this file on an input, with this word for the size of a batch.
 fn run_text<S: Source>(
     alloc: Global,
+    file: &str,
     size: &str,
     text: &[u8],
     input: &mut S,
     faults: Faults<'_>,
 ) -> Result<Answer, AllocError> {
-    let words = run_words(alloc, size)?;
-    let mut files = MemFiles::new(alloc, &["counter.py"], &[text], faults.file)?;
+    let words = run_words(alloc, file, size)?;
+    let mut files = MemFiles::new(alloc, &[file], &[text], faults.file)?;
     let mut out = MemSink::new(alloc, 1000, faults.out)?;
     let mut err = MemSink::new(alloc, 1000, faults.err)?;
     let status = stateflow(
@@ -95,7 +102,7 @@ fn run_text<S: Source>(
 /// Runs the counter on its requests, with this word for the size of a batch.
 fn run_counter(alloc: Global, size: &str, faults: Faults<'_>) -> Result<Answer, AllocError> {
     let mut input = MemSource::new(alloc, REQUESTS, faults.input)?;
-    run_text(alloc, size, COUNTER, &mut input, faults)
+    run_text(alloc, "counter.py", size, COUNTER, &mut input, faults)
 }
 
 #[test]

@@ -41,7 +41,7 @@ impl Source for LineEnds {
 
 #[test]
 fn longest_program_is_run_and_a_longer_one_refused(rt: HostRuntime) -> Result<(), Fail> {
-    let refusal = b"stateflow: counter.py:1:1: Unsupported\n".as_slice();
+    let refusal = b"stateflow: counter.py:1:1: TooLong\n".as_slice();
     for (length, status, line) in [
         (LONGEST_PROGRAM, 0, b"".as_slice()),
         (LONGEST_PROGRAM + 1, 1, refusal),
@@ -49,7 +49,14 @@ fn longest_program_is_run_and_a_longer_one_refused(rt: HostRuntime) -> Result<()
         let text = long_counter(rt.alloc(), length)?;
         assert_eq!(rt; text.len(), length);
         let mut input = MemSource::new(rt.alloc(), b"", &[])?;
-        let answer = run_text(rt.alloc(), "1", text.as_slice(), &mut input, NO_FAULTS)?;
+        let answer = run_text(
+            rt.alloc(),
+            "counter.py",
+            "1",
+            text.as_slice(),
+            &mut input,
+            NO_FAULTS,
+        )?;
         assert_eq!(rt; answer.status, status, "at {length}");
         assert_eq!(rt; answer.out.bytes(), b"".as_slice());
         assert_eq!(rt; answer.err.bytes(), line);
@@ -64,7 +71,14 @@ fn longest_input_is_served_and_a_longer_one_told(rt: HostRuntime) -> Result<(), 
         (LONGEST_INPUT + 1, 9, b"stateflow: input too long\n"),
     ] {
         let mut input = LineEnds { left };
-        let answer = run_text(rt.alloc(), "1", COUNTER, &mut input, NO_FAULTS)?;
+        let answer = run_text(
+            rt.alloc(),
+            "counter.py",
+            "1",
+            COUNTER,
+            &mut input,
+            NO_FAULTS,
+        )?;
         assert_eq!(rt; answer.status, status, "at {left}");
         assert_eq!(rt; input.left, 0);
         assert_eq!(rt; answer.out.bytes(), b"".as_slice());

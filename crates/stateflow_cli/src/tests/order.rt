@@ -71,7 +71,7 @@ fn lines_of_a_piece_are_answered_before_the_next_is_read(rt: HostRuntime) -> Res
     };
     let mut out = CountingSink { written: &written };
     let mut err = MemSink::new(alloc, 1000, &[])?;
-    let words = run_words(alloc, "1")?;
+    let words = run_words(alloc, "counter.py", "1")?;
     let status = stateflow(
         alloc,
         words.as_slice(),
