@@ -10,7 +10,7 @@ returns-in_err-lines c =
 pub returns-in_err-parsed : goal.returns-in_err-parsed
 returns-in_err-parsed c =
     let p = err_from_is_err_and c.from_residual-in_err-parsed.result c.from_residual-in_err-parsed.ensures.1 in
-    rw (p.1, p.2) (reads_no_tree c.args.text.now c.in_ok-lines.lines _ c.in_ok-lines.ensures.lines c.in_err-parsed.ensures)
+    rw (p.1, p.2) (reads_no_tree c.args.text.now c.in_ok-lines.lines _ c.in_ok-lines.ensures.lines c.in_err-parsed.ensures.outcome)
 
 pub returns-then-not-branch : goal.returns-then-not-branch
-returns-then-not-branch c = reads_other c.args.text.now _ _ _ c.in_ok-is_first_path.field-0 c.in_ok-lines.ensures.lines c.in_ok-parsed.ensures c.in_ok-is_first_path.ensures c.if-not-branch.true
+returns-then-not-branch c = reads_other c.args.text.now _ _ _ c.in_ok-is_first_path.field-0 c.in_ok-lines.ensures.lines c.in_ok-parsed.ensures.outcome c.in_ok-is_first_path.ensures c.if-not-branch.true
