@@ -13,3 +13,5 @@ pub mod TypeGrammar
 pub mod StatementGrammar
 pub mod Grammar
 pub mod ClassRules
+pub mod FlowEnvironment
+pub mod ExpressionTypes
