@@ -94,15 +94,18 @@ has_none (WStr at) = false
 has_none (WList at element) = false
 has_none (WEntity at class) = false
 
--- the first fault of a written type, from the outside in
+-- the first fault of a written type, from the outside in, where these names are classes
+abbrev pub type_fault : (ℕ → Bool) → PlainWritten → Option RuleFault
+type_fault is_class (WEntity at class) = broken UnknownType at (not (is_class class))
+type_fault is_class (WList at element) = type_fault is_class element
+type_fault is_class (WOptional at inner) = first_of (broken NestedOptional (place_of_written inner) (has_none inner) ∷ type_fault is_class inner ∷ [])
+type_fault is_class (WInt at) = None
+type_fault is_class (WBool at) = None
+type_fault is_class (WStr at) = None
+type_fault is_class (WNil at) = None
+
 abbrev pub written_fault : PlainProgram → PlainWritten → Option RuleFault
-written_fault program (WEntity at class) = broken UnknownType at (not (is_class program class))
-written_fault program (WList at element) = written_fault program element
-written_fault program (WOptional at inner) = first_of (broken NestedOptional (place_of_written inner) (has_none inner) ∷ written_fault program inner ∷ [])
-written_fault program (WInt at) = None
-written_fault program (WBool at) = None
-written_fault program (WStr at) = None
-written_fault program (WNil at) = None
+written_fault program ty = type_fault (is_class program) ty
 
 -- the first fault of a type that may be left out
 abbrev pub optional_fault : PlainProgram → Option PlainWritten → Option RuleFault

@@ -15,3 +15,6 @@ pub mod Grammar
 pub mod ClassRules
 pub mod FlowEnvironment
 pub mod ExpressionTypes
+pub mod Reachability
+pub mod Flow
+pub mod Acceptance
