@@ -3,7 +3,7 @@
 -- A point that can't be reached has no state: statements there aren't looked at, and name no locals. Where ways meet, a name is
 -- surely assigned, and surely not None, where it is so on each way that is reached. The types of locals are kept in text order
 -- across all ways.
-use Rattle.std.specs.Prelude.{ℕ, Bool, true, false, not, ◌||◌, ◌&&◌, ◌==◌, ◌+◌, if◌then◌else◌, List, [], ◌∷◌, ◌++◌, map, length, drop, slice_get, Some, None, Result, Ok, Err, is_some, is_none, unwrap_or, option_and_then, option_map}
+use Rattle.std.specs.Prelude.{ℕ, Bool, true, false, not, ◌||◌, ◌&&◌, ◌==◌, ◌+◌, if◌then◌else◌, List, [], ◌∷◌, ◌++◌, map, length, slice_get, Some, None, Result, Ok, Err, is_some, is_none, unwrap_or, option_and_then, option_map}
 use Rattle.std.specs.declared.option.Option.{Option}
 use Rattle.py_tree.specs.declared.names.Place.{Place}
 use Rattle.py_tree.specs.declared.names.PlacedName.{PlacedName}
@@ -19,7 +19,7 @@ use Rattle.py_tree.specs.PlainProgram.{PlainMethod, PlainClass, PlainProgram}
 use Rattle.py_tree.specs.ClassRules.{PlainSigParam, PlainSig, PlainTable, is_reserved, is_full, type_fault, first_of, init_of, body_of, methods_of, tables_of}
 use Rattle.py_tree.specs.FlowEnvironment.{PlainLocal, PlainEnv, has_name, local_of, has_none, shown, narrowed}
 use Rattle.py_tree.specs.ExpressionTypes.{same_ty, is_int, is_str, is_plus, are_ints, element_of, table_named, field_of, assignable, right_wanted, refuse_if, needs, with_found, operand, fits, place_of, as_condition, type_of}
-use Rattle.py_tree.specs.Reachability.{is_true, all_go_on, goes_on, an_arm_goes_on, assigned_in}
+use Rattle.py_tree.specs.Reachability.{is_true, all_go_on, goes_on, assigned_in}
 
 -- Where a statement stands
 
@@ -53,27 +53,49 @@ result_at c = result_in (option_and_then (λ t. option_and_then (λ number. slic
 
 -- Locals on the way
 
+-- what is known of a local at a point
+pub record Known : Type 0 where
+  pub assigned : Bool
+  pub not_none : Bool
+
+abbrev pub known_of : PlainLocal → Known
+known_of l = record { assigned = l.assigned; not_none = l.not_none }
+
+unfoldable pub known_at : List PlainLocal → List Known
+known_at locals = map known_of locals
+
+abbrev pub with_known : PlainLocal → Known → PlainLocal
+with_known l k = record l { assigned = k.assigned; not_none = k.not_none }
+
 abbrev pub unassigned : PlainLocal → PlainLocal
 unassigned l = record l { assigned = false; not_none = false }
 
--- the locals of a point, with those that were typed since, unassigned
-unfoldable pub carried : List PlainLocal → List PlainLocal → List PlainLocal
-carried locals typed = locals ++ map unassigned (drop (length locals) typed)
+-- the locals as they are known at a point; those that were typed behind it are unassigned there
+unfoldable pub settled : List PlainLocal → List Known → List PlainLocal
+settled (l ∷ locals) (k ∷ known) = with_known l k ∷ settled locals known
+settled (l ∷ locals) [] = unassigned l ∷ settled locals []
+settled [] known = []
 
 -- where two ways meet
-unfoldable pub joined : List PlainLocal → List PlainLocal → List PlainLocal
-joined (a ∷ more) (b ∷ others) = record a { assigned = a.assigned && b.assigned; not_none = a.not_none && b.not_none } ∷ joined more others
-joined _ _ = []
+unfoldable pub joined : List Known → List Known → List Known
+joined (a ∷ more) (b ∷ others) = record { assigned = a.assigned && b.assigned; not_none = a.not_none && b.not_none } ∷ joined more others
+joined [] others = []
+joined (a ∷ more) [] = []
 
--- where ways meet behind which these locals are typed; where there is no way, nothing more is known of them
-unfoldable pub meet : List PlainLocal → List (List PlainLocal) → List PlainLocal
-meet typed [] = typed
-meet typed (way ∷ []) = carried way typed
-meet typed (way ∷ more) = joined (carried way typed) (meet typed more)
+-- a way that isn't reached doesn't count
+abbrev pub meet : Option (List Known) → Option (List Known) → Option (List Known)
+meet None b = b
+meet (Some a) None = Some a
+meet (Some a) (Some b) = Some (joined a b)
 
-abbrev pub way : Bool → List PlainLocal → List (List PlainLocal)
-way true locals = locals ∷ []
-way false locals = []
+abbrev pub way : Bool → List PlainLocal → Option (List Known)
+way true locals = Some (known_at locals)
+way false locals = None
+
+-- the locals where ways have met; where there was none, no more is known of them
+abbrev pub behind_ways : List PlainLocal → Option (List Known) → List PlainLocal
+behind_ways locals None = locals
+behind_ways locals (Some known) = settled locals known
 
 -- a value of this type is assigned
 abbrev pub given : PlainTy → PlainLocal → PlainLocal
@@ -220,64 +242,72 @@ item_of c locals (PRange (Some start) end) = whole_number c locals start (whole_
 
 -- Statements
 
--- the locals at the point after, and at each `break` of the loop around that can be reached
-pub record Flow : Type 0 where
+-- a way through statements: the locals at the point to which it has come, and what is known of them where the ways to a
+-- `break` of the loop around meet
+pub record Way : Type 0 where
   pub locals : List PlainLocal
-  pub breaks : List (List PlainLocal)
+  pub breaks : Option (List Known)
 
-abbrev pub goes : List PlainLocal → Result Flow RuleFault
-goes locals = Ok (record { locals = locals; breaks = [] })
+abbrev pub on : Way → List PlainLocal → Way
+on w locals = record w { locals = locals }
 
--- two ways one of which is taken, each with whether its end can be reached
-unfoldable pub either_way : Bool → Flow → Bool → Flow → Flow
-either_way first_goes_on first second_goes_on second = record {
-  locals = meet second.locals (way first_goes_on first.locals ++ way second_goes_on second.locals);
-  breaks = first.breaks ++ second.breaks;
-}
+-- into a body
+abbrev pub begun : List PlainLocal → Way
+begun locals = record { locals = locals; breaks = None }
 
--- a statement, and then what stands behind it
-abbrev pub behind : Flow → Flow → Flow
-behind first second = record { locals = second.locals; breaks = first.breaks ++ second.breaks }
+-- at a `break`
+abbrev pub broken_off : Way → Way
+broken_off w = record w { breaks = meet w.breaks (way true w.locals) }
 
--- the locals after a `while` whose head and body have come to this
-abbrev pub after_while : PlainExpr → List PlainLocal → Flow → List PlainLocal
-after_while test head body = meet body.locals (way (not (is_true test)) (narrowed (shown false test) head) ++ body.breaks)
+-- the locals behind a `while` whose body came to this from this head
+unfoldable pub after_while : PlainExpr → List PlainLocal → Way → List PlainLocal
+after_while test head body = behind_ways body.locals (meet (way (not (is_true test)) (narrowed (shown false test) head)) body.breaks)
+
+-- behind a `for`
+unfoldable pub after_for : List PlainLocal → Way → List PlainLocal
+after_for head body = behind_ways body.locals (meet (way true head) body.breaks)
+
+-- the head of a `for` with a name that is typed now, and is no more assigned than before
+unfoldable pub for_head : List ℕ → List PlainLocal → List PlainLocal → List PlainLocal
+for_head names locals named = at_head names (settled named (known_at locals))
+
+abbrev pub named_at : ℕ → Place → PlacedName
+named_at name at = record { name = record { 0 = name }; place = at }
 
 unfoldable mutual
-  pub flow : Context → List PlainLocal → PlainStmt → Result Flow RuleFault
-  flow c locals (PPass at) = goes locals
-  flow c locals (PBreak at) = refuse_if (not c.in_loop) LoopWord at (Ok (record { locals = locals; breaks = locals ∷ [] }))
-  flow c locals (PContinue at) = refuse_if (not c.in_loop) LoopWord at (goes locals)
-  flow c locals (PDo at value) = with_found (type_at c locals None value) (λ ty. goes locals)
-  flow c locals (PReturn at value) = returned c locals at value (goes locals)
-  flow c locals (PRaise at kind message) = with_message c locals message (goes locals)
-  flow c locals (PAssert at test message) = with_found (condition_at c locals test) (λ ty. with_message c locals message (goes (narrowed (shown true test) locals)))
-  flow c locals (PAssign at target ty value) = with_found (assigned c locals at target ty value) (λ after. goes after)
-  flow c locals (PAugment at target op op_at value) = with_found (augmentation c locals at target op op_at value) (λ after. goes after)
-  flow c locals (PIf at arms other) = flow_arms c locals arms (all_go_on other) (λ locals. flow_all c locals other)
-  flow c locals (PWhile at test body) =
-      with_found (condition_at c (at_head (assigned_in body) locals) test) (λ ty.
-      with_found (flow_all (within_loop c) (narrowed (shown true test) (at_head (assigned_in body) locals)) body) (λ f.
-      goes (after_while test (at_head (assigned_in body) locals) f)))
-  flow c locals (PFor at name name_at over body) =
-      with_found (item_of c locals over) (λ item.
-      as_local c locals (record { name = record { 0 = name }; place = name_at })
-      (with_found (stored locals (record { name = record { 0 = name }; place = name_at }) item) (λ named.
-      with_found (flow_all (within_loop c) (with_local name item item (at_head (name ∷ assigned_in body) (carried locals named))) body) (λ f.
-      goes (meet f.locals (at_head (name ∷ assigned_in body) (carried locals named) ∷ f.breaks))))))
+  pub flow : Context → Way → PlainStmt → Result Way RuleFault
+  flow c w (PPass at) = Ok w
+  flow c w (PBreak at) = refuse_if (not c.in_loop) LoopWord at (Ok (broken_off w))
+  flow c w (PContinue at) = refuse_if (not c.in_loop) LoopWord at (Ok w)
+  flow c w (PDo at value) = with_found (type_at c w.locals None value) (λ ty. Ok w)
+  flow c w (PReturn at value) = returned c w.locals at value (Ok w)
+  flow c w (PRaise at kind message) = with_message c w.locals message (Ok w)
+  flow c w (PAssert at test message) = with_found (condition_at c w.locals test) (λ ty. with_message c w.locals message (Ok (on w (narrowed (shown true test) w.locals))))
+  flow c w (PAssign at target ty value) = with_found (assigned c w.locals at target ty value) (λ locals. Ok (on w locals))
+  flow c w (PAugment at target op op_at value) = with_found (augmentation c w.locals at target op op_at value) (λ locals. Ok (on w locals))
+  flow c w (PIf at arms other) = flow_arms c w None arms (all_go_on other) (λ last. flow_all c last other)
+  flow c w (PWhile at test body) =
+      with_found (condition_at c (at_head (assigned_in body) w.locals) test) (λ ty.
+      with_found (flow_all (within_loop c) (begun (narrowed (shown true test) (at_head (assigned_in body) w.locals))) body) (λ b.
+      Ok (on w (after_while test (at_head (assigned_in body) w.locals) b))))
+  flow c w (PFor at name name_at over body) =
+      with_found (item_of c w.locals over) (λ item.
+      as_local c w.locals (named_at name name_at)
+      (with_found (stored w.locals (named_at name name_at) item) (λ named.
+      with_found (flow_all (within_loop c) (begun (with_local name item item (for_head (name ∷ assigned_in body) w.locals named))) body) (λ b.
+      Ok (on w (after_for (for_head (name ∷ assigned_in body) w.locals named) b))))))
 
-  pub flow_all : Context → List PlainLocal → PlainStmts → Result Flow RuleFault
-  flow_all c locals PNoStmt = goes locals
-  flow_all c locals (PStmt s ss) = with_found (flow c locals s) (λ f. if goes_on s then with_found (flow_all c f.locals ss) (λ g. Ok (behind f g)) else Ok f)
+  pub flow_all : Context → Way → PlainStmts → Result Way RuleFault
+  flow_all c w PNoStmt = Ok w
+  flow_all c w (PStmt s ss) = with_found (flow c w s) (λ next. if goes_on s then flow_all c next ss else Ok next)
 
-  -- each arm begins where the tests before it were False
-  pub flow_arms : Context → List PlainLocal → PlainArms → Bool → (List PlainLocal → Result Flow RuleFault) → Result Flow RuleFault
-  flow_arms c locals PNoArm other_goes_on other = other locals
-  flow_arms c locals (PMoreArms (PArm test body) more) other_goes_on other =
-      with_found (condition_at c locals test) (λ ty.
-      with_found (flow_all c (narrowed (shown true test) locals) body) (λ f.
-      with_found (flow_arms c (carried (narrowed (shown false test) locals) f.locals) more other_goes_on other) (λ g.
-      Ok (either_way (all_go_on body) f (an_arm_goes_on more || other_goes_on) g))))
+  -- each arm begins where the tests before it were False; `ended` is what is known where the ways through those arms meet
+  pub flow_arms : Context → Way → Option (List Known) → PlainArms → Bool → (Way → Result Way RuleFault) → Result Way RuleFault
+  flow_arms c w ended PNoArm other_goes_on other = with_found (other w) (λ last. Ok (on last (behind_ways last.locals (meet ended (way other_goes_on last.locals)))))
+  flow_arms c w ended (PMoreArms (PArm test body) more) other_goes_on other =
+      with_found (condition_at c w.locals test) (λ ty.
+      with_found (flow_all c (on w (narrowed (shown true test) w.locals)) body) (λ arm.
+      flow_arms c (on arm (settled arm.locals (known_at (narrowed (shown false test) w.locals)))) (meet ended (way (all_go_on body) arm.locals)) more other_goes_on other))
 
 -- Methods
 
@@ -295,9 +325,9 @@ in_method tables class method = record { tables = tables; class = class; method 
 -- the locals of a method as they are where its body begins, with all their types
 unfoldable pub method_locals : List PlainTable → ℕ → ℕ → PlainMethod → Result (List PlainLocal) RuleFault
 method_locals tables class method m =
-    with_found (flow_all (in_method tables class method) (locals_at_start (sig_at tables class method)) (stmts_of m.body)) (λ f.
+    with_found (flow_all (in_method tables class method) (begun (locals_at_start (sig_at tables class method))) (stmts_of m.body)) (λ end.
     refuse_if (all_go_on (stmts_of m.body) && not (has_none (result_at (in_method tables class method)))) MissingReturn m.place
-    (Ok (carried (locals_at_start (sig_at tables class method)) f.locals)))
+    (Ok (settled end.locals (known_at (locals_at_start (sig_at tables class method))))))
 
 abbrev pub init_locals : List PlainTable → ℕ → List PlainLocal
 init_locals tables class = unwrap_or (option_map (λ t. map param_local t.init) (slice_get tables class)) []
@@ -311,7 +341,7 @@ fault_in (Err f) = Some f
 
 -- the first fault in the types of `__init__`
 unfoldable pub init_flow_fault : List PlainTable → ℕ → List PlainStmt → Option RuleFault
-init_flow_fault tables class body = fault_in (flow_all (in_init tables class) (init_locals tables class) (stmts_of body))
+init_flow_fault tables class body = fault_in (flow_all (in_init tables class) (begun (init_locals tables class)) (stmts_of body))
 
 -- of the methods from this number on
 unfoldable pub methods_flow_fault : List PlainTable → ℕ → ℕ → List PlainMethod → Option RuleFault

@@ -39,6 +39,9 @@ impl<T> Model for Sequence<T> {
 }
 
 impl<T> Sequence<T> {
+    ghost use Rattle.std.specs.Borrow.{sem};
+    ghost use Rattle.sf_list.specs.Lending.{LendsItem};
+
     /// The empty list, which takes no memory.
     pub fn new(alloc: Global) -> Sequence<T>
         ensures { result ≡ [] }
@@ -72,6 +75,15 @@ impl<T> Sequence<T> {
         ensures within { OnSome result (i < length self.now) }
     {
         self.items.get(i)
+    }
+
+    /// The element at a place counted from 0, for writing.
+    pub fn item_mut(&mut self, at: usize) -> &mut T
+        requires { at < length self.old }
+        ensures* writes_back { sem 𝓛 (LendsItem T.row self.entry at result) }
+        ensures value { slice_get self.old at ≡ Some result.now }
+    {
+        &mut self.items[at]
     }
 }
 
