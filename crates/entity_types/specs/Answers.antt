@@ -11,3 +11,9 @@ abbrev pub Types : {X A : Type 0} → (X → A) → Result A RuleFault → Resul
 Types view found (Ok x) = found ≡ Ok (view x)
 Types view found (Err NoMemory) = Unit {0}
 Types view found (Err (Fault fault)) = found ≡ Err fault
+
+-- the rule isn't broken, or its fault is told
+abbrev pub Refuses : {X : Type 0} → Bool → Rule → Place → Result X RuleError → Type 0
+Refuses is_broken rule place (Ok x) = is_broken ≡ false
+Refuses is_broken rule place (Err NoMemory) = ⊥
+Refuses is_broken rule place (Err (Fault fault)) = (is_broken ≡ true) × (fault ≡ record { rule = rule; place = place })

@@ -3,6 +3,9 @@
 
 mod copy;
 mod env;
+mod fault;
+pub mod lookup;
+pub mod operators;
 pub mod types;
 
 pub use env::{FlowEnv, Local, Locals};
