@@ -2,6 +2,8 @@ pub mod CopyLaws
 pub mod NameLaws
 pub mod ProgramCopies
 pub mod Views
+pub mod TypeLaws
+pub mod TypeRules
 mod StringExamples
 pub mod OneOutcome
 pub mod OneExpression

@@ -2,7 +2,7 @@
 --
 -- Parts are typed in the order of evaluation, and a part's fault comes before the rules on the whole. A wanted type is known
 -- beforehand for arguments, for elements, and for what is assigned or returned.
-use Rattle.std.specs.Prelude.{ℕ, Bool, true, false, not, ◌||◌, ◌&&◌, ◌==◌, ◌+◌, if◌then◌else◌, List, [], ◌∷◌, length, find, slice_get, Some, None, Result, Ok, Err, is_some, is_none, option_and_then, option_map}
+use Rattle.std.specs.Prelude.{ℕ, Bool, true, false, not, ◌||◌, ◌&&◌, ◌==◌, ◌+◌, if◌then◌else◌, List, [], ◌∷◌, length, find, slice_get, Some, None, Result, Ok, Err, is_none, option_and_then, option_map}
 use Rattle.std.specs.declared.option.Option.{Option}
 use Rattle.py_tree.specs.declared.names.Place.{Place}
 use Rattle.py_tree.specs.declared.rule.Rule.{Rule}

@@ -1,10 +1,10 @@
 -- What is known at a point of a method: the locals typed so far, with the parameters, and of each whether it is surely
 -- assigned and surely not None.
-use Rattle.std.specs.Prelude.{ℕ, Bool, true, false, not, ◌||◌, ◌==◌, if◌then◌else◌, List, [], ◌∷◌, ◌++◌, map, find, Some, None}
+use Rattle.std.specs.Prelude.{ℕ, Bool, true, false, not, ◌==◌, if◌then◌else◌, List, [], ◌∷◌, ◌++◌, map, find}
 use Rattle.std.specs.declared.option.Option.{Option}
 use Rattle.std.specs.List.{list_any}
 use Rattle.py_tree.specs.PlainTypes.{PlainTy, TNil, TOptional}
-use Rattle.py_tree.specs.PlainExpressions.{PlainExpr, PInt, PBool, PStr, PNil, PVar, PSelf, PAttr, PCall, PApply, PIndex, PList, PNeg, PPos, PNot, PChain, PAnd, POr, PCompare, PIsNone, PCond, PlainExprs, PNoExpr, PExpr}
+use Rattle.py_tree.specs.PlainExpressions.{PlainExpr, PVar, PNot, PAnd, POr, PIsNone, PlainExprs, PNoExpr, PExpr}
 
 pub record PlainLocal : Type 0 where
   pub name : ℕ

@@ -1,3 +1,3 @@
 pub mod Copies
 pub mod formers
-pub mod Lending
+pub mod Lends

@@ -1,0 +1,16 @@
+//! Rules that are told where they are broken.
+
+ghost use Rattle.entity_types.specs.Answers.{Refuses};
+
+use entity_tables::RuleError;
+use py_tree::{Place, Rule, RuleFault};
+
+/// The fault of a rule, where it is broken.
+pub fn refuse(is_broken: bool, rule: Rule, place: Place) -> Result<(), RuleError>
+    ensures { Refuses is_broken rule place result }
+{
+    if is_broken {
+        return Err(RuleError::Fault(RuleFault { rule, place }));
+    }
+    Ok(())
+}
