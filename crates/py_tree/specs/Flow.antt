@@ -16,7 +16,7 @@ use Rattle.py_tree.specs.PlainTypes.{PlainTy, TInt, TStr, TNil, PlainWritten, ty
 use Rattle.py_tree.specs.PlainExpressions.{PlainExpr, PVar, PSelf, PAttr}
 use Rattle.py_tree.specs.PlainStatements.{PlainOver, PRange, PItems, PlainStmt, PPass, PBreak, PContinue, PDo, PReturn, PRaise, PAssert, PAssign, PAugment, PIf, PWhile, PFor, PlainStmts, PNoStmt, PStmt, PArm, PlainArms, PNoArm, PMoreArms, stmts_of}
 use Rattle.py_tree.specs.PlainProgram.{PlainMethod, PlainClass, PlainProgram}
-use Rattle.py_tree.specs.ClassRules.{PlainSigParam, PlainSig, PlainTable, is_reserved, is_full, type_fault, first_of, init_of, body_of, methods_of, tables_of}
+use Rattle.py_tree.specs.ClassRules.{PlainSigParam, PlainSig, PlainTable, is_reserved, is_full, type_fault, broken, first_of, init_of, body_of, methods_of, tables_of}
 use Rattle.py_tree.specs.FlowEnvironment.{PlainLocal, PlainEnv, has_name, local_of, has_none, shown, narrowed}
 use Rattle.py_tree.specs.ExpressionTypes.{same_ty, is_int, is_str, is_plus, are_ints, element_of, table_named, field_of, assignable, right_wanted, refuse_if, needs, with_found, operand, fits, place_of, as_condition, type_of}
 use Rattle.py_tree.specs.Reachability.{is_true, all_go_on, goes_on, assigned_in}
@@ -117,19 +117,56 @@ at_head names locals = map (λ l. if has_name names l.name then forgotten l else
 abbrev pub param_local : PlainSigParam → PlainLocal
 param_local p = given p.ty (record { name = p.name; ty = p.ty; assigned = true; not_none = false })
 
+-- Values
+
+-- a value that stands where this type is asked
+unfoldable pub value_as : Context → List PlainLocal → PlainTy → PlainExpr → Result PlainTy RuleFault
+value_as c locals wanted value = with_found (type_at c locals (Some wanted) value) (λ ty. fits ty wanted (place_of value) (Ok ty))
+
+-- a whole number, as an end of a `range`
+unfoldable pub number_at : Context → List PlainLocal → PlainExpr → Result PlainTy RuleFault
+number_at c locals e = with_found (type_at c locals None e) (λ ty. operand ty is_int (place_of e) (Ok TInt))
+
+-- the type of what a `for` goes over, item by item
+unfoldable pub item_of : Context → List PlainLocal → PlainOver → Result PlainTy RuleFault
+item_of c locals (PItems e) = with_found (type_at c locals None e) (λ ty. refuse_if (has_none ty) NoneUse (place_of e) (needs (element_of ty) Operand (place_of e) (λ element. Ok element)))
+item_of c locals (PRange None end) = number_at c locals end
+item_of c locals (PRange (Some start) end) = with_found (number_at c locals start) (λ ty. number_at c locals end)
+
+abbrev pub fault_in : {A : Type 0} → Result A RuleFault → Option RuleFault
+fault_in (Ok x) = None
+fault_in (Err f) = Some f
+
+-- goes on where there is no fault
+abbrev pub needs_none : {A : Type 0} → Option RuleFault → Result A RuleFault → Result A RuleFault
+needs_none None rest = rest
+needs_none (Some f) rest = Err f
+
+-- `return`, which gives None, and `return e`
+unfoldable pub return_fault : Context → List PlainLocal → Place → Option PlainExpr → Option RuleFault
+return_fault c locals at None = broken Mismatch at (not (assignable TNil (result_at c)))
+return_fault c locals at (Some value) = fault_in (value_as c locals (result_at c) value)
+
+-- the message of a `raise` or an `assert`
+unfoldable pub message_fault : Context → List PlainLocal → Option PlainExpr → Option RuleFault
+message_fault c locals None = None
+message_fault c locals (Some message) = fault_in (with_found (type_at c locals None message) (λ ty. refuse_if (not (is_str ty)) Mismatch (place_of message) (Ok ty)))
+
 -- Assignments
 
-abbrev pub is_taken : List PlainTable → ℕ → Bool
-is_taken tables name = is_reserved name || is_some (table_named tables name)
+abbrev pub is_class_in : List PlainTable → ℕ → Bool
+is_class_in tables name = is_some (table_named tables name)
 
--- the rules on the name of a local that is assigned
-unfoldable pub as_local : {A : Type 0} → Context → List PlainLocal → PlacedName → Result A RuleFault → Result A RuleFault
-as_local c locals x rest =
-    refuse_if (is_none (local_of locals x.name.0) && is_full (length locals)) TooMany x.place
-    (refuse_if (is_taken c.tables x.name.0) ReservedName x.place rest)
+-- the first fault of a name that is assigned as a local
+unfoldable pub local_fault : List PlainTable → List PlainLocal → PlacedName → Option RuleFault
+local_fault tables locals x =
+    first_of
+    (broken TooMany x.place (is_none (local_of locals x.name.0) && is_full (length locals))
+    ∷ broken ReservedName x.place (is_reserved x.name.0 || is_class_in tables x.name.0)
+    ∷ [])
 
 -- the type that a name has from before
-abbrev pub earlier : List PlainLocal → PlacedName → Option PlainTy
+unfoldable pub earlier : List PlainLocal → PlacedName → Option PlainTy
 earlier locals x = option_map (λ l. l.ty) (local_of locals x.name.0)
 
 -- a value of this type keeps to the type that its name has from before
@@ -145,25 +182,14 @@ stored locals x ty = refuse_if (not (keeps ty (earlier locals x))) LocalRetyped 
 unfoldable pub plainly_assigned : Context → List PlainLocal → PlacedName → PlainExpr → Result (List PlainLocal) RuleFault
 plainly_assigned c locals x value = with_found (type_at c locals (earlier locals x) value) (λ ty. stored locals x ty)
 
-abbrev pub needs_none : {A : Type 0} → Option RuleFault → Result A RuleFault → Result A RuleFault
-needs_none None rest = rest
-needs_none (Some f) rest = Err f
-
-abbrev pub is_class_in : List PlainTable → ℕ → Bool
-is_class_in tables name = is_some (table_named tables name)
-
--- the locals after a name of no earlier type gets a value, with this annotation
-abbrev pub first_stored : List PlainLocal → PlacedName → PlainTy → PlainExpr → PlainTy → Result (List PlainLocal) RuleFault
-first_stored locals x annotated value ty = fits ty annotated (place_of value) (Ok (with_local x.name.0 annotated ty locals))
-
 -- `x: T = e`, where x has a type from before, or none
-abbrev pub annotated_as : Context → List PlainLocal → PlacedName → PlainTy → PlainExpr → Option PlainTy → Result (List PlainLocal) RuleFault
-annotated_as c locals x ty value None = with_found (type_at c locals (Some ty) value) (λ found. first_stored locals x ty value found)
-annotated_as c locals x ty value (Some before) = refuse_if (not (same_ty ty before)) LocalRetyped x.place (plainly_assigned c locals x value)
+unfoldable pub assigned_as : Context → List PlainLocal → PlacedName → PlainTy → PlainExpr → Option PlainTy → Result (List PlainLocal) RuleFault
+assigned_as c locals x ty value None = with_found (value_as c locals ty value) (λ given. Ok (with_local x.name.0 ty given locals))
+assigned_as c locals x ty value (Some before) = refuse_if (not (same_ty ty before)) LocalRetyped x.place (plainly_assigned c locals x value)
 
 unfoldable pub local_assigned : Context → List PlainLocal → PlacedName → Option PlainWritten → PlainExpr → Result (List PlainLocal) RuleFault
-local_assigned c locals x None value = as_local c locals x (plainly_assigned c locals x value)
-local_assigned c locals x (Some w) value = as_local c locals x (needs_none (type_fault (is_class_in c.tables) w) (annotated_as c locals x (type_written w) value (earlier locals x)))
+local_assigned c locals x None value = needs_none (local_fault c.tables locals x) (plainly_assigned c locals x value)
+local_assigned c locals x (Some w) value = needs_none (local_fault c.tables locals x) (needs_none (type_fault (is_class_in c.tables) w) (assigned_as c locals x (type_written w) value (earlier locals x)))
 
 abbrev pub is_this : Option ℕ → ℕ → Bool
 is_this None name = false
@@ -178,13 +204,11 @@ unfoldable pub field_assigned : Context → List PlainLocal → Place → Placed
 field_assigned c locals at f value =
     needs (field_of c.tables c.class f.name.0) UnknownField f.place (λ ty.
     refuse_if (is_key_field c f.name.0) KeyAssigned at
-    (with_found (type_at c locals (Some ty) value) (λ found. fits found ty (place_of value) (Ok locals))))
+    (with_found (value_as c locals ty value) (λ given. Ok locals)))
 
 -- `self.f: T = e`, which only `__init__` has
 unfoldable pub field_declared : Context → List PlainLocal → Place → PlainTy → PlainExpr → Result (List PlainLocal) RuleFault
-field_declared c locals at ty value =
-    refuse_if (is_some c.method) InitForm at
-    (with_found (type_at c locals (Some ty) value) (λ found. fits found ty (place_of value) (Ok locals)))
+field_declared c locals at ty value = refuse_if (is_some c.method) InitForm at (with_found (value_as c locals ty value) (λ given. Ok locals))
 
 unfoldable pub assigned : Context → List PlainLocal → Place → Target → Option PlainWritten → PlainExpr → Result (List PlainLocal) RuleFault
 assigned c locals at (Local x) ty value = local_assigned c locals x ty value
@@ -198,15 +222,15 @@ target_read at (Field f) = PAttr at (PSelf at) f.name.0 f.place
 
 -- `x op e` within `x op= e`: lists aren't joined
 unfoldable pub augmented : BinOp → Place → PlainTy → PlainTy → Result PlainTy RuleFault
-augmented op place s t = refuse_if (has_none s || has_none t) NoneUse place (refuse_if (not (are_ints s t || (is_plus op && is_str s && is_str t))) Operand place (Ok s))
+augmented op place s t = refuse_if (has_none s || has_none t) NoneUse place (refuse_if (not (are_ints s t || (is_plus op && (is_str s && is_str t)))) Operand place (Ok s))
 
 abbrev pub is_key_target : Context → Target → Bool
 is_key_target c (Local x) = false
 is_key_target c (Field f) = is_key_field c f.name.0
 
 -- the locals after the combined value, of this type, is assigned
-abbrev pub combined_stored : Context → List PlainLocal → Target → PlainTy → Result (List PlainLocal) RuleFault
-combined_stored c locals (Local x) ty = as_local c locals x (stored locals x ty)
+unfoldable pub combined_stored : Context → List PlainLocal → Target → PlainTy → Result (List PlainLocal) RuleFault
+combined_stored c locals (Local x) ty = needs_none (local_fault c.tables locals x) (stored locals x ty)
 combined_stored c locals (Field f) ty = Ok locals
 
 -- `x op= e`
@@ -217,28 +241,6 @@ augmentation c locals at target op op_at value =
     (with_found (type_at c locals (right_wanted op s) value) (λ t.
     with_found (augmented op op_at s t) (λ ty.
     combined_stored c locals target ty))))
-
--- Other parts of statements
-
--- `return`, which gives None, and `return e`
-unfoldable pub returned : {A : Type 0} → Context → List PlainLocal → Place → Option PlainExpr → Result A RuleFault → Result A RuleFault
-returned c locals at None rest = fits TNil (result_at c) at rest
-returned c locals at (Some value) rest = with_found (type_at c locals (Some (result_at c)) value) (λ ty. fits ty (result_at c) (place_of value) rest)
-
--- the message of a `raise` or an `assert`
-unfoldable pub with_message : {A : Type 0} → Context → List PlainLocal → Option PlainExpr → Result A RuleFault → Result A RuleFault
-with_message c locals None rest = rest
-with_message c locals (Some message) rest = with_found (type_at c locals None message) (λ ty. refuse_if (not (is_str ty)) Mismatch (place_of message) rest)
-
--- an end of a `range`
-abbrev pub whole_number : {A : Type 0} → Context → List PlainLocal → PlainExpr → Result A RuleFault → Result A RuleFault
-whole_number c locals e rest = with_found (type_at c locals None e) (λ ty. operand ty is_int (place_of e) rest)
-
--- the type of what a `for` goes over, item by item
-unfoldable pub item_of : Context → List PlainLocal → PlainOver → Result PlainTy RuleFault
-item_of c locals (PItems e) = with_found (type_at c locals None e) (λ ty. refuse_if (has_none ty) NoneUse (place_of e) (needs (element_of ty) Operand (place_of e) (λ element. Ok element)))
-item_of c locals (PRange None end) = whole_number c locals end (Ok TInt)
-item_of c locals (PRange (Some start) end) = whole_number c locals start (whole_number c locals end (Ok TInt))
 
 -- Statements
 
@@ -280,9 +282,9 @@ unfoldable mutual
   flow c w (PBreak at) = refuse_if (not c.in_loop) LoopWord at (Ok (broken_off w))
   flow c w (PContinue at) = refuse_if (not c.in_loop) LoopWord at (Ok w)
   flow c w (PDo at value) = with_found (type_at c w.locals None value) (λ ty. Ok w)
-  flow c w (PReturn at value) = returned c w.locals at value (Ok w)
-  flow c w (PRaise at kind message) = with_message c w.locals message (Ok w)
-  flow c w (PAssert at test message) = with_found (condition_at c w.locals test) (λ ty. with_message c w.locals message (Ok (on w (narrowed (shown true test) w.locals))))
+  flow c w (PReturn at value) = needs_none (return_fault c w.locals at value) (Ok w)
+  flow c w (PRaise at kind message) = needs_none (message_fault c w.locals message) (Ok w)
+  flow c w (PAssert at test message) = with_found (condition_at c w.locals test) (λ ty. needs_none (message_fault c w.locals message) (Ok (on w (narrowed (shown true test) w.locals))))
   flow c w (PAssign at target ty value) = with_found (assigned c w.locals at target ty value) (λ locals. Ok (on w locals))
   flow c w (PAugment at target op op_at value) = with_found (augmentation c w.locals at target op op_at value) (λ locals. Ok (on w locals))
   flow c w (PIf at arms other) = flow_arms c w None arms (all_go_on other) (λ last. flow_all c last other)
@@ -292,7 +294,7 @@ unfoldable mutual
       Ok (on w (after_while test (at_head (assigned_in body) w.locals) b))))
   flow c w (PFor at name name_at over body) =
       with_found (item_of c w.locals over) (λ item.
-      as_local c w.locals (named_at name name_at)
+      needs_none (local_fault c.tables w.locals (named_at name name_at))
       (with_found (stored w.locals (named_at name name_at) item) (λ named.
       with_found (flow_all (within_loop c) (begun (with_local name item item (for_head (name ∷ assigned_in body) w.locals named))) body) (λ b.
       Ok (on w (after_for (for_head (name ∷ assigned_in body) w.locals named) b))))))
@@ -334,10 +336,6 @@ init_locals tables class = unwrap_or (option_map (λ t. map param_local t.init) 
 
 abbrev pub in_init : List PlainTable → ℕ → Context
 in_init tables class = record { tables = tables; class = class; method = None; in_loop = false }
-
-abbrev pub fault_in : {A : Type 0} → Result A RuleFault → Option RuleFault
-fault_in (Ok x) = None
-fault_in (Err f) = Some f
 
 -- the first fault in the types of `__init__`
 unfoldable pub init_flow_fault : List PlainTable → ℕ → List PlainStmt → Option RuleFault
