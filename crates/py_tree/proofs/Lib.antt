@@ -11,3 +11,4 @@ pub mod OneType
 pub mod OneStatement
 pub mod OneProgram
 mod ClassRuleExamples
+pub mod ReachRules
