@@ -122,7 +122,7 @@ pub fn inside(ty: &Ty) -> &Ty
 /// The element type of a wanted list type, or of a wanted Optional of one.
 #[tactic(auto, using(py_tree::proofs::TypeLaws::element_inside))]
 pub fn element_wanted(wanted: Option<&Ty>) -> Option<&Ty>
-    ensures { plain_wanted result ≡ option_and_then spec.element_wanted (plain_wanted wanted) }
+    ensures { plain_wanted result ≡ option_and_then spec.element_wanted (plain_wanted wanted.entry) }
 {
     match wanted {
         None => None,
