@@ -13,6 +13,7 @@ pub mod OneProgram
 pub mod OneText
 pub mod Places
 pub mod ProgramLaws
+pub mod Counted
 pub mod RuleLaws
 pub mod Rules
 pub mod Runs

@@ -10,5 +10,13 @@ pub mod OneExpression
 pub mod OneType
 pub mod OneStatement
 pub mod OneProgram
+pub mod Taken
+pub mod ExpressionBounds
+pub mod ExpressionsFit
+pub mod TypesFit
+pub mod StatementBounds
+pub mod StatementsFit
+pub mod ProgramsFit
 mod ClassRuleExamples
 pub mod ReachRules
+mod BoundedExamples

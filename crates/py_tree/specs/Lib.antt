@@ -18,3 +18,4 @@ pub mod ExpressionTypes
 pub mod Reachability
 pub mod Flow
 pub mod Acceptance
+pub mod Bounded

@@ -23,7 +23,7 @@ mod ty;
 
 pub use expr::{BinOp, Cmp, Expr, ExprKind, Exprs, Link, Links};
 pub use fault::{SyntaxFault, SyntaxKind};
-pub use laws::has_one_outcome;
+pub use laws::{has_bounded_program, has_one_outcome};
 pub use names::{Name, Names, Place, PlacedName};
 pub use program::{Class, Classes, Method, Methods, Param, Params, Program};
 pub use rule::{Rule, RuleFault};
