@@ -11,30 +11,8 @@ use Rattle.py_tree.specs.declared.rule.RuleFault.{RuleFault}
 use Rattle.py_tree.specs.PlainStatements.{PlainStmt}
 use Rattle.py_tree.specs.PlainProgram.{PlainParam, PlainMethod, PlainProgram}
 use Rattle.py_tree.specs.ClassRules.{acts, is_field, is_member, is_reserved, is_class, is_param, annotation_fault, written_fault, member_name_fault, result_fault, broken, is_full, first_of, first_behind, first_in, param_fault, Declaration, declaration, declaration_fault, other_fault, place_of_stmt, PlainField, field_declared, field_names, fields_of, init_stmt_fault, init_body_fault, is_init, is_called, member_fault, init_of, params_of, body_of}
+use Rattle.py_tree.proofs.ClassRuleLaws.{head_none, rest_none, not_broken, few, stays}
 use Rattle.entity_tables.specs.Answers.{IsSmall}
-
-head_none : (a : Option RuleFault) (more : List (Option RuleFault)) → first_of (a ∷ more) ≡ None → a ≡ None
-head_none None more e = refl
-head_none (Some f) more e = e
-
-rest_none : (a : Option RuleFault) (more : List (Option RuleFault)) → first_of (a ∷ more) ≡ None → first_of more ≡ None
-rest_none None more e = e
-rest_none (Some f) more e = grind (arith, e)
-
-not_broken : (rule : Rule) (place : Place) (b : Bool) → broken rule place b ≡ None → b ≡ false
-not_broken rule place false e = refl
-not_broken rule place true e = grind (arith, e)
-
-few : (n : ℕ) → is_full n ≡ false → n + 1 ≤ 256
-few n e = grind (arith, e)
-
--- a list stays small where each item without a fault keeps it small
-stays : {X : Type 0} (fault : List X → X → Option RuleFault) (size : List X → ℕ) → ((before : List X) (x : X) → size before ≤ 256 → fault before x ≡ None → size (before ++ x ∷ []) ≤ 256) → (before xs : List X) → size before ≤ 256 → first_behind fault before xs ≡ None → size (before ++ xs) ≤ 256
-stays fault size keeps before [] small none = subst (λ ys. size ys ≤ 256) (sym (append-nil before)) small
-stays fault size keeps before (x ∷ xs) small none =
-    let now : fault before x ≡ None = head_none (fault before x) (first_behind fault (before ++ x ∷ []) xs ∷ []) none in
-    let later : first_behind fault (before ++ x ∷ []) xs ≡ None = head_none (first_behind fault (before ++ x ∷ []) xs) [] (rest_none (fault before x) (first_behind fault (before ++ x ∷ []) xs ∷ []) none) in
-    subst (λ ys. size ys ≤ 256) (append_assoc before (x ∷ []) xs) (stays fault size keeps (before ++ x ∷ []) xs (keeps before x small now) later)
 
 one_param_more : (p : PlainProgram) (before : List PlainParam) (x : PlainParam) → length before ≤ 256 → param_fault p before x ≡ None → length (before ++ x ∷ []) ≤ 256
 unfolding param_fault

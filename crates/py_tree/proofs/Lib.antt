@@ -20,3 +20,5 @@ pub mod ProgramsFit
 mod ClassRuleExamples
 pub mod ReachRules
 mod BoundedExamples
+pub mod ClassRuleLaws
+pub mod CheckedLaws

@@ -19,3 +19,4 @@ pub mod Reachability
 pub mod Flow
 pub mod Acceptance
 pub mod Bounded
+pub mod CheckedViews
