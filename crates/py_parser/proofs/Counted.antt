@@ -1,8 +1,7 @@
 -- A text has no more tokens than bytes.
-use Rattle.std.proofs.Common.{◌≡◌, ◌≤◌, ◌+◌, ℕ, List, [], ◌∷◌, map, length, arith}
+use Rattle.std.proofs.Common.{◌≤◌, ◌+◌, ℕ, List, map, length, arith}
 use Rattle.std.proofs.lemmas.List.{length-map}
 use Rattle.py_tree.specs.PlainProgram.{PlainProgram}
-use Rattle.py_tree.specs.Tokens.{PlainToken}
 use Rattle.py_tree.specs.Bounded.{tokens_of, IsBounded, HasReserved}
 use Rattle.py_tree.specs.Grammar.{IsProgram, has_tree}
 use Rattle.py_tree.proofs.ProgramsFit.{program_fits}
