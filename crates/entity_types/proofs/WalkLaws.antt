@@ -1,6 +1,6 @@
 -- The rules of types at the steps of a walk over an expression.
 use Rattle.std.specs.Prelude.{not, ◌==◌, option_map}
-use Rattle.std.proofs.Common.{◌≡◌, ℕ, ◌+◌, ◌<◌, ◌≤◌, arith, Bool, true, false, Option, Some, None, Result, Ok, Err, List, [], ◌∷◌, length, map, drop, get_or, refl, sym, ap, ◌∙◌}
+use Rattle.std.proofs.Common.{◌≡◌, ℕ, suc, ◌+◌, ◌<◌, ◌≤◌, arith, Bool, true, false, Option, Some, None, Result, Ok, Err, List, [], ◌∷◌, length, map, drop, get_or, refl, sym, ap, ◌∙◌}
 use Rattle.std.proofs.lemmas.List.{drop_all}
 use Rattle.py_tree.specs.declared.names.Place.{Place}
 use Rattle.py_tree.specs.declared.rule.Rule.{Rule}
@@ -122,20 +122,33 @@ module _ (tables : List PlainTable) (env : PlainEnv) where
   creation_is at name args is =
       λ j. applied (is j) (table_named tables name) at (count-exprs args j) (λ test result. each_is test tables env (exprs_of (plain_exprs args)) result) (λ params result. arguments tables env (exprs_of (plain_exprs args)) params result)
 
+  length_mapped : (params : List SigParam) → length (map plain_sig_param params) ≡ length params
+  length_mapped [] = refl
+  length_mapped (p ∷ params) = ap suc (length_mapped params)
+
+  -- a creation of a class with this table
+  pub creation_typed : (at : Place) (class : ℕ) (args : List Expr) (table : PlainTable) (params : List SigParam) (gives : PlainTy) → Some table ≡ table_named tables class → not (length args == length params) ≡ false → map plain_sig_param params ≡ table.init → gives ≡ TEntity table.name → needs (table_named tables class) UnknownName at (λ c. refuse_if (not (length args == length c.init)) ArgCount at (arguments tables env (exprs_of (plain_exprs args)) c.init (TEntity c.name))) ≡ arguments tables env (exprs_of (plain_exprs args)) (map plain_sig_param params) gives
+  creation_typed at class args table params gives found as_many same made =
+      (λ j. needs (sym found j) UnknownName at (λ c. refuse_if (not (length args == length c.init)) ArgCount at (arguments tables env (exprs_of (plain_exprs args)) c.init (TEntity c.name))))
+      ∙ (λ j. refuse_if (not (length args == length (sym same j))) ArgCount at (arguments tables env (exprs_of (plain_exprs args)) (sym same j) (sym made j)))
+      ∙ ap (λ n. refuse_if (not (length args == n)) ArgCount at (arguments tables env (exprs_of (plain_exprs args)) (map plain_sig_param params) gives)) (length_mapped params)
+      ∙ ap (λ b. refuse_if b ArgCount at (arguments tables env (exprs_of (plain_exprs args)) (map plain_sig_param params) gives)) as_many
+
   -- Lists
+
+  pub list_none : (at : Place) (xs : List Expr) → length xs ≤ 0 → list_of tables env None at (exprs_of (plain_exprs xs)) ≡ fault EmptyListType at
+  unfolding type_of
+  list_none at [] short = refl
+  list_none at (x ∷ xs) short = absurd (omega arith)
+
+  pub list_from : (at : Place) (xs : List Expr) (x : Expr) → 0 < length xs → x ≡ get_or xs 0 x → list_of tables env None at (exprs_of (plain_exprs xs)) ≡ with_found (type_of tables env None (plain_expr x)) (λ t. elements tables env t (exprs_of (plain_exprs (drop 1 xs))))
+  unfolding type_of
+  list_from at xs x within is = ap (list_of tables env None at) (exprs_from xs 0 x within is)
 
   pub list_wanted : (element : PlainTy) (at : Place) (xs : PlainExprs) → list_of tables env (Some element) at xs ≡ elements tables env element xs
   unfolding type_of
   list_wanted element at PNoExpr = refl
   list_wanted element at (PExpr x xs) = refl
-
-  pub list_empty : (at : Place) → list_of tables env None at PNoExpr ≡ fault EmptyListType at
-  unfolding type_of
-  list_empty at = refl
-
-  pub list_first : (at : Place) (x : PlainExpr) (xs : PlainExprs) → list_of tables env None at (PExpr x xs) ≡ with_found (type_of tables env None x) (λ t. elements tables env t xs)
-  unfolding type_of
-  list_first at x xs = refl
 
   -- Arguments, from one of them on
 
@@ -285,7 +298,7 @@ pub ruleset call_laws = (call_is)
 pub ruleset index_laws = (index_is)
 pub ruleset choice_laws = (choice_is)
 pub ruleset apply_laws = (function_is, creation_is)
-pub ruleset list_laws = (list_wanted, list_empty, list_first)
+pub ruleset list_laws = (list_wanted)
 pub ruleset argument_laws = (argument_passes, argument_stops, arguments_end, params_end)
 pub ruleset element_laws = (element_passes, element_stops, elements_end)
 pub ruleset each_laws = (each_passes, each_refuses, each_stops, each_end)

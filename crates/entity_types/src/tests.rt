@@ -1,0 +1,1 @@
+//! Types of expressions, and the rules that they break.
