@@ -170,7 +170,14 @@ fn call_in(
 {
     let receiver = type_in(alloc, tables, scope, None, on)?;
     let method = called(tables, on.place, &receiver, name, args.len())?;
-    arguments_in(alloc, tables, scope, args, method.params.as_slice(), &method.result)
+    arguments_in(
+        alloc,
+        tables,
+        scope,
+        args,
+        method.params.as_slice(),
+        &method.result,
+    )
 }
 
 /// The type of a call of a function, or of a creation.

@@ -1,5 +1,5 @@
 use Rattle.std.specs.Prelude.{not, ◌==◌}
-use Rattle.std.proofs.Common.{◌≡◌, ◌+◌, Some, None, Ok, length, map, drop, arith, sym, ap, ◌∙◌, subst}
+use Rattle.std.proofs.Common.{◌≡◌, ◌+◌, None, length, map, drop, arith, sym, ap, ◌∙◌, subst}
 use Rattle.py_tree.specs.declared.rule.RuleFault.{RuleFault}
 use Rattle.py_tree.specs.declared.ty.Ty.{Entity}
 use Rattle.py_tree.specs.PlainTypes.{plain_ty}
