@@ -1,9 +1,9 @@
 -- Whether a name is among those that a test shows.
-use Rattle.std.specs.Prelude.{not, ◌&&◌, ◌||◌, if◌then◌else◌, ◌==◌, Option}
-use Rattle.std.proofs.Common.{◌≡◌, ℕ, ◌+◌, ◌<◌, ◌≤◌, Bool, true, false, Some, None, List, [], ◌∷◌, ◌++◌, length, drop, get_or, refl, sym, ap, ◌∙◌}
+use Rattle.std.specs.Prelude.{not, ◌&&◌, ◌||◌, if◌then◌else◌, ◌==◌}
+use Rattle.std.proofs.Common.{◌≡◌, ℕ, ◌+◌, ◌<◌, ◌≤◌, Bool, true, false, Some, None, List, [], ◌∷◌, ◌++◌, length, drop, get_or, refl, ap, ◌∙◌}
 use Rattle.std.specs.List.{list_any}
 use Rattle.py_tree.specs.declared.expr.Expr.{Expr}
-use Rattle.py_tree.specs.PlainExpressions.{PlainExpr, PVar, PlainExprs, PNoExpr, PExpr, plain_expr, plain_exprs, exprs_of}
+use Rattle.py_tree.specs.PlainExpressions.{PlainExpr, PVar, plain_expr, plain_exprs, exprs_of}
 use Rattle.py_tree.specs.ClassRules.{variable}
 use Rattle.py_tree.specs.FlowEnvironment.{has_name, variable_in, shown, shown_by_each}
 use Rattle.entity_types.proofs.ListWalks.{exprs_from, exprs_end}
