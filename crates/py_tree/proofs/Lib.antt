@@ -2,6 +2,8 @@ pub mod CopyLaws
 pub mod NameLaws
 pub mod ProgramCopies
 pub mod Views
+pub mod TypeLaws
+pub mod TypeRules
 mod StringExamples
 pub mod OneOutcome
 pub mod OneExpression
@@ -16,4 +18,7 @@ pub mod StatementBounds
 pub mod StatementsFit
 pub mod ProgramsFit
 mod ClassRuleExamples
+pub mod ReachRules
 mod BoundedExamples
+pub mod ClassRuleLaws
+pub mod CheckedLaws
