@@ -6,7 +6,8 @@ use Rattle.std.proofs.lemmas.List.{take_more, map-append, drop_all, take_all, ge
 use Rattle.py_tree.specs.FlowEnvironment.{PlainLocal, local_of, known_not_none, has_name, narrowed}
 use Rattle.entity_types.specs.declared.env.Local.{Local}
 use Rattle.entity_types.specs.Views.{plain_local, plain_locals}
-use Rattle.entity_types.specs.Scopes.{known_by}
+use Rattle.entity_types.specs.Scopes.{known_by, plain_scope}
+use Rattle.entity_types.specs.declared.scope.Scope.{Scope}
 use Rattle.entity_types.proofs.ListWalks.{from_item}
 
 -- nothing is known but what the locals say
@@ -115,3 +116,7 @@ kept (x ∷ ls) (suc i) l within is = ap (λ more. x ∷ more) (kept ls i l (ome
 pub locals_keep : (names : List ℕ) (ls more : List Local) (i : ℕ) (l : Local) → i < length ls → l ≡ get_or ls i l → has_name names l.name.0 ≡ false → more ≡ slice_set ls i l → take i (plain_locals ls) ++ narrowed names (drop i (plain_locals ls)) ≡ take (i + 1) (plain_locals more) ++ narrowed names (drop (i + 1) (plain_locals more))
 locals_keep names ls more i l within is other keeps =
     locals_pass names ls i l within is other ∙ ap (λ xs. take (i + 1) (plain_locals xs) ++ narrowed names (drop (i + 1) (plain_locals xs))) (sym (keeps ∙ kept ls i l within is))
+
+pub scope_class : (s : Scope) → (plain_scope s).class ≡ s.env.now.class
+unfolding plain_scope
+scope_class s = refl

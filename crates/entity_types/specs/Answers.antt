@@ -3,6 +3,7 @@ use Rattle.std.specs.Prelude.{◌≡◌, Bool, false, true, Result, Ok, Err}
 use Rattle.py_tree.specs.declared.names.Place.{Place}
 use Rattle.py_tree.specs.declared.rule.Rule.{Rule}
 use Rattle.py_tree.specs.declared.rule.RuleFault.{RuleFault}
+use Rattle.py_tree.specs.PlainTypes.{PlainTy, TBool}
 use Rattle.entity_tables.specs.declared.fault.RuleError.{RuleError}
 use Rattle.entity_tables.specs.declared.fault.RuleError.TheVariants.{Fault, NoMemory}
 
@@ -17,3 +18,9 @@ abbrev pub Refuses : {X : Type 0} → Bool → Rule → Place → Result X RuleE
 Refuses is_broken rule place (Ok x) = is_broken ≡ false
 Refuses is_broken rule place (Err NoMemory) = ⊥
 Refuses is_broken rule place (Err (Fault fault)) = (is_broken ≡ true) × (fault ≡ record { rule = rule; place = place })
+
+-- a check passes where bool was found, and else gives the fault that was found; want of memory is free
+abbrev pub Checks : {X : Type 0} → Result PlainTy RuleFault → Result X RuleError → Type 0
+Checks found (Ok x) = found ≡ Ok TBool
+Checks found (Err NoMemory) = Unit {0}
+Checks found (Err (Fault fault)) = found ≡ Err fault

@@ -11,6 +11,7 @@ pub mod lookup;
 mod narrowing;
 pub mod operators;
 mod scope;
+mod walk;
 pub mod types;
 
 pub use entity_tables::RuleError;

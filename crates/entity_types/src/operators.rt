@@ -1,12 +1,14 @@
 //! Rules on operands and operators, behind the types of their sides.
 
 ghost use Rattle.std.specs.Prelude.{◌≡◌, Ok};
-ghost use Rattle.py_tree.specs.PlainTypes.{plain_ty, TInt};
+ghost use Rattle.py_tree.specs.PlainTypes.{plain_ty, TInt, TBool};
 ghost use Rattle.py_tree.specs.ExpressionTypes as spec;
-ghost use Rattle.entity_types.specs.Answers.{Types};
+ghost use Rattle.entity_types.specs.Answers.{Types, Checks};
+ghost use Rattle.entity_types.specs.Functions.{plain_function, asked};
 
 use crate::fault::refuse;
-use crate::types::{has_join, has_none, is_int, is_list, is_str, same};
+use crate::functions::{Function, is_asked};
+use crate::types::{has_join, has_none, is_bool, is_int, is_list, is_str, same};
 use entity_tables::RuleError;
 use py_tree::{BinOp, Cmp, Place, Rule, Ty};
 
@@ -88,4 +90,20 @@ pub fn signed(place: Place, ty: &Ty) -> Result<Ty, RuleError>
     refuse(has_none(ty), Rule::NoneUse, place)?;
     refuse(!is_int(ty), Rule::Operand, place)?;
     Ok(Ty::Int)
+}
+
+/// That an operand of `not`, `and` or `or`, or a test, has this type.
+pub fn check_condition(place: Place, ty: &Ty) -> Result<(), RuleError>
+    ensures { Checks (spec.operand (plain_ty ty.now) spec.is_bool place (Ok TBool)) result }
+{
+    refuse(has_none(ty), Rule::NoneUse, place)?;
+    refuse(!is_bool(ty), Rule::Operand, place)
+}
+
+/// That an argument of a function has this type.
+pub fn check_asked(function: Function, place: Place, ty: &Ty) -> Result<(), RuleError>
+    ensures { Checks (spec.operand (plain_ty ty.now) (asked (plain_function function)) place (Ok TBool)) result }
+{
+    refuse(has_none(ty), Rule::NoneUse, place)?;
+    refuse(!is_asked(function, ty), Rule::Operand, place)
 }

@@ -1,7 +1,7 @@
 //! Rules on types alone.
 
 ghost use Rattle.std.specs.Prelude.{◌≡◌, not, option_map, option_and_then, is_none, IfOk};
-ghost use Rattle.py_tree.specs.PlainTypes.{plain_ty};
+ghost use Rattle.py_tree.specs.PlainTypes.{plain_ty, TList};
 ghost use Rattle.py_tree.specs.FlowEnvironment as flow;
 ghost use Rattle.py_tree.specs.ExpressionTypes as spec;
 ghost use Rattle.entity_types.specs.Views.{plain_wanted};
@@ -145,6 +145,14 @@ pub fn right_wanted(op: BinOp, left: &Ty) -> Option<&Ty>
         }
         BinOp::Sub | BinOp::Mul | BinOp::FloorDiv | BinOp::Mod => None,
     }
+}
+
+/// The type of lists of elements of this type.
+#[tactic(auto, using(py_tree::proofs::Views::ty_views))]
+pub fn list_of(alloc: Global, element: Ty) -> Result<Ty, AllocError>
+    ensures { IfOk result (λ ty. plain_ty ty ≡ TList (plain_ty element)) }
+{
+    Ok(Ty::List(Box::new(alloc, element)?))
 }
 
 /// A type that hasn't None, with None.

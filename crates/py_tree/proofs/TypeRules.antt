@@ -1,4 +1,5 @@
--- What the rules of types say at each kind of expression, one equation each.
+-- What the rules of types say at each kind of expression, one equation each, and what a test shows of names. The place of a
+-- call of a method, of an index and of a conditional is told by none of the rules: that of its first part stands for it.
 use Rattle.std.proofs.Common.{◌≡◌, ℤ, suc, arith, Bool, true, false, not, List, [], ◌∷◌, length, Option, None, Ok, refl, ap, ◌∙◌}
 use Rattle.std.specs.Prelude.{option_and_then, ◌+◌, if◌then◌else◌}
 use Rattle.std.specs.declared.alloc.Global.{Global}
@@ -78,7 +79,7 @@ module _ (at : Place) (tables : List PlainTable) (env : PlainEnv) (wanted : Opti
   unfolding type_of
   type-Attr a x = ap (type_of tables env wanted) (plain-Attr at a x)
 
-  pub type-Call : (a : Box Expr Global) (x : PlacedName) (es : List Expr) → type_of tables env wanted (plain_kind (e.Call a x es) at) ≡ type_of tables env None (PCall at (plain_expr a.value) x.name.0 x.place (exprs_of (plain_exprs es)))
+  pub type-Call : (a : Box Expr Global) (x : PlacedName) (es : List Expr) → type_of tables env wanted (plain_kind (e.Call a x es) at) ≡ type_of tables env None (PCall a.value.place (plain_expr a.value) x.name.0 x.place (exprs_of (plain_exprs es)))
   unfolding type_of
   type-Call a x es = ap (type_of tables env wanted) (plain-Call at a x es)
 
@@ -86,7 +87,7 @@ module _ (at : Place) (tables : List PlainTable) (env : PlainEnv) (wanted : Opti
   unfolding type_of
   type-Apply x es = ap (type_of tables env wanted) (plain-Apply at x es)
 
-  pub type-Index : (a b : Box Expr Global) → type_of tables env wanted (plain_kind (e.Index a b) at) ≡ type_of tables env None (PIndex at (plain_expr a.value) (plain_expr b.value))
+  pub type-Index : (a b : Box Expr Global) → type_of tables env wanted (plain_kind (e.Index a b) at) ≡ type_of tables env None (PIndex a.value.place (plain_expr a.value) (plain_expr b.value))
   unfolding type_of
   type-Index a b = ap (type_of tables env wanted) (plain-Index at a b)
 
@@ -126,7 +127,7 @@ module _ (at : Place) (tables : List PlainTable) (env : PlainEnv) (wanted : Opti
   unfolding type_of
   type-IsNone a positive = ap (type_of tables env wanted) (plain-IsNone at a positive)
 
-  pub type-Cond : (a b c : Box Expr Global) → type_of tables env wanted (plain_kind (e.Cond a b c) at) ≡ type_of tables env wanted (PCond at (plain_expr a.value) (plain_expr b.value) (plain_expr c.value))
+  pub type-Cond : (a b c : Box Expr Global) → type_of tables env wanted (plain_kind (e.Cond a b c) at) ≡ type_of tables env wanted (PCond a.value.place (plain_expr a.value) (plain_expr b.value) (plain_expr c.value))
   unfolding type_of
   type-Cond a b c = ap (type_of tables env wanted) (plain-Cond at a b c)
 
