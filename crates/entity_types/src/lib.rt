@@ -16,4 +16,5 @@ pub mod types;
 
 pub use entity_tables::RuleError;
 pub use env::{FlowEnv, Local, Locals};
-pub use narrowing::{narrow, narrow_here};
+pub use fault::{refuse, told};
+pub use narrowing::{narrow, narrow_here, shows};
