@@ -4,5 +4,7 @@
 //! has no state: statements there aren't looked at, and name no locals.
 #![tactic(auto)]
 
+mod context;
+mod head;
 mod known;
 mod reach;
