@@ -8,3 +8,4 @@ mod context;
 mod head;
 mod known;
 mod reach;
+mod values;
