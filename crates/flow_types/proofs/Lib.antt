@@ -1,3 +1,4 @@
 pub mod StandingLaws
 pub mod HeadLaws
 pub mod PlaceLaws
+pub mod LocalLaws

@@ -7,5 +7,7 @@
 mod context;
 mod head;
 mod known;
+mod locals;
 mod reach;
 mod values;
+mod written;
