@@ -4,6 +4,7 @@
 //! has no state: statements there aren't looked at, and name no locals.
 #![tactic(auto)]
 
+mod assign;
 mod context;
 mod head;
 mod known;
