@@ -2,7 +2,7 @@
 use Rattle.std.specs.Prelude.{◌&&◌, min, slice_set}
 use Rattle.std.proofs.Common.{◌≡◌, ℕ, zero, suc, arith, ◌+◌, ◌<◌, ◌≤◌, Bool, false, List, [], ◌∷◌, ◌++◌, length, map, take, drop, get_or, append-nil, refl, sym, ap, ◌∙◌}
 use Rattle.std.proofs.lemmas.List.{take_more, map-append, drop_all, take_all}
-use Rattle.py_tree.specs.FlowEnvironment.{PlainLocal}
+use Rattle.py_tree.specs.FlowEnvironment.{PlainLocal, narrowed}
 use Rattle.py_tree.specs.Flow.{Known, known_at, known_of, with_known, settled, joined}
 use Rattle.entity_types.specs.declared.env.Local.{Local}
 use Rattle.entity_types.specs.Views.{plain_local, plain_locals}
@@ -73,3 +73,17 @@ settled_more ls more known i l made within is one sets =
 pub settled_all : (ls : List PlainLocal) (known : List Known) (i : ℕ) → length ls ≤ i → take i ls ++ settled (drop i ls) (drop i known) ≡ ls
 unfolding settled
 settled_all ls known i past = (λ j. take_all i ls past j ++ settled (drop_all i ls past j) (drop i known)) ∙ append-nil ls
+
+-- of locals up to one where a test shows these names
+pub shown_more : (names : List ℕ) (ls : List Local) (i : ℕ) (l : Local) (made more : List Standing) (s : Standing) → i < length ls → l ≡ get_or ls i l → plain_standings made ≡ known_at (narrowed names (plain_locals (take i ls))) → plain_standing s ∷ [] ≡ known_at (narrowed names (plain_local l ∷ [])) → more ≡ made ++ s ∷ [] → plain_standings more ≡ known_at (narrowed names (plain_locals (take (i + 1) ls)))
+unfolding known_at narrowed
+shown_more names ls i l made more s within is so_far one grown =
+    let stand : List PlainLocal → List Known = λ ps. known_at (narrowed names ps) in
+    ap plain_standings grown ∙ map-append plain_standing made (s ∷ []) ∙ (λ j. so_far j ++ one j)
+    ∙ sym (ap (λ xs. stand (plain_locals xs)) (take_more ls i l within ∙ ap (λ z. take i ls ++ z ∷ []) (sym is)) ∙ ap stand (map-append plain_local (take i ls) (l ∷ [])) ∙ ap (map known_of) (map-append _ (plain_locals (take i ls)) (plain_local l ∷ [])) ∙ map-append known_of (narrowed names (plain_locals (take i ls))) (narrowed names (plain_local l ∷ [])))
+
+pub none_shown : (names : List ℕ) → known_at (narrowed names []) ≡ []
+unfolding known_at narrowed
+none_shown names = refl
+
+pub ruleset shown_laws = (shown_more, none_shown)

@@ -5,10 +5,13 @@
 #![tactic(auto)]
 
 mod assign;
+mod branch;
 mod context;
 mod head;
 mod known;
 mod locals;
+mod loops;
 mod reach;
+mod simple;
 mod values;
 mod written;
