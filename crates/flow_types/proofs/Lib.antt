@@ -2,3 +2,4 @@ pub mod StandingLaws
 pub mod HeadLaws
 pub mod PlaceLaws
 pub mod LocalLaws
+pub mod FlowLaws

@@ -29,12 +29,11 @@ unfoldable pub behind_arms : Context → Fork → PlainArms → Result Fork Rule
 behind_arms c f PNoArm = Ok f
 behind_arms c f (PMoreArms arm more) = with_found (behind_arm c f arm) (λ next. behind_arms c next more)
 
--- behind an `if`
-unfoldable pub behind_if : Context → Way → PlainArms → PlainStmts → Result Way RuleFault
-behind_if c w arms other =
-    with_found (behind_arms c (record { next = w; ended = None }) arms) (λ f.
+-- behind the last branch of an `if`, which is reached where no test was True
+unfoldable pub behind_other : Context → Fork → PlainStmts → Result Way RuleFault
+behind_other c f other =
     with_found (flow_all c f.next other) (λ last.
-    Ok (on last (behind_ways last.locals (meet f.ended (way (all_go_on other) last.locals))))))
+    Ok (on last (behind_ways last.locals (meet f.ended (way (all_go_on other) last.locals)))))
 
 -- behind a `while` with this head
 unfoldable pub behind_while : Context → List PlainLocal → PlainExpr → PlainStmts → Result (List PlainLocal) RuleFault

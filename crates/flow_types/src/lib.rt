@@ -14,4 +14,5 @@ mod loops;
 mod reach;
 mod simple;
 mod values;
+mod walk;
 mod written;
