@@ -1,16 +1,16 @@
 -- How many fields and parameters there are where no rule is broken.
-use Rattle.std.proofs.Common.{not, ◌≡◌, ℕ, suc, arith, true, false, Bool, ◌+◌, ◌≤◌, Option, Some, None, List, [], ◌∷◌, ◌++◌, length, append_assoc, append-nil, length-append, refl, sym, ap, ◌∙◌, subst}
-use Rattle.std.specs.Prelude.{find, cond, if◌then◌else◌, option_map, unwrap_or, ◌||◌}
+use Rattle.std.proofs.Common.{not, ◌≡◌, ℕ, zero, suc, arith, true, false, Bool, ◌+◌, ◌≤◌, Option, Some, None, List, [], ◌∷◌, ◌++◌, length, append_assoc, append-nil, length-append, refl, sym, ap, ◌∙◌, subst}
+use Rattle.std.specs.Prelude.{find, cond, if◌then◌else◌, option_map, unwrap_or, slice_get, ◌||◌, ◌&&◌}
 use Rattle.std.specs.List.{cons_option}
 use Rattle.std.specs.Option.{option_map_or}
-use Rattle.std.proofs.lemmas.List.Elements.{filter_map-append}
+use Rattle.std.proofs.lemmas.List.Elements.{filter_map-append, filter-append}
 use Rattle.py_tree.specs.declared.names.Place.{Place}
 use Rattle.py_tree.specs.declared.rule.Rule.{Rule}
 use Rattle.py_tree.specs.declared.rule.Rule.TheVariants.{TooMany, ReservedName, DuplicateMember, InitForm}
 use Rattle.py_tree.specs.declared.rule.RuleFault.{RuleFault}
 use Rattle.py_tree.specs.PlainStatements.{PlainStmt}
-use Rattle.py_tree.specs.PlainProgram.{PlainParam, PlainMethod, PlainProgram}
-use Rattle.py_tree.specs.ClassRules.{acts, is_field, is_member, is_reserved, is_class, is_param, annotation_fault, written_fault, member_name_fault, result_fault, broken, is_full, first_of, first_behind, first_in, param_fault, Declaration, declaration, declaration_fault, other_fault, place_of_stmt, PlainField, field_declared, field_names, fields_of, init_stmt_fault, init_body_fault, is_init, is_called, member_fault, init_of, params_of, body_of}
+use Rattle.py_tree.specs.PlainProgram.{PlainParam, PlainMethod, PlainClass, PlainProgram}
+use Rattle.py_tree.specs.ClassRules.{acts, is_field, is_member, is_reserved, is_class, is_param, annotation_fault, written_fault, member_name_fault, result_fault, broken, is_full, first_of, first_behind, first_in, param_fault, Declaration, declaration, declaration_fault, other_fault, place_of_stmt, PlainField, field_declared, field_names, fields_of, init_stmt_fault, init_body_fault, is_init, is_called, member_fault, init_of, params_of, body_of, is_dunder, text_of, methods_of, class_name_fault, whole_fault, class_fault, program_fault}
 use Rattle.entity_tables.specs.Answers.{IsSmall}
 
 head_none : (a : Option RuleFault) (more : List (Option RuleFault)) → first_of (a ∷ more) ≡ None → a ≡ None
@@ -130,3 +130,52 @@ small names p members none =
     record { params = both.0; fields = both.1 }
 
 pub ruleset small_laws = (small)
+
+one_called : (called : Bool) (m : PlainMethod) (n : ℕ) → n ≤ 256 → (called && is_full n) ≡ false → n + length (if called then m ∷ [] else []) ≤ 256
+one_called true m n small room = few n room
+one_called false m n small room = omega arith
+
+-- a member more is a method more, or isn't
+one_method_more : (names : List (List ℕ)) (p : PlainProgram) (all before : List PlainMethod) (m : PlainMethod) → length (methods_of names before) ≤ 256 → member_fault names p all before m ≡ None → length (methods_of names (before ++ m ∷ [])) ≤ 256
+unfolding member_fault member_name_fault methods_of
+one_method_more names p all before m small none =
+    let named : Option RuleFault = member_name_fault names before m in
+    let full : Bool = is_full (length (methods_of names before)) in
+    let others : List (Option RuleFault) = broken ReservedName m.place (is_called names m.name && is_dunder (text_of names m.name)) ∷ broken DuplicateMember m.place (is_member before m.name) ∷ [] in
+    let keeps : named ≡ None = head_none named _ none in
+    let room : (is_called names m.name && full) ≡ false = not_broken TooMany m.place (is_called names m.name && full) (head_none (broken TooMany m.place (is_called names m.name && full)) others keeps) in
+    let added : length (methods_of names (before ++ m ∷ [])) ≡ length (methods_of names before) + length (methods_of names (m ∷ [])) = ap length (filter-append _ before (m ∷ [])) ∙ length-append (methods_of names before) (methods_of names (m ∷ [])) in
+    subst (λ n. n ≤ 256) (sym added) (one_called (is_called names m.name) m (length (methods_of names before)) small room)
+
+-- the methods that are called by name are few
+pub few_methods : (names : List (List ℕ)) (p : PlainProgram) (c : PlainClass) → class_fault names p c ≡ None → length (methods_of names c.members) ≤ 256
+unfolding class_fault methods_of
+few_methods names p c none = stays (member_fault names p c.members) (λ ms. length (methods_of names ms)) (one_method_more names p c.members) [] c.members (omega arith) (head_none (first_in (member_fault names p c.members) c.members) (whole_fault names c ∷ []) none)
+
+one_class_more : (before : List PlainClass) (c : PlainClass) → length before ≤ 256 → class_name_fault before c ≡ None → length (before ++ c ∷ []) ≤ 256
+unfolding class_name_fault
+one_class_more before c small none =
+    let room : length before + 1 ≤ 256 = few (length before) (not_broken TooMany c.place (is_full (length before)) (head_none (broken TooMany c.place (is_full (length before))) _ none)) in
+    let longer : length (before ++ c ∷ []) ≡ length before + 1 = length-append before (c ∷ []) in
+    omega (arith, room, longer)
+
+-- the classes of a program are few
+pub few_classes : (names : List (List ℕ)) (p : PlainProgram) → program_fault names p ≡ None → length p ≤ 256
+unfolding program_fault
+few_classes names p none = stays class_name_fault length one_class_more [] p (omega arith) (head_none (first_in class_name_fault p) (first_in (λ before c. class_fault names p c) p ∷ []) none)
+
+keeps_behind : (names : List (List ℕ)) (p : PlainProgram) (before cs : List PlainClass) (c : PlainClass) (i : ℕ) → slice_get cs i ≡ Some c → first_behind (λ b c. class_fault names p c) before cs ≡ None → class_fault names p c ≡ None
+keeps_behind names p before [] c i found none = absurd (grind (arith, found))
+keeps_behind names p before (x ∷ cs) c zero found none =
+    let same : x ≡ c = cc in
+    subst (λ y. class_fault names p y ≡ None) same (head_none (class_fault names p x) (first_behind (λ b c. class_fault names p c) (before ++ x ∷ []) cs ∷ []) none)
+keeps_behind names p before (x ∷ cs) c (suc i) found none =
+    let rest : Option RuleFault = first_behind (λ b c. class_fault names p c) (before ++ x ∷ []) cs in
+    keeps_behind names p (before ++ x ∷ []) cs c i found (head_none rest [] (rest_none (class_fault names p x) (rest ∷ []) none))
+
+-- each class of a program without a broken rule breaks none
+pub class_keeps : (names : List (List ℕ)) (p : PlainProgram) (c : PlainClass) (i : ℕ) → slice_get p i ≡ Some c → program_fault names p ≡ None → class_fault names p c ≡ None
+unfolding program_fault
+class_keeps names p c i found none =
+    let classes : Option RuleFault = first_in (λ before c. class_fault names p c) p in
+    keeps_behind names p [] p c i found (head_none classes [] (rest_none (first_in class_name_fault p) (classes ∷ []) none))
