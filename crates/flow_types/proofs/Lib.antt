@@ -3,3 +3,4 @@ pub mod HeadLaws
 pub mod PlaceLaws
 pub mod LocalLaws
 pub mod FlowLaws
+pub mod MethodLaws

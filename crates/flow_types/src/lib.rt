@@ -11,6 +11,7 @@ mod head;
 mod known;
 mod locals;
 mod loops;
+mod methods;
 mod reach;
 mod simple;
 mod values;
