@@ -12,6 +12,7 @@ mod known;
 mod locals;
 mod loops;
 mod methods;
+mod program;
 mod reach;
 mod simple;
 mod values;
