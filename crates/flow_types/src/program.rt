@@ -6,6 +6,7 @@ ghost use Rattle.py_tree.specs.ClassRules.{init_of, body_of, methods_of, program
 ghost use Rattle.py_tree.specs.Flow as spec;
 ghost use Rattle.entity_tables.specs.Answers.{Finds};
 ghost use Rattle.entity_tables.specs.Views.{plain_tables};
+ghost use Rattle.flow_types.specs.Views.{method_at};
 
 use crate::methods::{check_init, method_locals};
 use entity_tables::names::is_called;
@@ -15,7 +16,7 @@ use std::alloc::Global;
 
 /// The method of this number among those that are called by name.
 #[tactic(auto, using(crate::proofs::MethodLaws::find_laws))]
-pub fn method_of<'a>(names: &Names, members: &'a [Method], number: u32) -> Option<&'a Method>
+fn method_of<'a>(names: &Names, members: &'a [Method], number: u32) -> Option<&'a Method>
     ensures { option_map (λ m. plain_method m.now) result ≡ slice_get (methods_of names.now (map plain_method members.now)) number }
 {
     let mut left = number;
@@ -28,6 +29,19 @@ pub fn method_of<'a>(names: &Names, members: &'a [Method], number: u32) -> Optio
         }
     }
     None
+}
+
+/// The method of this number, in the class of that number.
+pub fn method_in<'a>(
+    names: &Names,
+    classes: &'a [Class],
+    class: u32,
+    method: u32,
+) -> Option<&'a Method>
+    ensures { option_map (λ m. plain_method m.now) result ≡ method_at names.now (map plain_class classes.now) class method }
+{
+    let class = classes.get(class as usize)?;
+    method_of(names, class.members.as_slice(), method)
 }
 
 /// The rules of the methods of a class, in text order.
