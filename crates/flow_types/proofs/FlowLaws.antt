@@ -21,10 +21,11 @@ use Rattle.py_tree.specs.Flow.{Context, Known, Way, within_loop, condition_at, k
 use Rattle.py_tree.proofs.ReachRules.{goes_on_rules, stmts_split, stmts_end, arms_split, arms_end}
 use Rattle.py_tree.proofs.Views.{stmt-Pass, stmt-If, stmt-While, stmt-For}
 use Rattle.entity_tables.specs.declared.fault.RuleError.{RuleError}
+use Rattle.entity_tables.specs.declared.fault.RuleError.TheVariants.{Fault, NoMemory}
 use Rattle.entity_types.specs.declared.env.FlowEnv.{FlowEnv}
 use Rattle.flow_types.specs.declared.known.Standing.{Standing}
-use Rattle.flow_types.specs.Answers.{Flows}
-use Rattle.flow_types.specs.Views.{context_of}
+use Rattle.flow_types.specs.Answers.{Flows, Steps}
+use Rattle.flow_types.specs.Views.{context_of, way_of}
 use Rattle.flow_types.specs.Parts.{Fork, Entry, behind_arm, behind_arms, behind_other, behind_while, for_entry, behind_for}
 
 -- steps that go on one after the other
@@ -147,6 +148,12 @@ or_false false = refl
 -- where an environment differs in its locals alone, its statements stand where they stood
 pub same_place : (tables : List PlainTable) (env old : FlowEnv) (in_loop : Bool) → env.class ≡ old.class → env.method ≡ old.method → context_of tables env in_loop ≡ context_of tables old in_loop
 same_place tables env old in_loop class method = λ i. record { tables = tables; class = class i; method = method i; in_loop = in_loop }
+
+-- a way that is answered is a step
+pub steps_of : (found : Result Way RuleFault) (goes : Bool) (old new : FlowEnv) (breaks : Option (List Standing)) (r : Result Bool RuleError) → Flows found goes old new breaks r → Steps found goes old new r
+steps_of found goes old new breaks (Ok on) h = ((way_of new breaks, (h.0, refl)), h.1, h.2, h.3)
+steps_of found goes old new breaks (Err NoMemory) h = h
+steps_of found goes old new breaks (Err (Fault f)) h = h
 
 pub ruleset statement_laws = (flow-Pass, flow-If, flow-While, flow-For, goes_on_rules)
 

@@ -44,3 +44,9 @@ abbrev pub Enters : Result Entry RuleFault → FlowEnv → FlowEnv → Result (L
 Enters found old new (Ok head) = (found ≡ Ok (record { head = plain_standings head; inside = plain_locals new.locals })) × (new.class ≡ old.class) × (new.method ≡ old.method)
 Enters found old new (Err NoMemory) = Unit {0}
 Enters found old new (Err (Fault fault)) = found ≡ Err fault
+
+-- the locals become those of the way that was found, and whether it goes on is answered; or the fault is told
+abbrev pub Steps : Result Way RuleFault → Bool → FlowEnv → FlowEnv → Result Bool RuleError → Type 0
+Steps found on old new (Ok goes_on) = ((w : Way) × ((found ≡ Ok w) × (plain_locals new.locals ≡ w.locals))) × (goes_on ≡ on) × (new.class ≡ old.class) × (new.method ≡ old.method)
+Steps found on old new (Err NoMemory) = Unit {0}
+Steps found on old new (Err (Fault fault)) = found ≡ Err fault

@@ -4,12 +4,11 @@
 //! has no state: statements there aren't looked at, and name no locals.
 #![tactic(auto)]
 
-ghost use Rattle.std.specs.Prelude.{◌≡◌, Some, None, true, Ok as Found, IfOk, OnOk};
+ghost use Rattle.std.specs.Prelude.{◌≡◌, Some, None, true, IfOk, OnOk};
 ghost use Rattle.std.specs.Option.{IsSome};
 ghost use Rattle.py_tree.specs.PlainStatements.{plain_stmt, plain_stmts, stmts_of};
 ghost use Rattle.py_tree.specs.PlainProgram.{PlainMethod, plain_program};
 ghost use Rattle.py_tree.specs.ClassRules.{program_fault, tables_of};
-ghost use Rattle.py_tree.specs.ExpressionTypes.{with_found};
 ghost use Rattle.py_tree.specs.Reachability.{goes_on};
 ghost use Rattle.py_tree.specs.Flow.{flow, begun, at_head, method_locals, flow_fault};
 ghost use Rattle.py_tree.specs.Acceptance.{KeepsRules};
@@ -17,7 +16,7 @@ ghost use Rattle.entity_tables.specs.Answers.{Finds};
 ghost use Rattle.entity_tables.specs.Views.{plain_tables};
 ghost use Rattle.entity_types.specs.Answers.{Types};
 ghost use Rattle.entity_types.specs.Views.{plain_env, plain_locals};
-ghost use Rattle.flow_types.specs.Answers.{Locates};
+ghost use Rattle.flow_types.specs.Answers.{Steps};
 ghost use Rattle.flow_types.specs.Views.{context_of, loop_names, method_at};
 
 mod assign;
@@ -84,8 +83,7 @@ pub fn step(
     env: &mut FlowEnv,
     stmt: &Stmt,
 ) -> Result<bool, RuleError>
-    ensures locals { Locates (with_found (flow (context_of (plain_tables tables.now) env.old true) (begun (plain_locals env.old.locals)) (plain_stmt stmt.now)) (λ w. Found w.locals)) env.old env.new result }
-    ensures goes_on { IfOk result (λ on. on ≡ goes_on (plain_stmt stmt.now)) }
+    ensures { Steps (flow (context_of (plain_tables tables.now) env.old true) (begun (plain_locals env.old.locals)) (plain_stmt stmt.now)) (goes_on (plain_stmt stmt.now)) env.old env.new result }
 {
     let context = Context {
         tables,
