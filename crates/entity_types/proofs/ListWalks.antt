@@ -1,9 +1,9 @@
 -- Lists of trees, from one of their items on.
-use Rattle.std.proofs.Common.{◌≡◌, ℕ, suc, arith, ◌+◌, ◌<◌, ◌≤◌, List, [], ◌∷◌, length, map, drop, get_or, drop-cons, sym, ap, ◌∙◌}
-use Rattle.std.proofs.lemmas.List.{drop_all}
+use Rattle.std.proofs.Common.{◌≡◌, ℕ, suc, arith, ◌+◌, ◌-◌, ◌<◌, ◌≤◌, List, ◌∷◌, length, take, drop, get_or, drop-cons, length-drop, sym, ap, ◌∙◌}
+use Rattle.std.proofs.lemmas.List.{drop_all, take_all}
 use Rattle.py_tree.specs.declared.expr.Expr.{Expr}
 use Rattle.py_tree.specs.declared.expr.Link.{Link}
-use Rattle.py_tree.specs.PlainExpressions.{PlainExprs, PNoExpr, PExpr, PlainLinks, PNoLink, PMoreLinks, plain_expr, plain_exprs, exprs_of, plain_link, plain_links, links_of}
+use Rattle.py_tree.specs.PlainExpressions.{PNoExpr, PExpr, PNoLink, PMoreLinks, plain_expr, plain_exprs, exprs_of, plain_link, plain_links, links_of}
 
 -- an item and those behind it
 pub from_item : {X : Type 0} (xs : List X) (i : ℕ) (x : X) → i < length xs → x ≡ get_or xs i x → drop i xs ≡ x ∷ drop (i + 1) xs
@@ -22,3 +22,7 @@ links_from xs i x within is = ap (λ ys. links_of (plain_links ys)) (from_item x
 
 pub links_end : (xs : List Link) (i : ℕ) → length xs ≤ i → links_of (plain_links (drop i xs)) ≡ PNoLink
 links_end xs i past = ap (λ ys. links_of (plain_links ys)) (drop_all i xs past)
+
+-- what stands behind the first item
+pub rest : {X : Type 0} (xs : List X) → take (length xs - 1) (drop 1 xs) ≡ drop 1 xs
+rest xs = take_all (length xs - 1) (drop 1 xs) (simp length-drop (omega arith))

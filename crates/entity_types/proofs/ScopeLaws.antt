@@ -1,6 +1,6 @@
 -- What a scope knows of the locals of its environment.
-use Rattle.std.specs.Prelude.{if◌then◌else◌, ◌==◌, slice_set}
-use Rattle.std.proofs.Common.{◌≡◌, ℕ, zero, suc, inl, inr, arith, ◌+◌, ◌<◌, ◌≤◌, Bool, true, false, Option, Some, None, List, [], ◌∷◌, ◌++◌, length, map, take, drop, get_or, append-nil, refl, sym, ap, ◌∙◌}
+use Rattle.std.specs.Prelude.{if◌then◌else◌, slice_set}
+use Rattle.std.proofs.Common.{◌≡◌, ℕ, zero, suc, arith, ◌+◌, ◌<◌, ◌≤◌, Bool, true, false, Some, None, List, [], ◌∷◌, ◌++◌, length, map, take, drop, get_or, append-nil, refl, sym, ap, ◌∙◌}
 use Rattle.std.proofs.lemmas.Bool.{eq-eqb, ne_eqb}
 use Rattle.std.proofs.lemmas.List.{take_more, map-append, drop_all, take_all, get_or_default}
 use Rattle.py_tree.specs.FlowEnvironment.{PlainLocal, local_of, known_not_none, has_name, narrowed}

@@ -1,5 +1,5 @@
 -- How large expressions are, by which the walk over them ends.
-use Rattle.std.proofs.Common.{◌≡◌, ℕ, zero, suc, arith, ◌+◌, ◌<◌, ◌≤◌, Bool, List, [], ◌∷◌, length, get_or, refl, sym, ap, ◌∙◌}
+use Rattle.std.proofs.Common.{◌≡◌, ℕ, zero, suc, arith, ◌+◌, ◌-◌, ◌<◌, ◌≤◌, Bool, List, [], ◌∷◌, length, take, drop, get_or, ap}
 use Rattle.std.specs.declared.alloc.Global.{Global}
 use Rattle.std.specs.declared.boxed.Box.{Box}
 use Rattle.py_tree.specs.declared.names.Name.{Name}
@@ -10,6 +10,7 @@ use Rattle.py_tree.specs.declared.expr.Expr.{Expr}
 use Rattle.py_tree.specs.declared.expr.Link.{Link}
 use Rattle.py_tree.specs.declared.expr.ExprKind as e
 use Rattle.py_tree.specs.PlainExpressions.{PlainExpr, PInt, PBool, PStr, PNil, PVar, PSelf, PAttr, PCall, PApply, PIndex, PList, PNeg, PPos, PNot, PChain, PAnd, POr, PCompare, PIsNone, PCond, PlainExprs, PNoExpr, PExpr, PLink, PlainLinks, PNoLink, PMoreLinks, plain_kind, plain_expr, plain_exprs, exprs_of, plain_links, links_of}
+use Rattle.entity_types.proofs.ListWalks.{rest}
 use Rattle.py_tree.proofs.Views.{plain-Call, plain-Apply, plain-Index, plain-List, plain-Neg, plain-Pos, plain-Not, plain-Chain, plain-And, plain-Or, plain-Compare, plain-IsNone, plain-Cond}
 
 mutual
@@ -57,10 +58,11 @@ link_size [] i l within is = absurd (omega arith)
 link_size (k ∷ ls) zero l within is = let same : expr_size (plain_expr l.right) ≡ expr_size (plain_expr k.right) = ap (λ z. expr_size (plain_expr z.right)) is in omega (arith, same)
 link_size (k ∷ ls) (suc i) l within is = omega (arith, link_size ls i l (omega arith) is)
 
--- a list with a first element
-pub first_size : (x : Expr) (xs : List Expr) → exprs_size (exprs_of (plain_exprs (x ∷ xs))) ≡ expr_size (plain_expr x) + exprs_size (exprs_of (plain_exprs xs))
+-- what stands behind the first item
+pub rest_size : (xs : List Expr) → exprs_size (exprs_of (plain_exprs (take (length xs - 1) (drop 1 xs)))) ≤ exprs_size (exprs_of (plain_exprs xs))
 unfolding expr_size
-first_size x xs = refl
+rest_size [] = omega arith
+rest_size (x ∷ xs) = let same = ap (λ ys. exprs_size (exprs_of (plain_exprs ys))) (rest (x ∷ xs)) in omega (arith, same)
 
 module _ (at : Place) where
   pub size-Call : (a : Box Expr Global) (x : PlacedName) (es : List Expr) → expr_size (plain_kind (e.Call a x es) at) ≡ 1 + expr_size (plain_expr a.value) + exprs_size (exprs_of (plain_exprs es))

@@ -1,6 +1,6 @@
 -- The rules of types at the steps of a walk over an expression.
-use Rattle.std.specs.Prelude.{not, ◌==◌, option_map}
-use Rattle.std.proofs.Common.{◌≡◌, ℕ, ◌+◌, ◌<◌, ◌≤◌, arith, Bool, true, false, Option, Some, None, Result, Ok, Err, List, [], ◌∷◌, length, map, drop, get_or, refl, sym, ap, ◌∙◌}
+use Rattle.std.specs.Prelude.{not, ◌==◌}
+use Rattle.std.proofs.Common.{◌≡◌, ℕ, suc, ◌+◌, ◌<◌, ◌≤◌, arith, Bool, true, false, Option, Some, None, Result, Ok, Err, List, [], ◌∷◌, length, map, drop, get_or, refl, sym, ap, ◌∙◌}
 use Rattle.std.proofs.lemmas.List.{drop_all}
 use Rattle.py_tree.specs.declared.names.Place.{Place}
 use Rattle.py_tree.specs.declared.rule.Rule.{Rule}
@@ -9,7 +9,7 @@ use Rattle.py_tree.specs.declared.rule.RuleFault.{RuleFault}
 use Rattle.py_tree.specs.declared.expr.Expr.{Expr}
 use Rattle.py_tree.specs.declared.expr.Link.{Link}
 use Rattle.py_tree.specs.PlainTypes.{PlainTy, TBool, TList, TEntity}
-use Rattle.py_tree.specs.PlainExpressions.{PlainExpr, PCall, PApply, PIndex, PCond, PlainExprs, PNoExpr, PExpr, plain_expr, plain_exprs, exprs_of, plain_links, links_of}
+use Rattle.py_tree.specs.PlainExpressions.{PCall, PApply, PIndex, PCond, PlainExprs, PNoExpr, PExpr, plain_expr, plain_exprs, exprs_of, plain_links, links_of}
 use Rattle.py_tree.specs.ClassRules.{PlainSig, PlainTable}
 use Rattle.py_tree.specs.FlowEnvironment.{PlainEnv, has_none, where_test}
 use Rattle.py_tree.specs.ExpressionTypes.{Function, type_of, conditions, arguments, each_is, list_of, elements, linked, applied, function_of, table_named, method_of, class_of_ty, element_of, is_int, join, assignable, refuse_if, needs, with_found, operand, fits, fault, as_condition, combined, right_wanted, place_of, count_of}
@@ -68,10 +68,10 @@ unfolding called
 called_then tables place t name name_at count f =
     with_refused (has_none t) NoneUse place (needs (class_of_ty t) Operand place (λ class. needs (method_of tables class name) UnknownMethod name_at (λ m. refuse_if (not (count == length m.params)) ArgCount name_at (Ok m)))) f
     ∙ ap (refuse_if (has_none t) NoneUse place) (
-      with_needed (class_of_ty t) Operand place (λ class. needs (method_of tables class name) UnknownMethod name_at (λ m. refuse_if (not (count == length m.params)) ArgCount name_at (Ok m))) f
-      ∙ ap (needs (class_of_ty t) Operand place) (λ i class. (
-        with_needed (method_of tables class name) UnknownMethod name_at (λ m. refuse_if (not (count == length m.params)) ArgCount name_at (Ok m)) f
-        ∙ ap (needs (method_of tables class name) UnknownMethod name_at) (λ j m. with_refused (not (count == length m.params)) ArgCount name_at (Ok m) f j)) i))
+    with_needed (class_of_ty t) Operand place (λ class. needs (method_of tables class name) UnknownMethod name_at (λ m. refuse_if (not (count == length m.params)) ArgCount name_at (Ok m))) f
+    ∙ ap (needs (class_of_ty t) Operand place) (λ i class. (
+    with_needed (method_of tables class name) UnknownMethod name_at (λ m. refuse_if (not (count == length m.params)) ArgCount name_at (Ok m)) f
+    ∙ ap (needs (method_of tables class name) UnknownMethod name_at) (λ j m. with_refused (not (count == length m.params)) ArgCount name_at (Ok m) f j)) i))
 
 indexed_then : {A : Type 0} (place : Place) (t : PlainTy) (f : PlainTy → Result A RuleFault) → with_found (indexed place t) f ≡ refuse_if (has_none t) NoneUse place (needs (element_of t) Operand place f)
 unfolding indexed
@@ -86,15 +86,15 @@ module _ (tables : List PlainTable) (env : PlainEnv) where
   unfolding type_of
   call_is on name name_at args =
       ap (with_found (type_of tables env None (plain_expr on))) (λ i t. sym (
-        (λ j. with_found (called tables (sym (place-expr on) j) t name name_at (sym (count-exprs args) j)) (λ m. arguments tables env (exprs_of (plain_exprs args)) m.params m.result))
-        ∙ called_then tables (place_of (plain_expr on)) t name name_at (count_of (exprs_of (plain_exprs args))) (λ m. arguments tables env (exprs_of (plain_exprs args)) m.params m.result)) i)
+      (λ j. with_found (called tables (sym (place-expr on) j) t name name_at (sym (count-exprs args) j)) (λ m. arguments tables env (exprs_of (plain_exprs args)) m.params m.result))
+      ∙ called_then tables (place_of (plain_expr on)) t name name_at (count_of (exprs_of (plain_exprs args))) (λ m. arguments tables env (exprs_of (plain_exprs args)) m.params m.result)) i)
 
   pub index_is : (on index : Expr) → type_of tables env None (PIndex on.place (plain_expr on) (plain_expr index)) ≡ with_found (type_of tables env None (plain_expr on)) (λ t. with_found (indexed on.place t) (λ element. with_found (type_of tables env None (plain_expr index)) (λ i. refuse_if (not (is_int i)) Operand index.place (Ok element))))
   unfolding type_of
   index_is on index =
       ap (with_found (type_of tables env None (plain_expr on))) (λ i t. sym (
-        (λ j. with_found (indexed (sym (place-expr on) j) t) (λ element. with_found (type_of tables env None (plain_expr index)) (λ n. refuse_if (not (is_int n)) Operand (sym (place-expr index) j) (Ok element))))
-        ∙ indexed_then (place_of (plain_expr on)) t (λ element. with_found (type_of tables env None (plain_expr index)) (λ n. refuse_if (not (is_int n)) Operand (place_of (plain_expr index)) (Ok element)))) i)
+      (λ j. with_found (indexed (sym (place-expr on) j) t) (λ element. with_found (type_of tables env None (plain_expr index)) (λ n. refuse_if (not (is_int n)) Operand (sym (place-expr index) j) (Ok element))))
+      ∙ indexed_then (place_of (plain_expr on)) t (λ element. with_found (type_of tables env None (plain_expr index)) (λ n. refuse_if (not (is_int n)) Operand (place_of (plain_expr index)) (Ok element)))) i)
 
   pub choice_is : (wanted : Option PlainTy) (test a b : Expr) → type_of tables env wanted (PCond test.place (plain_expr test) (plain_expr a) (plain_expr b)) ≡ with_found (as_condition test.place (type_of tables env None (plain_expr test))) (λ c. with_found (type_of tables (where_test true (plain_expr test) env) wanted (plain_expr a)) (λ s. with_found (type_of tables (where_test false (plain_expr test) env) wanted (plain_expr b)) (λ t. needs (join s t) Mismatch b.place (λ u. Ok u))))
   unfolding type_of
@@ -122,20 +122,33 @@ module _ (tables : List PlainTable) (env : PlainEnv) where
   creation_is at name args is =
       λ j. applied (is j) (table_named tables name) at (count-exprs args j) (λ test result. each_is test tables env (exprs_of (plain_exprs args)) result) (λ params result. arguments tables env (exprs_of (plain_exprs args)) params result)
 
+  length_mapped : (params : List SigParam) → length (map plain_sig_param params) ≡ length params
+  length_mapped [] = refl
+  length_mapped (p ∷ params) = ap suc (length_mapped params)
+
+  -- a creation of a class with this table
+  pub creation_typed : (at : Place) (class : ℕ) (args : List Expr) (table : PlainTable) (params : List SigParam) (gives : PlainTy) → Some table ≡ table_named tables class → not (length args == length params) ≡ false → map plain_sig_param params ≡ table.init → gives ≡ TEntity table.name → needs (table_named tables class) UnknownName at (λ c. refuse_if (not (length args == length c.init)) ArgCount at (arguments tables env (exprs_of (plain_exprs args)) c.init (TEntity c.name))) ≡ arguments tables env (exprs_of (plain_exprs args)) (map plain_sig_param params) gives
+  creation_typed at class args table params gives found as_many same made =
+      (λ j. needs (sym found j) UnknownName at (λ c. refuse_if (not (length args == length c.init)) ArgCount at (arguments tables env (exprs_of (plain_exprs args)) c.init (TEntity c.name))))
+      ∙ (λ j. refuse_if (not (length args == length (sym same j))) ArgCount at (arguments tables env (exprs_of (plain_exprs args)) (sym same j) (sym made j)))
+      ∙ ap (λ n. refuse_if (not (length args == n)) ArgCount at (arguments tables env (exprs_of (plain_exprs args)) (map plain_sig_param params) gives)) (length_mapped params)
+      ∙ ap (λ b. refuse_if b ArgCount at (arguments tables env (exprs_of (plain_exprs args)) (map plain_sig_param params) gives)) as_many
+
   -- Lists
+
+  pub list_none : (at : Place) (xs : List Expr) → length xs ≤ 0 → list_of tables env None at (exprs_of (plain_exprs xs)) ≡ fault EmptyListType at
+  unfolding type_of
+  list_none at [] short = refl
+  list_none at (x ∷ xs) short = absurd (omega arith)
+
+  pub list_from : (at : Place) (xs : List Expr) (x : Expr) → 0 < length xs → x ≡ get_or xs 0 x → list_of tables env None at (exprs_of (plain_exprs xs)) ≡ with_found (type_of tables env None (plain_expr x)) (λ t. elements tables env t (exprs_of (plain_exprs (drop 1 xs))))
+  unfolding type_of
+  list_from at xs x within is = ap (list_of tables env None at) (exprs_from xs 0 x within is)
 
   pub list_wanted : (element : PlainTy) (at : Place) (xs : PlainExprs) → list_of tables env (Some element) at xs ≡ elements tables env element xs
   unfolding type_of
   list_wanted element at PNoExpr = refl
   list_wanted element at (PExpr x xs) = refl
-
-  pub list_empty : (at : Place) → list_of tables env None at PNoExpr ≡ fault EmptyListType at
-  unfolding type_of
-  list_empty at = refl
-
-  pub list_first : (at : Place) (x : PlainExpr) (xs : PlainExprs) → list_of tables env None at (PExpr x xs) ≡ with_found (type_of tables env None x) (λ t. elements tables env t xs)
-  unfolding type_of
-  list_first at x xs = refl
 
   -- Arguments, from one of them on
 
@@ -282,12 +295,21 @@ module _ (tables : List PlainTable) (env : PlainEnv) where
   links_ended left ls i past = ap (linked tables env left) (links_end ls i past) ∙ no_more_links left
 
 pub ruleset call_laws = (call_is)
+
 pub ruleset index_laws = (index_is)
+
 pub ruleset choice_laws = (choice_is)
+
 pub ruleset apply_laws = (function_is, creation_is)
-pub ruleset list_laws = (list_wanted, list_empty, list_first)
+
+pub ruleset list_laws = (list_wanted)
+
 pub ruleset argument_laws = (argument_passes, argument_stops, arguments_end, params_end)
+
 pub ruleset element_laws = (element_passes, element_stops, elements_end)
+
 pub ruleset each_laws = (each_passes, each_refuses, each_stops, each_end)
+
 pub ruleset condition_laws = (condition_passes, condition_stops, conditions_end)
+
 pub ruleset link_laws = (link_passes, link_refuses, link_stops, links_ended)

@@ -136,13 +136,7 @@ pub fn right_wanted(op: BinOp, left: &Ty) -> Option<&Ty>
     ensures { plain_wanted result ≡ spec.right_wanted op (plain_ty left.now) }
 {
     match op {
-        BinOp::Add => {
-            if is_list(left) {
-                Some(left)
-            } else {
-                None
-            }
-        }
+        BinOp::Add => { if is_list(left) { Some(left) } else { None } }
         BinOp::Sub | BinOp::Mul | BinOp::FloorDiv | BinOp::Mod => None,
     }
 }

@@ -170,7 +170,14 @@ fn call_in(
 {
     let receiver = type_in(alloc, tables, scope, None, on)?;
     let method = called(tables, on.place, &receiver, name, args.len())?;
-    arguments_in(alloc, tables, scope, args, method.params.as_slice(), &method.result)
+    arguments_in(
+        alloc,
+        tables,
+        scope,
+        args,
+        method.params.as_slice(),
+        &method.result,
+    )
 }
 
 /// The type of a call of a function, or of a creation.
@@ -249,8 +256,8 @@ fn index_in(
 {
     let ty = type_in(alloc, tables, scope, None, on)?;
     let element = indexed(on.place, &ty)?;
-    let place = type_in(alloc, tables, scope, None, index)?;
-    refuse(!is_int(&place), Rule::Operand, index.place)?;
+    let index_ty = type_in(alloc, tables, scope, None, index)?;
+    refuse(!is_int(&index_ty), Rule::Operand, index.place)?;
     Ok(element.try_clone(alloc)?)
 }
 
@@ -268,14 +275,13 @@ fn list_in(
     ensures { Types plain_ty (spec.list_of (plain_tables tables.now) (plain_scope scope.now) (plain_wanted element.entry) place (exprs_of (plain_exprs items.now))) result }
 {
     if let Some(element) = element {
-        let element = element.try_clone(alloc)?;
         return elements_in(alloc, tables, scope, element, items);
     }
     match items {
         [] => Err(told(Rule::EmptyListType, place)),
         [first, more @ ..] => {
             let element = type_in(alloc, tables, scope, None, first)?;
-            elements_in(alloc, tables, scope, element, more)
+            elements_in(alloc, tables, scope, &element, more)
         }
     }
 }
@@ -287,15 +293,15 @@ fn elements_in(
     alloc: Global,
     tables: &[ClassTable],
     scope: &Scope<'_>,
-    element: Ty,
+    element: &Ty,
     items: &[Expr],
 ) -> Result<Ty, RuleError>
-    ensures { Types plain_ty (spec.elements (plain_tables tables.now) (plain_scope scope.now) (plain_ty element) (exprs_of (plain_exprs items.now))) result }
+    ensures { Types plain_ty (spec.elements (plain_tables tables.now) (plain_scope scope.now) (plain_ty element.now) (exprs_of (plain_exprs items.now))) result }
 {
     for item in items {
-        value_in(alloc, tables, scope, &element, item)?;
+        value_in(alloc, tables, scope, element, item)?;
     }
-    Ok(list_of(alloc, element)?)
+    Ok(list_of(alloc, element.try_clone(alloc)?)?)
 }
 
 /// The type of a run of operators behind its first operand, which has this type: what stands left

@@ -215,3 +215,5 @@ module _ (at : Place) (truth : Bool) where
   shown-Cond a b c = ap (shown truth) (plain-Cond at a b c)
 
 pub ruleset shown_rules = (shown-Int, shown-Bool, shown-Str, shown-Nil, shown-Var, shown-SelfRef, shown-Attr, shown-Call, shown-Apply, shown-Index, shown-List, shown-Neg, shown-Pos, shown-Not, shown-Chain, shown-And, shown-Or, shown-Compare, shown-IsNone, shown-Cond)
+
+pub ruleset place_rules = (place-kind, place-expr)

@@ -1,11 +1,11 @@
 use Rattle.std.proofs.lemmas.List.{get_or_default}
-use Rattle.std.proofs.Common.{◌≡◌, ◌<◌, length, Some, None, get_or, Ok, not, false, arith, refl, sym, ap, ◌∙◌, subst}
+use Rattle.std.proofs.Common.{◌≡◌, length, get_or, Ok, not, false, arith, sym, ap, ◌∙◌, subst}
 use Rattle.py_tree.specs.declared.rule.Rule.TheVariants.{UnknownName, Unassigned}
 use Rattle.py_tree.specs.PlainTypes.{plain_ty}
 use Rattle.py_tree.specs.FlowEnvironment.{local_of}
 use Rattle.py_tree.specs.ExpressionTypes.{type_of_name, needs, refuse_if, read_ty}
 use Rattle.entity_types.specs.Answers.{Types}
-use Rattle.entity_types.specs.Views.{plain_local, plain_locals}
+use Rattle.entity_types.specs.Views.{plain_locals}
 use Rattle.entity_types.specs.Scopes.{known_by, plain_scope}
 use Rattle.entity_types.proofs.ScopeLaws.{local_stops}
 use Rattle.entity_types.proofs.known.variable_ty.Goals as goal

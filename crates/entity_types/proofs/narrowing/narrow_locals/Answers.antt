@@ -1,8 +1,8 @@
-use Rattle.std.proofs.Common.{◌≡◌, ◌<◌, arith, true, false, length, get_or, refl, sym, ap, ◌∙◌, length-set}
+use Rattle.std.proofs.Common.{◌≡◌, ◌<◌, arith, true, length, get_or, refl, sym, ap, ◌∙◌, length-set}
 use Rattle.std.proofs.lemmas.Option.{get_or_from_slice_get}
 use Rattle.std.proofs.lemmas.List.{length-map}
 use Rattle.py_tree.specs.PlainExpressions.{plain_expr}
-use Rattle.py_tree.specs.FlowEnvironment.{shown, has_name}
+use Rattle.py_tree.specs.FlowEnvironment.{shown}
 use Rattle.entity_types.specs.Views.{plain_locals}
 use Rattle.entity_types.proofs.ScopeLaws.{locals_keep, locals_mark, all_walked}
 use Rattle.entity_types.proofs.narrowing.narrow_locals.Goals as goal
@@ -16,11 +16,11 @@ loop-i-preserved c =
     let is : local ≡ get_or locals c.loop-i.i local = sym (get_or_from_slice_get locals c.loop-i.i local local c.at_mut-local.ensures.value) in
     let within : c.loop-i.i < length locals = omega arith in
     elim c.if-shows.branch [
-      then-shows w ↦ record {
+      | then-shows w ↦ record {
         count = ap length w.locals-is ∙ length-set locals c.loop-i.i _ ∙ c.loop-i.invariant.count;
         marked = c.loop-i.invariant.marked ∙ locals_mark names locals c.if-shows.locals c.loop-i.i local (record local { not_none = true }) within is refl (sym c.shows.ensures ∙ w.if-shows.true) w.locals-is;
       }
-    | else-shows w ↦ record {
+      | else-shows w ↦ record {
         count = ap length w.locals-is ∙ length-set locals c.loop-i.i _ ∙ c.loop-i.invariant.count;
         marked = c.loop-i.invariant.marked ∙ locals_keep names locals c.if-shows.locals c.loop-i.i local within is (sym c.shows.ensures ∙ w.if-shows.false) w.locals-is;
       }
