@@ -47,7 +47,7 @@ pub fn check_condition(
 }
 
 /// The type of a value that stands where this type is asked.
-#[tactic(auto, using(crate::proofs::PlaceLaws::place_is), unfolding(py_tree::specs::Flow::value_as))]
+#[tactic(auto, using(py_tree::proofs::TypeRules::place_rules), unfolding(py_tree::specs::Flow::value_as))]
 pub fn value_as(
     alloc: Global,
     context: &Context<'_>,
@@ -63,7 +63,7 @@ pub fn value_as(
 }
 
 /// The type of an end of a `range`, which is a whole number.
-#[tactic(auto, using(crate::proofs::PlaceLaws::place_is, py_tree::proofs::Views::ty_views), unfolding(py_tree::specs::Flow::number_at))]
+#[tactic(auto, using(py_tree::proofs::TypeRules::place_rules, py_tree::proofs::Views::ty_views), unfolding(py_tree::specs::Flow::number_at))]
 fn number_at(
     alloc: Global,
     context: &Context<'_>,
@@ -79,7 +79,7 @@ fn number_at(
 }
 
 /// The element type of the list that a `for` goes over.
-#[tactic(auto, using(crate::proofs::PlaceLaws::place_is), unfolding(py_tree::specs::Flow::item_of))]
+#[tactic(auto, using(py_tree::proofs::TypeRules::place_rules), unfolding(py_tree::specs::Flow::item_of))]
 fn item_in(
     alloc: Global,
     context: &Context<'_>,
@@ -158,7 +158,7 @@ pub fn check_return(
 }
 
 /// The rules of the message of a `raise` or an `assert`.
-#[tactic(auto, using(crate::proofs::PlaceLaws::place_is), unfolding(py_tree::specs::Flow::message_fault))]
+#[tactic(auto, using(py_tree::proofs::TypeRules::place_rules), unfolding(py_tree::specs::Flow::message_fault))]
 pub fn check_message(
     alloc: Global,
     context: &Context<'_>,
