@@ -12,7 +12,8 @@ use crate::types::{has_join, has_none, is_bool, is_int, is_list, is_str, same};
 use entity_tables::RuleError;
 use py_tree::{BinOp, Cmp, Place, Rule, Ty};
 
-fn are_ints(s: &Ty, t: &Ty) -> bool
+/// Both are whole numbers.
+pub fn are_ints(s: &Ty, t: &Ty) -> bool
     ensures { result ≡ spec.are_ints (plain_ty s.now) (plain_ty t.now) }
 {
     is_int(s) && is_int(t)
@@ -25,7 +26,7 @@ fn are_joined(s: &Ty, t: &Ty) -> bool
     same(s, t) && (is_str(s) || is_list(s))
 }
 
-fn is_plus(op: BinOp) -> bool
+pub fn is_plus(op: BinOp) -> bool
     ensures { result ≡ spec.is_plus op }
 {
     match op {
