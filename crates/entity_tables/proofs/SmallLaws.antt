@@ -1,11 +1,9 @@
 -- How many fields and parameters there are where no rule is broken.
-use Rattle.std.proofs.Common.{not, ◌≡◌, ℕ, suc, arith, true, false, Bool, ◌+◌, ◌≤◌, Option, Some, None, List, [], ◌∷◌, ◌++◌, length, append_assoc, append-nil, length-append, refl, sym, ap, ◌∙◌, subst}
+use Rattle.std.proofs.Common.{not, ◌≡◌, ℕ, suc, arith, true, false, Bool, ◌+◌, ◌≤◌, Option, Some, None, List, [], ◌∷◌, ◌++◌, length, length-append, refl, sym, ap, ◌∙◌, subst}
 use Rattle.std.specs.Prelude.{find, cond, if◌then◌else◌, option_map, unwrap_or, ◌||◌}
 use Rattle.std.specs.List.{cons_option}
 use Rattle.std.specs.Option.{option_map_or}
 use Rattle.std.proofs.lemmas.List.Elements.{filter_map-append}
-use Rattle.py_tree.specs.declared.names.Place.{Place}
-use Rattle.py_tree.specs.declared.rule.Rule.{Rule}
 use Rattle.py_tree.specs.declared.rule.Rule.TheVariants.{TooMany, ReservedName, DuplicateMember, InitForm}
 use Rattle.py_tree.specs.declared.rule.RuleFault.{RuleFault}
 use Rattle.py_tree.specs.PlainStatements.{PlainStmt}

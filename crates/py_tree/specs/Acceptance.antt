@@ -1,5 +1,5 @@
 -- Which programs are accepted: those that keep every rule.
-use Rattle.std.specs.Prelude.{ℕ, ◌≡◌, ◌==◌, List, [], ◌∷◌, Some, None, slice_get, option_and_then}
+use Rattle.std.specs.Prelude.{ℕ, ◌≡◌, ◌==◌, List, [], ◌∷◌, None, slice_get, option_and_then}
 use Rattle.std.specs.declared.option.Option.{Option}
 use Rattle.std.specs.List.{position_from}
 use Rattle.py_tree.specs.declared.rule.RuleFault.{RuleFault}

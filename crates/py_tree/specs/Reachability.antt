@@ -4,7 +4,7 @@ use Rattle.std.specs.Prelude.{ℕ, Bool, true, false, not, ◌||◌, ◌&&◌, i
 use Rattle.py_tree.specs.declared.stmt.Target.{Target}
 use Rattle.py_tree.specs.declared.stmt.Target.TheVariants.{Local, Field}
 use Rattle.py_tree.specs.PlainExpressions.{PlainExpr, PBool}
-use Rattle.py_tree.specs.PlainStatements.{PlainStmt, PPass, PBreak, PContinue, PDo, PReturn, PRaise, PAssert, PAssign, PAugment, PIf, PWhile, PFor, PlainStmts, PNoStmt, PStmt, PArm, PlainArms, PNoArm, PMoreArms}
+use Rattle.py_tree.specs.PlainStatements.{PlainStmt, PBreak, PContinue, PReturn, PRaise, PAssign, PAugment, PIf, PWhile, PFor, PlainStmts, PNoStmt, PStmt, PArm, PlainArms, PNoArm, PMoreArms}
 
 -- the literal True
 abbrev pub is_true : PlainExpr → Bool

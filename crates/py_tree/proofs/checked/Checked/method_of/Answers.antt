@@ -6,7 +6,6 @@ use Rattle.std.proofs.lemmas.Option.{slice_get-map, slice_get_read}
 use Rattle.py_tree.specs.PlainProgram.{PlainClass, plain_class, plain_method, plain_program}
 use Rattle.py_tree.specs.ClassRules.{methods_of}
 use Rattle.py_tree.specs.declared.program.Class.{Class}
-use Rattle.py_tree.specs.declared.names.Name.{Name}
 use Rattle.py_tree.proofs.ClassRuleLaws.{class_keeps, few_methods}
 use Rattle.py_tree.proofs.checked.Checked.method_of.Goals as goal
 
