@@ -64,7 +64,7 @@ holds_one rows marks closed method row is site among holds =
     closed method (ap (list_any (suspends marks)) (get_or_from_slice_get rows method row [] is) ∙ any)
 
 -- closed marks have all methods that may suspend
-complete : (rows : List (List Site)) (marks : List Bool) → IsClosed rows marks → (method : ℕ) → MayLeave rows method → marked marks method ≡ true
+pub complete : (rows : List (List Site)) (marks : List Bool) → IsClosed rows marks → (method : ℕ) → MayLeave rows method → marked marks method ≡ true
 complete rows marks closed _ (leaves method row is among) = holds_one rows marks closed method row is Away among refl
 complete rows marks closed _ (calls method called row is among more) = holds_one rows marks closed method row is (Own called) among (complete rows marks closed called more)
 

@@ -1,8 +1,9 @@
 -- From the marks of each class to those of a program.
 use Rattle.std.proofs.Common.{inl, inr, ◌⊎◌, ◌≡◌, ℕ, zero, suc, arith, ◌+◌, ◌<◌, ◌≤◌, Bool, true, false, List, [], ◌∷◌, ◌++◌, length, map, take, get_or, Option, Some, None, refl, sym, ap, subst, ◌∙◌}
-use Rattle.std.specs.Prelude.{slice_get, ◌↔◌}
+use Rattle.std.specs.Prelude.{slice_get, option_map, ◌↔◌}
 use Rattle.std.specs.List.{AllZip}
 use Rattle.std.proofs.lemmas.List.{length-map, take_all}
+use Rattle.std.proofs.lemmas.Option.{slice_get_within, slice_get-get_or, slice_get-map}
 use Rattle.py_tree.specs.declared.program.Class.{Class}
 use Rattle.py_tree.specs.PlainProgram.{PlainClass, PlainProgram, plain_class}
 use Rattle.py_tree.specs.ClassRules.{methods_of}
@@ -24,7 +25,7 @@ module _ (names : List (List ℕ)) (program : PlainProgram) where
       let same : c ≡ h.of_class = cc in
       ap (λ c. slice_get (class_sites names program c) method) same ∙ h.held_is
 
-  to_class : (class method : ℕ) → MaySuspend names program class method → (c : PlainClass) → slice_get program class ≡ Some c → MayLeave (class_sites names program c) method
+  pub to_class : (class method : ℕ) → MaySuspend names program class method → (c : PlainClass) → slice_get program class ≡ Some c → MayLeave (class_sites names program c) method
   to_class _ _ (s.leaves class method h) c is = m.leaves method h.held (held_by class c is method _ h) h.among
   to_class _ _ (s.calls class method called h more) c is =
       m.calls method called h.held (held_by class c is method _ h) h.among (to_class class called more c is)
@@ -84,5 +85,19 @@ made names cs i graph past marked =
     let program = map plain_class cs in
     let all : AreMarked names program program graph = subst (λ ds. AreMarked names program (map plain_class ds) graph) (take_all i cs past) marked in
     record { each = counted names program program graph all.zip; exact = exact names program graph all }
+
+some_injective : (a b : ℕ) → Some a ≡ Some b → a ≡ b
+some_injective a b same = cc
+
+-- a method of a program has its mark
+pub has_mark : (names : List (List ℕ)) (program : PlainProgram) (graph : List (List Bool)) → IsGraph names program graph → (class : ℕ) (c : PlainClass) → slice_get program class ≡ Some c → (method : ℕ) → method < length (methods_of names c.members) → (class < length graph) × (method < length (get_or graph class []))
+has_mark names program graph is class c class_is method within =
+    let counts = λ (c : PlainClass). length (methods_of names c.members) in
+    let as_many : length graph ≡ length program = sym (length-map graph length) ∙ ap length is.each ∙ length-map program counts in
+    let there : class < length program = slice_get_within program class c class_is in
+    let reached : class < length graph = omega arith in
+    let row : slice_get graph class ≡ Some (get_or graph class []) = slice_get-get_or graph class [] reached in
+    let counted : length (get_or graph class []) ≡ counts c = some_injective _ _ (sym (slice_get-map length graph class ∙ ap (option_map length) row) ∙ ap (λ ns. slice_get ns class) is.each ∙ slice_get-map counts program class ∙ ap (option_map counts) class_is) in
+    (reached, omega arith)
 
 pub ruleset graph_laws = (no_classes, classes_more, made)

@@ -6,3 +6,4 @@ pub mod NumberLaws
 pub mod MethodLaws
 pub mod ClosureLaws
 pub mod GraphLaws
+pub mod Examples

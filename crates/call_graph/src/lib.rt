@@ -7,5 +7,7 @@ mod exprs;
 mod program;
 mod sites;
 mod stmts;
+#[cfg(test)]
+mod tests;
 
 pub use program::{CallGraph, graph};

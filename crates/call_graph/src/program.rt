@@ -139,9 +139,13 @@ fn class_marks(
     marks_of(alloc, rows.as_slice())
 }
 
-/// The methods of a program with these names that may suspend.
+/// A mark for each method of each class of a program: whether it may suspend.
 #[tactic(auto, using(crate::proofs::GraphLaws::graph_laws))]
-pub(crate) fn graph_of(alloc: Global, program: &Program, names: &Names) -> Result<CallGraph, AllocError>
+pub(crate) fn program_marks(
+    alloc: Global,
+    program: &Program,
+    names: &Names,
+) -> Result<Sequence<Marks>, AllocError>
     ensures { IfOk result (spec.IsGraph names.now (plain_program program.now)) }
 {
     let classes = program.classes.as_slice();
@@ -149,12 +153,13 @@ pub(crate) fn graph_of(alloc: Global, program: &Program, names: &Names) -> Resul
     for class in classes {
         made.push(alloc, class_marks(alloc, classes, names, class)?)?;
     }
-    Ok(CallGraph { classes: made })
+    Ok(made)
 }
 
 /// The methods of an accepted program that may suspend.
 pub fn graph(alloc: Global, program: &Checked) -> Result<CallGraph, AllocError>
     ensures { IfOk result (spec.IsGraph (checked_names program.now) (checked_program program.now)) }
 {
-    graph_of(alloc, program.program(), program.names())
+    let classes = program_marks(alloc, program.program(), program.names())?;
+    Ok(CallGraph { classes })
 }
