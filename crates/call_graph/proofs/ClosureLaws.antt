@@ -1,12 +1,11 @@
 -- Marks that are put one by one, each on a method that may suspend, until they are closed.
-use Rattle.std.proofs.Common.{inl, inr, zero, suc, ◌≡◌, ℕ, arith, ◌+◌, ◌<◌, ◌≤◌, Bool, true, false, cond, List, [], ◌∷◌, ◌++◌, length, take, get_or, set, get_or-set_same, get_or-set_other, Some, None, refl, sym, ap, subst, ◌∙◌}
+use Rattle.std.proofs.Common.{inl, inr, zero, suc, ◌≡◌, ℕ, arith, ◌<◌, Bool, true, false, List, [], ◌∷◌, ◌++◌, length, get_or, set, get_or-set_other, Some, refl, sym, ap, ◌∙◌}
 use Rattle.std.specs.Prelude.{sum_by, slice_get, Contains}
 use Rattle.std.specs.List.{list_any}
 use Rattle.std.proofs.lemmas.Bool.{cases_eq}
-use Rattle.std.proofs.lemmas.List.{get_or_past}
 use Rattle.std.proofs.lemmas.List.Sums.{sum_by-set}
 use Rattle.std.proofs.lemmas.List.Folds.{Any-from_list_any, list_any_at}
-use Rattle.std.proofs.lemmas.Option.{slice_get_within, get_or_from_slice_get, slice_get-get_or}
+use Rattle.std.proofs.lemmas.Option.{get_or_from_slice_get, slice_get-get_or}
 use Rattle.call_graph.specs.declared.sites.Site.{Site}
 use Rattle.call_graph.specs.declared.sites.Site.TheVariants.{Own, Away}
 use Rattle.call_graph.specs.Marks.{marked, suspends, MayLeave, leaves, calls, AreExact, IsNext, IsClosed}
@@ -40,8 +39,8 @@ may_leave rows marks so_far method within holds =
 pub sound_more : (rows : List (List Site)) (marks : List Bool) (i : ℕ) → length marks ≡ length rows → AreSound rows marks → IsNext rows marks i → AreSound rows (set marks i true)
 sound_more rows marks i as_many so_far next = record {
   sound = λ method is. elim (cases_eq method i) [
-    inl same ↦ let within : method < length rows = omega (arith, next.within) in may_leave rows marks so_far method within (ap (λ m. list_any (suspends marks) (get_or rows m [])) same ∙ next.holds)
-  | inr other ↦ so_far.sound method (sym (get_or-set_other marks i method true false other) ∙ is)
+    | inl same ↦ let within : method < length rows = omega (arith, next.within) in may_leave rows marks so_far method within (ap (λ m. list_any (suspends marks) (get_or rows m [])) same ∙ next.holds)
+    | inr other ↦ so_far.sound method (sym (get_or-set_other marks i method true false other) ∙ is)
   ];
 }
 

@@ -1,9 +1,9 @@
 -- Which methods may suspend, read by the definitions on small trees.
-use Rattle.std.proofs.Common.{◌≡◌, ℕ, zero, suc, arith, ◌<◌, Bool, true, false, List, [], ◌∷◌, Some, None, refl, ap, subst, lit<}
-use Rattle.std.specs.Prelude.{codes, slice_get, Contains}
+use Rattle.std.proofs.Common.{◌≡◌, ℕ, zero, suc, Bool, true, false, List, [], ◌∷◌, None, refl, ap, subst, lit<}
+use Rattle.std.specs.Prelude.{codes, slice_get}
 use Rattle.py_tree.specs.declared.names.Place.{Place}
 use Rattle.py_tree.specs.PlainExpressions.{PlainExpr, PBool, PVar, PSelf, PAttr, PCall, PApply, PAnd, PNoExpr, PExpr}
-use Rattle.py_tree.specs.PlainStatements.{PlainStmt, PPass, PDo, PReturn, PIf, PWhile, PNoStmt, PStmt, PArm, PNoArm, PMoreArms}
+use Rattle.py_tree.specs.PlainStatements.{PPass, PDo, PReturn, PIf, PWhile, PNoStmt, PStmt, PArm, PNoArm, PMoreArms}
 use Rattle.py_tree.specs.PlainProgram.{PlainMethod, PlainClass, PlainProgram}
 use Rattle.py_tree.specs.ClassRules.{is_init, is_key, is_called, text_of, is_class, methods_of}
 use Rattle.py_tree.specs.Reachability.{goes_on}

@@ -1,5 +1,5 @@
 -- From the marks of each class to those of a program.
-use Rattle.std.proofs.Common.{inl, inr, ◌⊎◌, ◌≡◌, ℕ, zero, suc, arith, ◌+◌, ◌<◌, ◌≤◌, Bool, true, false, List, [], ◌∷◌, ◌++◌, length, map, take, get_or, Option, Some, None, refl, sym, ap, subst, ◌∙◌}
+use Rattle.std.proofs.Common.{inl, inr, ◌⊎◌, ◌≡◌, ℕ, zero, suc, arith, ◌+◌, ◌<◌, ◌≤◌, Bool, true, false, List, [], ◌∷◌, ◌++◌, length, map, take, get_or, Some, None, refl, sym, ap, subst, ◌∙◌}
 use Rattle.std.specs.Prelude.{slice_get, option_map, ◌↔◌}
 use Rattle.std.specs.List.{AllZip}
 use Rattle.std.proofs.lemmas.List.{length-map, take_all}
@@ -74,10 +74,11 @@ exact : (names : List (List ℕ)) (program : PlainProgram) (graph : List (List B
 exact names program graph all class method =
     let R = λ (c : PlainClass) (marks : List Bool). AreExact (class_sites names program c) marks in
     elim (zip_at R program graph all.zip class) [
-      inl h ↦ (λ yes. to_program names program class h.0 h.1 method ((h.2.exact method).0 yes), λ may. (h.2.exact method).1 (to_class names program class method may h.0 h.1))
-    | inr e ↦
-        (λ yes. let no : is_marked graph class method ≡ false = ap (λ marks. marked marks method) e.1 in absurd (cc),
-         λ may. let some = has_class names program class method may in absurd (let none = e.0 in let is = some.1 in cc))
+      | inl h ↦ (λ yes. to_program names program class h.0 h.1 method ((h.2.exact method).0 yes), λ may. (h.2.exact method).1 (to_class names program class method may h.0 h.1))
+      | inr e ↦ (
+        λ yes. let no : is_marked graph class method ≡ false = ap (λ marks. marked marks method) e.1 in absurd (cc),
+        λ may. let some = has_class names program class method may in absurd (let none = e.0 in let is = some.1 in cc),
+      )
     ]
 
 pub made : (names : List (List ℕ)) (cs : List Class) (i : ℕ) (graph : List (List Bool)) → length cs ≤ i → AreMarked names (map plain_class cs) (map plain_class (take i cs)) graph → IsGraph names (map plain_class cs) graph

@@ -1,5 +1,5 @@
 -- What the calls and creations of a statement are at each kind, one equation each, behind those found before.
-use Rattle.std.proofs.Common.{◌≡◌, ℕ, true, false, Option, List, [], ◌∷◌, ◌++◌, ◌+◌, ◌<◌, ◌≤◌, if◌then◌else◌, length, drop, get_or, ap, ◌∙◌}
+use Rattle.std.proofs.Common.{◌≡◌, ℕ, true, false, Option, List, [], ◌++◌, ◌+◌, ◌<◌, ◌≤◌, if◌then◌else◌, length, drop, get_or, ap, ◌∙◌}
 use Rattle.py_tree.specs.declared.names.Place.{Place}
 use Rattle.py_tree.specs.declared.names.PlacedName.{PlacedName}
 use Rattle.py_tree.specs.declared.ty.WrittenTy.{WrittenTy}

@@ -63,7 +63,11 @@ fn add_name(
 
 /// The names of the methods of a class that are called by name.
 #[tactic(auto, using(crate::proofs::MethodLaws::name_laws))]
-fn called_names(alloc: Global, names: &Names, members: &[Method]) -> Result<Sequence<Name>, AllocError>
+fn called_names(
+    alloc: Global,
+    names: &Names,
+    members: &[Method],
+) -> Result<Sequence<Name>, AllocError>
     ensures { IfOk result (λ made. numbers_of made ≡ suspending.method_names (methods_of names.now (map plain_method members.now))) }
 {
     let mut made = Sequence::new(alloc);

@@ -25,9 +25,8 @@ fn find_by(
 {
     match &stmt.kind {
         StmtKind::Pass | StmtKind::Break | StmtKind::Continue => Ok(()),
-        StmtKind::Expr(value)
-        | StmtKind::Assign { value, .. }
-        | StmtKind::Augment { value, .. } => find(alloc, classes, methods, value, found),
+        StmtKind::Expr(value) | StmtKind::Assign { value, .. } | StmtKind::Augment { value, .. } =>
+            find(alloc, classes, methods, value, found),
         StmtKind::Return(value) | StmtKind::Raise(_, value) => {
             find_if_there(alloc, classes, methods, value, found)
         }

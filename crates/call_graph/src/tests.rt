@@ -5,9 +5,7 @@ use py_tree::nodes::{
     and_of, apply_of, arm_of, attribute, bool_of, call_of, class_of, do_of, if_of, method_of,
     pass_of, return_of, self_of, var_of, while_of,
 };
-use py_tree::{
-    Class, Expr, Method, Methods, Name, Names, Place, PlacedName, Program, Stmt, Stmts,
-};
+use py_tree::{Class, Expr, Method, Methods, Name, Names, Place, PlacedName, Program, Stmt, Stmts};
 use sf_list::Sequence;
 use std::alloc::{AllocError, Global};
 use std::test::Fail;
@@ -171,11 +169,7 @@ fn receivers_and_arguments_are_looked_into(rt: HostRuntime) -> Result<(), Fail> 
 #[test]
 fn what_cannot_be_reached_does_not_count(rt: HostRuntime) -> Result<(), Fail> {
     let alloc = rt.alloc();
-    let behind_a_return = two(
-        alloc,
-        return_of(AT, None),
-        do_of(AT, applied(alloc, ITEM)),
-    )?;
+    let behind_a_return = two(alloc, return_of(AT, None), do_of(AT, applied(alloc, ITEM)))?;
     assert!(rt; !told_of_body(alloc, behind_a_return)?);
     let turns = one(alloc, pass_of(AT))?;
     let behind_a_loop = two(

@@ -1,4 +1,4 @@
-use Rattle.std.proofs.Common.{◌≡◌, ℕ, Bool, true, List, length, set, sym, ap, subst, ◌∙◌}
+use Rattle.std.proofs.Common.{true, length, sym, ap, subst, ◌∙◌}
 use Rattle.std.proofs.lemmas.List.{length-set}
 use Rattle.call_graph.specs.Marks.{IsNext}
 use Rattle.call_graph.proofs.ClosureLaws.{AreSound, sound_more}
