@@ -46,8 +46,9 @@ fn text_of_name(names: &Names, name: Name) -> &str
     }
 }
 
+/// Whether a method of this name is called by name: it's neither `__init__` nor `__key__`.
 #[tactic(auto, unfolding(crate::specs::ClassRules::is_called, crate::specs::ClassRules::is_init, crate::specs::ClassRules::is_key))]
-fn is_called_by_name(names: &Names, name: Name) -> bool
+pub fn is_called_by_name(names: &Names, name: Name) -> bool
     ensures { result ≡ is_called names.now name.0 }
 {
     let text = text_of_name(names, name);

@@ -1,0 +1,3 @@
+pub mod Suspending
+pub mod Marks
+pub mod Views
