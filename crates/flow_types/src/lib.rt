@@ -30,6 +30,8 @@ mod methods;
 mod program;
 mod reach;
 mod simple;
+#[cfg(test)]
+mod tests;
 mod values;
 mod walk;
 mod written;
