@@ -48,8 +48,8 @@ arms_are c f (PMoreArms (PArm test body) more) goes other =
     let next : Way → Fork = λ arm. record { next = on arm (settled arm.locals (known_at (narrowed (shown false test) f.next.locals))); ended = meet f.ended (way (all_go_on body) arm.locals) } in
     (λ i. with_found tested (λ ty. with_found walked (λ arm. arms_are c (next arm) more goes other i)))
     ∙ sym (found_then (with_found tested (λ ty. with_found walked (λ arm. Ok (next arm)))) (λ g. behind_arms c g more) end
-      ∙ found_then tested (λ ty. with_found walked (λ arm. Ok (next arm))) (λ g. with_found (behind_arms c g more) end)
-      ∙ (λ i. with_found tested (λ ty. found_then walked (λ arm. Ok (next arm)) (λ g. with_found (behind_arms c g more) end) i)))
+    ∙ found_then tested (λ ty. with_found walked (λ arm. Ok (next arm))) (λ g. with_found (behind_arms c g more) end)
+    ∙ (λ i. with_found tested (λ ty. found_then walked (λ arm. Ok (next arm)) (λ g. with_found (behind_arms c g more) end) i)))
 
 if_is : (c : Context) (w : Way) (at : Place) (arms : PlainArms) (other : PlainStmts) → flow c w (PIf at arms other) ≡ with_found (behind_arms c (record { next = w; ended = None }) arms) (λ f. behind_other c f other)
 unfolding flow behind_other
@@ -75,10 +75,10 @@ for_is c w at name over body =
     let behind : Entry → Way → List PlainLocal = λ e b. behind_ways b.locals (meet (Some e.head) b.breaks) in
     let end : Entry → Result Way RuleFault = λ e. with_found (walked e) (λ b. Ok (on w (behind e b))) in
     sym (found_then (for_entry c w.locals name over body) (λ e. with_found (walked e) (λ b. Ok (behind e b))) (λ ls. Ok (on w ls))
-      ∙ (λ i. with_found (for_entry c w.locals name over body) (λ e. found_then (walked e) (λ b. Ok (behind e b)) (λ ls. Ok (on w ls)) i))
-      ∙ found_then items (λ item. needs_none fault (with_found (stored w.locals name item) (entered item))) end
-      ∙ (λ i. with_found items (λ item. needs_then fault (with_found (stored w.locals name item) (entered item)) end i))
-      ∙ (λ i. with_found items (λ item. needs_none fault (found_then (stored w.locals name item) (entered item) end i))))
+    ∙ (λ i. with_found (for_entry c w.locals name over body) (λ e. found_then (walked e) (λ b. Ok (behind e b)) (λ ls. Ok (on w ls)) i))
+    ∙ found_then items (λ item. needs_none fault (with_found (stored w.locals name item) (entered item))) end
+    ∙ (λ i. with_found items (λ item. needs_then fault (with_found (stored w.locals name item) (entered item)) end i))
+    ∙ (λ i. with_found items (λ item. needs_none fault (found_then (stored w.locals name item) (entered item) end i))))
 
 -- a kind of statement, as the tree of it is seen
 module _ (c : Context) (w : Way) (at : Place) where

@@ -130,9 +130,9 @@ through_arms-loop-arm-preserved t c =
       forks = inv.forks ∙ arms_pass (context_of tables c.args.env.now in_loop) fork arms i arm _ c.loop-arm-test.true c.arm-item.is found;
       goes =
           elim c.if-one_goes_on.branch [
-            through_arms-then-one_goes_on w ↦ inv.goes ∙ ap (λ b. b || behind) w.if-one_goes_on.true ∙ ap (λ b. b || beyond) (sym w.if-one_goes_on.true ∙ sym w.one_goes_on-is)
-          | through_arms-else-one_goes_on w ↦
-            inv.goes ∙ ap (λ b. b || behind) w.if-one_goes_on.false ∙ one_goes arms i arm c.loop-arm-test.true c.arm-item.is ∙ ap (λ b. b || beyond) (sym told.1 ∙ sym w.one_goes_on-is)
+            | through_arms-then-one_goes_on w ↦ inv.goes ∙ ap (λ b. b || behind) w.if-one_goes_on.true ∙ ap (λ b. b || beyond) (sym w.if-one_goes_on.true ∙ sym w.one_goes_on-is)
+            | through_arms-else-one_goes_on w ↦
+                inv.goes ∙ ap (λ b. b || behind) w.if-one_goes_on.false ∙ one_goes arms i arm c.loop-arm-test.true c.arm-item.is ∙ ap (λ b. b || beyond) (sym told.1 ∙ sym w.one_goes_on-is)
           ];
       class = told.2 ∙ inv.class;
       method = told.3 ∙ inv.method;
