@@ -20,7 +20,7 @@ left = sum_by counted
 
 pub fewer_left : (rows : List (List Site)) (marks : List Bool) (i : ℕ) → IsNext rows marks i → left (set marks i true) < left marks
 fewer_left rows marks i next =
-    let was : counted (get_or marks i false) ≡ 1 = ap counted next.has_none in
+    let was : counted (get_or marks i false) ≡ 1 = ap counted next.has_no_mark in
     omega (arith, sum_by-set counted marks i true false next.within, was)
 
 -- only methods that may suspend have a mark

@@ -33,11 +33,12 @@ pub record IsGraph (names : List (List ℕ)) (program : PlainProgram) (graph : L
   pub each : map length graph ≡ map (λ c. length (methods_of names c.members)) program
   pub exact : (class method : ℕ) → IsTrue (is_marked graph class method) ↔ MaySuspend names program class method
 
--- the first method without a mark that may suspend, where the marked methods may; and that there is none
+-- a method without a mark that may suspend, where the marked methods may
 pub record IsNext (rows : List (List Site)) (marks : List Bool) (method : ℕ) : Type 0 where
   pub within : method < length marks
-  pub has_none : marked marks method ≡ false
+  pub has_no_mark : marked marks method ≡ false
   pub holds : list_any (suspends marks) (slice_index_or rows method []) ≡ true
 
+-- there is none
 abbrev pub IsClosed : List (List Site) → List Bool → Type 0
 IsClosed rows marks = (method : ℕ) → list_any (suspends marks) (slice_index_or rows method []) ≡ true → marked marks method ≡ true

@@ -15,7 +15,7 @@ use Rattle.call_graph.specs.declared.sites.Site.TheVariants.{Own, Away}
 abbrev pub number_of : List ℕ → ℕ → Option ℕ
 number_of methods name = position_from (λ m. m == name) 0 methods
 
--- a call on `self`
+-- a call on `self`, of a method with this number; in a program that keeps the rules there is one
 abbrev pub own_call : Option ℕ → List Site
 own_call (Some method) = Own method ∷ []
 own_call None = []

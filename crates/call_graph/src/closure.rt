@@ -33,7 +33,7 @@ fn any_suspends(sites: &[Site], marks: &[bool]) -> bool
     false
 }
 
-/// The first method that has no mark, though it may suspend where the marked methods may.
+/// A method that has no mark, though it may suspend where the marked methods may.
 fn next_to_mark(rows: &[Sites], marks: &[bool]) -> Option<usize>
     requires { length marks.now ≡ length rows.now }
     ensures some { IfSome result (λ i. spec.IsNext rows.now marks.now i) }
