@@ -10,16 +10,16 @@ use Rattle.py_tree.specs.ClassRules.{first_behind, field_names, init_stmt_fault}
 use Rattle.entity_tables.specs.Answers.{numbers_of}
 use Rattle.entity_tables.proofs.Lists.{map_more, first_passes, first_stops}
 
-abbrev pub stmt_fault : PlainProgram → List PlainMethod → List PlainStmt → PlainStmt → Option RuleFault
-stmt_fault p members before s = init_stmt_fault p members (field_names before) s
+abbrev pub stmt_fault : List (List ℕ) → PlainProgram → List PlainMethod → List PlainStmt → PlainStmt → Option RuleFault
+stmt_fault names p members before s = init_stmt_fault names p members (field_names before) s
 
 -- a statement without a fault
-pub init_passes : (p : PlainProgram) (members : List PlainMethod) (declared : List Name) (xs : List Stmt) (i : ℕ) (x : Stmt) → i < length xs → x ≡ get_or xs i x → numbers_of declared ≡ field_names (plain_stmts (take i xs)) → init_stmt_fault p members (numbers_of declared) (plain_stmt x) ≡ None → first_behind (stmt_fault p members) (plain_stmts (take i xs)) (plain_stmts (drop i xs)) ≡ first_behind (stmt_fault p members) (plain_stmts (take (i + 1) xs)) (plain_stmts (drop (i + 1) xs))
-init_passes p members declared xs i x within is so_far none = first_passes plain_stmt (stmt_fault p members) xs i x within is (ap (λ ns. init_stmt_fault p members ns (plain_stmt x)) (sym so_far) ∙ none)
+pub init_passes : (names : List (List ℕ)) (p : PlainProgram) (members : List PlainMethod) (declared : List Name) (xs : List Stmt) (i : ℕ) (x : Stmt) → i < length xs → x ≡ get_or xs i x → numbers_of declared ≡ field_names (plain_stmts (take i xs)) → init_stmt_fault names p members (numbers_of declared) (plain_stmt x) ≡ None → first_behind (stmt_fault names p members) (plain_stmts (take i xs)) (plain_stmts (drop i xs)) ≡ first_behind (stmt_fault names p members) (plain_stmts (take (i + 1) xs)) (plain_stmts (drop (i + 1) xs))
+init_passes names p members declared xs i x within is so_far none = first_passes plain_stmt (stmt_fault names p members) xs i x within is (ap (λ ns. init_stmt_fault names p members ns (plain_stmt x)) (sym so_far) ∙ none)
 
 -- one with a fault
-pub init_stops : (p : PlainProgram) (members : List PlainMethod) (declared : List Name) (xs : List Stmt) (i : ℕ) (x : Stmt) (f : RuleFault) → i < length xs → x ≡ get_or xs i x → numbers_of declared ≡ field_names (plain_stmts (take i xs)) → init_stmt_fault p members (numbers_of declared) (plain_stmt x) ≡ Some f → first_behind (stmt_fault p members) (plain_stmts (take i xs)) (plain_stmts (drop i xs)) ≡ Some f
-init_stops p members declared xs i x f within is so_far some = first_stops plain_stmt (stmt_fault p members) xs i x f within is (ap (λ ns. init_stmt_fault p members ns (plain_stmt x)) (sym so_far) ∙ some)
+pub init_stops : (names : List (List ℕ)) (p : PlainProgram) (members : List PlainMethod) (declared : List Name) (xs : List Stmt) (i : ℕ) (x : Stmt) (f : RuleFault) → i < length xs → x ≡ get_or xs i x → numbers_of declared ≡ field_names (plain_stmts (take i xs)) → init_stmt_fault names p members (numbers_of declared) (plain_stmt x) ≡ Some f → first_behind (stmt_fault names p members) (plain_stmts (take i xs)) (plain_stmts (drop i xs)) ≡ Some f
+init_stops names p members declared xs i x f within is so_far some = first_stops plain_stmt (stmt_fault names p members) xs i x f within is (ap (λ ns. init_stmt_fault names p members ns (plain_stmt x)) (sym so_far) ∙ some)
 
 -- the fields behind a statement
 pub names_more : (old new : List Name) (xs : List Stmt) (i : ℕ) (x : Stmt) → i < length xs → x ≡ get_or xs i x → numbers_of old ≡ field_names (plain_stmts (take i xs)) → numbers_of new ≡ numbers_of old ++ field_names (plain_stmt x ∷ []) → numbers_of new ≡ field_names (plain_stmts (take (i + 1) xs))

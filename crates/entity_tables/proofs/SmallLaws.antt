@@ -1,5 +1,5 @@
 -- How many fields and parameters there are where no rule is broken.
-use Rattle.std.proofs.Common.{◌≡◌, ℕ, suc, arith, true, false, Bool, ◌+◌, ◌≤◌, Option, Some, None, List, [], ◌∷◌, ◌++◌, length, append_assoc, append-nil, length-append, refl, sym, ap, ◌∙◌, subst}
+use Rattle.std.proofs.Common.{not, ◌≡◌, ℕ, suc, arith, true, false, Bool, ◌+◌, ◌≤◌, Option, Some, None, List, [], ◌∷◌, ◌++◌, length, append_assoc, append-nil, length-append, refl, sym, ap, ◌∙◌, subst}
 use Rattle.std.specs.Prelude.{find, cond, if◌then◌else◌, option_map, unwrap_or, ◌||◌}
 use Rattle.std.specs.List.{cons_option}
 use Rattle.std.specs.Option.{option_map_or}
@@ -10,31 +10,9 @@ use Rattle.py_tree.specs.declared.rule.Rule.TheVariants.{TooMany, ReservedName, 
 use Rattle.py_tree.specs.declared.rule.RuleFault.{RuleFault}
 use Rattle.py_tree.specs.PlainStatements.{PlainStmt}
 use Rattle.py_tree.specs.PlainProgram.{PlainParam, PlainMethod, PlainProgram}
-use Rattle.py_tree.specs.ClassRules.{acts, is_field, is_member, is_reserved, is_class, is_param, annotation_fault, written_fault, member_name_fault, result_fault, broken, is_full, first_of, first_behind, first_in, param_fault, Declaration, declaration, declaration_fault, other_fault, place_of_stmt, PlainField, field_declared, field_names, fields_of, init_stmt_fault, init_body_fault, is_init, member_fault, init_of, params_of, body_of}
+use Rattle.py_tree.specs.ClassRules.{acts, is_field, is_member, is_reserved, is_class, is_param, annotation_fault, written_fault, member_name_fault, result_fault, broken, is_full, first_of, first_behind, first_in, param_fault, Declaration, declaration, declaration_fault, other_fault, place_of_stmt, PlainField, field_declared, field_names, fields_of, init_stmt_fault, init_body_fault, is_init, is_called, member_fault, init_of, params_of, body_of}
+use Rattle.py_tree.proofs.ClassRuleLaws.{head_none, rest_none, not_broken, few, stays}
 use Rattle.entity_tables.specs.Answers.{IsSmall}
-
-head_none : (a : Option RuleFault) (more : List (Option RuleFault)) → first_of (a ∷ more) ≡ None → a ≡ None
-head_none None more e = refl
-head_none (Some f) more e = e
-
-rest_none : (a : Option RuleFault) (more : List (Option RuleFault)) → first_of (a ∷ more) ≡ None → first_of more ≡ None
-rest_none None more e = e
-rest_none (Some f) more e = grind (arith, e)
-
-not_broken : (rule : Rule) (place : Place) (b : Bool) → broken rule place b ≡ None → b ≡ false
-not_broken rule place false e = refl
-not_broken rule place true e = grind (arith, e)
-
-few : (n : ℕ) → is_full n ≡ false → n + 1 ≤ 256
-few n e = grind (arith, e)
-
--- a list stays small where each item without a fault keeps it small
-stays : {X : Type 0} (fault : List X → X → Option RuleFault) (size : List X → ℕ) → ((before : List X) (x : X) → size before ≤ 256 → fault before x ≡ None → size (before ++ x ∷ []) ≤ 256) → (before xs : List X) → size before ≤ 256 → first_behind fault before xs ≡ None → size (before ++ xs) ≤ 256
-stays fault size keeps before [] small none = subst (λ ys. size ys ≤ 256) (sym (append-nil before)) small
-stays fault size keeps before (x ∷ xs) small none =
-    let now : fault before x ≡ None = head_none (fault before x) (first_behind fault (before ++ x ∷ []) xs ∷ []) none in
-    let later : first_behind fault (before ++ x ∷ []) xs ≡ None = head_none (first_behind fault (before ++ x ∷ []) xs) [] (rest_none (fault before x) (first_behind fault (before ++ x ∷ []) xs ∷ []) none) in
-    subst (λ ys. size ys ≤ 256) (append_assoc before (x ∷ []) xs) (stays fault size keeps (before ++ x ∷ []) xs (keeps before x small now) later)
 
 one_param_more : (p : PlainProgram) (before : List PlainParam) (x : PlainParam) → length before ≤ 256 → param_fault p before x ≡ None → length (before ++ x ∷ []) ≤ 256
 unfolding param_fault
@@ -60,22 +38,22 @@ one_declared : (s : PlainStmt) (d : Declaration) → declaration s ≡ Some d �
 unfolding field_names
 one_declared s d e = ap (λ o. length (cons_option (option_map (λ f. f.field.name.0) o) [])) e
 
-declares_room : (p : PlainProgram) (members : List PlainMethod) (fields : List ℕ) (s : PlainStmt) (d : Declaration) → declaration s ≡ Some d → init_stmt_fault p members fields s ≡ None → length fields + 1 ≤ 256
+declares_room : (names : List (List ℕ)) (p : PlainProgram) (members : List PlainMethod) (fields : List ℕ) (s : PlainStmt) (d : Declaration) → declaration s ≡ Some d → init_stmt_fault names p members fields s ≡ None → length fields + 1 ≤ 256
 unfolding init_stmt_fault
-declares_room p members fields s d e none =
-    let declared : declaration_fault p members fields (place_of_stmt s) d ≡ None = ap (λ o. option_map_or (declaration_fault p members fields (place_of_stmt s)) o (other_fault p fields s)) (sym e) ∙ none in
-    let others : List (Option RuleFault) = broken DuplicateMember d.field.place (is_field fields d.field.name.0 || is_member members d.field.name.0) ∷ written_fault p d.ty ∷ [] in
+declares_room names p members fields s d e none =
+    let declared : declaration_fault names p members fields (place_of_stmt s) d ≡ None = ap (λ o. option_map_or (declaration_fault names p members fields (place_of_stmt s)) o (other_fault p fields s)) (sym e) ∙ none in
+    let others : List (Option RuleFault) = broken DuplicateMember d.field.place (is_field fields d.field.name.0 || is_member members d.field.name.0 || not (is_called names d.field.name.0)) ∷ written_fault p d.ty ∷ [] in
     let full : Option RuleFault = broken TooMany d.field.place (is_full (length fields)) in
     let later : first_of (full ∷ others) ≡ None = rest_none (broken InitForm (place_of_stmt s) (acts p fields d.value)) (full ∷ others) declared in
     few (length fields) (not_broken TooMany d.field.place (is_full (length fields)) (head_none full others later))
 
-one_field_more : (p : PlainProgram) (members : List PlainMethod) (before : List PlainStmt) (s : PlainStmt) (o : Option Declaration) → declaration s ≡ o → length (field_names before) ≤ 256 → init_stmt_fault p members (field_names before) s ≡ None → length (field_names (before ++ s ∷ [])) ≤ 256
-one_field_more p members before s None e small none = omega (arith, small, names_with before s, none_declared s e)
-one_field_more p members before s (Some d) e small none = omega (arith, declares_room p members (field_names before) s d e none, names_with before s, one_declared s d e)
+one_field_more : (names : List (List ℕ)) (p : PlainProgram) (members : List PlainMethod) (before : List PlainStmt) (s : PlainStmt) (o : Option Declaration) → declaration s ≡ o → length (field_names before) ≤ 256 → init_stmt_fault names p members (field_names before) s ≡ None → length (field_names (before ++ s ∷ [])) ≤ 256
+one_field_more names p members before s None e small none = omega (arith, small, names_with before s, none_declared s e)
+one_field_more names p members before s (Some d) e small none = omega (arith, declares_room names p members (field_names before) s d e none, names_with before s, one_declared s d e)
 
-few_names : (p : PlainProgram) (members : List PlainMethod) (body : List PlainStmt) → init_body_fault p members body ≡ None → length (field_names body) ≤ 256
+few_names : (names : List (List ℕ)) (p : PlainProgram) (members : List PlainMethod) (body : List PlainStmt) → init_body_fault names p members body ≡ None → length (field_names body) ≤ 256
 unfolding init_body_fault field_names
-few_names p members body none = stays (λ before s. init_stmt_fault p members (field_names before) s) (λ ss. length (field_names ss)) (λ before s. one_field_more p members before s (declaration s) refl) [] body (omega arith) none
+few_names names p members body none = stays (λ before s. init_stmt_fault names p members (field_names before) s) (λ ss. length (field_names ss)) (λ before s. one_field_more names p members before s (declaration s) refl) [] body (omega arith) none
 
 as_many : (o : Option Declaration) (fields : List PlainField) (names : List ℕ) → length fields ≡ length names → length (cons_option (option_map (λ d. field_declared d) o) fields) ≡ length (cons_option (option_map (λ d. d.field.name.0) o) names)
 as_many None fields names e = e
@@ -110,12 +88,12 @@ small_init names p all before m none yes_init =
     let name : Option RuleFault = member_name_fault names before m in
     let params : Option RuleFault = first_in (param_fault p) m.params in
     let gives : Option RuleFault = result_fault names p m in
-    let body : Option RuleFault = if is_init names m.name then init_body_fault p all m.body else None in
+    let body : Option RuleFault = if is_init names m.name then init_body_fault names p all m.body else None in
     let behind_name : first_of (params ∷ gives ∷ body ∷ []) ≡ None = rest_none name (params ∷ gives ∷ body ∷ []) none in
     let behind_params : first_of (gives ∷ body ∷ []) ≡ None = rest_none params (gives ∷ body ∷ []) behind_name in
     let body_none : body ≡ None = head_none body [] (rest_none gives (body ∷ []) behind_params) in
-    let really : init_body_fault p all m.body ≡ None = ap (λ b. if b then init_body_fault p all m.body else None) (sym yes_init) ∙ body_none in
-    (few_params p m.params (head_none params (gives ∷ body ∷ []) behind_name), subst (λ n. n ≤ 256) (sym (fields_and_names m.body)) (few_names p all m.body really))
+    let really : init_body_fault names p all m.body ≡ None = ap (λ b. if b then init_body_fault names p all m.body else None) (sym yes_init) ∙ body_none in
+    (few_params p m.params (head_none params (gives ∷ body ∷ []) behind_name), subst (λ n. n ≤ 256) (sym (fields_and_names m.body)) (few_names names p all m.body really))
 
 small_of : (names : List (List ℕ)) (p : PlainProgram) (members : List PlainMethod) (o : Option PlainMethod) → init_of names members ≡ o → first_in (member_fault names p members) members ≡ None → (length (params_of o) ≤ 256) × (length (fields_of (body_of o)) ≤ 256)
 unfolding fields_of init_of

@@ -23,6 +23,7 @@ pub fn has_field(fields: &[Name], name: Name) -> bool
     false
 }
 
+/// Whether an expression is the word `self`.
 #[tactic(auto, using(crate::proofs::ExprRules::self_rules))]
 pub fn is_self(expr: &Expr) -> bool
     ensures { result ≡ spec.is_self (plain_expr expr.now) }

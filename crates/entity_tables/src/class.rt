@@ -35,7 +35,7 @@ fn check_member(
     check_params(classes, member.params.as_slice())?;
     check_result(names, classes, member)?;
     if is_init(names, member.name) {
-        return check_init_body(alloc, classes, members, member.body.as_slice());
+        return check_init_body(alloc, names, classes, members, member.body.as_slice());
     }
     Ok(())
 }

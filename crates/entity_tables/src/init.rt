@@ -11,26 +11,30 @@ use crate::acts::{acts, has_field, option_acts};
 use crate::declarations::{Declaration, add_declared, declared_by};
 use crate::fault::{RuleError, is_full, refuse};
 use crate::members::has_member;
+use crate::names::is_called;
 use crate::written::check_written;
-use py_tree::{Class, Method, Name, Place, Rule, RuleFault, Stmt, StmtKind};
+use py_tree::{Class, Method, Name, Names, Place, Rule, RuleFault, Stmt, StmtKind};
 use sf_list::Sequence;
 use std::alloc::Global;
 
 /// The rules of a declaration that begins at a place, in a class with these members, behind the
 /// declarations of these fields.
 fn check_declaration(
+    names: &Names,
     classes: &[Class],
     members: &[Method],
     declared: &[Name],
     place: Place,
     found: &Declaration<'_>,
 ) -> Result<(), RuleFault>
-    ensures { fault_of result ≡ spec.declaration_fault (map plain_class classes.now) (map plain_method members.now) (numbers_of declared.now) place (plain_declaration found.now) }
+    ensures { fault_of result ≡ spec.declaration_fault names.now (map plain_class classes.now) (map plain_method members.now) (numbers_of declared.now) place (plain_declaration found.now) }
 {
     refuse(acts(classes, declared, found.value), Rule::InitForm, place)?;
     refuse(is_full(declared.len()), Rule::TooMany, found.field.place)?;
     let name = found.field.name;
-    let is_taken = has_field(declared, name) || has_member(members, name);
+    let is_taken = has_field(declared, name)
+        || has_member(members, name)
+        || !is_called(names, name);
     refuse(is_taken, Rule::DuplicateMember, found.field.place)?;
     check_written(classes, found.ty)
 }
@@ -61,15 +65,16 @@ fn is_plain_assert(classes: &[Class], declared: &[Name], stmt: &Stmt) -> bool
 /// The rules of a statement of `__init__`.
 #[tactic(auto, using(crate::proofs::StmtRules::place_rules), unfolding(py_tree::specs::ClassRules::init_stmt_fault))]
 fn check_stmt(
+    names: &Names,
     classes: &[Class],
     members: &[Method],
     declared: &[Name],
     stmt: &Stmt,
 ) -> Result<(), RuleFault>
-    ensures { fault_of result ≡ spec.init_stmt_fault (map plain_class classes.now) (map plain_method members.now) (numbers_of declared.now) (plain_stmt stmt.now) }
+    ensures { fault_of result ≡ spec.init_stmt_fault names.now (map plain_class classes.now) (map plain_method members.now) (numbers_of declared.now) (plain_stmt stmt.now) }
 {
     match declared_by(stmt) {
-        Some(found) => check_declaration(classes, members, declared, stmt.place, &found),
+        Some(found) => check_declaration(names, classes, members, declared, stmt.place, &found),
         None => {
             let is_assert = is_plain_assert(classes, declared, stmt);
             refuse(!is_assert, Rule::InitForm, stmt.place)
@@ -81,15 +86,16 @@ fn check_stmt(
 #[tactic(auto, using(crate::proofs::InitLaws::init_laws), unfolding(py_tree::specs::ClassRules::init_body_fault))]
 pub fn check_init_body(
     alloc: Global,
+    names: &Names,
     classes: &[Class],
     members: &[Method],
     body: &[Stmt],
 ) -> Result<(), RuleError>
-    ensures { Finds (spec.init_body_fault (map plain_class classes.now) (map plain_method members.now) (plain_stmts body.now)) result }
+    ensures { Finds (spec.init_body_fault names.now (map plain_class classes.now) (map plain_method members.now) (plain_stmts body.now)) result }
 {
     let mut declared = Sequence::new(alloc);
     for stmt in body {
-        check_stmt(classes, members, declared.as_slice(), stmt)?;
+        check_stmt(names, classes, members, declared.as_slice(), stmt)?;
         add_declared(alloc, &mut declared, stmt)?;
     }
     Ok(())

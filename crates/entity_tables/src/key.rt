@@ -76,8 +76,9 @@ fn self_field(expr: &Expr) -> Option<Name>
     }
 }
 
+/// The name of an expression that is a name alone.
 #[tactic(auto, using(crate::proofs::ExprRules::variable_rules))]
-fn variable(expr: &Expr) -> Option<Name>
+pub fn variable(expr: &Expr) -> Option<Name>
     ensures { option_map (λ name. name.0) result ≡ spec.variable (plain_expr expr.now) }
 {
     match expr.kind {

@@ -23,7 +23,9 @@ mod table;
 mod tests;
 mod written;
 
+pub use acts::is_self;
 pub use fault::RuleError;
+pub use key::variable;
 pub use py_tree::{Rule, RuleFault};
 use py_tree::{Names, Program};
 use std::alloc::Global;

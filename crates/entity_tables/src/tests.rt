@@ -453,6 +453,18 @@ fn a_key_is_one_field(rt: HostRuntime) -> Result<(), Fail> {
     Ok(())
 }
 
+#[test]
+fn a_field_is_not_named_as_what_tells_the_key(rt: HostRuntime) -> Result<(), Fail> {
+    let alloc = rt.alloc();
+    let int = written(WrittenKind::Int);
+    let body = with(alloc, good_body(alloc)?, declared(5, KEY, int, var(COST)))?;
+    let init = make(INIT, INIT_NAME, good_params(alloc)?, body);
+    let members = with(alloc, Sequence::new(alloc), init)?;
+    let keyless = with(alloc, Sequence::new(alloc), class(ITEM, 1, members))?;
+    assert_eq!(rt; broken(alloc, keyless)?, (Rule::DuplicateMember, at(5, 14)));
+    Ok(())
+}
+
 /// Names that are no others of a test.
 fn other(i: u32) -> Name {
     Name(100 + i % 1000)

@@ -10,6 +10,7 @@ pub mod NameTexts
 pub mod OneClass
 pub mod Places
 pub mod ProgramLaws
+pub mod Counted
 pub mod RuleLaws
 pub mod Rules
 pub mod Tables

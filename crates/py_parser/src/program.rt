@@ -1,7 +1,8 @@
 //! Programs: imports and classes.
 
-ghost use Rattle.std.specs.Prelude.{◌≡◌, Ok, length, map, OnOk};
-ghost use Rattle.py_tree.specs.PlainProgram.{plain_classes};
+ghost use Rattle.std.specs.Prelude.{◌≡◌, Ok, length, map, IfOk, OnOk};
+ghost use Rattle.py_tree.specs.Bounded.{IsBounded, HasReserved};
+ghost use Rattle.py_tree.specs.PlainProgram.{plain_classes, plain_program};
 ghost use Rattle.py_tree.specs.Reading.{lines_left};
 ghost use Rattle.py_tree.specs.Grammar.{IsMoreNames, IsNames, IsImported, IsLineEnd, IsImportFrom, IsImport, IsItems, IsFile};
 ghost use Rattle.py_lexer.specs.Spans.{LinesRise};
@@ -162,12 +163,15 @@ fn file(alloc: Global, reader: &mut Reader<'_>) -> Result<Classes, SyntaxError>
     items(alloc, reader)
 }
 
-/// The program of the logical lines of a text, or the first token that is refused. The names of the
-/// table begin with the reserved ones, and the others follow as they are first read.
+/// The program of the logical lines of a text, or the first token that is refused. The program is
+/// bounded. The names of the table begin with the reserved ones, and the others follow as they are
+/// first read.
 pub fn parse(alloc: Global, lines: &Lines, text: &[u8]) -> Result<Parsed, SyntaxError>
     requires lexed { Lexes text.now (Ok lines.now) }
     requires spans { LinesRise text.now 0 lines.now (length text.now) }
-    ensures { Parses (map (plain_line text.now) lines.now) result }
+    ensures outcome { Parses (map (plain_line text.now) lines.now) result }
+    ensures bounded { IfOk result (λ p. IsBounded p.names (plain_program p.program)) }
+    ensures reserved { IfOk result (λ p. HasReserved p.names) }
 {
     let mut reader = Reader::new(text, lines.as_slice(), reserved_names(alloc)?);
     let classes = file(alloc, &mut reader)?;

@@ -144,7 +144,7 @@ an_unknown_type : program_fault names (item (method 11 26 (param 28 25 (Some (WO
 unfolding program_fault class_fault class_name_fault member_fault member_name_fault param_fault result_fault init_body_fault whole_fault is_init is_key is_called text_of is_dunder is_class is_param is_member is_field methods_of fields_of field_names init_stmt_fault init_of key_method key_name key_of key_among field_place param_place source_of acts
 an_unknown_type = refl
 
--- a field is read before it is declared, in a statement that also repeats a field
+-- a field is read in its own declaration
 an_early_read : program_fault names (class 2 (maker (declares 4 22 (WInt (at 4 20)) (own 22) ∷ declarations) ∷ key ∷ []) ∷ []) ≡ fault InitForm (at 4 9)
 unfolding program_fault class_fault class_name_fault member_fault member_name_fault param_fault result_fault init_body_fault whole_fault is_init is_key is_called text_of is_dunder is_class is_param is_member is_field methods_of fields_of field_names init_stmt_fault init_of key_method key_name key_of key_among field_place param_place source_of acts
 an_early_read = refl

@@ -94,15 +94,18 @@ has_none (WStr at) = false
 has_none (WList at element) = false
 has_none (WEntity at class) = false
 
--- the first fault of a written type, from the outside in
+-- the first fault of a written type, from the outside in, where these names are classes
+abbrev pub type_fault : (ℕ → Bool) → PlainWritten → Option RuleFault
+type_fault is_class (WEntity at class) = broken UnknownType at (not (is_class class))
+type_fault is_class (WList at element) = type_fault is_class element
+type_fault is_class (WOptional at inner) = first_of (broken NestedOptional (place_of_written inner) (has_none inner) ∷ type_fault is_class inner ∷ [])
+type_fault is_class (WInt at) = None
+type_fault is_class (WBool at) = None
+type_fault is_class (WStr at) = None
+type_fault is_class (WNil at) = None
+
 abbrev pub written_fault : PlainProgram → PlainWritten → Option RuleFault
-written_fault program (WEntity at class) = broken UnknownType at (not (is_class program class))
-written_fault program (WList at element) = written_fault program element
-written_fault program (WOptional at inner) = first_of (broken NestedOptional (place_of_written inner) (has_none inner) ∷ written_fault program inner ∷ [])
-written_fault program (WInt at) = None
-written_fault program (WBool at) = None
-written_fault program (WStr at) = None
-written_fault program (WNil at) = None
+written_fault program ty = type_fault (is_class program) ty
 
 -- the first fault of a type that may be left out
 abbrev pub optional_fault : PlainProgram → Option PlainWritten → Option RuleFault
@@ -245,13 +248,14 @@ place_of_stmt (PIf at arms other) = at
 place_of_stmt (PWhile at test body) = at
 place_of_stmt (PFor at name name_at over body) = at
 
--- the first fault of a declaration that begins here, in a class with these members, behind the declarations of fields of these names
-abbrev pub declaration_fault : PlainProgram → List PlainMethod → List ℕ → Place → Declaration → Option RuleFault
-declaration_fault program members fields at d =
+-- the first fault of a declaration that begins here, in a class with these members, behind the declarations of fields of these
+-- names; no field is named as what makes an entity or tells its key
+abbrev pub declaration_fault : List (List ℕ) → PlainProgram → List PlainMethod → List ℕ → Place → Declaration → Option RuleFault
+declaration_fault names program members fields at d =
     first_of
     (broken InitForm at (acts program fields d.value)
     ∷ broken TooMany d.field.place (is_full (length fields))
-    ∷ broken DuplicateMember d.field.place (is_field fields d.field.name.0 || is_member members d.field.name.0)
+    ∷ broken DuplicateMember d.field.place (is_field fields d.field.name.0 || is_member members d.field.name.0 || not (is_called names d.field.name.0))
     ∷ written_fault program d.ty
     ∷ [])
 
@@ -265,12 +269,12 @@ abbrev pub other_fault : PlainProgram → List ℕ → PlainStmt → Option Rule
 other_fault program fields s = broken InitForm (place_of_stmt s) (not (is_plain_assert program fields s))
 
 -- the first fault of a statement of `__init__`
-unfoldable pub init_stmt_fault : PlainProgram → List PlainMethod → List ℕ → PlainStmt → Option RuleFault
-init_stmt_fault program members fields s = option_map_or (declaration_fault program members fields (place_of_stmt s)) (declaration s) (other_fault program fields s)
+unfoldable pub init_stmt_fault : List (List ℕ) → PlainProgram → List PlainMethod → List ℕ → PlainStmt → Option RuleFault
+init_stmt_fault names program members fields s = option_map_or (declaration_fault names program members fields (place_of_stmt s)) (declaration s) (other_fault program fields s)
 
 -- the first fault of the body of `__init__`
-unfoldable pub init_body_fault : PlainProgram → List PlainMethod → List PlainStmt → Option RuleFault
-init_body_fault program members body = first_in (λ before s. init_stmt_fault program members (field_names before) s) body
+unfoldable pub init_body_fault : List (List ℕ) → PlainProgram → List PlainMethod → List PlainStmt → Option RuleFault
+init_body_fault names program members body = first_in (λ before s. init_stmt_fault names program members (field_names before) s) body
 
 -- the first fault of a member, behind the members before it: its name, its parameters with their types, its result type, its body
 unfoldable pub member_fault : List (List ℕ) → PlainProgram → List PlainMethod → List PlainMethod → PlainMethod → Option RuleFault
@@ -279,7 +283,7 @@ member_fault names program members before m =
     (member_name_fault names before m
     ∷ first_in (param_fault program) m.params
     ∷ result_fault names program m
-    ∷ (if is_init names m.name then init_body_fault program members m.body else None)
+    ∷ (if is_init names m.name then init_body_fault names program members m.body else None)
     ∷ [])
 
 -- The class as a whole

@@ -13,3 +13,10 @@ pub mod TypeGrammar
 pub mod StatementGrammar
 pub mod Grammar
 pub mod ClassRules
+pub mod FlowEnvironment
+pub mod ExpressionTypes
+pub mod Reachability
+pub mod Flow
+pub mod Acceptance
+pub mod Bounded
+pub mod CheckedViews

@@ -4,6 +4,7 @@
 //! with the same plain tree are the same program.
 #![tactic(auto)]
 
+mod checked;
 mod copy;
 mod copy_program;
 mod copy_stmt;
@@ -21,9 +22,10 @@ mod terminal;
 mod tests;
 mod ty;
 
+pub use checked::Checked;
 pub use expr::{BinOp, Cmp, Expr, ExprKind, Exprs, Link, Links};
 pub use fault::{SyntaxFault, SyntaxKind};
-pub use laws::has_one_outcome;
+pub use laws::{has_bounded_program, has_one_outcome};
 pub use names::{Name, Names, Place, PlacedName};
 pub use program::{Class, Classes, Method, Methods, Param, Params, Program};
 pub use rule::{Rule, RuleFault};

@@ -6,6 +6,7 @@
 
 ghost use Rattle.std.specs.Prelude.{◌≡◌, [], ◌∷◌, ◌++◌, ◌+◌, ◌<◌, ◌↔◌, Some, length, take, drop, slice_get, slice_set, IsTrue, IfOk, OnOk, OnErr, OnSome};
 ghost use Rattle.std.specs.Option.{option_copied};
+ghost use Rattle.std.specs.Borrow.{sem};
 ghost use Rattle.sf_list.specs.Copies.{AreCopies};
 
 use std::alloc::{AllocError, Global};
@@ -39,6 +40,8 @@ impl<T> Model for Sequence<T> {
 }
 
 impl<T> Sequence<T> {
+    ghost use Rattle.sf_list.specs.Lends.{LendsItem};
+
     /// The empty list, which takes no memory.
     pub fn new(alloc: Global) -> Sequence<T>
         ensures { result ≡ [] }
@@ -72,6 +75,15 @@ impl<T> Sequence<T> {
         ensures within { OnSome result (i < length self.now) }
     {
         self.items.get(i)
+    }
+
+    /// The element at a place counted from 0, for writing.
+    pub fn at_mut(&mut self, at: usize) -> &mut T
+        requires { at < length self.old }
+        ensures* writes_back { sem 𝓛 (LendsItem T.row self.entry at result) }
+        ensures value { slice_get self.old at ≡ Some result.now }
+    {
+        &mut self.items[at]
     }
 }
 

@@ -8,6 +8,6 @@ use Rattle.entity_tables.proofs.init.check_init_body.Given as goal
 
 abbrev pub invariant-loop-stmt : goal.invariant-loop-stmt
 invariant-loop-stmt l = record {
-  so_far : init_body_fault (map plain_class l.classes) (map plain_method l.members) (plain_stmts l.body) ≡ first_behind (stmt_fault (map plain_class l.classes) (map plain_method l.members)) (plain_stmts (take l.stmt-index l.body)) (plain_stmts (drop l.stmt-index l.body));
+  so_far : init_body_fault l.names (map plain_class l.classes) (map plain_method l.members) (plain_stmts l.body) ≡ first_behind (stmt_fault l.names (map plain_class l.classes) (map plain_method l.members)) (plain_stmts (take l.stmt-index l.body)) (plain_stmts (drop l.stmt-index l.body));
   names : numbers_of l.declared ≡ field_names (plain_stmts (take l.stmt-index l.body));
 }

@@ -1,0 +1,85 @@
+//! The head of a loop: names that its body assigns are no longer surely not None there.
+
+ghost use Rattle.std.specs.Prelude.{◌≡◌, [], ◌∷◌};
+ghost use Rattle.py_tree.specs.PlainStatements.{plain_stmt, plain_stmts, stmts_of, plain_arms, arms_of};
+ghost use Rattle.py_tree.specs.Reachability.{local_assigned, assigns, assigned_in, assigned_in_arms};
+ghost use Rattle.py_tree.specs.Flow as spec;
+ghost use Rattle.entity_types.specs.Views.{plain_locals};
+
+use crate::reach::goes_on;
+use entity_types::Locals;
+use py_tree::{Arm, Name, Stmt, StmtKind, Target};
+
+/// A name is no longer surely not None.
+pub fn forget(locals: &mut Locals, name: Name)
+    ensures { plain_locals locals.new ≡ spec.at_head (name.0 ∷ []) (plain_locals locals.old) }
+{
+    for i in 0..locals.len() {
+        let local = locals.at_mut(i);
+        if local.name.0 == name.0 {
+            local.not_none = false;
+        }
+    }
+}
+
+fn forget_target(locals: &mut Locals, target: Target)
+    ensures { plain_locals locals.new ≡ spec.at_head (local_assigned target) (plain_locals locals.old) }
+{
+    match target {
+        Target::Local(x) => forget(locals, x.name),
+        Target::Field(_) => {}
+    }
+}
+
+/// The names that a statement assigns are no longer surely not None.
+#[cycle(forget)]
+#[tactic(auto, using(py_tree::proofs::ReachRules::assigns_rules, crate::proofs::HeadLaws::head_laws))]
+fn forget_assigned_by(locals: &mut Locals, stmt: &Stmt)
+    ensures { plain_locals locals.new ≡ spec.at_head (assigns (plain_stmt stmt.now)) (plain_locals locals.old) }
+{
+    match &stmt.kind {
+        StmtKind::Assign { target, .. } | StmtKind::Augment { target, .. } => {
+            forget_target(locals, *target)
+        }
+        StmtKind::If { arms, other } => {
+            forget_assigned_in_arms(locals, arms.as_slice());
+            forget_assigned_in(locals, other.as_slice())
+        }
+        StmtKind::While { body, .. } => forget_assigned_in(locals, body.as_slice()),
+        StmtKind::For { name, body, .. } => {
+            forget(locals, name.name);
+            forget_assigned_in(locals, body.as_slice())
+        }
+        StmtKind::Pass
+        | StmtKind::Break
+        | StmtKind::Continue
+        | StmtKind::Expr(_)
+        | StmtKind::Return(_)
+        | StmtKind::Raise(..)
+        | StmtKind::Assert(..) => {}
+    }
+}
+
+/// The names that statements assign which can be reached are no longer surely not None.
+#[cycle(forget)]
+#[tactic(auto, using(crate::proofs::HeadLaws::body_laws))]
+pub fn forget_assigned_in(locals: &mut Locals, stmts: &[Stmt])
+    ensures { plain_locals locals.new ≡ spec.at_head (assigned_in (stmts_of (plain_stmts stmts.now))) (plain_locals locals.old) }
+{
+    for stmt in stmts {
+        forget_assigned_by(locals, stmt);
+        if !goes_on(stmt) {
+            return;
+        }
+    }
+}
+
+#[cycle(forget)]
+#[tactic(auto, using(crate::proofs::HeadLaws::arm_laws))]
+fn forget_assigned_in_arms(locals: &mut Locals, arms: &[Arm])
+    ensures { plain_locals locals.new ≡ spec.at_head (assigned_in_arms (arms_of (plain_arms arms.now))) (plain_locals locals.old) }
+{
+    for arm in arms {
+        forget_assigned_in(locals, arm.body.as_slice());
+    }
+}

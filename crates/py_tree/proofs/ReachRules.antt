@@ -1,0 +1,314 @@
+-- Which points can be reached at each kind of statement, one equation each; and statement by statement in a list.
+use Rattle.std.proofs.Common.{◌≡◌, ℕ, ℤ, suc, arith, ◌+◌, ◌<◌, ◌≤◌, Bool, true, false, not, ◌||◌, ◌&&◌, List, [], ◌∷◌, ◌++◌, length, drop, get_or, Option, drop-cons, sym, ap, ◌∙◌}
+use Rattle.std.proofs.lemmas.List.{drop_all}
+use Rattle.std.specs.declared.alloc.Global.{Global}
+use Rattle.std.specs.declared.boxed.Box.{Box}
+use Rattle.py_tree.specs.declared.names.Name.{Name}
+use Rattle.py_tree.specs.declared.names.Place.{Place}
+use Rattle.py_tree.specs.declared.names.PlacedName.{PlacedName}
+use Rattle.py_tree.specs.declared.ty.WrittenTy.{WrittenTy}
+use Rattle.py_tree.specs.declared.expr.BinOp.{BinOp}
+use Rattle.py_tree.specs.declared.expr.Cmp.{Cmp}
+use Rattle.py_tree.specs.declared.expr.Expr.{Expr}
+use Rattle.py_tree.specs.declared.expr.Link.{Link}
+use Rattle.py_tree.specs.declared.expr.ExprKind as e
+use Rattle.py_tree.specs.declared.stmt.Target.{Target}
+use Rattle.py_tree.specs.declared.stmt.Over.{Over}
+use Rattle.py_tree.specs.declared.stmt.Stmt.{Stmt}
+use Rattle.py_tree.specs.declared.stmt.Arm.{Arm, out-Arm}
+use Rattle.py_tree.specs.declared.stmt.StmtKind as s
+use Rattle.py_tree.specs.PlainExpressions.{plain_kind, plain_expr}
+use Rattle.py_tree.specs.PlainStatements.{PNoStmt, PStmt, PNoArm, PMoreArms, plain_stmt_kind, plain_stmt, plain_stmts, stmts_of, plain_arm, plain_arms, arms_of}
+use Rattle.py_tree.specs.Reachability.{is_true, goes_on, all_go_on, an_arm_goes_on, breaks, break_in, break_in_arm, local_assigned, assigns, assigned_in, assigned_in_arms}
+use Rattle.py_tree.proofs.Views.{plain-Int, plain-Bool, plain-Str, plain-Nil, plain-Var, plain-SelfRef, plain-Attr, plain-Call, plain-Apply, plain-Index, plain-List, plain-Neg, plain-Pos, plain-Not, plain-Chain, plain-And, plain-Or, plain-Compare, plain-IsNone, plain-Cond, stmt-Pass, stmt-Break, stmt-Continue, stmt-Expr, stmt-Return, stmt-Raise, stmt-Assert, stmt-Assign, stmt-Augment, stmt-If, stmt-While, stmt-For}
+
+module _ (at : Place) where
+  pub goes-Pass : goes_on (plain_stmt_kind s.Pass at) ≡ true
+  unfolding goes_on
+  goes-Pass = ap goes_on (stmt-Pass at)
+
+  pub goes-Break : goes_on (plain_stmt_kind s.Break at) ≡ false
+  unfolding goes_on
+  goes-Break = ap goes_on (stmt-Break at)
+
+  pub goes-Continue : goes_on (plain_stmt_kind s.Continue at) ≡ false
+  unfolding goes_on
+  goes-Continue = ap goes_on (stmt-Continue at)
+
+  pub goes-Expr : (x : Expr) → goes_on (plain_stmt_kind (s.Expr x) at) ≡ true
+  unfolding goes_on
+  goes-Expr x = ap goes_on (stmt-Expr at x)
+
+  pub goes-Return : (x : Option Expr) → goes_on (plain_stmt_kind (s.Return x) at) ≡ false
+  unfolding goes_on
+  goes-Return x = ap goes_on (stmt-Return at x)
+
+  pub goes-Raise : (kind : ℕ) (x : Option Expr) → goes_on (plain_stmt_kind (s.Raise kind x) at) ≡ false
+  unfolding goes_on
+  goes-Raise kind x = ap goes_on (stmt-Raise at kind x)
+
+  pub goes-Assert : (test : Expr) (x : Option Expr) → goes_on (plain_stmt_kind (s.Assert test x) at) ≡ true
+  unfolding goes_on
+  goes-Assert test x = ap goes_on (stmt-Assert at test x)
+
+  pub goes-Assign : (target : Target) (ty : Option WrittenTy) (x : Expr) → goes_on (plain_stmt_kind (s.Assign target ty x) at) ≡ true
+  unfolding goes_on
+  goes-Assign target ty x = ap goes_on (stmt-Assign at target ty x)
+
+  pub goes-Augment : (target : Target) (op : BinOp) (op_at : Place) (x : Expr) → goes_on (plain_stmt_kind (s.Augment target op op_at x) at) ≡ true
+  unfolding goes_on
+  goes-Augment target op op_at x = ap goes_on (stmt-Augment at target op op_at x)
+
+  pub goes-If : (arms : List Arm) (other : List Stmt) → goes_on (plain_stmt_kind (s.If arms other) at) ≡ (an_arm_goes_on (arms_of (plain_arms arms)) || all_go_on (stmts_of (plain_stmts other)))
+  unfolding goes_on
+  goes-If arms other = ap goes_on (stmt-If at arms other)
+
+  pub goes-While : (test : Expr) (body : List Stmt) → goes_on (plain_stmt_kind (s.While test body) at) ≡ (not (is_true (plain_expr test)) || break_in (stmts_of (plain_stmts body)))
+  unfolding goes_on
+  goes-While test body = ap goes_on (stmt-While at test body)
+
+  pub goes-For : (x : PlacedName) (items : Over) (body : List Stmt) → goes_on (plain_stmt_kind (s.For x items body) at) ≡ true
+  unfolding goes_on
+  goes-For x items body = ap goes_on (stmt-For at x items body)
+
+  pub breaks-Pass : breaks (plain_stmt_kind s.Pass at) ≡ false
+  unfolding breaks
+  breaks-Pass = ap breaks (stmt-Pass at)
+
+  pub breaks-Break : breaks (plain_stmt_kind s.Break at) ≡ true
+  unfolding breaks
+  breaks-Break = ap breaks (stmt-Break at)
+
+  pub breaks-Continue : breaks (plain_stmt_kind s.Continue at) ≡ false
+  unfolding breaks
+  breaks-Continue = ap breaks (stmt-Continue at)
+
+  pub breaks-Expr : (x : Expr) → breaks (plain_stmt_kind (s.Expr x) at) ≡ false
+  unfolding breaks
+  breaks-Expr x = ap breaks (stmt-Expr at x)
+
+  pub breaks-Return : (x : Option Expr) → breaks (plain_stmt_kind (s.Return x) at) ≡ false
+  unfolding breaks
+  breaks-Return x = ap breaks (stmt-Return at x)
+
+  pub breaks-Raise : (kind : ℕ) (x : Option Expr) → breaks (plain_stmt_kind (s.Raise kind x) at) ≡ false
+  unfolding breaks
+  breaks-Raise kind x = ap breaks (stmt-Raise at kind x)
+
+  pub breaks-Assert : (test : Expr) (x : Option Expr) → breaks (plain_stmt_kind (s.Assert test x) at) ≡ false
+  unfolding breaks
+  breaks-Assert test x = ap breaks (stmt-Assert at test x)
+
+  pub breaks-Assign : (target : Target) (ty : Option WrittenTy) (x : Expr) → breaks (plain_stmt_kind (s.Assign target ty x) at) ≡ false
+  unfolding breaks
+  breaks-Assign target ty x = ap breaks (stmt-Assign at target ty x)
+
+  pub breaks-Augment : (target : Target) (op : BinOp) (op_at : Place) (x : Expr) → breaks (plain_stmt_kind (s.Augment target op op_at x) at) ≡ false
+  unfolding breaks
+  breaks-Augment target op op_at x = ap breaks (stmt-Augment at target op op_at x)
+
+  pub breaks-If : (arms : List Arm) (other : List Stmt) → breaks (plain_stmt_kind (s.If arms other) at) ≡ (break_in_arm (arms_of (plain_arms arms)) || break_in (stmts_of (plain_stmts other)))
+  unfolding breaks
+  breaks-If arms other = ap breaks (stmt-If at arms other)
+
+  pub breaks-While : (test : Expr) (body : List Stmt) → breaks (plain_stmt_kind (s.While test body) at) ≡ false
+  unfolding breaks
+  breaks-While test body = ap breaks (stmt-While at test body)
+
+  pub breaks-For : (x : PlacedName) (items : Over) (body : List Stmt) → breaks (plain_stmt_kind (s.For x items body) at) ≡ false
+  unfolding breaks
+  breaks-For x items body = ap breaks (stmt-For at x items body)
+
+  pub assigns-Pass : assigns (plain_stmt_kind s.Pass at) ≡ []
+  unfolding assigns
+  assigns-Pass = ap assigns (stmt-Pass at)
+
+  pub assigns-Break : assigns (plain_stmt_kind s.Break at) ≡ []
+  unfolding assigns
+  assigns-Break = ap assigns (stmt-Break at)
+
+  pub assigns-Continue : assigns (plain_stmt_kind s.Continue at) ≡ []
+  unfolding assigns
+  assigns-Continue = ap assigns (stmt-Continue at)
+
+  pub assigns-Expr : (x : Expr) → assigns (plain_stmt_kind (s.Expr x) at) ≡ []
+  unfolding assigns
+  assigns-Expr x = ap assigns (stmt-Expr at x)
+
+  pub assigns-Return : (x : Option Expr) → assigns (plain_stmt_kind (s.Return x) at) ≡ []
+  unfolding assigns
+  assigns-Return x = ap assigns (stmt-Return at x)
+
+  pub assigns-Raise : (kind : ℕ) (x : Option Expr) → assigns (plain_stmt_kind (s.Raise kind x) at) ≡ []
+  unfolding assigns
+  assigns-Raise kind x = ap assigns (stmt-Raise at kind x)
+
+  pub assigns-Assert : (test : Expr) (x : Option Expr) → assigns (plain_stmt_kind (s.Assert test x) at) ≡ []
+  unfolding assigns
+  assigns-Assert test x = ap assigns (stmt-Assert at test x)
+
+  pub assigns-Assign : (target : Target) (ty : Option WrittenTy) (x : Expr) → assigns (plain_stmt_kind (s.Assign target ty x) at) ≡ local_assigned target
+  unfolding assigns
+  assigns-Assign target ty x = ap assigns (stmt-Assign at target ty x)
+
+  pub assigns-Augment : (target : Target) (op : BinOp) (op_at : Place) (x : Expr) → assigns (plain_stmt_kind (s.Augment target op op_at x) at) ≡ local_assigned target
+  unfolding assigns
+  assigns-Augment target op op_at x = ap assigns (stmt-Augment at target op op_at x)
+
+  pub assigns-If : (arms : List Arm) (other : List Stmt) → assigns (plain_stmt_kind (s.If arms other) at) ≡ assigned_in_arms (arms_of (plain_arms arms)) ++ assigned_in (stmts_of (plain_stmts other))
+  unfolding assigns
+  assigns-If arms other = ap assigns (stmt-If at arms other)
+
+  pub assigns-While : (test : Expr) (body : List Stmt) → assigns (plain_stmt_kind (s.While test body) at) ≡ assigned_in (stmts_of (plain_stmts body))
+  unfolding assigns
+  assigns-While test body = ap assigns (stmt-While at test body)
+
+  pub assigns-For : (x : PlacedName) (items : Over) (body : List Stmt) → assigns (plain_stmt_kind (s.For x items body) at) ≡ x.name.0 ∷ assigned_in (stmts_of (plain_stmts body))
+  unfolding assigns
+  assigns-For x items body = ap assigns (stmt-For at x items body)
+
+  pub true-Int : (n : ℤ) → is_true (plain_kind (e.Int n) at) ≡ false
+  true-Int n = ap is_true (plain-Int at n)
+
+  pub true-Bool : (b : Bool) → is_true (plain_kind (e.Bool b) at) ≡ b
+  true-Bool b = ap is_true (plain-Bool at b)
+
+  pub true-Str : (x : Name) → is_true (plain_kind (e.Str x) at) ≡ false
+  true-Str x = ap is_true (plain-Str at x)
+
+  pub true-Nil : is_true (plain_kind e.Nil at) ≡ false
+  true-Nil = ap is_true (plain-Nil at)
+
+  pub true-Var : (x : Name) → is_true (plain_kind (e.Var x) at) ≡ false
+  true-Var x = ap is_true (plain-Var at x)
+
+  pub true-SelfRef : is_true (plain_kind e.SelfRef at) ≡ false
+  true-SelfRef = ap is_true (plain-SelfRef at)
+
+  pub true-Attr : (a : Box Expr Global) (x : PlacedName) → is_true (plain_kind (e.Attr a x) at) ≡ false
+  true-Attr a x = ap is_true (plain-Attr at a x)
+
+  pub true-Call : (a : Box Expr Global) (x : PlacedName) (es : List Expr) → is_true (plain_kind (e.Call a x es) at) ≡ false
+  true-Call a x es = ap is_true (plain-Call at a x es)
+
+  pub true-Apply : (x : Name) (es : List Expr) → is_true (plain_kind (e.Apply x es) at) ≡ false
+  true-Apply x es = ap is_true (plain-Apply at x es)
+
+  pub true-Index : (a b : Box Expr Global) → is_true (plain_kind (e.Index a b) at) ≡ false
+  true-Index a b = ap is_true (plain-Index at a b)
+
+  pub true-List : (es : List Expr) → is_true (plain_kind (e.List es) at) ≡ false
+  true-List es = ap is_true (plain-List at es)
+
+  pub true-Neg : (a : Box Expr Global) → is_true (plain_kind (e.Neg a) at) ≡ false
+  true-Neg a = ap is_true (plain-Neg at a)
+
+  pub true-Pos : (a : Box Expr Global) → is_true (plain_kind (e.Pos a) at) ≡ false
+  true-Pos a = ap is_true (plain-Pos at a)
+
+  pub true-Not : (a : Box Expr Global) → is_true (plain_kind (e.Not a) at) ≡ false
+  true-Not a = ap is_true (plain-Not at a)
+
+  pub true-Chain : (a : Box Expr Global) (ls : List Link) → is_true (plain_kind (e.Chain a ls) at) ≡ false
+  true-Chain a ls = ap is_true (plain-Chain at a ls)
+
+  pub true-And : (es : List Expr) → is_true (plain_kind (e.And es) at) ≡ false
+  true-And es = ap is_true (plain-And at es)
+
+  pub true-Or : (es : List Expr) → is_true (plain_kind (e.Or es) at) ≡ false
+  true-Or es = ap is_true (plain-Or at es)
+
+  pub true-Compare : (op : Cmp) (op_at : Place) (a b : Box Expr Global) → is_true (plain_kind (e.Compare op op_at a b) at) ≡ false
+  true-Compare op op_at a b = ap is_true (plain-Compare at op op_at a b)
+
+  pub true-IsNone : (a : Box Expr Global) (positive : Bool) → is_true (plain_kind (e.IsNone a positive) at) ≡ false
+  true-IsNone a positive = ap is_true (plain-IsNone at a positive)
+
+  pub true-Cond : (a b c : Box Expr Global) → is_true (plain_kind (e.Cond a b c) at) ≡ false
+  true-Cond a b c = ap is_true (plain-Cond at a b c)
+
+-- statements from one of them on
+pub stmts_split : (ss : List Stmt) (i : ℕ) (x : Stmt) → i < length ss → x ≡ get_or ss i x → stmts_of (plain_stmts (drop i ss)) ≡ PStmt (plain_stmt x) (stmts_of (plain_stmts (drop (i + 1) ss)))
+stmts_split ss i x within is =
+    let next : suc i ≡ i + 1 = omega arith in
+    ap (λ ys. stmts_of (plain_stmts ys)) (drop-cons ss i x within ∙ (λ j. sym is j ∷ drop (next j) ss))
+
+pub stmts_end : (ss : List Stmt) (i : ℕ) → length ss ≤ i → stmts_of (plain_stmts (drop i ss)) ≡ PNoStmt
+stmts_end ss i past = ap (λ ys. stmts_of (plain_stmts ys)) (drop_all i ss past)
+
+-- arms from one of them on
+pub arms_split : (xs : List Arm) (i : ℕ) (x : Arm) → i < length xs → x ≡ get_or xs i x → arms_of (plain_arms (drop i xs)) ≡ PMoreArms (plain_arm x) (arms_of (plain_arms (drop (i + 1) xs)))
+arms_split xs i x within is =
+    let next : suc i ≡ i + 1 = omega arith in
+    ap (λ ys. arms_of (plain_arms ys)) (drop-cons xs i x within ∙ (λ j. sym is j ∷ drop (next j) xs))
+
+pub arms_end : (xs : List Arm) (i : ℕ) → length xs ≤ i → arms_of (plain_arms (drop i xs)) ≡ PNoArm
+arms_end xs i past = ap (λ ys. arms_of (plain_arms ys)) (drop_all i xs past)
+
+pub all_passes : (ss : List Stmt) (i : ℕ) (x : Stmt) → i < length ss → x ≡ get_or ss i x → goes_on (plain_stmt x) ≡ true → all_go_on (stmts_of (plain_stmts (drop i ss))) ≡ all_go_on (stmts_of (plain_stmts (drop (i + 1) ss)))
+unfolding all_go_on
+all_passes ss i x within is on = ap all_go_on (stmts_split ss i x within is) ∙ ap (λ b. b && all_go_on (stmts_of (plain_stmts (drop (i + 1) ss)))) on
+
+pub all_stops : (ss : List Stmt) (i : ℕ) (x : Stmt) → i < length ss → x ≡ get_or ss i x → goes_on (plain_stmt x) ≡ false → all_go_on (stmts_of (plain_stmts (drop i ss))) ≡ false
+unfolding all_go_on
+all_stops ss i x within is off = ap all_go_on (stmts_split ss i x within is) ∙ ap (λ b. b && all_go_on (stmts_of (plain_stmts (drop (i + 1) ss)))) off
+
+pub all_ends : (ss : List Stmt) (i : ℕ) → length ss ≤ i → all_go_on (stmts_of (plain_stmts (drop i ss))) ≡ true
+unfolding all_go_on
+all_ends ss i past = ap all_go_on (stmts_end ss i past)
+
+pub arm_passes : (xs : List Arm) (i : ℕ) (x : Arm) → i < length xs → x ≡ get_or xs i x → all_go_on (stmts_of (plain_stmts (out-Arm x).body)) ≡ false → an_arm_goes_on (arms_of (plain_arms (drop i xs))) ≡ an_arm_goes_on (arms_of (plain_arms (drop (i + 1) xs)))
+unfolding an_arm_goes_on
+arm_passes xs i x within is off = ap an_arm_goes_on (arms_split xs i x within is) ∙ ap (λ b. b || an_arm_goes_on (arms_of (plain_arms (drop (i + 1) xs)))) off
+
+pub arm_stops : (xs : List Arm) (i : ℕ) (x : Arm) → i < length xs → x ≡ get_or xs i x → all_go_on (stmts_of (plain_stmts (out-Arm x).body)) ≡ true → an_arm_goes_on (arms_of (plain_arms (drop i xs))) ≡ true
+unfolding an_arm_goes_on
+arm_stops xs i x within is on = ap an_arm_goes_on (arms_split xs i x within is) ∙ ap (λ b. b || an_arm_goes_on (arms_of (plain_arms (drop (i + 1) xs)))) on
+
+pub arm_ends : (xs : List Arm) (i : ℕ) → length xs ≤ i → an_arm_goes_on (arms_of (plain_arms (drop i xs))) ≡ false
+unfolding an_arm_goes_on
+arm_ends xs i past = ap an_arm_goes_on (arms_end xs i past)
+
+pub break_found : (ss : List Stmt) (i : ℕ) (x : Stmt) → i < length ss → x ≡ get_or ss i x → breaks (plain_stmt x) ≡ true → break_in (stmts_of (plain_stmts (drop i ss))) ≡ true
+unfolding break_in
+break_found ss i x within is found = ap break_in (stmts_split ss i x within is) ∙ ap (λ b. b || (goes_on (plain_stmt x) && break_in (stmts_of (plain_stmts (drop (i + 1) ss))))) found
+
+pub break_cut : (ss : List Stmt) (i : ℕ) (x : Stmt) → i < length ss → x ≡ get_or ss i x → breaks (plain_stmt x) ≡ false → goes_on (plain_stmt x) ≡ false → break_in (stmts_of (plain_stmts (drop i ss))) ≡ false
+unfolding break_in
+break_cut ss i x within is none off = ap break_in (stmts_split ss i x within is) ∙ (λ j. none j || (off j && break_in (stmts_of (plain_stmts (drop (i + 1) ss)))))
+
+pub break_passes : (ss : List Stmt) (i : ℕ) (x : Stmt) → i < length ss → x ≡ get_or ss i x → breaks (plain_stmt x) ≡ false → goes_on (plain_stmt x) ≡ true → break_in (stmts_of (plain_stmts (drop i ss))) ≡ break_in (stmts_of (plain_stmts (drop (i + 1) ss)))
+unfolding break_in
+break_passes ss i x within is none on = ap break_in (stmts_split ss i x within is) ∙ (λ j. none j || (on j && break_in (stmts_of (plain_stmts (drop (i + 1) ss)))))
+
+pub break_ends : (ss : List Stmt) (i : ℕ) → length ss ≤ i → break_in (stmts_of (plain_stmts (drop i ss))) ≡ false
+unfolding break_in
+break_ends ss i past = ap break_in (stmts_end ss i past)
+
+pub break_arm_found : (xs : List Arm) (i : ℕ) (x : Arm) → i < length xs → x ≡ get_or xs i x → break_in (stmts_of (plain_stmts (out-Arm x).body)) ≡ true → break_in_arm (arms_of (plain_arms (drop i xs))) ≡ true
+unfolding break_in_arm
+break_arm_found xs i x within is found = ap break_in_arm (arms_split xs i x within is) ∙ ap (λ b. b || break_in_arm (arms_of (plain_arms (drop (i + 1) xs)))) found
+
+pub break_arm_passes : (xs : List Arm) (i : ℕ) (x : Arm) → i < length xs → x ≡ get_or xs i x → break_in (stmts_of (plain_stmts (out-Arm x).body)) ≡ false → break_in_arm (arms_of (plain_arms (drop i xs))) ≡ break_in_arm (arms_of (plain_arms (drop (i + 1) xs)))
+unfolding break_in_arm
+break_arm_passes xs i x within is none = ap break_in_arm (arms_split xs i x within is) ∙ ap (λ b. b || break_in_arm (arms_of (plain_arms (drop (i + 1) xs)))) none
+
+pub break_arm_ends : (xs : List Arm) (i : ℕ) → length xs ≤ i → break_in_arm (arms_of (plain_arms (drop i xs))) ≡ false
+unfolding break_in_arm
+break_arm_ends xs i past = ap break_in_arm (arms_end xs i past)
+
+pub ruleset true_rules = (true-Int, true-Bool, true-Str, true-Nil, true-Var, true-SelfRef, true-Attr, true-Call, true-Apply, true-Index, true-List, true-Neg, true-Pos, true-Not, true-Chain, true-And, true-Or, true-Compare, true-IsNone, true-Cond)
+
+pub ruleset goes_on_rules = (goes-Pass, goes-Break, goes-Continue, goes-Expr, goes-Return, goes-Raise, goes-Assert, goes-Assign, goes-Augment, goes-If, goes-While, goes-For)
+
+pub ruleset breaks_rules = (breaks-Pass, breaks-Break, breaks-Continue, breaks-Expr, breaks-Return, breaks-Raise, breaks-Assert, breaks-Assign, breaks-Augment, breaks-If, breaks-While, breaks-For)
+
+pub ruleset assigns_rules = (assigns-Pass, assigns-Break, assigns-Continue, assigns-Expr, assigns-Return, assigns-Raise, assigns-Assert, assigns-Assign, assigns-Augment, assigns-If, assigns-While, assigns-For)
+
+pub ruleset all_rules = (all_passes, all_stops, all_ends)
+
+pub ruleset arm_rules = (arm_passes, arm_stops, arm_ends)
+
+pub ruleset break_in_rules = (break_found, break_cut, break_passes, break_ends)
+
+pub ruleset break_arm_rules = (break_arm_found, break_arm_passes, break_arm_ends)

@@ -1,0 +1,119 @@
+//! Accepted programs.
+
+ghost use Rattle.std.specs.Prelude.{◌≡◌, ◌<◌, ◌==◌, length, IfOk, IfSome};
+ghost use Rattle.std.specs.List.{position_from};
+ghost use Rattle.py_tree.specs.PlainProgram.{plain_program, plain_classes, plain_methods};
+ghost use Rattle.py_tree.specs.ClassRules.{methods_of, is_called, text_of};
+ghost use Rattle.py_tree.specs.Bounded.{IsBounded, HasReserved};
+ghost use Rattle.py_tree.specs.Acceptance.{KeepsRules};
+
+use crate::names::{Name, Names};
+use crate::program::{Class, Method, Program};
+use std::alloc::{AllocError, Global};
+
+/// A program with its names that keeps every rule of the language.
+#[derive(Drop)]
+pub struct Checked {
+    program: Program,
+    names: Names,
+    pub ghost bounded: { ∥ IsBounded names (plain_program program) ∥₁ },
+    pub ghost reserved: { ∥ HasReserved names ∥₁ },
+    pub ghost rules: { KeepsRules names (plain_program program) },
+}
+
+#[tactic(auto, using(crate::proofs::CheckedLaws::class_place_laws))]
+fn place_of_class(classes: &[Class], name: Name) -> Option<usize>
+    ensures place { result ≡ position_from (λ c. c.name == name.0) 0 (plain_classes classes.now) }
+    ensures within { IfSome result (λ at. at < length classes.now) }
+{
+    for (at, class) in classes.iter().enumerate() {
+        if class.name.0 == name.0 {
+            return Some(at);
+        }
+    }
+    None
+}
+
+/// The text of a name, empty for one of another table.
+#[tactic(auto, unfolding(crate::specs::ClassRules::text_of))]
+fn text_of_name(names: &Names, name: Name) -> &str
+    ensures { result.now ≡ text_of names.now name.0 }
+{
+    if name.0 < names.count() {
+        names.text(name)
+    } else {
+        ""
+    }
+}
+
+#[tactic(auto, unfolding(crate::specs::ClassRules::is_called, crate::specs::ClassRules::is_init, crate::specs::ClassRules::is_key))]
+fn is_called_by_name(names: &Names, name: Name) -> bool
+    ensures { result ≡ is_called names.now name.0 }
+{
+    let text = text_of_name(names, name);
+    !(text == "__init__" || text == "__key__")
+}
+
+/// The number of the method of this name, counted without `__init__` and `__key__`.
+fn place_of_method(names: &Names, members: &[Method], name: Name) -> Option<usize>
+    ensures place { result ≡ position_from (λ m. m.name == name.0) 0 (methods_of names.now (plain_methods members.now)) }
+    ensures within { IfSome result (λ at. at < length (methods_of names.now (plain_methods members.now))) }
+{
+    let mut at = 0;
+    for member in members {
+        if is_called_by_name(names, member.name) {
+            if member.name.0 == name.0 {
+                return Some(at);
+            }
+            at += 1;
+        }
+    }
+    None
+}
+
+impl Checked {
+    ghost use Rattle.std.specs.Prelude.{slice_get};
+    ghost use Rattle.py_tree.specs.Acceptance.{IsAccepted, class_number, method_number};
+    ghost use Rattle.py_tree.specs.CheckedViews.{checked_program, checked_names};
+
+    /// An accepted program. The two are kept as they are.
+    pub fn new(_alloc: Global, program: Program, names: Names) -> Result<Checked, AllocError>
+        requires { IsAccepted names (plain_program program) }
+        ensures program { IfOk result (λ c. checked_program c ≡ plain_program program) }
+        ensures names { IfOk result (λ c. checked_names c ≡ names) }
+    {
+        Ok(Checked { program, names })
+    }
+
+    pub fn program(&self) -> &Program
+        ensures { plain_program result.now ≡ checked_program self.now }
+    {
+        &self.program
+    }
+
+    pub fn names(&self) -> &Names
+        ensures { result.now ≡ checked_names self.now }
+    {
+        &self.names
+    }
+
+    /// The number of the class with this name.
+    pub fn class_of(&self, text: &str) -> Option<u32>
+        ensures { result ≡ class_number (checked_names self.now) (checked_program self.now) text.now }
+    {
+        let name = self.names.find(text)?;
+        let at = place_of_class(self.program.classes.as_slice(), name)?;
+        Some(at as u32)
+    }
+
+    /// The number of the method with this name in a class. `__init__` and `__key__` have none.
+    pub fn method_of(&self, class: u32, text: &str) -> Option<u32>
+        requires { class < length (checked_program self.now) }
+        ensures { result ≡ method_number (checked_names self.now) (checked_program self.now) class text.now }
+    {
+        let name = self.names.find(text)?;
+        let class = &self.program.classes.as_slice()[class as usize];
+        let at = place_of_method(&self.names, class.members.as_slice(), name)?;
+        Some(at as u32)
+    }
+}
