@@ -16,7 +16,7 @@ use std::alloc::{AllocError, Global};
 
 /// The type that is written.
 #[tactic(auto, using(crate::proofs::Rules::type_rules, py_tree::proofs::Views::ty_views))]
-fn type_of(alloc: Global, ty: &WrittenTy) -> Result<Ty, AllocError>
+pub fn type_of(alloc: Global, ty: &WrittenTy) -> Result<Ty, AllocError>
     ensures { IfOk result (λ made. plain_ty made ≡ the_type_of (plain_written ty.now)) }
 {
     match &ty.kind {

@@ -35,7 +35,7 @@ impl From<AllocError> for RuleError {
 const MOST: usize = 256;
 
 /// Whether there are as many of a kind as there may be.
-pub(crate) fn is_full(count: usize) -> bool
+pub fn is_full(count: usize) -> bool
     ensures { result ≡ as_many count }
 {
     count >= MOST

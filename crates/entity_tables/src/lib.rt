@@ -17,15 +17,16 @@ mod fault;
 mod init;
 mod key;
 mod members;
-mod names;
+pub mod names;
 mod table;
 #[cfg(test)]
 mod tests;
-mod written;
+pub mod written;
 
 pub use acts::is_self;
-pub use fault::RuleError;
-pub use key::variable;
+pub use build::type_of;
+pub use fault::{RuleError, is_full};
+pub use key::{find_init, variable};
 pub use py_tree::{Rule, RuleFault};
 use py_tree::{Names, Program};
 use std::alloc::Global;

@@ -11,8 +11,9 @@ use crate::classes::has_class;
 use crate::fault::refuse;
 use py_tree::{Class, Place, Rule, RuleFault, WrittenKind, WrittenTy};
 
+/// Whether None belongs to a type.
 #[tactic(auto, using(crate::proofs::Rules::none_rules))]
-fn has_none(ty: &WrittenTy) -> bool
+pub fn has_none(ty: &WrittenTy) -> bool
     ensures { result ≡ spec.has_none (plain_written ty.now) }
 {
     match ty.kind {

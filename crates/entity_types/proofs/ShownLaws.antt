@@ -1,6 +1,7 @@
 -- Whether a name is among those that a test shows.
 use Rattle.std.specs.Prelude.{not, ◌&&◌, ◌||◌, if◌then◌else◌, ◌==◌}
-use Rattle.std.proofs.Common.{◌≡◌, ℕ, ◌+◌, ◌<◌, ◌≤◌, Bool, true, false, Some, None, List, [], ◌∷◌, ◌++◌, length, drop, get_or, refl, ap, ◌∙◌}
+use Rattle.std.proofs.Common.{◌≡◌, ℕ, ◌+◌, ◌<◌, ◌≤◌, Bool, true, false, Some, None, List, [], ◌∷◌, ◌++◌, length, drop, get_or, refl, sym, ap, ◌∙◌}
+use Rattle.std.proofs.Math.Bool.{or_assoc, or-false}
 use Rattle.std.specs.List.{list_any}
 use Rattle.py_tree.specs.declared.expr.Expr.{Expr}
 use Rattle.py_tree.specs.PlainExpressions.{PlainExpr, PVar, plain_expr, plain_exprs, exprs_of}
@@ -12,18 +13,10 @@ pub has_none_named : (name : ℕ) → has_name [] name ≡ false
 unfolding has_name
 has_none_named name = refl
 
-shifted : (a b c : Bool) → (a || (b || c)) ≡ (a || b || c)
-shifted true b c = refl
-shifted false b c = refl
-
-or_false : (a : Bool) → (a || false) ≡ a
-or_false true = refl
-or_false false = refl
-
 pub has_named_append : (xs ys : List ℕ) (name : ℕ) → has_name (xs ++ ys) name ≡ (has_name xs name || has_name ys name)
 unfolding has_name
 has_named_append [] ys name = refl
-has_named_append (x ∷ xs) ys name = ap (λ b. x == name || b) (has_named_append xs ys name) ∙ shifted (x == name) (list_any (λ n. n == name) xs) (has_name ys name)
+has_named_append (x ∷ xs) ys name = ap (λ b. x == name || b) (has_named_append xs ys name) ∙ sym (or_assoc (x == name) (list_any (λ n. n == name) xs) (has_name ys name))
 
 pub has_named_if : (b : Bool) (xs : List ℕ) (name : ℕ) → has_name (if b then xs else []) name ≡ (b && has_name xs name)
 has_named_if true xs name = refl
@@ -36,7 +29,7 @@ has_named_unless false xs name = refl
 -- a name alone
 one_named : (x name : ℕ) → has_name (x ∷ []) name ≡ (x == name)
 unfolding has_name
-one_named x name = or_false (x == name)
+one_named x name = or-false (x == name)
 
 pub not_variable : (e : PlainExpr) (name : ℕ) → variable e ≡ None → has_name (variable_in e) name ≡ false
 not_variable (PVar at x) name is = cc

@@ -26,6 +26,7 @@ mod walk;
 
 pub use entity_tables::{RuleError, Tables};
 pub use env::{FlowEnv, Local, Locals};
+pub use fault::{refuse, told};
 pub use narrowing::{narrow, narrow_here, shows};
 use py_tree::{Expr, Names, Ty};
 use std::alloc::Global;

@@ -12,7 +12,8 @@ use crate::types::{has_join, has_none, is_bool, is_int, is_list, is_str, same};
 use entity_tables::RuleError;
 use py_tree::{BinOp, Cmp, Place, Rule, Ty};
 
-fn are_ints(s: &Ty, t: &Ty) -> bool
+/// Both are whole numbers.
+pub fn are_ints(s: &Ty, t: &Ty) -> bool
     ensures { result ≡ spec.are_ints (plain_ty s.now) (plain_ty t.now) }
 {
     is_int(s) && is_int(t)
@@ -25,7 +26,7 @@ fn are_joined(s: &Ty, t: &Ty) -> bool
     same(s, t) && (is_str(s) || is_list(s))
 }
 
-fn is_plus(op: BinOp) -> bool
+pub fn is_plus(op: BinOp) -> bool
     ensures { result ≡ spec.is_plus op }
 {
     match op {
@@ -67,7 +68,7 @@ fn compared(place: Place, s: &Ty, t: &Ty) -> Result<Ty, RuleError>
 
 /// The type of a comparison with these types of its sides.
 #[tactic(auto, unfolding(py_tree::specs::ExpressionTypes::comparison))]
-pub fn comparison(
+pub(crate) fn comparison(
     op: Cmp,
     op_at: Place,
     right_at: Place,
@@ -84,7 +85,7 @@ pub fn comparison(
 
 /// The type of `-a` or `+a` with this type of `a`.
 #[tactic(auto, using(py_tree::proofs::Views::ty_views))]
-pub fn signed(place: Place, ty: &Ty) -> Result<Ty, RuleError>
+pub(crate) fn signed(place: Place, ty: &Ty) -> Result<Ty, RuleError>
     ensures { Types plain_ty (spec.operand (plain_ty ty.now) spec.is_int place (Ok TInt)) result }
 {
     refuse(has_none(ty), Rule::NoneUse, place)?;
@@ -93,7 +94,7 @@ pub fn signed(place: Place, ty: &Ty) -> Result<Ty, RuleError>
 }
 
 /// That an operand of `not`, `and` or `or`, or a test, has this type.
-pub fn check_condition(place: Place, ty: &Ty) -> Result<(), RuleError>
+pub(crate) fn check_condition(place: Place, ty: &Ty) -> Result<(), RuleError>
     ensures { Checks (spec.operand (plain_ty ty.now) spec.is_bool place (Ok TBool)) result }
 {
     refuse(has_none(ty), Rule::NoneUse, place)?;
@@ -101,7 +102,7 @@ pub fn check_condition(place: Place, ty: &Ty) -> Result<(), RuleError>
 }
 
 /// That an argument of a function has this type.
-pub fn check_asked(function: Function, place: Place, ty: &Ty) -> Result<(), RuleError>
+pub(crate) fn check_asked(function: Function, place: Place, ty: &Ty) -> Result<(), RuleError>
     ensures { Checks (spec.operand (plain_ty ty.now) (asked (plain_function function)) place (Ok TBool)) result }
 {
     refuse(has_none(ty), Rule::NoneUse, place)?;

@@ -7,7 +7,7 @@ use py_tree::nodes::{
     is_none_of, link_of, list_of, neg_of, nil_of, not_of, or_of, self_of, str_of, var_of,
 };
 use py_tree::{BinOp, Cmp, Expr, Exprs, Name, Names, Place, PlacedName, Rule, Ty};
-use sf_list::{Sequence, TryClone};
+use sf_list::Sequence;
 use std::alloc::{AllocError, Global};
 use std::test::Fail;
 
@@ -466,26 +466,51 @@ fn maybe_is_sure(env: &FlowEnv) -> bool {
     }
 }
 
+/// `not (maybe is None)`.
+fn not_none(alloc: Global) -> Result<Expr, AllocError> {
+    not_of(alloc, at(1), known(alloc, MAYBE, false)?)
+}
+
 #[test]
-fn a_test_narrows_what_follows(rt: HostRuntime) -> Result<(), Fail> {
+fn a_test_narrows_a_copy(rt: HostRuntime) -> Result<(), Fail> {
     let alloc = rt.alloc();
     let env = env(alloc)?;
-    let test = not_of(alloc, at(1), known(alloc, MAYBE, false)?)?;
-    let so = narrow(alloc, &env, &test, true)?;
-    let not_so = narrow(alloc, &env, &test, false)?;
-    assert_eq!(rt; (maybe_is_sure(&so), maybe_is_sure(&not_so)), (true, false));
-    let both = or_of(
+    let so = narrow(alloc, &env, &not_none(alloc)?, true)?;
+    assert!(rt; maybe_is_sure(&so));
+    let not_so = narrow(alloc, &env, &not_none(alloc)?, false)?;
+    assert!(rt; !maybe_is_sure(&not_so));
+    assert!(rt; !maybe_is_sure(&env));
+    Ok(())
+}
+
+#[test]
+fn a_test_narrows_in_place(rt: HostRuntime) -> Result<(), Fail> {
+    let alloc = rt.alloc();
+    let mut env = env(alloc)?;
+    let test = or_of(
         at(1),
         two(alloc, var(FLAG, 1), known(alloc, MAYBE, false)?)?,
     );
-    let mut here = env.try_clone(alloc)?;
-    narrow_here(&mut here, &both, true);
-    assert!(rt; !maybe_is_sure(&here));
-    narrow_here(&mut here, &both, false);
-    assert!(rt; maybe_is_sure(&here));
+    narrow_here(&mut env, &test, true);
+    assert!(rt; !maybe_is_sure(&env));
+    narrow_here(&mut env, &test, false);
+    assert!(rt; maybe_is_sure(&env));
+    Ok(())
+}
+
+/// Whether `maybe < 5` is a condition here.
+fn is_condition(alloc: Global, env: &FlowEnv) -> Result<bool, Fail> {
     let names = Names::new(alloc);
-    let tables = tables(alloc)?;
-    assert!(rt; condition(alloc, &tables, &names, &here, &maybe_below(alloc)?).is_ok());
-    assert!(rt; condition(alloc, &tables, &names, &env, &maybe_below(alloc)?).is_err());
+    let test = maybe_below(alloc)?;
+    Ok(condition(alloc, &tables(alloc)?, &names, env, &test).is_ok())
+}
+
+#[test]
+fn a_condition_is_bool(rt: HostRuntime) -> Result<(), Fail> {
+    let alloc = rt.alloc();
+    let mut env = env(alloc)?;
+    assert!(rt; !is_condition(alloc, &env)?);
+    narrow_here(&mut env, &not_none(alloc)?, true);
+    assert!(rt; is_condition(alloc, &env)?);
     Ok(())
 }

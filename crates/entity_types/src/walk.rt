@@ -256,8 +256,8 @@ fn index_in(
 {
     let ty = type_in(alloc, tables, scope, None, on)?;
     let element = indexed(on.place, &ty)?;
-    let place = type_in(alloc, tables, scope, None, index)?;
-    refuse(!is_int(&place), Rule::Operand, index.place)?;
+    let index_ty = type_in(alloc, tables, scope, None, index)?;
+    refuse(!is_int(&index_ty), Rule::Operand, index.place)?;
     Ok(element.try_clone(alloc)?)
 }
 

@@ -1,7 +1,12 @@
 -- What is known on a way through statements, as plain forms.
-use Rattle.std.specs.Prelude.{ℕ, Bool, false, List, map, slice_get, unwrap_or, option_map}
+use Rattle.std.specs.Prelude.{ℕ, Bool, true, false, not, ◌==◌, if◌then◌else◌, List, ◌∷◌, Some, None, map, slice_get, unwrap_or, option_and_then, option_map}
 use Rattle.std.specs.declared.option.Option.{Option}
-use Rattle.py_tree.specs.ClassRules.{PlainTable}
+use Rattle.py_tree.specs.declared.names.Name.{Name}
+use Rattle.py_tree.specs.PlainStatements.{PlainStmts}
+use Rattle.py_tree.specs.PlainProgram.{PlainMethod, PlainProgram}
+use Rattle.py_tree.specs.ClassRules.{PlainTable, methods_of}
+use Rattle.py_tree.specs.Reachability.{assigned_in}
+use Rattle.py_tree.specs.FlowEnvironment.{PlainLocal}
 use Rattle.py_tree.specs.Flow.{Known, Context, Way}
 use Rattle.entity_types.specs.declared.env.FlowEnv.{FlowEnv}
 use Rattle.entity_types.specs.Views.{plain_locals}
@@ -26,3 +31,16 @@ way_of env breaks = record { locals = plain_locals env.locals; breaks = plain_br
 -- what is known of the local at a place, which is nothing where it was typed later
 abbrev pub known_or_not : List Known → ℕ → Known
 known_or_not known at = unwrap_or (slice_get known at) (record { assigned = false; not_none = false })
+
+-- a value that is None or isn't is assigned to a local of this name
+abbrev pub given_by : ℕ → Bool → PlainLocal → PlainLocal
+given_by name may_be_none l = if l.name == name then record l { assigned = true; not_none = not may_be_none } else l
+
+-- the names that a loop assigns: that of a `for`, and those of its body
+abbrev pub loop_names : Option Name → PlainStmts → List ℕ
+loop_names None body = assigned_in body
+loop_names (Some name) body = name.0 ∷ assigned_in body
+
+-- the method of this number, in the class of that number
+abbrev pub method_at : List (List ℕ) → PlainProgram → ℕ → ℕ → Option PlainMethod
+method_at names program class method = option_and_then (λ c. slice_get (methods_of names c.members) method) (slice_get program class)

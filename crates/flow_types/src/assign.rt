@@ -1,110 +1,31 @@
 //! The rules of assignments, and the locals behind one.
 
-ghost use Rattle.std.specs.Prelude.{◌≡◌, OnOk, OnErr, option_map};
+ghost use Rattle.std.specs.Prelude.{◌≡◌, IfOk};
 ghost use Rattle.py_tree.specs.PlainTypes.{plain_ty, plain_written, type_of as type_written};
 ghost use Rattle.py_tree.specs.PlainExpressions.{plain_expr};
 ghost use Rattle.py_tree.specs.PlainStatements.{plain_option};
-ghost use Rattle.py_tree.specs.ClassRules.{type_fault};
 ghost use Rattle.py_tree.specs.Flow as spec;
-ghost use Rattle.entity_tables.specs.Answers.{Finds, fault_of};
 ghost use Rattle.entity_tables.specs.Views.{plain_tables};
 ghost use Rattle.entity_types.specs.Answers.{Types};
-ghost use Rattle.entity_types.specs.Views.{plain_locals, plain_wanted};
+ghost use Rattle.entity_types.specs.Views.{plain_locals};
 ghost use Rattle.flow_types.specs.Views.{context_of};
 ghost use Rattle.flow_types.specs.Answers.{Locates};
 
 use crate::context::Context;
+use crate::locals::{assign_local, check_local, store, type_before};
 use crate::values::{type_at, value_as};
-use entity_types::types::{assignable, has_none, same};
-use entity_types::{FlowEnv, Local, Locals, RuleError, refuse};
-use py_tree::{Expr, Name, Place, PlacedName, Rule, Target, Ty, WrittenTy};
+use crate::written::check_written;
+use entity_tables::type_of;
+use entity_types::lookup::field_of;
+use entity_types::operators::{are_ints, is_plus};
+use entity_types::types::{has_none, is_str, right_wanted, same};
+use entity_types::{FlowEnv, RuleError, refuse, told};
+use py_tree::nodes::{attribute, self_of, var_of};
+use py_tree::{BinOp, Expr, Name, Place, PlacedName, Rule, Target, Ty, WrittenTy};
 use std::alloc::{AllocError, Global};
 
-/// The place of the local of a name.
-fn place_of_local(locals: &[Local], name: Name) -> Option<usize>
-    ensures { result ≡ position (λ l. l.name.0 == name.0) locals.now }
-{
-    locals.iter().position(|local| local.name.0 == name.0)
-}
-
-/// The type that a name has from before.
-fn earlier(locals: &[Local], name: PlacedName) -> Option<&Ty>
-    ensures { plain_wanted result ≡ spec.earlier (plain_locals locals.now) name }
-{
-    for local in locals {
-        if local.name.0 == name.name.0 {
-            return Some(&local.ty);
-        }
-    }
-    None
-}
-
-/// The rules of a name that is assigned as a local.
-pub fn check_local(tables: &Tables, locals: &[Local], name: PlacedName) -> Result<(), RuleError>
-    ensures { Finds (spec.local_fault (plain_tables tables.now) (plain_locals locals.now) name) result }
-{
-    let is_new = earlier(locals, name).is_none();
-    refuse(is_new && is_full(locals.len()), Rule::TooMany, name.place)?;
-    let is_taken = is_reserved(name.name) || has_table(tables, name.name);
-    refuse(is_taken, Rule::ReservedName, name.place)
-}
-
-/// A value of this type is assigned to each local of this name.
-fn give(locals: &mut Locals, name: Name, is_none: bool)
-    ensures { plain_locals locals.new ≡ map (given_by name.0 is_none) (plain_locals locals.old) }
-{
-    for i in 0..locals.len() {
-        let local = locals.at_mut(i);
-        if local.name.0 == name.0 {
-            local.assigned = true;
-            local.not_none = !is_none;
-        }
-    }
-}
-
-/// A value is assigned to a name, which has a type from before, or else gets the first one.
-pub fn assign_local(
-    alloc: Global,
-    locals: &mut Locals,
-    name: Name,
-    first: Ty,
-    may_be_none: bool,
-) -> Result<(), AllocError>
-    ensures { (ty : PlainTy) → may_be_none ≡ flow.has_none ty → OnOk result (plain_locals locals.new ≡ spec.with_local name.0 (plain_ty first) ty (plain_locals locals.old)) }
-{
-    if place_of_local(locals.as_slice(), name).is_some() {
-        give(locals, name, may_be_none);
-        return Ok(());
-    }
-    locals.push(
-        alloc,
-        Local {
-            name,
-            ty: first,
-            assigned: true,
-            not_none: !may_be_none,
-        },
-    )
-}
-
-/// A name gets a value of this type.
-pub fn store(
-    alloc: Global,
-    env: &mut FlowEnv,
-    name: PlacedName,
-    ty: Ty,
-) -> Result<(), RuleError>
-    ensures { Locates (spec.stored (plain_locals env.old.locals) name (plain_ty ty)) env.old env.new result }
-{
-    if let Some(before) = earlier(env.locals.as_slice(), name) {
-        refuse(!assignable(&ty, before), Rule::LocalRetyped, name.place)?;
-    }
-    let may_be_none = has_none(&ty);
-    assign_local(alloc, &mut env.locals, name.name, ty, may_be_none)?;
-    Ok(())
-}
-
 /// `x = e`.
+#[tactic(auto, unfolding(py_tree::specs::Flow::plainly_assigned, py_tree::specs::Flow::earlier))]
 fn assign_plainly(
     alloc: Global,
     context: &Context<'_>,
@@ -114,7 +35,220 @@ fn assign_plainly(
 ) -> Result<(), RuleError>
     ensures { Locates (spec.plainly_assigned (context_of (plain_tables context.now.tables.now) env.old context.now.in_loop) (plain_locals env.old.locals) name (plain_expr value.now)) env.old env.new result }
 {
-    let wanted = earlier(env.locals.as_slice(), name);
+    let wanted = type_before(env.locals.as_slice(), name.name);
     let ty = type_at(alloc, context, env, wanted, value)?;
     store(alloc, env, name, ty)
+}
+
+/// `x: T = e`, where x has no type from before.
+#[tactic(auto, unfolding(py_tree::specs::Flow::assigned_as))]
+fn assign_first(
+    alloc: Global,
+    context: &Context<'_>,
+    env: &mut FlowEnv,
+    name: PlacedName,
+    ty: Ty,
+    value: &Expr,
+) -> Result<(), RuleError>
+    ensures { Locates (spec.assigned_as (context_of (plain_tables context.now.tables.now) env.old context.now.in_loop) (plain_locals env.old.locals) name (plain_ty ty) (plain_expr value.now) None) env.old env.new result }
+{
+    let given = value_as(alloc, context, env, &ty, value)?;
+    let may_be_none = has_none(&given);
+    assign_local(alloc, &mut env.locals, name.name, ty, may_be_none)?;
+    Ok(())
+}
+
+/// `x: T = e`.
+#[tactic(auto, unfolding(py_tree::specs::Flow::assigned_as, py_tree::specs::Flow::earlier))]
+fn assign_as(
+    alloc: Global,
+    context: &Context<'_>,
+    env: &mut FlowEnv,
+    name: PlacedName,
+    ty: Ty,
+    value: &Expr,
+) -> Result<(), RuleError>
+    ensures { Locates (spec.assigned_as (context_of (plain_tables context.now.tables.now) env.old context.now.in_loop) (plain_locals env.old.locals) name (plain_ty ty) (plain_expr value.now) (spec.earlier (plain_locals env.old.locals) name)) env.old env.new result }
+{
+    match type_before(env.locals.as_slice(), name.name) {
+        None => assign_first(alloc, context, env, name, ty, value),
+        Some(before) => {
+            refuse(!same(&ty, before), Rule::LocalRetyped, name.place)?;
+            assign_plainly(alloc, context, env, name, value)
+        }
+    }
+}
+
+#[tactic(auto, unfolding(py_tree::specs::Flow::local_assigned))]
+fn assign_to_local(
+    alloc: Global,
+    context: &Context<'_>,
+    env: &mut FlowEnv,
+    name: PlacedName,
+    ty: &Option<WrittenTy>,
+    value: &Expr,
+) -> Result<(), RuleError>
+    ensures { Locates (spec.local_assigned (context_of (plain_tables context.now.tables.now) env.old context.now.in_loop) (plain_locals env.old.locals) name (plain_option plain_written ty.now) (plain_expr value.now)) env.old env.new result }
+{
+    check_local(context.tables, env.locals.as_slice(), name)?;
+    match ty {
+        None => assign_plainly(alloc, context, env, name, value),
+        Some(written) => {
+            check_written(context.tables, written)?;
+            let ty = type_of(alloc, written)?;
+            assign_as(alloc, context, env, name, ty, value)
+        }
+    }
+}
+
+/// Whether a field holds the key.
+#[tactic(auto, unfolding(py_tree::specs::Flow::is_key_field))]
+fn is_key_field(context: &Context<'_>, env: &FlowEnv, name: Name) -> bool
+    ensures { result ≡ spec.is_key_field (context_of (plain_tables context.now.tables.now) env.now context.now.in_loop) name.0 }
+{
+    match context.tables.get(env.class as usize) {
+        None => false,
+        Some(table) => match table.fields.get(table.key_field as usize) {
+            None => false,
+            Some(field) => field.name.0 == name.0,
+        },
+    }
+}
+
+/// `self.f = e`, which begins at a place.
+#[tactic(auto, unfolding(py_tree::specs::Flow::field_assigned))]
+fn check_field(
+    alloc: Global,
+    context: &Context<'_>,
+    env: &FlowEnv,
+    place: Place,
+    field: PlacedName,
+    value: &Expr,
+) -> Result<(), RuleError>
+    ensures { Types (λ done. plain_locals env.now.locals) (spec.field_assigned (context_of (plain_tables context.now.tables.now) env.now context.now.in_loop) (plain_locals env.now.locals) place field (plain_expr value.now)) result }
+{
+    let Some(ty) = field_of(context.tables.as_slice(), env.class, field.name) else {
+        return Err(told(Rule::UnknownField, field.place));
+    };
+    let is_key = is_key_field(context, env, field.name);
+    refuse(is_key, Rule::KeyAssigned, place)?;
+    value_as(alloc, context, env, ty, value)?;
+    Ok(())
+}
+
+/// `self.f: T = e`, which only `__init__` has.
+#[tactic(auto, unfolding(py_tree::specs::Flow::field_declared))]
+fn check_declaration(
+    alloc: Global,
+    context: &Context<'_>,
+    env: &FlowEnv,
+    place: Place,
+    ty: &WrittenTy,
+    value: &Expr,
+) -> Result<(), RuleError>
+    ensures { Types (λ done. plain_locals env.now.locals) (spec.field_declared (context_of (plain_tables context.now.tables.now) env.now context.now.in_loop) (plain_locals env.now.locals) place (type_written (plain_written ty.now)) (plain_expr value.now)) result }
+{
+    refuse(env.method.is_some(), Rule::InitForm, place)?;
+    let ty = type_of(alloc, ty)?;
+    value_as(alloc, context, env, &ty, value)?;
+    Ok(())
+}
+
+/// `x = e` or `self.f = e`, with a type or without.
+#[tactic(auto, unfolding(py_tree::specs::Flow::assigned))]
+pub fn assign(
+    alloc: Global,
+    context: &Context<'_>,
+    env: &mut FlowEnv,
+    place: Place,
+    target: Target,
+    ty: &Option<WrittenTy>,
+    value: &Expr,
+) -> Result<(), RuleError>
+    ensures { Locates (spec.assigned (context_of (plain_tables context.now.tables.now) env.old context.now.in_loop) (plain_locals env.old.locals) place target (plain_option plain_written ty.now) (plain_expr value.now)) env.old env.new result }
+{
+    match target {
+        Target::Local(name) => assign_to_local(alloc, context, env, name, ty, value),
+        Target::Field(field) => match ty {
+            None => check_field(alloc, context, env, place, field, value),
+            Some(ty) => check_declaration(alloc, context, env, place, ty, value),
+        },
+    }
+}
+
+/// A target as it is read.
+fn target_read(alloc: Global, place: Place, target: Target) -> Result<Expr, AllocError>
+    ensures { IfOk result (λ made. plain_expr made ≡ spec.target_read place target) }
+{
+    match target {
+        Target::Local(x) => {
+            if x.name.0 == 0 {
+                return Ok(self_of(x.place));
+            }
+            Ok(var_of(x.place, x.name))
+        }
+        Target::Field(f) => attribute(alloc, place, self_of(place), f),
+    }
+}
+
+/// The rules of `x op e` within `x op= e`, told at the operator: lists aren't joined.
+#[tactic(auto, unfolding(py_tree::specs::Flow::augmented))]
+fn check_augmented(op: BinOp, place: Place, left: &Ty, right: &Ty) -> Result<(), RuleError>
+    ensures { Types (λ done. plain_ty left.now) (spec.augmented op place (plain_ty left.now) (plain_ty right.now)) result }
+{
+    refuse(has_none(left) || has_none(right), Rule::NoneUse, place)?;
+    let fit = are_ints(left, right) || (is_plus(op) && (is_str(left) && is_str(right)));
+    refuse(!fit, Rule::Operand, place)
+}
+
+fn is_key_target(context: &Context<'_>, env: &FlowEnv, target: Target) -> bool
+    ensures { result ≡ spec.is_key_target (context_of (plain_tables context.now.tables.now) env.now context.now.in_loop) target }
+{
+    match target {
+        Target::Local(_) => false,
+        Target::Field(f) => is_key_field(context, env, f.name),
+    }
+}
+
+/// The combined value, of this type, is assigned.
+#[tactic(auto, unfolding(py_tree::specs::Flow::combined_stored))]
+fn store_combined(
+    alloc: Global,
+    context: &Context<'_>,
+    env: &mut FlowEnv,
+    target: Target,
+    ty: Ty,
+) -> Result<(), RuleError>
+    ensures { Locates (spec.combined_stored (context_of (plain_tables context.now.tables.now) env.old context.now.in_loop) (plain_locals env.old.locals) target (plain_ty ty)) env.old env.new result }
+{
+    match target {
+        Target::Local(name) => {
+            check_local(context.tables, env.locals.as_slice(), name)?;
+            store(alloc, env, name, ty)
+        }
+        Target::Field(_) => Ok(()),
+    }
+}
+
+/// `x op= e`.
+#[tactic(auto, unfolding(py_tree::specs::Flow::augmentation))]
+pub fn augment(
+    alloc: Global,
+    context: &Context<'_>,
+    env: &mut FlowEnv,
+    place: Place,
+    target: Target,
+    op: BinOp,
+    op_place: Place,
+    value: &Expr,
+) -> Result<(), RuleError>
+    ensures { Locates (spec.augmentation (context_of (plain_tables context.now.tables.now) env.old context.now.in_loop) (plain_locals env.old.locals) place target op op_place (plain_expr value.now)) env.old env.new result }
+{
+    let read = target_read(alloc, place, target)?;
+    let left = type_at(alloc, context, env, None, &read)?;
+    let is_key = is_key_target(context, env, target);
+    refuse(is_key, Rule::KeyAssigned, place)?;
+    let right = type_at(alloc, context, env, right_wanted(op, &left), value)?;
+    check_augmented(op, op_place, &left, &right)?;
+    store_combined(alloc, context, env, target, left)
 }

@@ -1,5 +1,7 @@
 //! Where a statement stands.
 
+ghost use Rattle.std.specs.Prelude.{◌≡◌, true};
+
 use entity_tables::Tables;
 use py_tree::Names;
 

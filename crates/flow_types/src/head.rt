@@ -4,24 +4,32 @@ ghost use Rattle.std.specs.Prelude.{◌≡◌, [], ◌∷◌};
 ghost use Rattle.py_tree.specs.PlainStatements.{plain_stmt, plain_stmts, stmts_of, plain_arms, arms_of};
 ghost use Rattle.py_tree.specs.Reachability.{local_assigned, assigns, assigned_in, assigned_in_arms};
 ghost use Rattle.py_tree.specs.Flow as spec;
-ghost use Rattle.entity_types.specs.Views.{plain_locals};
+ghost use Rattle.entity_types.specs.Views.{plain_local, plain_locals};
 
 use crate::reach::goes_on;
-use entity_types::Locals;
+use entity_types::{Local, Locals};
 use py_tree::{Arm, Name, Stmt, StmtKind, Target};
+
+/// A local of this name is no longer surely not None.
+#[tactic(auto, using(crate::proofs::HeadLaws::name_laws), unfolding(py_tree::specs::Flow::at_head))]
+fn forget_if_named(local: &mut Local, name: Name)
+    ensures { spec.at_head (name.0 ∷ []) (plain_local local.old ∷ []) ≡ plain_local local.new ∷ [] }
+{
+    if local.name.0 == name.0 {
+        local.not_none = false;
+    }
+}
 
 /// A name is no longer surely not None.
 pub fn forget(locals: &mut Locals, name: Name)
     ensures { plain_locals locals.new ≡ spec.at_head (name.0 ∷ []) (plain_locals locals.old) }
 {
     for i in 0..locals.len() {
-        let local = locals.at_mut(i);
-        if local.name.0 == name.0 {
-            local.not_none = false;
-        }
+        forget_if_named(locals.at_mut(i), name);
     }
 }
 
+#[tactic(auto, using(crate::proofs::HeadLaws::head_laws))]
 fn forget_target(locals: &mut Locals, target: Target)
     ensures { plain_locals locals.new ≡ spec.at_head (local_assigned target) (plain_locals locals.old) }
 {

@@ -1,6 +1,6 @@
 //! What is known of each local at a point, apart from its name and type, and where ways meet.
 
-ghost use Rattle.std.specs.Prelude.{◌≡◌, IfOk};
+ghost use Rattle.std.specs.Prelude.{◌≡◌, [], ◌∷◌, IfOk, OnOk};
 ghost use Rattle.py_tree.specs.Flow as spec;
 ghost use Rattle.entity_types.specs.Views.{plain_locals};
 ghost use Rattle.flow_types.specs.Views.{plain_standing, plain_standings, plain_breaks, known_or_not};
@@ -62,17 +62,24 @@ pub fn settle(locals: &mut Locals, known: &[Standing])
     }
 }
 
+/// What is known on both of two ways.
+#[tactic(auto, unfolding(py_tree::specs::Flow::joined))]
+fn on_both(first: Standing, second: Standing) -> Standing
+    ensures { spec.joined (plain_standing first ∷ []) (plain_standing second ∷ []) ≡ plain_standing result ∷ [] }
+{
+    Standing {
+        assigned: first.assigned && second.assigned,
+        not_none: first.not_none && second.not_none,
+    }
+}
+
 /// What is known where two ways meet.
 fn join(alloc: Global, first: &[Standing], second: &[Standing]) -> Result<Standings, AllocError>
     ensures { IfOk result (λ made. plain_standings made ≡ spec.joined (plain_standings first.now) (plain_standings second.now)) }
 {
     let mut made = Sequence::new(alloc);
     for i in 0..first.len().min(second.len()) {
-        let standing = Standing {
-            assigned: first[i].assigned && second[i].assigned,
-            not_none: first[i].not_none && second[i].not_none,
-        };
-        made.push(alloc, standing)?;
+        made.push(alloc, on_both(first[i], second[i]))?;
     }
     Ok(made)
 }
@@ -116,4 +123,32 @@ pub fn stand_behind(locals: &mut Locals, met: Option<Standings>)
     if let Some(known) = met {
         settle(locals, known.as_slice());
     }
+}
+
+/// A way that has come to these locals, where it goes on, meets those that came before.
+pub fn join_way(
+    alloc: Global,
+    met: &mut Option<Standings>,
+    goes_on: bool,
+    locals: &[Local],
+) -> Result<(), AllocError>
+    ensures { OnOk result (plain_breaks met.new ≡ spec.meet (plain_breaks met.old) (spec.way goes_on (plain_locals locals.now))) }
+{
+    let next = way(alloc, goes_on, locals)?;
+    *met = meet(alloc, met.take(), next)?;
+    Ok(())
+}
+
+/// Makes the locals stand as they are known where two ways meet, if one is reached.
+pub fn stand_where_met(
+    alloc: Global,
+    locals: &mut Locals,
+    first: Option<Standings>,
+    second: Option<Standings>,
+) -> Result<(), AllocError>
+    ensures { OnOk result (plain_locals locals.new ≡ spec.behind_ways (plain_locals locals.old) (spec.meet (plain_breaks first) (plain_breaks second))) }
+{
+    let met = meet(alloc, first, second)?;
+    stand_behind(locals, met);
+    Ok(())
 }

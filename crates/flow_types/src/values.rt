@@ -1,20 +1,24 @@
-//! The rules on the values of a statement: what is returned, what is raised, what a test or a loop goes by.
+//! The rules on the values of a statement: what is returned, what is raised, what a loop goes over.
 
-ghost use Rattle.std.specs.Prelude.{◌≡◌, Ok as Found};
-ghost use Rattle.py_tree.specs.PlainTypes.{plain_ty};
+ghost use Rattle.std.specs.Prelude.{◌≡◌, not, unwrap_or};
+ghost use Rattle.py_tree.specs.declared.rule.Rule.TheVariants.{Mismatch};
+ghost use Rattle.py_tree.specs.PlainTypes.{plain_ty, TNil};
 ghost use Rattle.py_tree.specs.PlainExpressions.{plain_expr};
-ghost use Rattle.py_tree.specs.PlainStatements.{plain_option, plain_over};
+ghost use Rattle.py_tree.specs.PlainStatements.{PItems, plain_option, plain_over};
+ghost use Rattle.py_tree.specs.ClassRules.{broken};
+ghost use Rattle.py_tree.specs.ExpressionTypes.{assignable as assigns};
 ghost use Rattle.py_tree.specs.Flow as spec;
 ghost use Rattle.entity_tables.specs.Answers.{Finds};
 ghost use Rattle.entity_tables.specs.Views.{plain_tables};
-ghost use Rattle.entity_types.specs.Answers.{Types};
+ghost use Rattle.entity_types.specs.Answers.{Types, Checks};
 ghost use Rattle.entity_types.specs.Views.{plain_locals, plain_wanted};
 ghost use Rattle.flow_types.specs.Views.{context_of};
 
 use crate::context::Context;
-use entity_types::types::{assignable, element_of, has_none, is_bool, is_int, is_str};
-use entity_types::{FlowEnv, RuleError, refuse, type_expr};
+use entity_types::types::{assignable, element_of, has_none, is_int, is_str};
+use entity_types::{FlowEnv, RuleError, condition, refuse, told, type_expr};
 use py_tree::{Expr, Over, Place, Rule, Ty};
+use sf_list::TryClone;
 use std::alloc::Global;
 
 /// The type of an expression at a point.
@@ -37,14 +41,13 @@ pub fn check_condition(
     env: &FlowEnv,
     test: &Expr,
 ) -> Result<(), RuleError>
-    ensures { Finds (spec.fault_in (spec.condition_at (context_of (plain_tables context.now.tables.now) env.now context.now.in_loop) (plain_locals env.now.locals) (plain_expr test.now))) result }
+    ensures { Checks (spec.condition_at (context_of (plain_tables context.now.tables.now) env.now context.now.in_loop) (plain_locals env.now.locals) (plain_expr test.now)) result }
 {
-    let ty = type_at(alloc, context, env, None, test)?;
-    refuse(has_none(&ty), Rule::NoneUse, test.place)?;
-    refuse(!is_bool(&ty), Rule::Operand, test.place)
+    condition(alloc, context.tables, context.names, env, test)
 }
 
 /// The type of a value that stands where this type is asked.
+#[tactic(auto, using(py_tree::proofs::TypeRules::place_rules), unfolding(py_tree::specs::Flow::value_as))]
 pub fn value_as(
     alloc: Global,
     context: &Context<'_>,
@@ -60,6 +63,7 @@ pub fn value_as(
 }
 
 /// The type of an end of a `range`, which is a whole number.
+#[tactic(auto, using(py_tree::proofs::TypeRules::place_rules, py_tree::proofs::Views::ty_views), unfolding(py_tree::specs::Flow::number_at))]
 fn number_at(
     alloc: Global,
     context: &Context<'_>,
@@ -75,6 +79,7 @@ fn number_at(
 }
 
 /// The element type of the list that a `for` goes over.
+#[tactic(auto, using(py_tree::proofs::TypeRules::place_rules), unfolding(py_tree::specs::Flow::item_of))]
 fn item_in(
     alloc: Global,
     context: &Context<'_>,
@@ -87,11 +92,12 @@ fn item_in(
     refuse(has_none(&ty), Rule::NoneUse, items.place)?;
     match element_of(&ty) {
         Some(element) => Ok(element.try_clone(alloc)?),
-        None => Err(refusal(Rule::Operand, items.place)),
+        None => Err(told(Rule::Operand, items.place)),
     }
 }
 
 /// The type of what a `for` goes over, item by item.
+#[tactic(auto, unfolding(py_tree::specs::Flow::item_of))]
 pub fn item_of(
     alloc: Global,
     context: &Context<'_>,
@@ -110,7 +116,27 @@ pub fn item_of(
     }
 }
 
+/// The result type of the method, which `__init__` hasn't.
+#[tactic(auto, unfolding(py_tree::specs::Flow::result_at))]
+pub fn result_at<'a>(context: &Context<'a>, env: &FlowEnv) -> Option<&'a Ty>
+    ensures { unwrap_or (plain_wanted result) TNil ≡ spec.result_at (context_of (plain_tables context.now.tables.now) env.now context.now.in_loop) }
+{
+    let table = context.tables.get(env.class as usize)?;
+    let number = env.method?;
+    let method = table.methods.get(number as usize)?;
+    Some(&method.result)
+}
+
+/// The rules of `return`, which gives None.
+#[tactic(auto, using(py_tree::proofs::Views::ty_views), unfolding(py_tree::specs::Flow::return_fault))]
+fn check_nothing(wanted: &Ty, place: Place) -> Result<(), RuleError>
+    ensures { Finds (broken Mismatch place (not (assigns TNil (plain_ty wanted.now)))) result }
+{
+    refuse(!assignable(&Ty::Nil, wanted), Rule::Mismatch, place)
+}
+
 /// The rules of `return`, which gives None, and of `return e`.
+#[tactic(auto, using(py_tree::proofs::Views::ty_views), unfolding(py_tree::specs::Flow::return_fault))]
 pub fn check_return(
     alloc: Global,
     context: &Context<'_>,
@@ -120,9 +146,10 @@ pub fn check_return(
 ) -> Result<(), RuleError>
     ensures { Finds (spec.return_fault (context_of (plain_tables context.now.tables.now) env.now context.now.in_loop) (plain_locals env.now.locals) place (plain_option plain_expr value.now)) result }
 {
-    let wanted = result_at(context.tables, env.class, env.method);
+    let nothing = Ty::Nil;
+    let wanted = result_at(context, env).unwrap_or(&nothing);
     match value {
-        None => refuse(!assignable(&Ty::Nil, wanted), Rule::Mismatch, place),
+        None => check_nothing(wanted, place),
         Some(value) => {
             value_as(alloc, context, env, wanted, value)?;
             Ok(())
@@ -131,6 +158,7 @@ pub fn check_return(
 }
 
 /// The rules of the message of a `raise` or an `assert`.
+#[tactic(auto, using(py_tree::proofs::TypeRules::place_rules), unfolding(py_tree::specs::Flow::message_fault))]
 pub fn check_message(
     alloc: Global,
     context: &Context<'_>,
@@ -139,9 +167,11 @@ pub fn check_message(
 ) -> Result<(), RuleError>
     ensures { Finds (spec.message_fault (context_of (plain_tables context.now.tables.now) env.now context.now.in_loop) (plain_locals env.now.locals) (plain_option plain_expr message.now)) result }
 {
-    let Some(message) = message else {
-        return Ok(());
-    };
-    let ty = type_at(alloc, context, env, None, message)?;
-    refuse(!is_str(&ty), Rule::Mismatch, message.place)
+    match message {
+        None => Ok(()),
+        Some(message) => {
+            let ty = type_at(alloc, context, env, None, message)?;
+            refuse(!is_str(&ty), Rule::Mismatch, message.place)
+        }
+    }
 }

@@ -1,0 +1,192 @@
+//! The walk over statements, which carries what is known from point to point.
+
+ghost use Rattle.py_tree.specs.declared.stmt.Arm.{out-Arm};
+ghost use Rattle.py_tree.specs.PlainExpressions.{plain_expr};
+ghost use Rattle.py_tree.specs.PlainStatements.{plain_over, plain_stmt, plain_stmts, stmts_of, plain_arm, plain_arms, arms_of};
+ghost use Rattle.py_tree.specs.Reachability as reach;
+ghost use Rattle.py_tree.specs.Flow as spec;
+ghost use Rattle.entity_tables.specs.Views.{plain_tables};
+ghost use Rattle.entity_types.specs.Views.{plain_locals};
+ghost use Rattle.flow_types.specs.Views.{context_of, way_of, plain_breaks};
+ghost use Rattle.flow_types.specs.Parts.{behind_arm, behind_arms, behind_other, behind_while, behind_for};
+ghost use Rattle.flow_types.specs.Answers.{Locates, Flows, Forks};
+
+use crate::branch::{go_where_true, leave_arm, leave_if, leave_while};
+use crate::context::Context;
+use crate::head::forget_assigned_in;
+use crate::known::{Standings, stand_where_met};
+use crate::loops::enter_for;
+use crate::reach::goes_on;
+use crate::simple::{
+    assert_here, assign_here, augment_here, break_off, evaluate, go_to_head, raise_here, return_here,
+};
+use entity_types::{FlowEnv, RuleError};
+use py_tree::{Arm, Expr, Over, PlacedName, Stmt, StmtKind};
+use std::alloc::Global;
+
+/// The way through a statement, and whether it goes on behind it.
+#[cycle(walk)]
+#[tactic(auto, using(crate::proofs::FlowLaws::statement_laws))]
+pub fn statement(
+    alloc: Global,
+    context: &Context<'_>,
+    env: &mut FlowEnv,
+    breaks: &mut Option<Standings>,
+    stmt: &Stmt,
+) -> Result<bool, RuleError>
+    ensures { Flows (spec.flow (context_of (plain_tables context.now.tables.now) env.old context.now.in_loop) (way_of env.old breaks.old) (plain_stmt stmt.now)) (reach.goes_on (plain_stmt stmt.now)) env.old env.new breaks.new result }
+{
+    let place = stmt.place;
+    match &stmt.kind {
+        StmtKind::Pass => Ok(true),
+        StmtKind::Break => break_off(alloc, context, env, breaks, place),
+        StmtKind::Continue => go_to_head(context, env, place),
+        StmtKind::Expr(value) => evaluate(alloc, context, env, value),
+        StmtKind::Return(value) => return_here(alloc, context, env, place, value),
+        StmtKind::Raise(_, message) => raise_here(alloc, context, env, message),
+        StmtKind::Assert(test, message) => assert_here(alloc, context, env, test, message),
+        StmtKind::Assign { target, ty, value } => {
+            assign_here(alloc, context, env, place, *target, ty, value)
+        }
+        StmtKind::Augment {
+            target,
+            op,
+            op_place,
+            value,
+        } => augment_here(alloc, context, env, place, *target, *op, *op_place, value),
+        StmtKind::If { arms, other } => {
+            let mut ended = None;
+            let an_arm_goes_on =
+                through_arms(alloc, context, env, breaks, &mut ended, arms.as_slice())?;
+            let other_goes_on =
+                through_other(alloc, context, env, breaks, ended, other.as_slice())?;
+            Ok(an_arm_goes_on || other_goes_on)
+        }
+        StmtKind::While { test, body } => {
+            while_loop(alloc, context, env, body.as_slice(), test)?;
+            Ok(goes_on(stmt))
+        }
+        StmtKind::For { name, over, body } => {
+            for_loop(alloc, context, env, *name, over, body.as_slice())?;
+            Ok(true)
+        }
+    }
+}
+
+/// The way through statements, up to the first that doesn't go on.
+#[cycle(walk)]
+#[tactic(auto, using(crate::proofs::FlowLaws::list_laws))]
+pub fn statements(
+    alloc: Global,
+    context: &Context<'_>,
+    env: &mut FlowEnv,
+    breaks: &mut Option<Standings>,
+    stmts: &[Stmt],
+) -> Result<bool, RuleError>
+    ensures { Flows (spec.flow_all (context_of (plain_tables context.now.tables.now) env.old context.now.in_loop) (way_of env.old breaks.old) (stmts_of (plain_stmts stmts.now))) (reach.all_go_on (stmts_of (plain_stmts stmts.now))) env.old env.new breaks.new result }
+{
+    for stmt in stmts {
+        if !statement(alloc, context, env, breaks, stmt)? {
+            return Ok(false);
+        }
+    }
+    Ok(true)
+}
+
+/// The ways through the arms of an `if`, each from where the tests before it were False.
+#[cycle(walk)]
+#[tactic(auto, using(crate::proofs::FlowLaws::arm_laws))]
+fn through_arms(
+    alloc: Global,
+    context: &Context<'_>,
+    env: &mut FlowEnv,
+    breaks: &mut Option<Standings>,
+    ended: &mut Option<Standings>,
+    arms: &[Arm],
+) -> Result<bool, RuleError>
+    ensures { Forks (behind_arms (context_of (plain_tables context.now.tables.now) env.old context.now.in_loop) (record { next = way_of env.old breaks.old; ended = plain_breaks ended.old }) (arms_of (plain_arms arms.now))) (reach.an_arm_goes_on (arms_of (plain_arms arms.now))) env.old env.new breaks.new ended.new result }
+{
+    let mut one_goes_on = false;
+    for arm in arms {
+        let goes_on = through_arm(alloc, context, env, breaks, ended, arm)?;
+        one_goes_on = one_goes_on || goes_on;
+    }
+    Ok(one_goes_on)
+}
+
+/// The way through an arm, and then on to where its test is False.
+#[cycle(walk)]
+#[tactic(auto, unfolding(crate::specs::Parts::behind_arm))]
+fn through_arm(
+    alloc: Global,
+    context: &Context<'_>,
+    env: &mut FlowEnv,
+    breaks: &mut Option<Standings>,
+    ended: &mut Option<Standings>,
+    arm: &Arm,
+) -> Result<bool, RuleError>
+    ensures { Forks (behind_arm (context_of (plain_tables context.now.tables.now) env.old context.now.in_loop) (record { next = way_of env.old breaks.old; ended = plain_breaks ended.old }) (plain_arm arm.now)) (reach.all_go_on (stmts_of (plain_stmts (out-Arm arm.now).body))) env.old env.new breaks.new ended.new result }
+{
+    let otherwise = go_where_true(alloc, context, env, &arm.test)?;
+    let goes_on = statements(alloc, context, env, breaks, arm.body.as_slice())?;
+    leave_arm(alloc, &mut env.locals, ended, goes_on, otherwise.as_slice())?;
+    Ok(goes_on)
+}
+
+/// The way through the last branch of an `if`, and where all its ways meet.
+#[cycle(walk)]
+#[tactic(auto, unfolding(crate::specs::Parts::behind_other))]
+fn through_other(
+    alloc: Global,
+    context: &Context<'_>,
+    env: &mut FlowEnv,
+    breaks: &mut Option<Standings>,
+    ended: Option<Standings>,
+    other: &[Stmt],
+) -> Result<bool, RuleError>
+    ensures { Flows (behind_other (context_of (plain_tables context.now.tables.now) env.old context.now.in_loop) (record { next = way_of env.old breaks.old; ended = plain_breaks ended }) (stmts_of (plain_stmts other.now))) (reach.all_go_on (stmts_of (plain_stmts other.now))) env.old env.new breaks.new result }
+{
+    let goes_on = statements(alloc, context, env, breaks, other)?;
+    leave_if(alloc, &mut env.locals, ended, goes_on)?;
+    Ok(goes_on)
+}
+
+/// The ways through a `while`.
+#[cycle(walk)]
+#[tactic(auto, unfolding(crate::specs::Parts::behind_while))]
+fn while_loop(
+    alloc: Global,
+    context: &Context<'_>,
+    env: &mut FlowEnv,
+    body: &[Stmt],
+    test: &Expr,
+) -> Result<(), RuleError>
+    ensures { Locates (behind_while (context_of (plain_tables context.now.tables.now) env.old context.now.in_loop) (spec.at_head (reach.assigned_in (stmts_of (plain_stmts body.now))) (plain_locals env.old.locals)) (plain_expr test.now) (stmts_of (plain_stmts body.now))) env.old env.new result }
+{
+    forget_assigned_in(&mut env.locals, body);
+    let otherwise = go_where_true(alloc, context, env, test)?;
+    let mut breaks = None;
+    statements(alloc, &context.within_loop(), env, &mut breaks, body)?;
+    leave_while(alloc, &mut env.locals, test, otherwise, breaks)?;
+    Ok(())
+}
+
+/// The ways through a `for`.
+#[cycle(walk)]
+#[tactic(auto, unfolding(crate::specs::Parts::behind_for))]
+fn for_loop(
+    alloc: Global,
+    context: &Context<'_>,
+    env: &mut FlowEnv,
+    name: PlacedName,
+    over: &Over,
+    body: &[Stmt],
+) -> Result<(), RuleError>
+    ensures { Locates (behind_for (context_of (plain_tables context.now.tables.now) env.old context.now.in_loop) (plain_locals env.old.locals) name (plain_over over.now) (stmts_of (plain_stmts body.now))) env.old env.new result }
+{
+    let head = enter_for(alloc, context, env, name, over, body)?;
+    let mut breaks = None;
+    statements(alloc, &context.within_loop(), env, &mut breaks, body)?;
+    stand_where_met(alloc, &mut env.locals, Some(head), breaks)?;
+    Ok(())
+}
