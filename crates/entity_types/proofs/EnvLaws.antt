@@ -1,4 +1,4 @@
--- Locals in a list, and what is shown of them.
+-- Copies of locals, as plain ones.
 use Rattle.std.proofs.Common.{◌≡◌, List, map}
 use Rattle.sf_list.specs.Copies.{AreCopies}
 use Rattle.sf_list.proofs.CopyLaws.{map-AreCopies}

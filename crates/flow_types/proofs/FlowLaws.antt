@@ -1,6 +1,6 @@
 -- Ways through statements: what the rules say at each kind, and statement by statement in a list.
 use Rattle.std.specs.Prelude.{◌||◌, if◌then◌else◌}
-use Rattle.std.proofs.Common.{◌≡◌, ℕ, suc, arith, ◌+◌, ◌<◌, ◌≤◌, Bool, true, false, Option, Some, None, Result, Ok, Err, List, [], ◌∷◌, length, drop, get_or, refl, sym, ap, subst, ◌∙◌}
+use Rattle.std.proofs.Common.{◌≡◌, ℕ, ◌+◌, ◌<◌, ◌≤◌, Bool, true, false, Option, Some, None, Result, Ok, Err, List, ◌∷◌, length, drop, get_or, refl, sym, ap, subst, ◌∙◌}
 use Rattle.py_tree.specs.declared.names.Place.{Place}
 use Rattle.py_tree.specs.declared.names.PlacedName.{PlacedName}
 use Rattle.py_tree.specs.declared.rule.RuleFault.{RuleFault}
@@ -17,7 +17,7 @@ use Rattle.py_tree.specs.ClassRules.{PlainTable}
 use Rattle.py_tree.specs.FlowEnvironment.{PlainLocal, shown, narrowed}
 use Rattle.py_tree.specs.ExpressionTypes.{with_found}
 use Rattle.py_tree.specs.Reachability.{goes_on, all_go_on, an_arm_goes_on, assigned_in}
-use Rattle.py_tree.specs.Flow.{Context, Known, Way, within_loop, condition_at, known_at, settled, meet, way, behind_ways, with_local, needs_none, local_fault, stored, item_of, named_at, on, begun, after_while, after_for, at_head, for_head, flow, flow_all, flow_arms}
+use Rattle.py_tree.specs.Flow.{Context, Way, within_loop, condition_at, known_at, settled, meet, way, behind_ways, with_local, needs_none, local_fault, stored, item_of, on, begun, after_while, after_for, at_head, for_head, flow, flow_all, flow_arms}
 use Rattle.py_tree.proofs.ReachRules.{goes_on_rules, stmts_split, stmts_end, arms_split, arms_end}
 use Rattle.py_tree.proofs.Views.{stmt-Pass, stmt-If, stmt-While, stmt-For}
 use Rattle.entity_tables.specs.declared.fault.RuleError.{RuleError}
@@ -48,8 +48,8 @@ arms_are c f (PMoreArms (PArm test body) more) goes other =
     let next : Way → Fork = λ arm. record { next = on arm (settled arm.locals (known_at (narrowed (shown false test) f.next.locals))); ended = meet f.ended (way (all_go_on body) arm.locals) } in
     (λ i. with_found tested (λ ty. with_found walked (λ arm. arms_are c (next arm) more goes other i)))
     ∙ sym (found_then (with_found tested (λ ty. with_found walked (λ arm. Ok (next arm)))) (λ g. behind_arms c g more) end
-      ∙ found_then tested (λ ty. with_found walked (λ arm. Ok (next arm))) (λ g. with_found (behind_arms c g more) end)
-      ∙ (λ i. with_found tested (λ ty. found_then walked (λ arm. Ok (next arm)) (λ g. with_found (behind_arms c g more) end) i)))
+    ∙ found_then tested (λ ty. with_found walked (λ arm. Ok (next arm))) (λ g. with_found (behind_arms c g more) end)
+    ∙ (λ i. with_found tested (λ ty. found_then walked (λ arm. Ok (next arm)) (λ g. with_found (behind_arms c g more) end) i)))
 
 if_is : (c : Context) (w : Way) (at : Place) (arms : PlainArms) (other : PlainStmts) → flow c w (PIf at arms other) ≡ with_found (behind_arms c (record { next = w; ended = None }) arms) (λ f. behind_other c f other)
 unfolding flow behind_other
@@ -75,10 +75,10 @@ for_is c w at name over body =
     let behind : Entry → Way → List PlainLocal = λ e b. behind_ways b.locals (meet (Some e.head) b.breaks) in
     let end : Entry → Result Way RuleFault = λ e. with_found (walked e) (λ b. Ok (on w (behind e b))) in
     sym (found_then (for_entry c w.locals name over body) (λ e. with_found (walked e) (λ b. Ok (behind e b))) (λ ls. Ok (on w ls))
-      ∙ (λ i. with_found (for_entry c w.locals name over body) (λ e. found_then (walked e) (λ b. Ok (behind e b)) (λ ls. Ok (on w ls)) i))
-      ∙ found_then items (λ item. needs_none fault (with_found (stored w.locals name item) (entered item))) end
-      ∙ (λ i. with_found items (λ item. needs_then fault (with_found (stored w.locals name item) (entered item)) end i))
-      ∙ (λ i. with_found items (λ item. needs_none fault (found_then (stored w.locals name item) (entered item) end i))))
+    ∙ (λ i. with_found (for_entry c w.locals name over body) (λ e. found_then (walked e) (λ b. Ok (behind e b)) (λ ls. Ok (on w ls)) i))
+    ∙ found_then items (λ item. needs_none fault (with_found (stored w.locals name item) (entered item))) end
+    ∙ (λ i. with_found items (λ item. needs_then fault (with_found (stored w.locals name item) (entered item)) end i))
+    ∙ (λ i. with_found items (λ item. needs_none fault (found_then (stored w.locals name item) (entered item) end i))))
 
 -- a kind of statement, as the tree of it is seen
 module _ (c : Context) (w : Way) (at : Place) where

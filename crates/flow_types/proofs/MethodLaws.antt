@@ -1,12 +1,12 @@
 -- Parameters as locals, methods by their numbers, and faults along them.
-use Rattle.std.specs.Prelude.{not, slice_get, if◌then◌else◌}
-use Rattle.std.proofs.Common.{◌≡◌, ℕ, zero, suc, arith, ◌+◌, ◌-◌, ◌<◌, ◌≤◌, Bool, true, false, Option, Some, None, Result, Ok, Err, List, [], ◌∷◌, ◌++◌, length, map, take, drop, get_or, drop-cons, refl, sym, ap, subst, ◌∙◌}
+use Rattle.std.specs.Prelude.{slice_get, if◌then◌else◌}
+use Rattle.std.proofs.Common.{◌≡◌, ℕ, zero, suc, arith, ◌+◌, ◌-◌, ◌<◌, ◌≤◌, true, false, Option, Some, None, Ok, Err, List, [], ◌∷◌, ◌++◌, length, map, take, drop, get_or, refl, sym, ap, subst, ◌∙◌}
 use Rattle.std.proofs.lemmas.List.{take_more, map-append, drop_all, length-map}
 use Rattle.py_tree.specs.declared.program.Method.{Method}
 use Rattle.py_tree.specs.declared.program.Class.{Class}
 use Rattle.py_tree.specs.declared.rule.RuleFault.{RuleFault}
 use Rattle.py_tree.specs.FlowEnvironment.{PlainLocal}
-use Rattle.py_tree.specs.PlainProgram.{PlainMethod, PlainClass, plain_method, plain_methods, plain_class, plain_classes}
+use Rattle.py_tree.specs.PlainProgram.{PlainMethod, plain_method, plain_class}
 use Rattle.py_tree.specs.ClassRules.{PlainTable, first_of, is_called, methods_of, program_fault}
 use Rattle.py_tree.specs.Flow.{param_local, fault_in, flow, method_locals, init_flow_fault, methods_flow_fault, class_flow_fault, classes_flow_fault}
 use Rattle.entity_tables.specs.declared.table.SigParam.{SigParam}

@@ -106,10 +106,6 @@ pub fn leave_while(
 ) -> Result<(), AllocError>
     ensures { (head : List PlainLocal) → plain_standings otherwise ≡ spec.known_at (narrowed (shown false (plain_expr test.now)) head) → OnOk result (plain_locals locals.new ≡ spec.after_while (plain_expr test.now) head (record { locals = plain_locals locals.old; breaks = plain_breaks breaks })) }
 {
-    let left = if is_true(test) {
-        None
-    } else {
-        Some(otherwise)
-    };
+    let left = if is_true(test) { None } else { Some(otherwise) };
     stand_where_met(alloc, locals, left, breaks)
 }

@@ -103,11 +103,7 @@ pub fn meet(
 }
 
 /// The way that has come to these locals, where it goes on.
-pub fn way(
-    alloc: Global,
-    goes_on: bool,
-    locals: &[Local],
-) -> Result<Option<Standings>, AllocError>
+pub fn way(alloc: Global, goes_on: bool, locals: &[Local]) -> Result<Option<Standings>, AllocError>
     ensures { IfOk result (λ made. plain_breaks made ≡ spec.way goes_on (plain_locals locals.now)) }
 {
     if !goes_on {

@@ -93,12 +93,7 @@ pub fn assign_local(
 
 /// A name gets a value of this type, to which its type from before is kept.
 #[tactic(auto, unfolding(py_tree::specs::Flow::stored, py_tree::specs::Flow::earlier))]
-pub fn store(
-    alloc: Global,
-    env: &mut FlowEnv,
-    name: PlacedName,
-    ty: Ty,
-) -> Result<(), RuleError>
+pub fn store(alloc: Global, env: &mut FlowEnv, name: PlacedName, ty: Ty) -> Result<(), RuleError>
     ensures { Locates (spec.stored (plain_locals env.old.locals) name (plain_ty ty)) env.old env.new result }
 {
     let before = type_before(env.locals.as_slice(), name.name);

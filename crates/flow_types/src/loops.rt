@@ -24,12 +24,7 @@ use sf_list::TryClone;
 use std::alloc::{AllocError, Global};
 
 /// A name is typed by items, and is no more assigned than before.
-fn name_item(
-    alloc: Global,
-    env: &mut FlowEnv,
-    name: PlacedName,
-    item: &Ty,
-) -> Result<(), RuleError>
+fn name_item(alloc: Global, env: &mut FlowEnv, name: PlacedName, item: &Ty) -> Result<(), RuleError>
     ensures { Locates (with_found (spec.stored (plain_locals env.old.locals) name (plain_ty item.now)) (λ named. Found (spec.settled named (spec.known_at (plain_locals env.old.locals))))) env.old env.new result }
 {
     let before = known_at(alloc, env.locals.as_slice())?;
@@ -48,12 +43,7 @@ fn forget_all(locals: &mut Locals, name: Name, body: &[Stmt])
 }
 
 /// An item is assigned to a name.
-fn take_item(
-    alloc: Global,
-    locals: &mut Locals,
-    name: Name,
-    item: Ty,
-) -> Result<(), AllocError>
+fn take_item(alloc: Global, locals: &mut Locals, name: Name, item: Ty) -> Result<(), AllocError>
     ensures { OnOk result (plain_locals locals.new ≡ spec.with_local name.0 (plain_ty item) (plain_ty item) (plain_locals locals.old)) }
 {
     let may_be_none = has_none(&item);

@@ -9,8 +9,8 @@ use py_tree::nodes::{
     self_of, str_of, var_of, while_of, written_int, written_str,
 };
 use py_tree::{
-    Arm, BinOp, Expr, Method, Name, Names, Over, Place, PlacedName, Program, Rule, Stmt, Stmts, Target,
-    Ty, WrittenTy,
+    Arm, BinOp, Expr, Method, Name, Names, Over, Place, PlacedName, Program, Rule, Stmt, Stmts,
+    Target, Ty, WrittenTy,
 };
 use sf_list::{Sequence, TryClone};
 use std::alloc::{AllocError, Global};
@@ -104,12 +104,7 @@ fn two<T: Drop>(alloc: Global, first: T, second: T) -> Result<Sequence<T>, Alloc
     Ok(items)
 }
 
-fn three<T: Drop>(
-    alloc: Global,
-    first: T,
-    second: T,
-    third: T,
-) -> Result<Sequence<T>, AllocError> {
+fn three<T: Drop>(alloc: Global, first: T, second: T, third: T) -> Result<Sequence<T>, AllocError> {
     let mut items = two(alloc, first, second)?;
     items.push(alloc, third)?;
     Ok(items)
@@ -251,23 +246,10 @@ fn a_local_keeps_the_type_of_its_first_assignment(rt: HostRuntime) -> Result<(),
 #[test]
 fn an_assignment_narrows_and_widens(rt: HostRuntime) -> Result<(), Fail> {
     let alloc = rt.alloc();
-    let given = two(
-        alloc,
-        assign(MAYBE, 13, int_of(at(21), 1)),
-        take_maybe(),
-    )?;
+    let given = two(alloc, assign(MAYBE, 13, int_of(at(21), 1)), take_maybe())?;
     assert_eq!(rt; kept(alloc, given)?, 3);
-    let sure = assert_of(
-        at(9),
-        is_none_of(alloc, at(16), var(MAYBE), false)?,
-        None,
-    );
-    let lost = three(
-        alloc,
-        sure,
-        assign(MAYBE, 13, nil_of(at(21))),
-        take_maybe(),
-    )?;
+    let sure = assert_of(at(9), is_none_of(alloc, at(16), var(MAYBE), false)?, None);
+    let lost = three(alloc, sure, assign(MAYBE, 13, nil_of(at(21))), take_maybe())?;
     assert_eq!(rt; broken(alloc, ENDS, lost)?, (Rule::LocalRetyped, 20));
     Ok(())
 }
@@ -278,9 +260,15 @@ fn a_name_is_assigned_where_it_is_on_each_way(rt: HostRuntime) -> Result<(), Fai
     let both = if_flag(alloc, set_x(), set_x())?;
     assert_eq!(rt; kept(alloc, two(alloc, both, read_x())?)?, 4);
     let arm = if_flag(alloc, set_x(), pass_of(at(9)))?;
-    assert_eq!(rt; broken(alloc, ENDS, two(alloc, arm, read_x())?)?, (Rule::Unassigned, 40));
+    assert_eq!(rt;
+        broken(alloc, ENDS, two(alloc, arm, read_x())?)?,
+        (Rule::Unassigned, 40)
+    );
     let other = if_flag(alloc, pass_of(at(9)), set_x())?;
-    assert_eq!(rt; broken(alloc, ENDS, two(alloc, other, read_x())?)?, (Rule::Unassigned, 40));
+    assert_eq!(rt;
+        broken(alloc, ENDS, two(alloc, other, read_x())?)?,
+        (Rule::Unassigned, 40)
+    );
     let left = if_flag(alloc, set_x(), return_of(at(9), None))?;
     assert_eq!(rt; kept(alloc, two(alloc, left, read_x())?)?, 4);
     Ok(())
@@ -299,7 +287,10 @@ fn the_name_of_a_for_is_as_assigned_as_before(rt: HostRuntime) -> Result<(), Fai
     let kept_on = three(alloc, before, for_i(none(alloc)), read_i)?;
     assert_eq!(rt; kept(alloc, kept_on)?, 4);
     let over = for_of(at(9), placed(I, 13), Over::Items(var(N)), none(alloc));
-    assert_eq!(rt; broken(alloc, ENDS, one(alloc, over)?)?, (Rule::Operand, 40));
+    assert_eq!(rt;
+        broken(alloc, ENDS, one(alloc, over)?)?,
+        (Rule::Operand, 40)
+    );
     Ok(())
 }
 
@@ -311,11 +302,7 @@ fn the_head_of_a_loop_forgets_what_its_body_assigns(rt: HostRuntime) -> Result<(
     let stays = two(alloc, assert_of(at(9), sure, None), for_i(body))?;
     assert_eq!(rt; kept(alloc, stays)?, 4);
     let sure = is_none_of(alloc, at(16), var(MAYBE), false)?;
-    let body = two(
-        alloc,
-        take_maybe(),
-        assign(MAYBE, 13, nil_of(at(21))),
-    )?;
+    let body = two(alloc, take_maybe(), assign(MAYBE, 13, nil_of(at(21))))?;
     let forgets = two(alloc, assert_of(at(9), sure, None), for_i(body))?;
     assert_eq!(rt; broken(alloc, ENDS, forgets)?, (Rule::LocalRetyped, 20));
     Ok(())
@@ -325,18 +312,20 @@ fn the_head_of_a_loop_forgets_what_its_body_assigns(rt: HostRuntime) -> Result<(
 fn behind_while_true_only_breaks_count(rt: HostRuntime) -> Result<(), Fail> {
     let alloc = rt.alloc();
     let forever = bool_of(at(15), true);
-    let ends = while_of(
-        at(9),
-        forever,
-        two(alloc, set_x(), break_of(at(13)))?,
-    );
+    let ends = while_of(at(9), forever, two(alloc, set_x(), break_of(at(13)))?);
     assert_eq!(rt; kept(alloc, two(alloc, ends, read_x())?)?, 4);
     let until = while_of(at(9), var(FLAG), one(alloc, set_x())?);
-    assert_eq!(rt; broken(alloc, ENDS, two(alloc, until, read_x())?)?, (Rule::Unassigned, 40));
+    assert_eq!(rt;
+        broken(alloc, ENDS, two(alloc, until, read_x())?)?,
+        (Rule::Unassigned, 40)
+    );
     let early = if_flag(alloc, break_of(at(13)), continue_of(at(13)))?;
     let forever = bool_of(at(15), true);
     let breaks = while_of(at(9), forever, two(alloc, early, set_x())?);
-    assert_eq!(rt; broken(alloc, ENDS, two(alloc, breaks, read_x())?)?, (Rule::UnknownName, 40));
+    assert_eq!(rt;
+        broken(alloc, ENDS, two(alloc, breaks, read_x())?)?,
+        (Rule::UnknownName, 40)
+    );
     let forever = bool_of(at(15), true);
     let never = while_of(at(9), forever, one(alloc, pass_of(at(13)))?);
     assert!(rt; answered(alloc, GIVES, one(alloc, never)?).is_ok());
@@ -347,29 +336,36 @@ fn behind_while_true_only_breaks_count(rt: HostRuntime) -> Result<(), Fail> {
 fn what_cannot_be_reached_is_not_looked_at(rt: HostRuntime) -> Result<(), Fail> {
     let alloc = rt.alloc();
     let unknown = do_of(at(40), var(NOPE));
-    let behind = three(
-        alloc,
-        return_of(at(9), None),
-        set_x(),
-        unknown,
-    )?;
+    let behind = three(alloc, return_of(at(9), None), set_x(), unknown)?;
     assert_eq!(rt; kept(alloc, behind)?, 3);
     let unknown = do_of(at(40), var(NOPE));
-    assert_eq!(rt; broken(alloc, ENDS, one(alloc, unknown)?)?, (Rule::UnknownName, 40));
+    assert_eq!(rt;
+        broken(alloc, ENDS, one(alloc, unknown)?)?,
+        (Rule::UnknownName, 40)
+    );
     Ok(())
 }
 
 #[test]
 fn a_method_gives_what_it_is_to_give(rt: HostRuntime) -> Result<(), Fail> {
     let alloc = rt.alloc();
-    assert_eq!(rt; broken(alloc, GIVES, none(alloc))?, (Rule::MissingReturn, 9));
+    assert_eq!(rt;
+        broken(alloc, GIVES, none(alloc))?,
+        (Rule::MissingReturn, 9)
+    );
     assert_eq!(rt; kept(alloc, none(alloc))?, 3);
     let gives = return_of(at(13), Some(var(N)));
     assert!(rt; answered(alloc, GIVES, one(alloc, gives)?).is_ok());
     let other = return_of(at(13), Some(var(FLAG)));
-    assert_eq!(rt; broken(alloc, GIVES, one(alloc, other)?)?, (Rule::Mismatch, 40));
+    assert_eq!(rt;
+        broken(alloc, GIVES, one(alloc, other)?)?,
+        (Rule::Mismatch, 40)
+    );
     let nothing = return_of(at(13), None);
-    assert_eq!(rt; broken(alloc, GIVES, one(alloc, nothing)?)?, (Rule::Mismatch, 13));
+    assert_eq!(rt;
+        broken(alloc, GIVES, one(alloc, nothing)?)?,
+        (Rule::Mismatch, 13)
+    );
     Ok(())
 }
 
@@ -401,10 +397,7 @@ fn a_field_is_assigned_unless_it_is_the_key(rt: HostRuntime) -> Result<(), Fail>
     assert_eq!(rt; broken(alloc, ENDS, unknown)?, (Rule::UnknownField, 14));
     let other = one(alloc, assign_field(COST, None, var(FLAG)))?;
     assert_eq!(rt; broken(alloc, ENDS, other)?, (Rule::Mismatch, 40));
-    let typed = one(
-        alloc,
-        assign_field(COST, Some(written_int(at(20))), var(N)),
-    )?;
+    let typed = one(alloc, assign_field(COST, Some(written_int(at(20))), var(N)))?;
     assert_eq!(rt; broken(alloc, ENDS, typed)?, (Rule::InitForm, 9));
     Ok(())
 }
@@ -420,11 +413,20 @@ fn what_is_combined_is_read_first(rt: HostRuntime) -> Result<(), Fail> {
     let cost = add_to(Target::Field(placed(COST, 14)), var(N));
     assert_eq!(rt; kept(alloc, one(alloc, cost)?)?, 3);
     let key = add_to(Target::Field(placed(CODE, 14)), var(NOPE));
-    assert_eq!(rt; broken(alloc, ENDS, one(alloc, key)?)?, (Rule::KeyAssigned, 9));
+    assert_eq!(rt;
+        broken(alloc, ENDS, one(alloc, key)?)?,
+        (Rule::KeyAssigned, 9)
+    );
     let unknown = add_to(Target::Local(placed(X, 9)), var(N));
-    assert_eq!(rt; broken(alloc, ENDS, one(alloc, unknown)?)?, (Rule::UnknownName, 9));
+    assert_eq!(rt;
+        broken(alloc, ENDS, one(alloc, unknown)?)?,
+        (Rule::UnknownName, 9)
+    );
     let maybe = add_to(Target::Local(placed(MAYBE, 9)), var(N));
-    assert_eq!(rt; broken(alloc, ENDS, one(alloc, maybe)?)?, (Rule::NoneUse, 20));
+    assert_eq!(rt;
+        broken(alloc, ENDS, one(alloc, maybe)?)?,
+        (Rule::NoneUse, 20)
+    );
     Ok(())
 }
 
@@ -483,7 +485,10 @@ fn a_program_is_checked_with_its_init(rt: HostRuntime) -> Result<(), Fail> {
         rule: Rule::Mismatch,
         place: at(40),
     };
-    assert_eq!(rt; program_answered(alloc, &program(alloc, text)?)?, Err(RuleError::Fault(fault)));
+    assert_eq!(rt;
+        program_answered(alloc, &program(alloc, text)?)?,
+        Err(RuleError::Fault(fault))
+    );
     Ok(())
 }
 
@@ -506,7 +511,10 @@ fn a_body_is_walked_step_by_step(rt: HostRuntime) -> Result<(), Fail> {
     let lost = assign(MAYBE, 13, nil_of(at(21)));
     let mut behind = env.try_clone(alloc)?;
     assert_eq!(rt; step(alloc, &tables, &names, &mut behind, &lost), Ok(true));
-    assert_eq!(rt; step(alloc, &tables, &names, &mut behind, &break_of(at(9))), Ok(false));
+    assert_eq!(rt;
+        step(alloc, &tables, &names, &mut behind, &break_of(at(9))),
+        Ok(false)
+    );
     let head = loop_head(alloc, &env, None, &one(alloc, lost)?)?;
     for local in head.locals.as_slice() {
         assert!(rt; local.assigned && !local.not_none);

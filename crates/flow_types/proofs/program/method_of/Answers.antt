@@ -1,4 +1,4 @@
-use Rattle.std.proofs.Common.{◌≡◌, ◌∙◌, ◌+◌, map, drop, sym, ap}
+use Rattle.std.proofs.Common.{◌∙◌, ◌+◌, map, drop, sym, ap}
 use Rattle.std.specs.Prelude.{slice_get}
 use Rattle.py_tree.specs.PlainProgram.{plain_method}
 use Rattle.py_tree.specs.ClassRules.{methods_of}
@@ -15,9 +15,9 @@ loop-member-preserved c =
     let left = c.loop-member.left in
     let rest = methods_of names (map plain_method (drop (i + 1) members)) in
     elim c.if-is_called.branch [
-      then-is_called+else-left-eq0 w ↦
-      c.loop-member.invariant ∙ ap (λ xs. slice_get xs left) (is_method names members i member c.loop-member-test.true c.member-item.is (sym c.is_called.ensures ∙ w.if-is_called.true))
-      ∙ found_later (plain_method member) rest left w.if-left-eq0.false ∙ ap (slice_get rest) (sym w.left-is)
-    | else-is_called w ↦
-      c.loop-member.invariant ∙ ap (λ xs. slice_get xs left) (no_method names members i member c.loop-member-test.true c.member-item.is (sym c.is_called.ensures ∙ w.if-is_called.false)) ∙ ap (slice_get rest) (sym w.left-is)
+      | then-is_called+else-left-eq0 w ↦
+          c.loop-member.invariant ∙ ap (λ xs. slice_get xs left) (is_method names members i member c.loop-member-test.true c.member-item.is (sym c.is_called.ensures ∙ w.if-is_called.true))
+          ∙ found_later (plain_method member) rest left w.if-left-eq0.false ∙ ap (slice_get rest) (sym w.left-is)
+      | else-is_called w ↦
+          c.loop-member.invariant ∙ ap (λ xs. slice_get xs left) (no_method names members i member c.loop-member-test.true c.member-item.is (sym c.is_called.ensures ∙ w.if-is_called.false)) ∙ ap (slice_get rest) (sym w.left-is)
     ]

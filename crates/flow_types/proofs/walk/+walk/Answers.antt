@@ -1,9 +1,9 @@
-use Rattle.std.proofs.Common.{◌≡◌, ◌∙◌, ◌+◌, true, false, drop, refl, sym, ap}
+use Rattle.std.proofs.Common.{◌≡◌, ◌∙◌, ◌+◌, true, false, drop, sym, ap}
 use Rattle.std.specs.Prelude.{◌||◌}
 use Rattle.py_tree.specs.declared.stmt.StmtKind as s
 use Rattle.py_tree.specs.PlainExpressions.{plain_expr}
 use Rattle.py_tree.specs.PlainTypes.{plain_written}
-use Rattle.py_tree.specs.PlainStatements.{PBreak, PContinue, PDo, PReturn, PRaise, PAssert, PAssign, PAugment, plain_option, plain_stmt, plain_stmts, stmts_of, plain_arm, plain_arms, arms_of}
+use Rattle.py_tree.specs.PlainStatements.{PBreak, PContinue, PDo, PReturn, PRaise, PAssert, PAssign, PAugment, plain_option, plain_stmt, plain_arm, plain_arms, arms_of}
 use Rattle.py_tree.specs.Reachability.{goes_on, an_arm_goes_on}
 use Rattle.py_tree.specs.Flow.{flow}
 use Rattle.py_tree.proofs.Views.{stmt-Break, stmt-Continue, stmt-Expr, stmt-Return, stmt-Raise, stmt-Assert, stmt-Assign, stmt-Augment}
@@ -130,9 +130,9 @@ through_arms-loop-arm-preserved t c =
       forks = inv.forks ∙ arms_pass (context_of tables c.args.env.now in_loop) fork arms i arm _ c.loop-arm-test.true c.arm-item.is found;
       goes =
           elim c.if-one_goes_on.branch [
-            through_arms-then-one_goes_on w ↦ inv.goes ∙ ap (λ b. b || behind) w.if-one_goes_on.true ∙ ap (λ b. b || beyond) (sym w.if-one_goes_on.true ∙ sym w.one_goes_on-is)
-          | through_arms-else-one_goes_on w ↦
-            inv.goes ∙ ap (λ b. b || behind) w.if-one_goes_on.false ∙ one_goes arms i arm c.loop-arm-test.true c.arm-item.is ∙ ap (λ b. b || beyond) (sym told.1 ∙ sym w.one_goes_on-is)
+            | through_arms-then-one_goes_on w ↦ inv.goes ∙ ap (λ b. b || behind) w.if-one_goes_on.true ∙ ap (λ b. b || beyond) (sym w.if-one_goes_on.true ∙ sym w.one_goes_on-is)
+            | through_arms-else-one_goes_on w ↦
+                inv.goes ∙ ap (λ b. b || behind) w.if-one_goes_on.false ∙ one_goes arms i arm c.loop-arm-test.true c.arm-item.is ∙ ap (λ b. b || beyond) (sym told.1 ∙ sym w.one_goes_on-is)
           ];
       class = told.2 ∙ inv.class;
       method = told.3 ∙ inv.method;
