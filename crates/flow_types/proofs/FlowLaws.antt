@@ -1,6 +1,6 @@
 -- Ways through statements: what the rules say at each kind, and statement by statement in a list.
 use Rattle.std.specs.Prelude.{◌||◌, if◌then◌else◌}
-use Rattle.std.proofs.Common.{◌≡◌, ℕ, suc, arith, ◌+◌, ◌<◌, ◌≤◌, Bool, true, false, Option, Some, None, Result, Ok, Err, List, [], ◌∷◌, length, drop, get_or, refl, sym, ap, subst, ◌∙◌}
+use Rattle.std.proofs.Common.{◌≡◌, ℕ, ◌+◌, ◌<◌, ◌≤◌, Bool, true, false, Option, Some, None, Result, Ok, Err, List, ◌∷◌, length, drop, get_or, refl, sym, ap, subst, ◌∙◌}
 use Rattle.py_tree.specs.declared.names.Place.{Place}
 use Rattle.py_tree.specs.declared.names.PlacedName.{PlacedName}
 use Rattle.py_tree.specs.declared.rule.RuleFault.{RuleFault}
@@ -17,7 +17,7 @@ use Rattle.py_tree.specs.ClassRules.{PlainTable}
 use Rattle.py_tree.specs.FlowEnvironment.{PlainLocal, shown, narrowed}
 use Rattle.py_tree.specs.ExpressionTypes.{with_found}
 use Rattle.py_tree.specs.Reachability.{goes_on, all_go_on, an_arm_goes_on, assigned_in}
-use Rattle.py_tree.specs.Flow.{Context, Known, Way, within_loop, condition_at, known_at, settled, meet, way, behind_ways, with_local, needs_none, local_fault, stored, item_of, named_at, on, begun, after_while, after_for, at_head, for_head, flow, flow_all, flow_arms}
+use Rattle.py_tree.specs.Flow.{Context, Way, within_loop, condition_at, known_at, settled, meet, way, behind_ways, with_local, needs_none, local_fault, stored, item_of, on, begun, after_while, after_for, at_head, for_head, flow, flow_all, flow_arms}
 use Rattle.py_tree.proofs.ReachRules.{goes_on_rules, stmts_split, stmts_end, arms_split, arms_end}
 use Rattle.py_tree.proofs.Views.{stmt-Pass, stmt-If, stmt-While, stmt-For}
 use Rattle.entity_tables.specs.declared.fault.RuleError.{RuleError}

@@ -1,11 +1,11 @@
 -- Locals at the head of a loop: one by one, and name by name.
 use Rattle.std.specs.Prelude.{◌||◌, ◌==◌, if◌then◌else◌, slice_set}
-use Rattle.std.proofs.Common.{◌≡◌, ℕ, zero, suc, arith, ◌+◌, ◌<◌, ◌≤◌, Bool, true, false, List, [], ◌∷◌, ◌++◌, length, map, take, drop, get_or, append-nil, refl, sym, ap, ◌∙◌}
+use Rattle.std.proofs.Common.{◌≡◌, ℕ, zero, suc, arith, ◌+◌, ◌<◌, ◌≤◌, Bool, true, false, List, [], ◌∷◌, ◌++◌, length, take, drop, get_or, append-nil, refl, sym, ap, ◌∙◌}
 use Rattle.std.proofs.lemmas.Bool.{eq-eqb, ne_eqb}
 use Rattle.std.proofs.lemmas.List.{drop_all, take_all}
 use Rattle.py_tree.specs.declared.stmt.Stmt.{Stmt}
 use Rattle.py_tree.specs.declared.stmt.Arm.{Arm, out-Arm}
-use Rattle.py_tree.specs.PlainStatements.{plain_stmt, plain_stmts, stmts_of, plain_arm, plain_arms, arms_of}
+use Rattle.py_tree.specs.PlainStatements.{plain_stmt, plain_stmts, stmts_of, plain_arms, arms_of}
 use Rattle.py_tree.specs.Reachability.{goes_on, assigns, assigned_in, assigned_in_arms}
 use Rattle.py_tree.specs.FlowEnvironment.{PlainLocal, has_name}
 use Rattle.py_tree.specs.Flow.{forgotten, at_head}

@@ -1,8 +1,8 @@
 -- Locals that are changed one by one.
-use Rattle.std.specs.Prelude.{◌==◌, not, if◌then◌else◌, slice_set, is_some, option_map}
+use Rattle.std.specs.Prelude.{◌==◌, if◌then◌else◌, slice_set, is_some, option_map}
 use Rattle.std.proofs.Common.{◌≡◌, ℕ, zero, suc, arith, ◌+◌, ◌<◌, ◌≤◌, Bool, true, false, Option, Some, None, List, [], ◌∷◌, ◌++◌, length, map, take, drop, get_or, append-nil, refl, sym, ap, ◌∙◌}
 use Rattle.std.proofs.lemmas.List.{drop_all, take_all, map-append}
-use Rattle.py_tree.specs.PlainTypes.{PlainTy, plain_ty}
+use Rattle.py_tree.specs.PlainTypes.{PlainTy}
 use Rattle.py_tree.specs.FlowEnvironment.{PlainLocal, local_of, has_none}
 use Rattle.py_tree.specs.Flow.{given, with_local}
 use Rattle.entity_types.specs.declared.env.Local.{Local}

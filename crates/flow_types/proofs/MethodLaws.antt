@@ -1,17 +1,17 @@
 -- Parameters as locals, methods by their numbers, and faults along them.
-use Rattle.std.specs.Prelude.{not, slice_get, if◌then◌else◌}
-use Rattle.std.proofs.Common.{◌≡◌, ℕ, zero, suc, arith, ◌+◌, ◌-◌, ◌<◌, ◌≤◌, Bool, true, false, Option, Some, None, Result, Ok, Err, List, [], ◌∷◌, ◌++◌, length, map, take, drop, get_or, drop-cons, refl, sym, ap, subst, ◌∙◌}
+use Rattle.std.specs.Prelude.{slice_get, if◌then◌else◌}
+use Rattle.std.proofs.Common.{◌≡◌, ℕ, zero, suc, arith, ◌+◌, ◌-◌, ◌<◌, ◌≤◌, true, false, Option, Some, None, Ok, Err, List, [], ◌∷◌, ◌++◌, length, map, take, drop, get_or, refl, sym, ap, subst, ◌∙◌}
 use Rattle.std.proofs.lemmas.List.{take_more, map-append, drop_all, length-map}
 use Rattle.py_tree.specs.declared.program.Method.{Method}
 use Rattle.py_tree.specs.declared.program.Class.{Class}
 use Rattle.py_tree.specs.declared.rule.RuleFault.{RuleFault}
 use Rattle.py_tree.specs.FlowEnvironment.{PlainLocal}
-use Rattle.py_tree.specs.PlainProgram.{PlainMethod, PlainClass, plain_method, plain_methods, plain_class, plain_classes}
+use Rattle.py_tree.specs.PlainProgram.{PlainMethod, plain_method, plain_class}
 use Rattle.py_tree.specs.ClassRules.{PlainTable, first_of, is_called, methods_of, program_fault}
 use Rattle.py_tree.specs.Flow.{param_local, fault_in, flow, method_locals, init_flow_fault, methods_flow_fault, class_flow_fault, classes_flow_fault}
 use Rattle.entity_tables.specs.declared.table.SigParam.{SigParam}
 use Rattle.entity_tables.specs.Views.{plain_sig_param}
-use Rattle.py_tree.proofs.ClassRuleLaws.{few_methods, few_classes, class_keeps}
+use Rattle.py_tree.proofs.ClassRuleLaws.{few_classes, few_methods}
 use Rattle.entity_types.specs.declared.env.Local.{Local}
 use Rattle.entity_types.specs.Views.{plain_local, plain_locals}
 use Rattle.entity_types.proofs.ListWalks.{from_item}
@@ -97,7 +97,7 @@ found_at (x ∷ cs) (suc i) c within is = found_at cs i c (omega arith) is
 -- a class of a program that breaks no class rule has few methods
 pub few_in_class : (names : List (List ℕ)) (cs : List Class) (i : ℕ) (c : Class) → i < length cs → c ≡ get_or cs i c → program_fault names (map plain_class cs) ≡ None → length (methods_of names (map plain_method c.members)) ≤ 256
 few_in_class names cs i c within is none =
-    few_methods names (map plain_class cs) (plain_class c) (class_keeps names (map plain_class cs) (plain_class c) i (found_at cs i c within is) none)
+    few_methods names (map plain_class cs) i (plain_class c) none (found_at cs i c within is)
 
 pub few_in_program : (names : List (List ℕ)) (cs : List Class) → program_fault names (map plain_class cs) ≡ None → length cs ≤ 256
 few_in_program names cs none = subst (λ n. n ≤ 256) (length-map cs plain_class) (few_classes names (map plain_class cs) none)

@@ -1,6 +1,6 @@
 -- What is known of locals one by one.
 use Rattle.std.specs.Prelude.{◌&&◌, min, slice_set}
-use Rattle.std.proofs.Common.{◌≡◌, ℕ, zero, suc, arith, ◌+◌, ◌<◌, ◌≤◌, Bool, false, List, [], ◌∷◌, ◌++◌, length, map, take, drop, get_or, append-nil, refl, sym, ap, ◌∙◌}
+use Rattle.std.proofs.Common.{◌≡◌, ℕ, zero, suc, arith, ◌+◌, ◌<◌, ◌≤◌, false, List, [], ◌∷◌, ◌++◌, length, map, take, drop, get_or, append-nil, refl, sym, ap, ◌∙◌}
 use Rattle.std.proofs.lemmas.List.{take_more, map-append, drop_all, take_all}
 use Rattle.py_tree.specs.FlowEnvironment.{PlainLocal, narrowed}
 use Rattle.py_tree.specs.Flow.{Known, known_at, known_of, with_known, settled, joined}

@@ -1,5 +1,5 @@
 -- The parts of an `if` and of loops, as ways lead through them.
-use Rattle.std.specs.Prelude.{ℕ, true, false, ◌∷◌, List, Some, None, Result, Ok, Err}
+use Rattle.std.specs.Prelude.{true, false, ◌∷◌, List, Some, Result, Ok}
 use Rattle.std.specs.declared.option.Option.{Option}
 use Rattle.py_tree.specs.declared.names.PlacedName.{PlacedName}
 use Rattle.py_tree.specs.declared.rule.RuleFault.{RuleFault}

@@ -11,10 +11,9 @@ ghost use Rattle.flow_types.specs.Answers.{Splits};
 
 use crate::context::Context;
 use crate::known::{Standing, Standings, join_way, settle, stand_where_met, way};
-use crate::reach::is_true;
 use crate::values::check_condition;
 use entity_types::{FlowEnv, Local, Locals, RuleError, narrow_here, shows};
-use py_tree::Expr;
+use py_tree::{Expr, is_true};
 use sf_list::Sequence;
 use std::alloc::{AllocError, Global};
 

@@ -6,9 +6,8 @@ ghost use Rattle.py_tree.specs.Reachability.{local_assigned, assigns, assigned_i
 ghost use Rattle.py_tree.specs.Flow as spec;
 ghost use Rattle.entity_types.specs.Views.{plain_local, plain_locals};
 
-use crate::reach::goes_on;
 use entity_types::{Local, Locals};
-use py_tree::{Arm, Name, Stmt, StmtKind, Target};
+use py_tree::{Arm, Name, Stmt, StmtKind, Target, goes_on};
 
 /// A local of this name is no longer surely not None.
 #[tactic(auto, using(crate::proofs::HeadLaws::name_laws), unfolding(py_tree::specs::Flow::at_head))]

@@ -28,7 +28,6 @@ mod locals;
 mod loops;
 mod methods;
 mod program;
-mod reach;
 mod simple;
 #[cfg(test)]
 mod tests;

@@ -16,13 +16,12 @@ use crate::context::Context;
 use crate::head::forget_assigned_in;
 use crate::known::{Standings, stand_where_met};
 use crate::loops::enter_for;
-use crate::reach::goes_on;
 use crate::simple::{
     assert_here, assign_here, augment_here, break_off, evaluate, go_to_head, raise_here,
     return_here,
 };
 use entity_types::{FlowEnv, RuleError};
-use py_tree::{Arm, Expr, Over, PlacedName, Stmt, StmtKind};
+use py_tree::{Arm, Expr, Over, PlacedName, Stmt, StmtKind, goes_on};
 use std::alloc::Global;
 
 /// The way through a statement, and whether it goes on behind it.
@@ -56,24 +55,12 @@ pub fn statement(
             value,
         } => augment_here(alloc, context, env, place, *target, *op, *op_place, value),
         StmtKind::If { arms, other } => {
+            let arms = arms.as_slice();
+            let other = other.as_slice();
             let mut ended = None;
-            let an_arm_goes_on = through_arms(
-                alloc,
-                context,
-                env,
-                breaks,
-                &mut ended,
-                arms.as_slice(),
-            )?;
-            let other_goes_on = through_other(
-                alloc,
-                context,
-                env,
-                breaks,
-                ended,
-                other.as_slice(),
-            )?;
-            Ok(an_arm_goes_on || other_goes_on)
+            let arms_go_on = through_arms(alloc, context, env, breaks, &mut ended, arms)?;
+            let other_goes_on = through_other(alloc, context, env, breaks, ended, other)?;
+            Ok(arms_go_on || other_goes_on)
         }
         StmtKind::While { test, body } => {
             while_loop(alloc, context, env, body.as_slice(), test)?;

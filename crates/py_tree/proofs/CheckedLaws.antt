@@ -1,5 +1,5 @@
 -- Classes and methods by their places.
-use Rattle.std.proofs.Common.{◌≡◌, ◌<◌, ◌≤◌, ◌+◌, ℕ, suc, arith, Bool, true, false, cond, List, [], ◌∷◌, drop, get_or, length, Some, None, sym, ap, ◌∙◌, drop-cons}
+use Rattle.std.proofs.Common.{◌≡◌, ◌<◌, ◌≤◌, ◌+◌, ℕ, suc, arith, Bool, true, false, cond, List, [], ◌∷◌, drop, get_or, length, filter, Option, Some, None, sym, ap, ◌∙◌, drop-cons}
 use Rattle.std.specs.Prelude.{◌==◌}
 use Rattle.std.specs.List.{position_from}
 use Rattle.std.proofs.lemmas.Bool.{eq-eqb, ne_eqb}

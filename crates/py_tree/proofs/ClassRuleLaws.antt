@@ -1,6 +1,6 @@
 -- What follows where no class rule is broken: each class keeps its rules, and there are few of each kind.
-use Rattle.std.proofs.Common.{◌≡◌, ℕ, zero, suc, arith, true, false, Bool, ◌+◌, ◌≤◌, Option, Some, None, List, [], ◌∷◌, ◌++◌, length, append_assoc, append-nil, length-append, refl, sym, ap, subst}
-use Rattle.std.specs.Prelude.{slice_get, ◌&&◌, cond}
+use Rattle.std.proofs.Common.{◌≡◌, ℕ, zero, suc, arith, true, false, Bool, ◌+◌, ◌≤◌, Option, Some, None, List, [], ◌∷◌, ◌++◌, length, append_assoc, append-nil, length-append, refl, sym, ap, ◌∙◌, subst}
+use Rattle.std.specs.Prelude.{filter, slice_get, ◌&&◌, cond}
 use Rattle.std.proofs.lemmas.List.Elements.{filter-append}
 use Rattle.py_tree.specs.declared.names.Place.{Place}
 use Rattle.py_tree.specs.declared.rule.Rule.{Rule}
@@ -55,10 +55,10 @@ unfolding program_fault
 few_classes names program none =
     stays class_name_fault length one_class_more [] program (omega arith) (head_none (first_in class_name_fault program) (first_in (λ before c. class_fault names program c) program ∷ []) none)
 
--- each class of a program without a broken rule breaks none
-pub class_keeps : (names : List (List ℕ)) (program : PlainProgram) (c : PlainClass) (k : ℕ) → slice_get program k ≡ Some c → program_fault names program ≡ None → class_fault names program c ≡ None
+-- the class of a number keeps its rules
+pub class_kept : (names : List (List ℕ)) (program : PlainProgram) (k : ℕ) (c : PlainClass) → program_fault names program ≡ None → slice_get program k ≡ Some c → class_fault names program c ≡ None
 unfolding program_fault
-class_keeps names program c k is none =
+class_kept names program k c none is =
     let classes : Option RuleFault = first_in (λ before c. class_fault names program c) program in
     each_kept (class_fault names program) [] program k c (head_none classes [] (rest_none (first_in class_name_fault program) (classes ∷ []) none)) is
 
@@ -81,8 +81,7 @@ one_method_more names program members before m small none =
     let name_kept : member_name_fault names before m ≡ None = head_none (member_name_fault names before m) later none in
     methods_with names before m (is_called names m.name) refl (not_broken TooMany m.place full (head_none (broken TooMany m.place full) others name_kept)) small
 
--- the methods that are called by name are few
-pub few_methods : (names : List (List ℕ)) (program : PlainProgram) (c : PlainClass) → class_fault names program c ≡ None → length (methods_of names c.members) ≤ 256
+pub few_methods : (names : List (List ℕ)) (program : PlainProgram) (k : ℕ) (c : PlainClass) → program_fault names program ≡ None → slice_get program k ≡ Some c → length (methods_of names c.members) ≤ 256
 unfolding class_fault methods_of
-few_methods names program c none =
-    stays (member_fault names program c.members) (λ ms. length (methods_of names ms)) (one_method_more names program c.members) [] c.members (omega arith) (head_none (first_in (member_fault names program c.members) c.members) (whole_fault names c ∷ []) none)
+few_methods names program k c none is =
+    stays (member_fault names program c.members) (λ ms. length (methods_of names ms)) (one_method_more names program c.members) [] c.members (omega arith) (head_none (first_in (member_fault names program c.members) c.members) (whole_fault names c ∷ []) (class_kept names program k c none is))

@@ -1,4 +1,6 @@
+pub mod CountLaws
 pub mod LoadLaws
+pub mod PrintLaws
 pub mod OneReading
 pub mod GainedLaws
 pub mod AnswerLaws

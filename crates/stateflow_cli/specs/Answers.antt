@@ -1,82 +1,123 @@
--- The answers of the top call: what each status says, and when the call answers that it ran.
+-- The answers of the top call: what each status says, and when the call answers that it did what was asked.
 use Rattle.std.specs.Prelude.{ℕ, ◌≡◌, ◌≤◌, ◌<◌, ◌⊎◌, List, [], length, None, Some, Ok, ⊤}
 use Rattle.std.specs.declared.option.Option.{Option}
-use Rattle.std.specs.Io.KnownBytes.{Keeps}
+use Rattle.std.specs.Io.KnownBytes.{Appends, Keeps}
+use Rattle.sf_outside.specs.Bytes.{AppendsPrefix}
 use Rattle.sf_outside.specs.Causes.{Rose}
 use Rattle.py_tree.specs.PlainProgram.{PlainProgram}
 use Rattle.session.specs.declared.feeding.InputEnd.TheVariants.{End}
 use Rattle.session.specs.SerialOutput.{SerialRun}
+use Rattle.stateflow_cli.specs.Words.{Asked, Check, Run, file_of}
+use Rattle.stateflow_cli.specs.CheckLine.{check_line}
 use Rattle.stateflow_cli.specs.Devices.{Devices, Untouched}
-use Rattle.stateflow_cli.specs.Loading.{IsProgramText, Refuses, Loaded, source_in}
-use Rattle.stateflow_cli.specs.Endings.{Ends, Ran}
-use Rattle.stateflow_cli.specs.StatusLines.{status_of, line_of}
+use Rattle.stateflow_cli.specs.Loading.{IsAcceptedText, IsProgramText, HasFault, IsNotRun, Refuses, Holds, Loaded, source_in}
+use Rattle.stateflow_cli.specs.Endings.{Ends, Prints, Ran}
+use Rattle.stateflow_cli.specs.StatusLines.{status_of, line_of, fault_line}
 use Rattle.stateflow_cli.specs.Telling.{Told}
 use Rattle.stateflow_cli.specs.declared.ending.Ending.{Ending}
 use Rattle.stateflow_cli.specs.declared.fault.TextFault.{TextFault}
 
 -- the file that was asked for, or no name
-abbrev pub file_in : Option (List ℕ) → List ℕ
+abbrev pub file_in : Option Asked → List ℕ
 file_in None = []
-file_in (Some file) = file
+file_in (Some asked) = file_of asked
 
 -- the call ended for some reason, and told it
-pub record Answers (limit : ℕ) (asked : Option (List ℕ)) (before after : Devices) (said said' : Option (List ℕ)) (errors errors' status : ℕ) : Type 0 where
+pub record Answers (limit : ℕ) (asked : Option Asked) (before after : Devices) (said said' : Option (List ℕ)) (errors errors' status : ℕ) : Type 0 where
   pub ending : Ending
   pub ends : Ends limit asked before after ending
   pub told : Told (line_of (file_in asked) ending) (status_of ending) said said' errors errors' status
 
--- a file is asked for, and its program answered every line of the whole input
-abbrev pub Completes : ℕ → Option (List ℕ) → Devices → Devices → Type 0
+-- the line of the file's program was printed, or that program answered every line of the whole input
+abbrev pub Completes : ℕ → Option Asked → Devices → Devices → Type 0
 Completes limit None before after = ⊥
-Completes limit (Some file) before after = Ran limit file before after (Ok End)
+Completes limit (Some (Check file)) before after = Prints file before after
+Completes limit (Some (Run file)) before after = Ran limit file before after (Ok End)
 
--- the output gained nothing, or what a serial run of the file's program prints, or a prefix of that
-abbrev pub PrintsSerially : Option (List ℕ) → Devices → Devices → Type 0
+-- the output gained a front of the line of the file's program
+pub record PrintsFront (file : List ℕ) (before after : Devices) : Type 0 where
+  pub holds : Holds (before.content file)
+  pub front : AppendsPrefix before.held after.held (check_line holds.names holds.program)
+
+-- the text of the file has a fault, which was told
+pub record TellsFault (file : List ℕ) (before : Devices) (said said' : Option (List ℕ)) : Type 0 where
+  pub fault : TextFault
+  pub refused : Refuses (Check file) (before.content file) fault
+  pub line : Appends said said' (fault_line file fault)
+
+-- `check` took nothing from the input; it printed the line of the file's program, or told the fault of its text, or neither;
+-- where the output or the error stream failed, a front of the line may stand on the output
+pub record Checks (file : List ℕ) (before after : Devices) (said said' : Option (List ℕ)) (status : ℕ) : Type 0 where
+  pub left : Keeps before.left after.left
+  pub printed : status ≡ 0 → Prints file before after × Appends said said' []
+  pub told : status ≡ 1 → TellsFault file before said said'
+  pub unwritten : status ≡ 4 → Keeps before.held after.held ⊎ PrintsFront file before after
+  pub nothing : (status ≡ 0 → ⊥) → (status ≡ 4 → ⊥) → Keeps before.held after.held
+
+abbrev pub ChecksText : Option Asked → Devices → Devices → Option (List ℕ) → Option (List ℕ) → ℕ → Type 0
+ChecksText None before after said said' status = ⊤
+ChecksText (Some (Check file)) before after said said' status = Checks file before after said said' status
+ChecksText (Some (Run file)) before after said said' status = ⊤
+
+-- the output gained nothing, or what a serial run of the file's program prints, or a prefix of that; `check` runs nothing
+abbrev pub PrintsSerially : Option Asked → Devices → Devices → Type 0
 PrintsSerially None before after = Keeps before.held after.held
-PrintsSerially (Some file) before after = Keeps before.held after.held ⊎ ((l : Loaded (before.content file)) × SerialRun (source_in (before.content file) l) before.held after.held)
+PrintsSerially (Some (Check file)) before after = Keeps before.held after.held ⊎ PrintsFront file before after
+PrintsSerially (Some (Run file)) before after = Keeps before.held after.held ⊎ ((l : Loaded (before.content file)) × SerialRun (source_in (before.content file) l) before.held after.held)
 
--- the text of the file that is asked for has a fault
-abbrev pub IsRefused : Option (List ℕ) → Devices → Type 0
+-- the text of the file is refused by the command that is asked for
+abbrev pub IsRefused : Option Asked → Devices → Type 0
 IsRefused None before = ⊥
-IsRefused (Some file) before = (fault : TextFault) × Refuses (before.content file) fault
+IsRefused (Some asked) before = (fault : TextFault) × Refuses asked (before.content (file_of asked)) fault
 
--- a fault of the file that is asked for was counted
-abbrev pub FileRose : Option (List ℕ) → Devices → Devices → Type 0
-FileRose None before after = ⊥
-FileRose (Some file) before after = Rose (before.file_faults file) (after.file_faults file)
+-- a fault of the file, or of the input where that is served, was counted
+abbrev pub ReadRose : Option Asked → Devices → Devices → Type 0
+ReadRose None before after = ⊥
+ReadRose (Some (Check file)) before after = Rose (before.file_faults file) (after.file_faults file)
+ReadRose (Some (Run file)) before after = Rose (before.file_faults file) (after.file_faults file) ⊎ Rose before.input_faults after.input_faults
 
--- where the input is told
-abbrev pub IsLonger : ℕ → Option (List ℕ) → Type 0
-IsLonger limit None = ⊤
-IsLonger limit (Some all) = limit < length all
+-- where the input is served and told
+abbrev pub IsLonger : ℕ → Option Asked → Option (List ℕ) → Type 0
+IsLonger limit None left = ⊥
+IsLonger limit (Some (Check file)) left = ⊥
+IsLonger limit (Some (Run file)) None = ⊤
+IsLonger limit (Some (Run file)) (Some all) = limit < length all
 
-abbrev pub IsWithin : ℕ → Option (List ℕ) → Type 0
-IsWithin limit None = ⊤
-IsWithin limit (Some all) = length all ≤ limit
+abbrev pub IsWithin : ℕ → Option Asked → Option (List ℕ) → Type 0
+IsWithin limit None left = ⊥
+IsWithin limit (Some (Check file)) left = ⊤
+IsWithin limit (Some (Run file)) None = ⊤
+IsWithin limit (Some (Run file)) (Some all) = length all ≤ limit
 
 -- each status has its cause; that of want of memory alone is free
-pub record HasCauses (limit : ℕ) (asked : Option (List ℕ)) (before after : Devices) (errors errors' status : ℕ) : Type 0 where
-  pub ran : status ≡ 0 → IsWithin limit before.left
+pub record HasCauses (limit : ℕ) (asked : Option Asked) (before after : Devices) (errors errors' status : ℕ) : Type 0 where
+  pub done : status ≡ 0 → IsWithin limit asked before.left
   pub refused : status ≡ 1 → IsRefused asked before × Untouched before after
   pub misused : status ≡ 2 → (asked ≡ None) × Untouched before after
-  pub unread : status ≡ 3 → FileRose asked before after ⊎ Rose before.input_faults after.input_faults
+  pub unread : status ≡ 3 → ReadRose asked before after
   pub unwritten : status ≡ 4 → Rose before.out_faults after.out_faults ⊎ Rose errors errors'
-  pub too_long : status ≡ 9 → IsLonger limit before.left
+  pub too_long : status ≡ 9 → IsLonger limit asked before.left
 
--- a program of today is asked for, and no fault was counted
-pub record IsUndisturbed (asked : Option (List ℕ)) (before after : Devices) (errors errors' : ℕ) : Type 0 where
-  pub file : List ℕ
-  pub is_asked : asked ≡ Some file
-  pub text : List ℕ
+-- the text of the file that is asked for is told, and no fault was counted
+pub record IsUndisturbed (file : List ℕ) (text : List ℕ) (before after : Devices) (errors errors' : ℕ) : Type 0 where
   pub holds : before.content file ≡ Some text
-  pub program : PlainProgram
-  pub names : List (List ℕ)
-  pub is_program : IsProgramText text program names
   pub file_still : Rose (before.file_faults file) (after.file_faults file) → ⊥
   pub input_still : Rose before.input_faults after.input_faults → ⊥
   pub out_still : Rose before.out_faults after.out_faults → ⊥
   pub err_still : Rose errors errors' → ⊥
 
--- it ran to the end, memory ran out, or the input was too long
-abbrev pub RunsOut : ℕ → Type 0
-RunsOut status = (status ≡ 0) ⊎ ((status ≡ 8) ⊎ (status ≡ 9))
+-- the line was printed where the text is accepted, and else its fault was told; or memory ran out
+pub record ChecksWhole (text : List ℕ) (status : ℕ) : Type 0 where
+  pub accepted : (program : PlainProgram) (names : List (List ℕ)) → IsAcceptedText text program names → (status ≡ 0) ⊎ (status ≡ 8)
+  pub refused : (fault : TextFault) → HasFault text fault → (status ≡ 1) ⊎ (status ≡ 8)
+
+-- it ran to the end, or the input was too long, where the text is a program of today, and else that was told; or memory ran out
+pub record RunsWhole (text : List ℕ) (status : ℕ) : Type 0 where
+  pub ran : (program : PlainProgram) (names : List (List ℕ)) → IsProgramText text program names → (status ≡ 0) ⊎ ((status ≡ 8) ⊎ (status ≡ 9))
+  pub refused : (fault : TextFault) → IsNotRun text fault → (status ≡ 1) ⊎ (status ≡ 8)
+
+-- what an undisturbed call answers
+abbrev pub IsComplete : Option Asked → Devices → Devices → ℕ → ℕ → ℕ → Type 0
+IsComplete None before after errors errors' status = (Rose errors errors' → ⊥) → status ≡ 2
+IsComplete (Some (Check file)) before after errors errors' status = (text : List ℕ) → IsUndisturbed file text before after errors errors' → ChecksWhole text status
+IsComplete (Some (Run file)) before after errors errors' status = (text : List ℕ) → IsUndisturbed file text before after errors errors' → RunsWhole text status

@@ -1,4 +1,5 @@
 pub mod Words
+pub mod CheckLine
 pub mod StatusLines
 pub mod Devices
 pub mod Loading

@@ -3,6 +3,8 @@ use Rattle.std.specs.Prelude.{ℕ, List, [], ◌∷◌, codes, decimal}
 use Rattle.std.specs.List.{concat}
 use Rattle.py_tree.specs.declared.fault.SyntaxKind.{SyntaxKind}
 use Rattle.py_tree.specs.declared.fault.SyntaxKind.TheVariants.{Unexpected, LeftOut, TooDeep}
+use Rattle.py_tree.specs.declared.rule.Rule.{Rule}
+use Rattle.py_tree.specs.declared.rule.Rule.TheVariants as rule
 use Rattle.py_lexer.specs.declared.fault.LexKind.{LexKind}
 use Rattle.py_lexer.specs.declared.fault.LexKind.TheVariants as lex
 use Rattle.sf_outside.specs.declared.gains.WriteStop.{WriteStop}
@@ -10,16 +12,18 @@ use Rattle.sf_outside.specs.declared.gains.WriteStop.TheVariants as stop
 use Rattle.session.specs.declared.feeding.InputEnd.{InputEnd}
 use Rattle.session.specs.declared.feeding.InputEnd.TheVariants as input
 use Rattle.stateflow_cli.specs.declared.fault.FaultKind.{FaultKind}
-use Rattle.stateflow_cli.specs.declared.fault.FaultKind.TheVariants.{Lexical, Syntax, Unsupported}
+use Rattle.stateflow_cli.specs.declared.fault.FaultKind.TheVariants.{Lexical, Syntax, Broken, Unsupported}
 use Rattle.stateflow_cli.specs.declared.fault.TextFault.{TextFault}
 use Rattle.stateflow_cli.specs.declared.ending.Ending.{Ending}
-use Rattle.stateflow_cli.specs.declared.ending.Ending.TheVariants.{Misused, Refused, FileFault, NoMemory, Served, Stopped}
+use Rattle.stateflow_cli.specs.declared.ending.Ending.TheVariants.{Misused, Refused, FileFault, NoMemory, Printed, Unprinted, Served, Stopped}
 
 abbrev pub status_of : Ending → ℕ
 status_of Misused = 2
 status_of (Refused fault) = 1
 status_of FileFault = 3
 status_of NoMemory = 8
+status_of Printed = 0
+status_of Unprinted = 4
 status_of (Served input.End) = 0
 status_of (Served input.ReadFault) = 3
 status_of (Served input.TooLong) = 9
@@ -46,9 +50,35 @@ syntax_name Unexpected = codes "Unexpected"
 syntax_name LeftOut = codes "LeftOut"
 syntax_name TooDeep = codes "TooDeep"
 
+abbrev pub rule_name : Rule → List ℕ
+rule_name rule.TooMany = codes "TooMany"
+rule_name rule.ReservedName = codes "ReservedName"
+rule_name rule.DuplicateClass = codes "DuplicateClass"
+rule_name rule.DuplicateMember = codes "DuplicateMember"
+rule_name rule.MissingAnnotation = codes "MissingAnnotation"
+rule_name rule.UnknownType = codes "UnknownType"
+rule_name rule.NestedOptional = codes "NestedOptional"
+rule_name rule.InitForm = codes "InitForm"
+rule_name rule.KeyForm = codes "KeyForm"
+rule_name rule.UnknownName = codes "UnknownName"
+rule_name rule.Unassigned = codes "Unassigned"
+rule_name rule.RemoteField = codes "RemoteField"
+rule_name rule.UnknownField = codes "UnknownField"
+rule_name rule.NoneUse = codes "NoneUse"
+rule_name rule.Operand = codes "Operand"
+rule_name rule.UnknownMethod = codes "UnknownMethod"
+rule_name rule.ArgCount = codes "ArgCount"
+rule_name rule.Mismatch = codes "Mismatch"
+rule_name rule.EmptyListType = codes "EmptyListType"
+rule_name rule.LocalRetyped = codes "LocalRetyped"
+rule_name rule.KeyAssigned = codes "KeyAssigned"
+rule_name rule.LoopWord = codes "LoopWord"
+rule_name rule.MissingReturn = codes "MissingReturn"
+
 abbrev pub kind_name : FaultKind → List ℕ
 kind_name (Lexical kind) = lex_name kind
 kind_name (Syntax kind) = syntax_name kind
+kind_name (Broken rule) = rule_name rule
 kind_name Unsupported = codes "Unsupported"
 
 -- `stateflow: FILE:LINE:COL: KIND`
@@ -80,11 +110,13 @@ abbrev pub stop_line : WriteStop → List ℕ
 stop_line stop.NoMemory = no_memory_line
 stop_line stop.WriteFault = write_fault_line
 
--- what is said of a call that ran this file
+-- what is said of a call on this file
 abbrev pub line_of : List ℕ → Ending → List ℕ
 line_of file Misused = usage_line
 line_of file (Refused fault) = fault_line file fault
 line_of file FileFault = read_fault_line
 line_of file NoMemory = no_memory_line
+line_of file Printed = []
+line_of file Unprinted = write_fault_line
 line_of file (Served end) = end_line end
 line_of file (Stopped stop) = stop_line stop

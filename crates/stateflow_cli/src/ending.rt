@@ -15,8 +15,12 @@ pub enum Ending {
     Refused(TextFault),
     /// The file could not be read.
     FileFault,
-    /// Memory ran out before the input was read.
+    /// Memory ran out before anything was read of the input or printed.
     NoMemory,
+    /// What was found of the program was printed.
+    Printed,
+    /// The output failed as that was printed.
+    Unprinted,
     /// The program served the input, as far as that could be read.
     Served(InputEnd),
     /// The program served the input until this stop.
@@ -28,11 +32,11 @@ impl Ending {
         ensures { result ≡ status_of self }
     {
         match self {
-            Ending::Served(InputEnd::End) => 0,
+            Ending::Printed | Ending::Served(InputEnd::End) => 0,
             Ending::Refused(_) => 1,
             Ending::Misused => 2,
             Ending::FileFault | Ending::Served(InputEnd::ReadFault) => 3,
-            Ending::Stopped(WriteStop::WriteFault) => 4,
+            Ending::Unprinted | Ending::Stopped(WriteStop::WriteFault) => 4,
             Ending::NoMemory | Ending::Stopped(WriteStop::NoMemory) => 8,
             Ending::Served(InputEnd::TooLong) => 9,
         }

@@ -1,10 +1,10 @@
-//! Why a text is no program of today.
+//! Why a text is refused.
 
 ghost use Rattle.std.specs.Prelude.{◌≡◌};
-ghost use Rattle.stateflow_cli.specs.StatusLines.{lex_name, syntax_name, kind_name};
+ghost use Rattle.stateflow_cli.specs.StatusLines.{lex_name, syntax_name, rule_name, kind_name};
 
 use py_lexer::LexKind;
-use py_tree::{Place, SyntaxKind};
+use py_tree::{Place, Rule, SyntaxKind};
 
 #[derive(Clone, Copy, PartialEq, Eq, Debug)]
 pub enum FaultKind {
@@ -12,6 +12,8 @@ pub enum FaultKind {
     Lexical(LexKind),
     /// Its lines have no tree.
     Syntax(SyntaxKind),
+    /// Its program breaks this rule.
+    Broken(Rule),
     /// Its program isn't one of those that are run today.
     Unsupported,
 }
@@ -50,6 +52,36 @@ fn name_of_syntax(kind: SyntaxKind) -> &'static [u8]
     }
 }
 
+fn name_of_rule(rule: Rule) -> &'static [u8]
+    ensures { result.now ≡ rule_name rule }
+{
+    match rule {
+        Rule::TooMany => b"TooMany",
+        Rule::ReservedName => b"ReservedName",
+        Rule::DuplicateClass => b"DuplicateClass",
+        Rule::DuplicateMember => b"DuplicateMember",
+        Rule::MissingAnnotation => b"MissingAnnotation",
+        Rule::UnknownType => b"UnknownType",
+        Rule::NestedOptional => b"NestedOptional",
+        Rule::InitForm => b"InitForm",
+        Rule::KeyForm => b"KeyForm",
+        Rule::UnknownName => b"UnknownName",
+        Rule::Unassigned => b"Unassigned",
+        Rule::RemoteField => b"RemoteField",
+        Rule::UnknownField => b"UnknownField",
+        Rule::NoneUse => b"NoneUse",
+        Rule::Operand => b"Operand",
+        Rule::UnknownMethod => b"UnknownMethod",
+        Rule::ArgCount => b"ArgCount",
+        Rule::Mismatch => b"Mismatch",
+        Rule::EmptyListType => b"EmptyListType",
+        Rule::LocalRetyped => b"LocalRetyped",
+        Rule::KeyAssigned => b"KeyAssigned",
+        Rule::LoopWord => b"LoopWord",
+        Rule::MissingReturn => b"MissingReturn",
+    }
+}
+
 impl FaultKind {
     /// The kind as it is told.
     pub(crate) fn name(self) -> &'static [u8]
@@ -58,6 +90,7 @@ impl FaultKind {
         match self {
             FaultKind::Lexical(kind) => name_of_lexical(kind),
             FaultKind::Syntax(kind) => name_of_syntax(kind),
+            FaultKind::Broken(rule) => name_of_rule(rule),
             FaultKind::Unsupported => b"Unsupported",
         }
     }

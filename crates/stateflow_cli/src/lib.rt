@@ -1,10 +1,13 @@
 //! The top call of StateFlow: from words, files, an input and two outputs to a status.
 #![tactic(auto)]
 
+mod checking;
 mod ending;
 mod fault;
 mod laws;
 mod loading;
+mod pieces;
+mod printing;
 mod real_devices;
 mod running;
 mod telling;
@@ -14,6 +17,6 @@ mod top_call;
 mod words;
 
 pub use fault::{FaultKind, TextFault};
-pub use laws::has_one_reading;
+pub use laws::{has_one_reading, is_run_or_not};
 pub use real_devices::{NamedFiles, Reading, Writing};
 pub use top_call::stateflow;

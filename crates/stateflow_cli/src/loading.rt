@@ -1,12 +1,15 @@
-//! From a file to its program.
+//! From a file to its program, or to its fault.
 
 ghost use Rattle.std.specs.Prelude.{◌≡◌, ◌≤◌, ◌<◌, min, IfOk, Err};
 ghost use Rattle.sf_outside.specs.Causes.{Rose};
-ghost use Rattle.stateflow_cli.specs.Loading.{MayBegin, Reads, Gives};
+ghost use Rattle.stateflow_cli.specs.Loading.{MayBegin, Judges, ReadsAs, Gives, IsOf, IsCounted, IsParsed, HasFault, IsNotRun};
 ghost use Rattle.stateflow_cli.specs.declared.fault.TextFault.{TextFault as AFault};
 
 use crate::fault::{FaultKind, TextFault};
-use py_lexer::{LexError, lex};
+use crate::printing::Counts;
+use entity_tables::{RuleError, Tables, tables};
+use flow_types::check_program;
+use py_lexer::{LexError, Lines, lex};
 use py_parser::{Parsed, SyntaxError, is_first_path, parse};
 use py_tree::Place;
 use sf_outside::{Failed, Files};
@@ -23,6 +26,14 @@ const UNSUPPORTED: TextFault = TextFault {
     place: Place { line: 1, col: 1 },
     kind: FaultKind::Unsupported,
 };
+
+/// An accepted program, the logical lines that it was read from, and the tables of its classes.
+#[derive(Drop)]
+pub struct Accepted {
+    pub lines: Lines,
+    pub parsed: Parsed,
+    pub tables: Tables,
+}
 
 /// Why a file gives no program.
 #[derive(Clone, Copy, PartialEq, Eq, Debug)]
@@ -88,6 +99,23 @@ impl From<SyntaxError> for LoadStop {
     }
 }
 
+impl From<RuleError> for LoadStop {
+    ghost use Rattle.std.specs.Prelude.{◌≡◌};
+    ghost use Rattle.stateflow_cli.specs.Loading.{rule_stop};
+
+    ghost from_gives = { λ error stop. stop ≡ rule_stop error };
+
+    fn from(error: RuleError) -> LoadStop {
+        match error {
+            RuleError::Fault(fault) => LoadStop::Refused(TextFault {
+                place: fault.place,
+                kind: FaultKind::Broken(fault.rule),
+            }),
+            RuleError::NoMemory => LoadStop::NoMemory,
+        }
+    }
+}
+
 /// The next piece's greatest size.
 fn room_for(left: usize) -> usize
     requires { 0 < left }
@@ -122,21 +150,60 @@ fn read_first<F: Files>(
     Ok(text)
 }
 
-/// The program of a text.
-fn read_program(alloc: Global, text: &[u8]) -> Result<Parsed, LoadStop>
-    ensures { Reads text.now result }
+/// The tables of a program that keeps every rule: first those on classes, then those on types and statements.
+fn judge(alloc: Global, parsed: &Parsed) -> Result<Tables, LoadStop>
+    ensures { Judges parsed.now result }
+{
+    let tables = tables(alloc, &parsed.program, &parsed.names)?;
+    check_program(alloc, &tables, &parsed.program, &parsed.names)?;
+    Ok(tables)
+}
+
+/// The program of a text that is accepted.
+fn read_accepted(alloc: Global, text: &[u8]) -> Result<Accepted, LoadStop>
+    ensures { ReadsAs IsOf HasFault text.now result }
 {
     let lines = lex(alloc, text)?;
     let parsed = parse(alloc, &lines, text)?;
-    if !is_first_path(alloc, text, &lines, &parsed.names)? {
-        return Err(LoadStop::Refused(UNSUPPORTED));
-    }
-    Ok(parsed)
+    let tables = judge(alloc, &parsed)?;
+    Ok(Accepted {
+        lines,
+        parsed,
+        tables,
+    })
 }
 
-/// Reads a file's program.
+/// What there is to count in a text that is accepted.
+fn read_counts(alloc: Global, text: &[u8]) -> Result<Counts, LoadStop>
+    ensures { ReadsAs IsCounted HasFault text.now result }
+{
+    let accepted = read_accepted(alloc, text)?;
+    Ok(Counts::of(accepted.tables.as_slice()))
+}
+
+/// The program of a text that is run.
+fn read_program(alloc: Global, text: &[u8]) -> Result<Parsed, LoadStop>
+    ensures { ReadsAs IsParsed IsNotRun text.now result }
+{
+    let accepted = read_accepted(alloc, text)?;
+    if !is_first_path(alloc, text, &accepted.lines, &accepted.parsed.names)? {
+        return Err(LoadStop::Refused(UNSUPPORTED));
+    }
+    Ok(accepted.parsed)
+}
+
+/// Reads what there is to count in a file's program.
+pub(crate) fn count<F: Files>(alloc: Global, files: &mut F, name: &str) -> Result<Counts, LoadStop>
+    ensures gives { Gives IsCounted HasFault (F.content files.old name.now) result }
+    ensures cause { result ≡ Err LoadStop.FileFault → Rose (F.faults files.old name.now) (F.faults files.new name.now) }
+{
+    let text = read_first(alloc, LONGEST_READ, files, name)?;
+    read_counts(alloc, text.as_slice())
+}
+
+/// Reads a file's program that is run.
 pub(crate) fn load<F: Files>(alloc: Global, files: &mut F, name: &str) -> Result<Parsed, LoadStop>
-    ensures gives { Gives (F.content files.old name.now) result }
+    ensures gives { Gives IsParsed IsNotRun (F.content files.old name.now) result }
     ensures cause { result ≡ Err LoadStop.FileFault → Rose (F.faults files.old name.now) (F.faults files.new name.now) }
 {
     let text = read_first(alloc, LONGEST_READ, files, name)?;

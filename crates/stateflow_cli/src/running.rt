@@ -1,8 +1,8 @@
 //! Running a file's program on the input.
 
-ghost use Rattle.std.specs.Prelude.{ℕ, ◌≡◌, map, string_bytes};
-ghost use Rattle.stateflow_cli.specs.Words.{asked};
-ghost use Rattle.stateflow_cli.specs.Endings.{EndsOn, Ends, longest_input};
+ghost use Rattle.stateflow_cli.specs.Words.{Run};
+ghost use Rattle.stateflow_cli.specs.Devices.{devices};
+ghost use Rattle.stateflow_cli.specs.Endings.{EndsOn, longest_input};
 
 use crate::ending::Ending;
 use crate::loading::{LoadStop, load};
@@ -21,9 +21,9 @@ pub(crate) fn run_file<F: Files, S: Source, K: Sink>(
     input: &mut S,
     out: &mut K,
 ) -> Ending
-    ensures { EndsOn longest_input file.now
-        (record { content = F.content files.old; file_faults = F.faults files.old; left = S.left input.old; input_faults = S.faults input.old; held = K.held out.old; out_faults = K.faults out.old })
-        (record { content = F.content files.new; file_faults = F.faults files.new; left = S.left input.new; input_faults = S.faults input.new; held = K.held out.new; out_faults = K.faults out.new })
+    ensures { EndsOn longest_input (Run file.now)
+        (devices (F.content files.old) (F.faults files.old) (S.left input.old) (S.faults input.old) (K.held out.old) (K.faults out.old))
+        (devices (F.content files.new) (F.faults files.new) (S.left input.new) (S.faults input.new) (K.held out.new) (K.faults out.new))
         result }
 {
     let parsed = match load(alloc, files, file) {

@@ -10,6 +10,7 @@ ghost use Rattle.stateflow_cli.specs.Telling.{Told};
 
 use crate::ending::Ending;
 use crate::fault::TextFault;
+use crate::pieces::write_pieces;
 use itoa::Buffer;
 use session::InputEnd;
 use sf_outside::{Failed, Sink, WriteStop};
@@ -27,18 +28,6 @@ const WRITE_FAULT_LINE: &[u8] = b"stateflow: write fault\n";
 const NO_MEMORY_LINE: &[u8] = b"stateflow: out of memory\n";
 
 const TOO_LONG_LINE: &[u8] = b"stateflow: input too long\n";
-
-/// Writes pieces one after another.
-fn write_pieces<E: Sink>(err: &mut E, pieces: &[&[u8]]) -> Result<(), Failed>
-    ensures whole { OnOk result (Appends (E.held err.old) (E.held err.new) (concat (map (λ piece. piece.now) pieces.now))) }
-    ensures part { OnErr result (AppendsPrefix (E.held err.old) (E.held err.new) (concat (map (λ piece. piece.now) pieces.now))) }
-    ensures cause { HasCause (E.faults err.old) (E.faults err.new) result }
-{
-    for piece in pieces {
-        err.write(piece)?;
-    }
-    Ok(())
-}
 
 /// Says what a file's fault is, where the digits of its line and column are given.
 fn say_placed<E: Sink>(
@@ -117,6 +106,8 @@ fn say<E: Sink>(err: &mut E, file: &str, ending: Ending) -> Result<(), Failed>
         Ending::Refused(fault) => say_fault(err, file, fault),
         Ending::FileFault => err.write(READ_FAULT_LINE),
         Ending::NoMemory => err.write(NO_MEMORY_LINE),
+        Ending::Printed => Ok(()),
+        Ending::Unprinted => err.write(WRITE_FAULT_LINE),
         Ending::Served(end) => say_end(err, end),
         Ending::Stopped(stop) => say_stop(err, stop),
     }

@@ -1,14 +1,21 @@
 //! The top call over forms in memory: one run, and each call of a device failing in turn.
 
+mod accepted_texts;
 mod bounds;
+mod check_rows;
+mod checking;
+mod class_rules;
+mod flow_rules;
 mod levels;
 mod lexing;
 mod order;
 mod parsing;
 mod refused_texts;
 mod refused_tokens;
+mod rule_order;
 mod shop;
 mod trees;
+mod type_rules;
 
 use crate::stateflow;
 use sf_outside::{MemFiles, MemSink, MemSource, Source};

@@ -1,19 +1,39 @@
 //! The top call.
 
 ghost use Rattle.std.specs.Prelude.{ℕ, ◌≡◌, map, string_bytes};
-ghost use Rattle.stateflow_cli.specs.Words.{asked};
+ghost use Rattle.stateflow_cli.specs.Words.{asked, asked_by};
 ghost use Rattle.stateflow_cli.specs.Devices.{devices};
-ghost use Rattle.stateflow_cli.specs.Endings.{longest_input};
-ghost use Rattle.stateflow_cli.specs.Answers.{Answers, Completes, PrintsSerially, HasCauses, IsUndisturbed, RunsOut};
+ghost use Rattle.stateflow_cli.specs.Endings.{EndsOn, longest_input};
+ghost use Rattle.stateflow_cli.specs.Answers.{Answers, Completes, PrintsSerially, HasCauses, IsComplete, ChecksText};
 
+use crate::checking::check_file;
 use crate::ending::Ending;
 use crate::running::run_file;
 use crate::telling::tell;
-use crate::words::asked_file;
+use crate::words::{Command, command_of};
 use sf_outside::{Files, Sink, Source};
 use std::alloc::Global;
 
-/// Runs what the words ask for, and tells how it ended.
+/// Does what is asked.
+fn perform<F: Files, S: Source, K: Sink>(
+    alloc: Global,
+    command: Command<'_>,
+    files: &mut F,
+    input: &mut S,
+    out: &mut K,
+) -> Ending
+    ensures { EndsOn longest_input (asked_by command.entry)
+        (devices (F.content files.old) (F.faults files.old) (S.left input.old) (S.faults input.old) (K.held out.old) (K.faults out.old))
+        (devices (F.content files.new) (F.faults files.new) (S.left input.new) (S.faults input.new) (K.held out.new) (K.faults out.new))
+        result }
+{
+    match command {
+        Command::Check(file) => check_file(alloc, file, files, out),
+        Command::Run(file) => run_file(alloc, file, files, input, out),
+    }
+}
+
+/// Does what the words ask for, and tells how it ended.
 fn run_words<F: Files, S: Source, K: Sink, E: Sink>(
     alloc: Global,
     words: &[String],
@@ -27,16 +47,17 @@ fn run_words<F: Files, S: Source, K: Sink, E: Sink>(
         (devices (F.content files.new) (F.faults files.new) (S.left input.new) (S.faults input.new) (K.held out.new) (K.faults out.new))
         (E.held err.old) (E.held err.new) (E.faults err.old) (E.faults err.new) result }
 {
-    match asked_file(words) {
+    match command_of(words) {
         None => tell(err, "", Ending::Misused),
-        Some(file) => {
-            let ending = run_file(alloc, file, files, input, out);
-            tell(err, file, ending)
+        Some(command) => {
+            let ending = perform(alloc, command, files, input, out);
+            tell(err, command.file(), ending)
         }
     }
 }
 
-/// StateFlow: `run FILE --batch 1` runs the request lines of `input` on the program in FILE.
+/// StateFlow: `check FILE` checks the program in FILE, and `run FILE --batch 1` runs the request
+/// lines of `input` on it.
 pub fn stateflow<F: Files, S: Source, K: Sink, E: Sink>(
     alloc: Global,
     words: &[String],
@@ -52,6 +73,10 @@ pub fn stateflow<F: Files, S: Source, K: Sink, E: Sink>(
     ensures text { result ≡ 0 → Completes longest_input (asked (map string_bytes words.now))
         (devices (F.content files.old) (F.faults files.old) (S.left input.old) (S.faults input.old) (K.held out.old) (K.faults out.old))
         (devices (F.content files.new) (F.faults files.new) (S.left input.new) (S.faults input.new) (K.held out.new) (K.faults out.new)) }
+    ensures check_text { ChecksText (asked (map string_bytes words.now))
+        (devices (F.content files.old) (F.faults files.old) (S.left input.old) (S.faults input.old) (K.held out.old) (K.faults out.old))
+        (devices (F.content files.new) (F.faults files.new) (S.left input.new) (S.faults input.new) (K.held out.new) (K.faults out.new))
+        (E.held err.old) (E.held err.new) result }
     ensures serial { PrintsSerially (asked (map string_bytes words.now))
         (devices (F.content files.old) (F.faults files.old) (S.left input.old) (S.faults input.old) (K.held out.old) (K.faults out.old))
         (devices (F.content files.new) (F.faults files.new) (S.left input.new) (S.faults input.new) (K.held out.new) (K.faults out.new)) }
@@ -59,10 +84,10 @@ pub fn stateflow<F: Files, S: Source, K: Sink, E: Sink>(
         (devices (F.content files.old) (F.faults files.old) (S.left input.old) (S.faults input.old) (K.held out.old) (K.faults out.old))
         (devices (F.content files.new) (F.faults files.new) (S.left input.new) (S.faults input.new) (K.held out.new) (K.faults out.new))
         (E.faults err.old) (E.faults err.new) result }
-    ensures complete { IsUndisturbed (asked (map string_bytes words.now))
+    ensures complete { IsComplete (asked (map string_bytes words.now))
         (devices (F.content files.old) (F.faults files.old) (S.left input.old) (S.faults input.old) (K.held out.old) (K.faults out.old))
         (devices (F.content files.new) (F.faults files.new) (S.left input.new) (S.faults input.new) (K.held out.new) (K.faults out.new))
-        (E.faults err.old) (E.faults err.new) → RunsOut result }
+        (E.faults err.old) (E.faults err.new) result }
 {
     run_words(alloc, words, files, input, out, err)
 }

@@ -1,8 +1,26 @@
 //! The words of a call.
 
-ghost use Rattle.std.specs.Prelude.{◌≡◌, map, string_bytes};
-ghost use Rattle.std.specs.Option.{option_copied};
-ghost use Rattle.stateflow_cli.specs.Words.{is_file, asked};
+ghost use Rattle.std.specs.Prelude.{◌≡◌, map, option_map, string_bytes};
+ghost use Rattle.stateflow_cli.specs.Words.{is_file, asked, asked_by, file_of};
+
+/// What the words ask for, on which file.
+#[derive(Clone, Copy)]
+pub enum Command<'a> {
+    Check(&'a str),
+    Run(&'a str),
+}
+
+impl<'a> Command<'a> {
+    /// The file that is named.
+    pub(crate) fn file(self) -> &'a str
+        ensures { result.now ≡ file_of (asked_by self.entry) }
+    {
+        match self {
+            Command::Check(file) => file,
+            Command::Run(file) => file,
+        }
+    }
+}
 
 /// Whether a word can name a file.
 fn is_file(word: &str) -> bool
@@ -14,21 +32,22 @@ fn is_file(word: &str) -> bool
     }
 }
 
-/// The file that the words ask to run, where they are `run FILE --batch 1`.
-pub(crate) fn asked_file(words: &[String]) -> Option<&str>
-    ensures { option_copied result ≡ asked (map string_bytes words.now) }
+/// The command that the words are: `check FILE` or `run FILE --batch 1`.
+pub(crate) fn command_of(words: &[String]) -> Option<Command<'_>>
+    ensures { option_map asked_by result ≡ asked (map string_bytes words.now) }
 {
-    let [run, file, batch, one] = words else {
-        return None;
-    };
-    let file = file.as_str();
-    if run.as_str() == "run"
-        && batch.as_str() == "--batch"
-        && one.as_str() == "1"
-        && is_file(file)
-    {
-        Some(file)
-    } else {
-        None
+    match words {
+        [check, file] if check.as_str() == "check" && is_file(file.as_str()) => {
+            Some(Command::Check(file.as_str()))
+        }
+        [run, file, batch, one]
+            if run.as_str() == "run"
+                && batch.as_str() == "--batch"
+                && one.as_str() == "1"
+                && is_file(file.as_str()) =>
+        {
+            Some(Command::Run(file.as_str()))
+        }
+        _ => None,
     }
 }

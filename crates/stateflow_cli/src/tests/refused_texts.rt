@@ -75,13 +75,11 @@ fn each_syntax_fault_is_told_by_its_name(rt: HostRuntime) -> Result<(), Fail> {
 
 #[test]
 fn programs_that_are_not_run_today_are_unsupported(rt: HostRuntime) -> Result<(), Fail> {
-    let rows: [&[u8]; 6] = [
+    let rows: [&[u8]; 4] = [
         b"",
         b"# a comment\n",
-        b"@entity\nclass A:\n    def f(self): pass\n",
         b"@entity\nclass C:\n  def __init__(self, k: str):\n    self.k: str = k\n  def __key__(self):\n    return self.k\n",
         b"@entity\nclass C:\n  def __init__(self, k: str):\n    self.k: str = k\n  def __key__(self):\n    return self.k\n  def m(self) -> int:\n    return (1)\n",
-        b"@entity\nclass C:\n  def __init__(self, k: str):\n    self.k: str = k\n  def __key__(self):\n    return self.k\n  def m(self) -> int:\n    return n\n",
     ];
     for text in &rows {
         let (status, line) = said(rt.alloc(), "c.py", text)?;
@@ -90,6 +88,26 @@ fn programs_that_are_not_run_today_are_unsupported(rt: HostRuntime) -> Result<()
             line.as_slice(),
             b"stateflow: c.py:1:1: Unsupported\n".as_slice()
         );
+    }
+    Ok(())
+}
+
+#[test]
+fn run_tells_the_first_broken_rule(rt: HostRuntime) -> Result<(), Fail> {
+    let rows: [(&[u8], &[u8]); 2] = [
+        (
+            b"@entity\nclass A:\n    def f(self): pass\n",
+            b"stateflow: d.py:3:9: MissingAnnotation\n",
+        ),
+        (
+            b"@entity\nclass C:\n  def __init__(self, k: str):\n    self.k: str = k\n  def __key__(self):\n    return self.k\n  def m(self) -> int:\n    return n\n",
+            b"stateflow: d.py:8:12: UnknownName\n",
+        ),
+    ];
+    for (text, wanted) in &rows {
+        let (status, line) = said(rt.alloc(), "d.py", text)?;
+        assert_eq!(rt; status, 1);
+        assert_eq!(rt; line.as_slice(), *wanted);
     }
     Ok(())
 }

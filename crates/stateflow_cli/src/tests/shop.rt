@@ -6,7 +6,7 @@ use py_parser::{SyntaxError, parse};
 use std::alloc::{AllocError, Global};
 use std::test::Fail;
 
-const SHOP: &[u8] = b"from typing import List
+pub const SHOP: &[u8] = b"from typing import List
 from stateflow import entity, transactional
 
 

@@ -1,4 +1,4 @@
-use Rattle.std.proofs.Common.{◌≡◌, ◌<◌, arith, length, refl, sym, ap, ◌∙◌}
+use Rattle.std.proofs.Common.{arith, sym, ap, ◌∙◌}
 use Rattle.flow_types.specs.Views.{plain_standings}
 use Rattle.flow_types.proofs.StandingLaws.{joined_more, joined_all, no_joined}
 use Rattle.flow_types.proofs.known.join.Goals as goal

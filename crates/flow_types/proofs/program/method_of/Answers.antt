@@ -1,4 +1,4 @@
-use Rattle.std.proofs.Common.{◌≡◌, ◌∙◌, ◌+◌, map, drop, sym, ap}
+use Rattle.std.proofs.Common.{◌∙◌, ◌+◌, map, drop, sym, ap}
 use Rattle.std.specs.Prelude.{slice_get}
 use Rattle.py_tree.specs.PlainProgram.{plain_method}
 use Rattle.py_tree.specs.ClassRules.{methods_of}

@@ -1,9 +1,9 @@
-use Rattle.std.proofs.Common.{◌≡◌, ◌∙◌, ◌+◌, true, false, drop, refl, sym, ap}
+use Rattle.std.proofs.Common.{◌≡◌, ◌∙◌, ◌+◌, true, false, drop, sym, ap}
 use Rattle.std.specs.Prelude.{◌||◌}
 use Rattle.py_tree.specs.declared.stmt.StmtKind as s
 use Rattle.py_tree.specs.PlainExpressions.{plain_expr}
 use Rattle.py_tree.specs.PlainTypes.{plain_written}
-use Rattle.py_tree.specs.PlainStatements.{PBreak, PContinue, PDo, PReturn, PRaise, PAssert, PAssign, PAugment, plain_option, plain_stmt, plain_stmts, stmts_of, plain_arm, plain_arms, arms_of}
+use Rattle.py_tree.specs.PlainStatements.{PBreak, PContinue, PDo, PReturn, PRaise, PAssert, PAssign, PAugment, plain_option, plain_stmt, plain_arm, plain_arms, arms_of}
 use Rattle.py_tree.specs.Reachability.{goes_on, an_arm_goes_on}
 use Rattle.py_tree.specs.Flow.{flow}
 use Rattle.py_tree.proofs.Views.{stmt-Break, stmt-Continue, stmt-Expr, stmt-Return, stmt-Raise, stmt-Assert, stmt-Assign, stmt-Augment}

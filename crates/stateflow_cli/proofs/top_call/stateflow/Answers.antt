@@ -1,8 +1,11 @@
-use Rattle.stateflow_cli.proofs.AnswerLaws.{Answers-complete, Answers-serial, Answers-causes, Answers-undisturbed}
+use Rattle.stateflow_cli.proofs.AnswerLaws.{Answers-complete, Answers-check, Answers-serial, Answers-causes, Answers-undisturbed}
 use Rattle.stateflow_cli.proofs.top_call.stateflow.Goals as goal
 
 pub returns-clause-text : goal.returns-clause-text
 returns-clause-text g c = Answers-complete _ _ _ _ _ _ _ _ _ c.run_words.ensures.answers
+
+pub returns-clause-check_text : goal.returns-clause-check_text
+returns-clause-check_text g c = Answers-check _ _ _ _ _ _ _ _ _ c.run_words.ensures.answers
 
 pub returns-clause-serial : goal.returns-clause-serial
 returns-clause-serial g c = Answers-serial _ _ _ _ _ _ _ _ _ c.run_words.ensures.answers

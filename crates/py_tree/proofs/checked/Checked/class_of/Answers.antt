@@ -1,4 +1,4 @@
-use Rattle.std.proofs.Common.{arith, ap, length}
+use Rattle.std.proofs.Common.{arith, ap, length, map}
 use Rattle.std.proofs.lemmas.List.{length-map}
 use Rattle.py_tree.specs.PlainProgram.{plain_class, plain_program}
 use Rattle.py_tree.proofs.ClassRuleLaws.{few_classes}

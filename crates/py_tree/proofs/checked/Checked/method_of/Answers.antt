@@ -6,7 +6,8 @@ use Rattle.std.proofs.lemmas.Option.{slice_get-map, slice_get_read}
 use Rattle.py_tree.specs.PlainProgram.{PlainClass, plain_class, plain_method, plain_program}
 use Rattle.py_tree.specs.ClassRules.{methods_of}
 use Rattle.py_tree.specs.declared.program.Class.{Class}
-use Rattle.py_tree.proofs.ClassRuleLaws.{class_keeps, few_methods}
+use Rattle.py_tree.specs.declared.names.Name.{Name}
+use Rattle.py_tree.proofs.ClassRuleLaws.{few_methods}
 use Rattle.py_tree.proofs.checked.Checked.method_of.Goals as goal
 
 -- the class at a place, as a plain one
@@ -20,7 +21,7 @@ overflow_cast-result c =
     let class = c.index-as_slice-class.result in
     let within : c.args.class < length c.as_slice.result.now = omega (arith, c.requires, length-map self.program.classes plain_class, ap length c.as_slice.ensures) in
     let there = class_at self.program.classes c.as_slice.result.now c.args.class class c.as_slice.ensures within c.index-as_slice-class.is in
-    omega (arith, c.in_ok-at.ensures.within, ap (λ ms. length (methods_of self.names (map plain_method ms))) c.as_slice-2.ensures, few_methods self.names (plain_program self.program) (plain_class class) (class_keeps self.names (plain_program self.program) (plain_class class) c.args.class there self.rules.classes))
+    omega (arith, c.in_ok-at.ensures.within, ap (λ ms. length (methods_of self.names (map plain_method ms))) c.as_slice-2.ensures, few_methods self.names (plain_program self.program) c.args.class (plain_class class) self.rules.classes there)
 
 pub returns : goal.returns
 returns c =

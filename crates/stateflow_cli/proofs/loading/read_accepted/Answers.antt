@@ -1,0 +1,18 @@
+use Rattle.std.proofs.lemmas.Result.{err_from_is_err_and}
+use Rattle.stateflow_cli.proofs.LoadLaws.{reads_no_lines, reads_no_tree, reads_broken}
+use Rattle.stateflow_cli.proofs.loading.read_accepted.Goals as goal
+
+pub returns-in_err-lines : goal.returns-in_err-lines
+returns-in_err-lines c =
+    let p = err_from_is_err_and c.from_residual.result c.from_residual.ensures.1 in
+    rw (p.1, p.2) (reads_no_lines c.args.text.now _ c.in_err-lines.ensures.lines)
+
+pub returns-in_err-parsed : goal.returns-in_err-parsed
+returns-in_err-parsed c =
+    let p = err_from_is_err_and c.from_residual-in_err-parsed.result c.from_residual-in_err-parsed.ensures.1 in
+    rw (p.1, p.2) (reads_no_tree c.args.text.now c.in_ok-lines.lines _ c.in_ok-lines.ensures.lines c.in_err-parsed.ensures.outcome)
+
+pub returns-in_err-tables : goal.returns-in_err-tables
+returns-in_err-tables c =
+    let p = err_from_is_err_and c.from_residual-in_err-tables.result c.from_residual-in_err-tables.ensures.1 in
+    rw (p.1, p.2) (reads_broken c.args.text.now c.in_ok-lines.lines c.in_ok-parsed.parsed _ c.in_ok-lines.ensures.lines c.in_ok-parsed.ensures.outcome c.in_err-tables.ensures)

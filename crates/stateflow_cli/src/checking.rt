@@ -1,0 +1,36 @@
+//! Checking a file's program.
+
+ghost use Rattle.std.specs.Prelude.{ℕ, List, Option};
+ghost use Rattle.stateflow_cli.specs.Words.{Check};
+ghost use Rattle.stateflow_cli.specs.Devices.{devices};
+ghost use Rattle.stateflow_cli.specs.Endings.{EndsOn};
+
+use crate::ending::Ending;
+use crate::loading::{LoadStop, count};
+use crate::printing::print_counts;
+use sf_outside::{Failed, Files, Sink};
+use std::alloc::Global;
+
+/// Checks the file's program, and prints how many classes and methods it has. What is left of the input is no matter.
+pub(crate) fn check_file<F: Files, K: Sink>(
+    alloc: Global,
+    file: &str,
+    files: &mut F,
+    out: &mut K,
+) -> Ending
+    ensures { (limit : ℕ) (left : Option (List ℕ)) (input_faults : ℕ) → EndsOn limit (Check file.now)
+        (devices (F.content files.old) (F.faults files.old) left input_faults (K.held out.old) (K.faults out.old))
+        (devices (F.content files.new) (F.faults files.new) left input_faults (K.held out.new) (K.faults out.new))
+        result }
+{
+    let counts = match count(alloc, files, file) {
+        Ok(counts) => counts,
+        Err(LoadStop::Refused(fault)) => return Ending::Refused(fault),
+        Err(LoadStop::FileFault) => return Ending::FileFault,
+        Err(LoadStop::NoMemory) => return Ending::NoMemory,
+    };
+    match print_counts(out, counts) {
+        Ok(()) => Ending::Printed,
+        Err(Failed) => Ending::Unprinted,
+    }
+}
