@@ -23,12 +23,12 @@ loop-member-preserved c =
     let i = c.loop-member.member-index in
     let m = c.member-item.result in
     elim c.if-is_called_by_name.branch [
-      then-is_called_by_name+else-member-name w ↦ record {
+      | then-is_called_by_name+else-member-name w ↦ record {
         so_far = c.loop-member.invariant.so_far ∙ method_other names name ms i m c.loop-member-test.true c.member-item.is c.loop-member.at (sym c.is_called_by_name.ensures ∙ w.if-is_called_by_name.true) w.if-member-name.false ∙ ap (λ at. position_from (λ m. m.name == name) at (methods_of names (plain_methods (drop (i + 1) ms)))) (sym w.at-is);
         within = omega (arith, w.at-is, c.loop-member.invariant.within);
         counted = omega (arith, w.at-is, c.loop-member.invariant.counted, counted_called names name ms i m c.loop-member-test.true c.member-item.is (sym c.is_called_by_name.ensures ∙ w.if-is_called_by_name.true));
       }
-    | else-is_called_by_name w ↦ record {
+      | else-is_called_by_name w ↦ record {
         so_far = c.loop-member.invariant.so_far ∙ method_skipped names name ms i m c.loop-member-test.true c.member-item.is c.loop-member.at (sym c.is_called_by_name.ensures ∙ w.if-is_called_by_name.false) ∙ ap (λ at. position_from (λ m. m.name == name) at (methods_of names (plain_methods (drop (i + 1) ms)))) (sym w.at-is);
         within = omega (arith, w.at-is, c.loop-member.invariant.within);
         counted = omega (arith, w.at-is, c.loop-member.invariant.counted, counted_skipped names name ms i m c.loop-member-test.true c.member-item.is (sym c.is_called_by_name.ensures ∙ w.if-is_called_by_name.false));
