@@ -311,4 +311,4 @@ answers_on limit asked before after said said' errors errors' status command e i
 pub answers_none : (limit : ℕ) (asked : Option Asked) (before : Devices) (said said' : Option (List ℕ)) (errors errors' status : ℕ) → asked ≡ None → Told (line_of [] Misused) (status_of Misused) said said' errors errors' status → Answers limit asked before before said said' errors errors' status
 answers_none limit asked before said said' errors errors' status is told =
     subst (λ o. Answers limit o before before said said' errors errors' status) (sym is)
-        (record { ending = Misused; ends = (refl, record { left = keeps_itself before.left; held = keeps_itself before.held }); told = told })
+    (record { ending = Misused; ends = (refl, record { left = keeps_itself before.left; held = keeps_itself before.held }); told = told })

@@ -44,10 +44,7 @@ pub(crate) fn command_of(words: &[String]) -> Option<Command<'_>>
             if run.as_str() == "run"
                 && batch.as_str() == "--batch"
                 && one.as_str() == "1"
-                && is_file(file.as_str()) =>
-        {
-            Some(Command::Run(file.as_str()))
-        }
+                && is_file(file.as_str()) => { Some(Command::Run(file.as_str())) }
         _ => None,
     }
 }

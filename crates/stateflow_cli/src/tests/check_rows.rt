@@ -23,7 +23,20 @@ class L:
 ";
 
 /// The lines of [`LAST`] with an assignment before the loop.
-const MENDED: [&[u8]; 12] = [b"from stateflow import entity",b"@entity",b"class L:",b"    def __init__(self, k: str):",b"        self.k: str = k",b"    def __key__(self):",b"        return self.k",b"    def last(self, xs: List[int]) -> int:",b"        x = 0",b"        for x in xs:",b"            pass",b"        return x"];
+const MENDED: [&[u8]; 12] = [
+    b"from stateflow import entity",
+    b"@entity",
+    b"class L:",
+    b"    def __init__(self, k: str):",
+    b"        self.k: str = k",
+    b"    def __key__(self):",
+    b"        return self.k",
+    b"    def last(self, xs: List[int]) -> int:",
+    b"        x = 0",
+    b"        for x in xs:",
+    b"            pass",
+    b"        return x",
+];
 
 /// The mended program with these line ends, and one between the last two lines alone.
 fn mended(alloc: Global, end: &[u8]) -> Result<Vec<u8>, AllocError> {
@@ -57,7 +70,10 @@ fn name_of_a_loop_may_have_no_value_behind_it(rt: HostRuntime) -> Result<(), Fai
     let answer = check_text(rt.alloc(), "last.py", LAST, NO_FAULTS)?;
     assert_eq!(rt; answer.status, 1);
     assert_eq!(rt; answer.out.bytes(), b"".as_slice());
-    assert_eq!(rt; answer.err.bytes(), b"stateflow: last.py:11:16: Unassigned\n".as_slice());
+    assert_eq!(rt;
+        answer.err.bytes(),
+        b"stateflow: last.py:11:16: Unassigned\n".as_slice()
+    );
     Ok(())
 }
 
@@ -110,8 +126,14 @@ fn lexical_and_syntax_faults_are_told(rt: HostRuntime) -> Result<(), Fail> {
             b"@entity\nclass L:\n    def f(self) -> None:\n        pass\n      pass\n",
             b"stateflow: bad.py:5:7: BadDedent\n",
         ),
-        (b"import stateflow;\n", b"stateflow: bad.py:1:17: Unexpected\n"),
-        (b"@entity\nclass A:\n    def f(self): pass\n", b"stateflow: bad.py:3:9: MissingAnnotation\n"),
+        (
+            b"import stateflow;\n",
+            b"stateflow: bad.py:1:17: Unexpected\n",
+        ),
+        (
+            b"@entity\nclass A:\n    def f(self): pass\n",
+            b"stateflow: bad.py:3:9: MissingAnnotation\n",
+        ),
     ];
     for (text, wanted) in &rows {
         let answer = check_text(rt.alloc(), "bad.py", text, NO_FAULTS)?;
@@ -181,7 +203,14 @@ fn check_takes_one_file_and_no_option(rt: HostRuntime) -> Result<(), Fail> {
         let mut input = MemSource::new(rt.alloc(), b"", &[])?;
         let mut out = MemSink::new(rt.alloc(), 1000, &[])?;
         let mut err = MemSink::new(rt.alloc(), 1000, &[])?;
-        let status = stateflow(rt.alloc(), words.as_slice(), &mut files, &mut input, &mut out, &mut err);
+        let status = stateflow(
+            rt.alloc(),
+            words.as_slice(),
+            &mut files,
+            &mut input,
+            &mut out,
+            &mut err,
+        );
         assert_eq!(rt; status, 2);
         assert_eq!(rt; out.bytes(), b"".as_slice());
     }

@@ -10,9 +10,9 @@ pub of-requires : goal.of-requires
 of-requires c =
     let a = c.in_ok-accepted.accepted in
     subst (λ (ts : List ClassTable). sum_by (λ t. length t.methods) ts < 2 ^ 64) (sym c.as_slice.ensures)
-        (few_counted a.parsed.names (plain_program a.parsed.program) a.tables c.in_ok-accepted.ensures.tables c.in_ok-accepted.ensures.rules)
+    (few_counted a.parsed.names (plain_program a.parsed.program) a.tables c.in_ok-accepted.ensures.tables c.in_ok-accepted.ensures.rules)
 
 pub returns : goal.returns
 returns c =
     counted c.args.text.now c.in_ok-accepted.accepted c.of.result c.in_ok-accepted.ensures (c.of.ensures.classes ∙ ap length c.as_slice.ensures)
-        (c.of.ensures.methods ∙ ap (λ (ts : List ClassTable). sum_by (λ t. length t.methods) ts) c.as_slice.ensures)
+    (c.of.ensures.methods ∙ ap (λ (ts : List ClassTable). sum_by (λ t. length t.methods) ts) c.as_slice.ensures)
