@@ -45,7 +45,7 @@ swapped false b x y z apart = refl
 pub ref_ties : (a b : Ref) → ref_eq a b ≡ eq_by_cmp key_cmp (key_of a) (key_of b)
 ref_ties a b = (λ i. unsigned_ties a.class b.class i && texts_ties a.key b.key i) ∙ both_equal _ _
 
-tied_key : (x y : Key) → eq_by_cmp key_cmp x y ≡ true → x ≡ y
+pub tied_key : (x y : Key) → eq_by_cmp key_cmp x y ≡ true → x ≡ y
 tied_key x y h = key_exact x y (is_equal (key_cmp x y) h)
 
 tied_refl : (a b : Ref) → key_of a ≡ key_of b → ref_eq a b ≡ true
@@ -57,7 +57,7 @@ same_key a b h = tied_key _ _ (sym (ref_ties a b) ∙ h)
 abbrev pub keyed : {X : Type 0} → List (Ref × X) → List (Key × X)
 keyed {X} es = over (λ (e : Ref × X). (key_of e.0, e.1)) es
 
-find-keyed : {X : Type 0} (q : Ref) (es : List (Ref × X)) → find key_cmp (key_of q) (keyed es) ≡ lookup (ref_eq q) es
+pub find-keyed : {X : Type 0} (q : Ref) (es : List (Ref × X)) → find key_cmp (key_of q) (keyed es) ≡ lookup (ref_eq q) es
 find-keyed q [] = refl
 find-keyed q (e ∷ es) = λ i. cond (sym (ref_ties q e.0) i) (Some e.1) (find-keyed q es i)
 

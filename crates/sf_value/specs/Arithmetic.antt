@@ -1,5 +1,5 @@
 -- Floor division and modulo of whole numbers, by the Python Language Reference (binary arithmetic operations).
-use Rattle.std.specs.Prelude.{◌≡◌, ◌⊎◌, ◌<◌, ◌-◌, ◌^◌, ℤ, pos, negsuc, ◌+ℤ◌, ◌*ℤ◌, ◌<ℤ◌, unsigned_abs}
+use Rattle.std.specs.Prelude.{◌≡◌, ◌⊎◌, ◌<◌, ◌+◌, ◌-◌, ◌/◌, ◌^◌, zero, suc, ℤ, pos, negsuc, ◌+ℤ◌, ◌-ℤ◌, ◌*ℤ◌, ◌<ℤ◌, unsigned_abs}
 
 -- both are above 0, or both are below
 abbrev pub HaveSameSign : ℤ → ℤ → Type 0
@@ -25,3 +25,14 @@ pub record HasOneQuotient (x y : ℤ) : Type 0 where
 -- no q of 128 bits: y is 0, or q is 2^127, where x is -2^127 and y is -1
 abbrev pub HasNoQuotient : ℤ → ℤ → Type 0
 HasNoQuotient x y = (y ≡ pos 0) ⊎ ((x ≡ negsuc (2 ^ 127 - 1)) × (y ≡ negsuc 0))
+
+-- `x // y` and `x % y`, where y isn't 0: the quotient is rounded down
+abbrev pub floor_quotient : ℤ → ℤ → ℤ
+floor_quotient (pos a) (pos b) = pos (a / b)
+floor_quotient (negsuc a) (pos b) = negsuc (a / b)
+floor_quotient (pos zero) (negsuc b) = pos 0
+floor_quotient (pos (suc a)) (negsuc b) = negsuc (a / (b + 1))
+floor_quotient (negsuc a) (negsuc b) = pos ((a + 1) / (b + 1))
+
+abbrev pub floor_rest : ℤ → ℤ → ℤ
+floor_rest x y = x -ℤ floor_quotient x y *ℤ y

@@ -1,3 +1,4 @@
 pub mod Arithmetic
 pub mod Weight
 pub mod Keys
+pub mod Sameness

@@ -7,3 +7,4 @@ pub mod DeclareLaws
 pub mod HereLaws
 pub mod RunLaws
 pub mod SerialLaws
+pub mod WholeExamples

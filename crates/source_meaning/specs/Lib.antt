@@ -8,3 +8,9 @@ pub mod RequestRun
 pub mod Serial
 pub mod StateView
 pub mod Agrees
+pub mod WholeWorld
+pub mod WholeValues
+pub mod WholeEvaluation
+pub mod WholeExecution
+pub mod WholeCalls
+pub mod WholeRun
