@@ -52,17 +52,17 @@ pub data Turns : Type 0 where
   Items : (items : List Value) → Turns
   Numbers : (from to : ℤ) → Turns
 
--- the first number of a range, which is 0 where none is written
-unfoldable pub start_of : {W : Type 0} → Site W → Option PlainExpr → List Var → W → ℕ → Gives W ℤ
-start_of s None vars w n = Got (pos 0) w n
-start_of s (Some e) vars w n = eval s e vars w n >>= λ v w n. Got (int_of v) w n
+-- where a range starts, which is 0 where nothing is written
+unfoldable pub start_of : {W : Type 0} → Site W → Option PlainExpr → List Var → W → ℕ → Gives W Value
+start_of s None vars w n = Got (value.Int (pos 0)) w n
+start_of s (Some e) vars w n = eval s e vars w n
 
 unfoldable pub turns_of : {W : Type 0} → Site W → PlainOver → List Var → W → ℕ → Gives W Turns
 turns_of s (PItems e) vars w n = eval s e vars w n >>= λ v w n. Got (Items (items_of v)) w n
 turns_of s (PRange start end) vars w n =
-    start_of s start vars w n >>= λ from w n.
+    start_of s start vars w n >>= λ u w n.
     eval s end vars w n >>= λ v w n.
-    Got (Numbers from (int_of v)) w n
+    Got (Numbers (int_of u) (int_of v)) w n
 
 -- a turn: a step, the name is bound, and the body
 abbrev pub turn : {W : Type 0} → ℕ → (List Var → W → ℕ → Ends W) → Value → List Var → W → ℕ → Ends W
