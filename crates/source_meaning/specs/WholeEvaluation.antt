@@ -2,7 +2,7 @@
 --
 -- The same definition serves the whole state and a single record: a site says how code reaches the record of its own entity,
 -- and what calls and creations do.
-use Rattle.std.specs.Prelude.{ℕ, pos, ◌-ℤ◌, Bool, true, false, not, ◌==◌, nat_eq, List, [], ◌∷◌, ◌++◌, if◌then◌else◌, Some, None, slice_get, position, unwrap_or}
+use Rattle.std.specs.Prelude.{ℕ, pos, ◌-ℤ◌, Bool, true, false, not, ◌==◌, nat_eq, List, [], ◌∷◌, ◌++◌, if◌then◌else◌, Some, None, slice_get, unwrap_or}
 use Rattle.std.specs.List.{position_from}
 use Rattle.std.specs.declared.option.Option.{Option}
 use Rattle.std.specs.Str.{chars}
@@ -13,7 +13,7 @@ use Rattle.sf_value.specs.Keys.{Key}
 use Rattle.sf_value.specs.declared.value.Value.{Value}
 use Rattle.sf_value.specs.declared.value.Value.TheVariants as value
 use Rattle.source_meaning.specs.declared.vars.Var.{Var}
-use Rattle.source_meaning.specs.ClassTables.{Source, fields_of, methods_of, numbered}
+use Rattle.source_meaning.specs.ClassTables.{Source, fields_of, methods_of}
 use Rattle.source_meaning.specs.WholeWorld.{Calls, Own, Gives, Got, Fell, ◌>>=◌, told, local_value, field_value}
 use Rattle.source_meaning.specs.WholeValues.{in_range, weighed, int_of, is_true, is_nil, items_of, element, combined, holds, given_by}
 
@@ -43,7 +43,7 @@ method_of src class name = unwrap_or (position_from (λ m. nat_eq m.name name) 0
 
 -- the number of the class with this name
 unfoldable pub class_of : Source → ℕ → ℕ
-class_of src name = unwrap_or (numbered (position (λ c. nat_eq c.name name) src.program)) 0
+class_of src name = unwrap_or (position_from (λ c. nat_eq c.name name) 0 src.program) 0
 
 -- the text that a name stands for
 unfoldable pub literal : Source → ℕ → List ℕ
