@@ -1,6 +1,6 @@
 -- What follows where no class rule is broken: each class keeps its rules, and there are few of each kind.
-use Rattle.std.proofs.Common.{◌≡◌, ℕ, zero, suc, arith, true, false, Bool, ◌+◌, ◌≤◌, Option, Some, None, List, [], ◌∷◌, ◌++◌, length, append_assoc, append-nil, length-append, refl, sym, ap, ◌∙◌, subst}
-use Rattle.std.specs.Prelude.{filter, slice_get, ◌&&◌, cond}
+use Rattle.std.proofs.Common.{◌≡◌, ℕ, zero, suc, arith, true, false, Bool, ◌+◌, ◌≤◌, Option, Some, None, List, [], ◌∷◌, ◌++◌, length, append_assoc, append-nil, length-append, refl, sym, ap, subst}
+use Rattle.std.specs.Prelude.{slice_get, ◌&&◌, cond}
 use Rattle.std.proofs.lemmas.List.Elements.{filter-append}
 use Rattle.py_tree.specs.declared.names.Place.{Place}
 use Rattle.py_tree.specs.declared.rule.Rule.{Rule}
@@ -8,6 +8,11 @@ use Rattle.py_tree.specs.declared.rule.Rule.TheVariants.{TooMany, ReservedName, 
 use Rattle.py_tree.specs.declared.rule.RuleFault.{RuleFault}
 use Rattle.py_tree.specs.PlainProgram.{PlainMethod, PlainClass, PlainProgram}
 use Rattle.py_tree.specs.ClassRules.{is_called, is_dunder, text_of, is_reserved, is_class, is_member, is_init, broken, is_full, first_of, first_behind, first_in, param_fault, result_fault, init_body_fault, member_name_fault, member_fault, methods_of, class_name_fault, whole_fault, class_fault, program_fault}
+
+-- what stands last decides alone
+pub first_of_one : (f : Option RuleFault) → first_of (f ∷ []) ≡ f
+first_of_one None = refl
+first_of_one (Some f) = refl
 
 pub head_none : (a : Option RuleFault) (more : List (Option RuleFault)) → first_of (a ∷ more) ≡ None → a ≡ None
 head_none None more e = refl

@@ -1,7 +1,9 @@
+pub mod ListWalks
 pub mod CopyLaws
 pub mod NameLaws
 pub mod ProgramCopies
 pub mod Views
+pub mod Places
 pub mod TypeLaws
 pub mod TypeRules
 mod StringExamples
@@ -20,5 +22,7 @@ pub mod ProgramsFit
 mod ClassRuleExamples
 pub mod ReachRules
 mod BoundedExamples
+pub mod DeclarationLaws
+pub mod KeyLaws
 pub mod ClassRuleLaws
 pub mod CheckedLaws

@@ -1,6 +1,5 @@
 -- Which points can be reached at each kind of statement, one equation each; and statement by statement in a list.
-use Rattle.std.proofs.Common.{◌≡◌, ℕ, ℤ, suc, arith, ◌+◌, ◌<◌, ◌≤◌, Bool, true, false, not, ◌||◌, ◌&&◌, List, [], ◌∷◌, ◌++◌, length, drop, get_or, Option, drop-cons, sym, ap, ◌∙◌}
-use Rattle.std.proofs.lemmas.List.{drop_all}
+use Rattle.std.proofs.Common.{◌≡◌, ℕ, ℤ, ◌+◌, ◌<◌, ◌≤◌, Bool, true, false, not, ◌||◌, ◌&&◌, List, [], ◌∷◌, ◌++◌, length, drop, get_or, Option, ap, ◌∙◌}
 use Rattle.std.specs.declared.alloc.Global.{Global}
 use Rattle.std.specs.declared.boxed.Box.{Box}
 use Rattle.py_tree.specs.declared.names.Name.{Name}
@@ -18,8 +17,9 @@ use Rattle.py_tree.specs.declared.stmt.Stmt.{Stmt}
 use Rattle.py_tree.specs.declared.stmt.Arm.{Arm, out-Arm}
 use Rattle.py_tree.specs.declared.stmt.StmtKind as s
 use Rattle.py_tree.specs.PlainExpressions.{plain_kind, plain_expr}
-use Rattle.py_tree.specs.PlainStatements.{PNoStmt, PStmt, PNoArm, PMoreArms, plain_stmt_kind, plain_stmt, plain_stmts, stmts_of, plain_arm, plain_arms, arms_of}
+use Rattle.py_tree.specs.PlainStatements.{plain_stmt_kind, plain_stmt, plain_stmts, stmts_of, plain_arms, arms_of}
 use Rattle.py_tree.specs.Reachability.{is_true, goes_on, all_go_on, an_arm_goes_on, breaks, break_in, break_in_arm, local_assigned, assigns, assigned_in, assigned_in_arms}
+use Rattle.py_tree.proofs.ListWalks.{stmts_from, stmts_end, arms_from, arms_end}
 use Rattle.py_tree.proofs.Views.{plain-Int, plain-Bool, plain-Str, plain-Nil, plain-Var, plain-SelfRef, plain-Attr, plain-Call, plain-Apply, plain-Index, plain-List, plain-Neg, plain-Pos, plain-Not, plain-Chain, plain-And, plain-Or, plain-Compare, plain-IsNone, plain-Cond, stmt-Pass, stmt-Break, stmt-Continue, stmt-Expr, stmt-Return, stmt-Raise, stmt-Assert, stmt-Assign, stmt-Augment, stmt-If, stmt-While, stmt-For}
 
 module _ (at : Place) where
@@ -227,31 +227,13 @@ module _ (at : Place) where
   pub true-Cond : (a b c : Box Expr Global) → is_true (plain_kind (e.Cond a b c) at) ≡ false
   true-Cond a b c = ap is_true (plain-Cond at a b c)
 
--- statements from one of them on
-pub stmts_split : (ss : List Stmt) (i : ℕ) (x : Stmt) → i < length ss → x ≡ get_or ss i x → stmts_of (plain_stmts (drop i ss)) ≡ PStmt (plain_stmt x) (stmts_of (plain_stmts (drop (i + 1) ss)))
-stmts_split ss i x within is =
-    let next : suc i ≡ i + 1 = omega arith in
-    ap (λ ys. stmts_of (plain_stmts ys)) (drop-cons ss i x within ∙ (λ j. sym is j ∷ drop (next j) ss))
-
-pub stmts_end : (ss : List Stmt) (i : ℕ) → length ss ≤ i → stmts_of (plain_stmts (drop i ss)) ≡ PNoStmt
-stmts_end ss i past = ap (λ ys. stmts_of (plain_stmts ys)) (drop_all i ss past)
-
--- arms from one of them on
-pub arms_split : (xs : List Arm) (i : ℕ) (x : Arm) → i < length xs → x ≡ get_or xs i x → arms_of (plain_arms (drop i xs)) ≡ PMoreArms (plain_arm x) (arms_of (plain_arms (drop (i + 1) xs)))
-arms_split xs i x within is =
-    let next : suc i ≡ i + 1 = omega arith in
-    ap (λ ys. arms_of (plain_arms ys)) (drop-cons xs i x within ∙ (λ j. sym is j ∷ drop (next j) xs))
-
-pub arms_end : (xs : List Arm) (i : ℕ) → length xs ≤ i → arms_of (plain_arms (drop i xs)) ≡ PNoArm
-arms_end xs i past = ap (λ ys. arms_of (plain_arms ys)) (drop_all i xs past)
-
 pub all_passes : (ss : List Stmt) (i : ℕ) (x : Stmt) → i < length ss → x ≡ get_or ss i x → goes_on (plain_stmt x) ≡ true → all_go_on (stmts_of (plain_stmts (drop i ss))) ≡ all_go_on (stmts_of (plain_stmts (drop (i + 1) ss)))
 unfolding all_go_on
-all_passes ss i x within is on = ap all_go_on (stmts_split ss i x within is) ∙ ap (λ b. b && all_go_on (stmts_of (plain_stmts (drop (i + 1) ss)))) on
+all_passes ss i x within is on = ap all_go_on (stmts_from ss i x within is) ∙ ap (λ b. b && all_go_on (stmts_of (plain_stmts (drop (i + 1) ss)))) on
 
 pub all_stops : (ss : List Stmt) (i : ℕ) (x : Stmt) → i < length ss → x ≡ get_or ss i x → goes_on (plain_stmt x) ≡ false → all_go_on (stmts_of (plain_stmts (drop i ss))) ≡ false
 unfolding all_go_on
-all_stops ss i x within is off = ap all_go_on (stmts_split ss i x within is) ∙ ap (λ b. b && all_go_on (stmts_of (plain_stmts (drop (i + 1) ss)))) off
+all_stops ss i x within is off = ap all_go_on (stmts_from ss i x within is) ∙ ap (λ b. b && all_go_on (stmts_of (plain_stmts (drop (i + 1) ss)))) off
 
 pub all_ends : (ss : List Stmt) (i : ℕ) → length ss ≤ i → all_go_on (stmts_of (plain_stmts (drop i ss))) ≡ true
 unfolding all_go_on
@@ -259,11 +241,11 @@ all_ends ss i past = ap all_go_on (stmts_end ss i past)
 
 pub arm_passes : (xs : List Arm) (i : ℕ) (x : Arm) → i < length xs → x ≡ get_or xs i x → all_go_on (stmts_of (plain_stmts (out-Arm x).body)) ≡ false → an_arm_goes_on (arms_of (plain_arms (drop i xs))) ≡ an_arm_goes_on (arms_of (plain_arms (drop (i + 1) xs)))
 unfolding an_arm_goes_on
-arm_passes xs i x within is off = ap an_arm_goes_on (arms_split xs i x within is) ∙ ap (λ b. b || an_arm_goes_on (arms_of (plain_arms (drop (i + 1) xs)))) off
+arm_passes xs i x within is off = ap an_arm_goes_on (arms_from xs i x within is) ∙ ap (λ b. b || an_arm_goes_on (arms_of (plain_arms (drop (i + 1) xs)))) off
 
 pub arm_stops : (xs : List Arm) (i : ℕ) (x : Arm) → i < length xs → x ≡ get_or xs i x → all_go_on (stmts_of (plain_stmts (out-Arm x).body)) ≡ true → an_arm_goes_on (arms_of (plain_arms (drop i xs))) ≡ true
 unfolding an_arm_goes_on
-arm_stops xs i x within is on = ap an_arm_goes_on (arms_split xs i x within is) ∙ ap (λ b. b || an_arm_goes_on (arms_of (plain_arms (drop (i + 1) xs)))) on
+arm_stops xs i x within is on = ap an_arm_goes_on (arms_from xs i x within is) ∙ ap (λ b. b || an_arm_goes_on (arms_of (plain_arms (drop (i + 1) xs)))) on
 
 pub arm_ends : (xs : List Arm) (i : ℕ) → length xs ≤ i → an_arm_goes_on (arms_of (plain_arms (drop i xs))) ≡ false
 unfolding an_arm_goes_on
@@ -271,15 +253,15 @@ arm_ends xs i past = ap an_arm_goes_on (arms_end xs i past)
 
 pub break_found : (ss : List Stmt) (i : ℕ) (x : Stmt) → i < length ss → x ≡ get_or ss i x → breaks (plain_stmt x) ≡ true → break_in (stmts_of (plain_stmts (drop i ss))) ≡ true
 unfolding break_in
-break_found ss i x within is found = ap break_in (stmts_split ss i x within is) ∙ ap (λ b. b || (goes_on (plain_stmt x) && break_in (stmts_of (plain_stmts (drop (i + 1) ss))))) found
+break_found ss i x within is found = ap break_in (stmts_from ss i x within is) ∙ ap (λ b. b || (goes_on (plain_stmt x) && break_in (stmts_of (plain_stmts (drop (i + 1) ss))))) found
 
 pub break_cut : (ss : List Stmt) (i : ℕ) (x : Stmt) → i < length ss → x ≡ get_or ss i x → breaks (plain_stmt x) ≡ false → goes_on (plain_stmt x) ≡ false → break_in (stmts_of (plain_stmts (drop i ss))) ≡ false
 unfolding break_in
-break_cut ss i x within is none off = ap break_in (stmts_split ss i x within is) ∙ (λ j. none j || (off j && break_in (stmts_of (plain_stmts (drop (i + 1) ss)))))
+break_cut ss i x within is none off = ap break_in (stmts_from ss i x within is) ∙ (λ j. none j || (off j && break_in (stmts_of (plain_stmts (drop (i + 1) ss)))))
 
 pub break_passes : (ss : List Stmt) (i : ℕ) (x : Stmt) → i < length ss → x ≡ get_or ss i x → breaks (plain_stmt x) ≡ false → goes_on (plain_stmt x) ≡ true → break_in (stmts_of (plain_stmts (drop i ss))) ≡ break_in (stmts_of (plain_stmts (drop (i + 1) ss)))
 unfolding break_in
-break_passes ss i x within is none on = ap break_in (stmts_split ss i x within is) ∙ (λ j. none j || (on j && break_in (stmts_of (plain_stmts (drop (i + 1) ss)))))
+break_passes ss i x within is none on = ap break_in (stmts_from ss i x within is) ∙ (λ j. none j || (on j && break_in (stmts_of (plain_stmts (drop (i + 1) ss)))))
 
 pub break_ends : (ss : List Stmt) (i : ℕ) → length ss ≤ i → break_in (stmts_of (plain_stmts (drop i ss))) ≡ false
 unfolding break_in
@@ -287,11 +269,11 @@ break_ends ss i past = ap break_in (stmts_end ss i past)
 
 pub break_arm_found : (xs : List Arm) (i : ℕ) (x : Arm) → i < length xs → x ≡ get_or xs i x → break_in (stmts_of (plain_stmts (out-Arm x).body)) ≡ true → break_in_arm (arms_of (plain_arms (drop i xs))) ≡ true
 unfolding break_in_arm
-break_arm_found xs i x within is found = ap break_in_arm (arms_split xs i x within is) ∙ ap (λ b. b || break_in_arm (arms_of (plain_arms (drop (i + 1) xs)))) found
+break_arm_found xs i x within is found = ap break_in_arm (arms_from xs i x within is) ∙ ap (λ b. b || break_in_arm (arms_of (plain_arms (drop (i + 1) xs)))) found
 
 pub break_arm_passes : (xs : List Arm) (i : ℕ) (x : Arm) → i < length xs → x ≡ get_or xs i x → break_in (stmts_of (plain_stmts (out-Arm x).body)) ≡ false → break_in_arm (arms_of (plain_arms (drop i xs))) ≡ break_in_arm (arms_of (plain_arms (drop (i + 1) xs)))
 unfolding break_in_arm
-break_arm_passes xs i x within is none = ap break_in_arm (arms_split xs i x within is) ∙ ap (λ b. b || break_in_arm (arms_of (plain_arms (drop (i + 1) xs)))) none
+break_arm_passes xs i x within is none = ap break_in_arm (arms_from xs i x within is) ∙ ap (λ b. b || break_in_arm (arms_of (plain_arms (drop (i + 1) xs)))) none
 
 pub break_arm_ends : (xs : List Arm) (i : ℕ) → length xs ≤ i → break_in_arm (arms_of (plain_arms (drop i xs))) ≡ false
 unfolding break_in_arm

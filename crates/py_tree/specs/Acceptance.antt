@@ -28,6 +28,9 @@ abbrev pub class_number : List (List ℕ) → PlainProgram → List ℕ → Opti
 class_number names program text = option_and_then (λ name. position_from (λ c. c.name == name) 0 program) (place_of names text)
 
 -- the number of the method with this name, in the class of that number
+abbrev pub method_named : List (List ℕ) → PlainProgram → ℕ → ℕ → Option ℕ
+method_named names program class name = option_and_then (λ c. position_from (λ m. m.name == name) 0 (methods_of names c.members)) (slice_get program class)
+
+-- and by the text of its name
 abbrev pub method_number : List (List ℕ) → PlainProgram → ℕ → List ℕ → Option ℕ
-method_number names program class text =
-    option_and_then (λ name. option_and_then (λ c. position_from (λ m. m.name == name) 0 (methods_of names c.members)) (slice_get program class)) (place_of names text)
+method_number names program class text = option_and_then (λ name. method_named names program class name) (place_of names text)

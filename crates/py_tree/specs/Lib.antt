@@ -13,6 +13,7 @@ pub mod TypeGrammar
 pub mod StatementGrammar
 pub mod Grammar
 pub mod ClassRules
+pub mod ClassViews
 pub mod FlowEnvironment
 pub mod ExpressionTypes
 pub mod Reachability
@@ -20,3 +21,4 @@ pub mod Flow
 pub mod Acceptance
 pub mod Bounded
 pub mod CheckedViews
+pub mod Functions

@@ -3,10 +3,11 @@
 ghost use Rattle.std.specs.Prelude.{◌≡◌, ◌<◌, ◌==◌, length, IfOk, IfSome};
 ghost use Rattle.std.specs.List.{position_from};
 ghost use Rattle.py_tree.specs.PlainProgram.{plain_program, plain_classes, plain_methods};
-ghost use Rattle.py_tree.specs.ClassRules.{methods_of, is_called, text_of};
+ghost use Rattle.py_tree.specs.ClassRules.{methods_of};
 ghost use Rattle.py_tree.specs.Bounded.{IsBounded, HasReserved};
 ghost use Rattle.py_tree.specs.Acceptance.{KeepsRules};
 
+use crate::member_names::is_called_by_name;
 use crate::names::{Name, Names};
 use crate::program::{Class, Method, Program};
 use std::alloc::{AllocError, Global};
@@ -21,7 +22,7 @@ pub struct Checked {
     pub ghost rules: { KeepsRules names (plain_program program) },
 }
 
-#[tactic(auto, using(crate::proofs::CheckedLaws::class_place_laws))]
+#[tactic(auto, using(crate::proofs::ListWalks::place_laws))]
 fn place_of_class(classes: &[Class], name: Name) -> Option<usize>
     ensures place { result ≡ position_from (λ c. c.name == name.0) 0 (plain_classes classes.now) }
     ensures within { IfSome result (λ at. at < length classes.now) }
@@ -32,27 +33,6 @@ fn place_of_class(classes: &[Class], name: Name) -> Option<usize>
         }
     }
     None
-}
-
-/// The text of a name, empty for one of another table.
-#[tactic(auto, unfolding(crate::specs::ClassRules::text_of))]
-fn text_of_name(names: &Names, name: Name) -> &str
-    ensures { result.now ≡ text_of names.now name.0 }
-{
-    if name.0 < names.count() {
-        names.text(name)
-    } else {
-        ""
-    }
-}
-
-/// Whether a method of this name is called by name: it's neither `__init__` nor `__key__`.
-#[tactic(auto, unfolding(crate::specs::ClassRules::is_called, crate::specs::ClassRules::is_init, crate::specs::ClassRules::is_key))]
-pub fn is_called_by_name(names: &Names, name: Name) -> bool
-    ensures { result ≡ is_called names.now name.0 }
-{
-    let text = text_of_name(names, name);
-    !(text == "__init__" || text == "__key__")
 }
 
 /// The number of the method of this name, counted without `__init__` and `__key__`.
@@ -74,7 +54,7 @@ fn place_of_method(names: &Names, members: &[Method], name: Name) -> Option<usiz
 
 impl Checked {
     ghost use Rattle.std.specs.Prelude.{slice_get};
-    ghost use Rattle.py_tree.specs.Acceptance.{IsAccepted, class_number, method_number};
+    ghost use Rattle.py_tree.specs.Acceptance.{IsAccepted, class_number, method_named, method_number};
     ghost use Rattle.py_tree.specs.CheckedViews.{checked_program, checked_names};
 
     /// An accepted program. The two are kept as they are.
@@ -99,22 +79,37 @@ impl Checked {
     }
 
     /// The number of the class with this name.
-    pub fn class_of(&self, text: &str) -> Option<u32>
-        ensures { result ≡ class_number (checked_names self.now) (checked_program self.now) text.now }
+    pub fn class_by_name(&self, name: Name) -> Option<u32>
+        ensures { result ≡ position_from (λ c. c.name == name.0) 0 (checked_program self.now) }
     {
-        let name = self.names.find(text)?;
         let at = place_of_class(self.program.classes.as_slice(), name)?;
         Some(at as u32)
     }
 
+    /// The number of the class with this name, by its text.
+    pub fn class_of(&self, text: &str) -> Option<u32>
+        ensures { result ≡ class_number (checked_names self.now) (checked_program self.now) text.now }
+    {
+        let name = self.names.find(text)?;
+        self.class_by_name(name)
+    }
+
     /// The number of the method with this name in a class. `__init__` and `__key__` have none.
+    pub fn method_by_name(&self, class: u32, name: Name) -> Option<u32>
+        requires { class < length (checked_program self.now) }
+        ensures { result ≡ method_named (checked_names self.now) (checked_program self.now) class name.0 }
+    {
+        let class = &self.program.classes.as_slice()[class as usize];
+        let at = place_of_method(&self.names, class.members.as_slice(), name)?;
+        Some(at as u32)
+    }
+
+    /// The number of the method with this name in a class, by its text.
     pub fn method_of(&self, class: u32, text: &str) -> Option<u32>
         requires { class < length (checked_program self.now) }
         ensures { result ≡ method_number (checked_names self.now) (checked_program self.now) class text.now }
     {
         let name = self.names.find(text)?;
-        let class = &self.program.classes.as_slice()[class as usize];
-        let at = place_of_method(&self.names, class.members.as_slice(), name)?;
-        Some(at as u32)
+        self.method_by_name(class, name)
     }
 }

@@ -1,4 +1,4 @@
-use Rattle.std.proofs.Common.{◌≡◌, ◌+◌, suc, length, drop, arith, sym, ap, ◌∙◌}
+use Rattle.std.proofs.Common.{◌+◌, drop, arith, sym, ap, ◌∙◌}
 use Rattle.std.specs.Prelude.{◌==◌}
 use Rattle.std.specs.List.{position_from}
 use Rattle.py_tree.specs.PlainProgram.{plain_methods}

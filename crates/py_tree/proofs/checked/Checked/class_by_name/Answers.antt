@@ -1,8 +1,8 @@
-use Rattle.std.proofs.Common.{arith, ap, length, map}
+use Rattle.std.proofs.Common.{arith, ap, length}
 use Rattle.std.proofs.lemmas.List.{length-map}
 use Rattle.py_tree.specs.PlainProgram.{plain_class, plain_program}
 use Rattle.py_tree.proofs.ClassRuleLaws.{few_classes}
-use Rattle.py_tree.proofs.checked.Checked.class_of.Goals as goal
+use Rattle.py_tree.proofs.checked.Checked.class_by_name.Goals as goal
 
 pub overflow_cast-result : goal.overflow_cast-result
 overflow_cast-result c =

@@ -6,9 +6,8 @@ use Rattle.std.proofs.lemmas.Option.{slice_get-map, slice_get_read}
 use Rattle.py_tree.specs.PlainProgram.{PlainClass, plain_class, plain_method, plain_program}
 use Rattle.py_tree.specs.ClassRules.{methods_of}
 use Rattle.py_tree.specs.declared.program.Class.{Class}
-use Rattle.py_tree.specs.declared.names.Name.{Name}
 use Rattle.py_tree.proofs.ClassRuleLaws.{few_methods}
-use Rattle.py_tree.proofs.checked.Checked.method_of.Goals as goal
+use Rattle.py_tree.proofs.checked.Checked.method_by_name.Goals as goal
 
 -- the class at a place, as a plain one
 class_at : (classes read : List Class) (i : ℕ) (c : Class) → read ≡ classes → i < length read → c ≡ get_or read i c → slice_get (map plain_class classes) i ≡ Some (plain_class c)
@@ -27,10 +26,9 @@ pub returns : goal.returns
 returns c =
     let self = c.args.self.now in
     let class = c.index-as_slice-class.result in
-    let name = c.in_ok-name.name.0 in
+    let name = c.args.name.0 in
     let within : c.args.class < length c.as_slice.result.now = omega (arith, c.requires, length-map self.program.classes plain_class, ap length c.as_slice.ensures) in
     let there = class_at self.program.classes c.as_slice.result.now c.args.class class c.as_slice.ensures within c.index-as_slice-class.is in
     c.in_ok-at.ensures.place
     ∙ ap (λ ms. position_from (λ m. m.name == name) 0 (methods_of self.names (map plain_method ms))) c.as_slice-2.ensures
     ∙ ap (option_and_then (λ (x : PlainClass). position_from (λ m. m.name == name) 0 (methods_of self.names x.members))) (sym there)
-    ∙ ap (option_and_then (λ (n : ℕ). option_and_then (λ (x : PlainClass). position_from (λ m. m.name == n) 0 (methods_of self.names x.members)) (slice_get (plain_program self.program) c.args.class))) c.in_ok-name.ensures.place
