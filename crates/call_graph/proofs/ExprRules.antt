@@ -1,5 +1,5 @@
 -- What the calls and creations of an expression are at each kind, one equation each, behind those found before.
-use Rattle.std.proofs.Common.{◌≡◌, ℕ, ℤ, Bool, true, false, List, ◌++◌, ◌+◌, ◌<◌, ◌≤◌, length, drop, get_or, sym, ap, ◌∙◌}
+use Rattle.std.proofs.Common.{◌≡◌, ℕ, ℤ, Bool, List, ◌++◌, ◌+◌, ◌<◌, ◌≤◌, length, drop, get_or, sym, ap, ◌∙◌}
 use Rattle.std.specs.declared.alloc.Global.{Global}
 use Rattle.std.specs.declared.boxed.Box.{Box}
 use Rattle.py_tree.specs.declared.names.Name.{Name}
@@ -12,73 +12,11 @@ use Rattle.py_tree.specs.declared.expr.ExprKind.{ExprKind}
 use Rattle.py_tree.specs.declared.expr.ExprKind as e
 use Rattle.py_tree.specs.PlainExpressions.{plain_kind, plain_expr, plain_exprs, exprs_of, plain_links, links_of}
 use Rattle.py_tree.specs.PlainProgram.{PlainProgram}
-use Rattle.py_tree.specs.ClassRules.{is_self}
 use Rattle.py_tree.proofs.Views.{plain-Int, plain-Bool, plain-Str, plain-Nil, plain-Var, plain-SelfRef, plain-Attr, plain-Call, plain-Apply, plain-Index, plain-List, plain-Neg, plain-Pos, plain-Not, plain-Chain, plain-And, plain-Or, plain-Compare, plain-IsNone, plain-Cond}
 use Rattle.call_graph.specs.declared.sites.Site.{Site}
 use Rattle.call_graph.specs.Suspending.{call, creation, sites, sites_in, sites_in_links}
 use Rattle.call_graph.proofs.Parts.{no_more, two_parts, three_parts}
-use Rattle.call_graph.proofs.Pieces.{exprs_split, exprs_end, links_split, links_end}
-
-module _ (at : Place) where
-  pub self-Int : (n : ℤ) → is_self (plain_kind (e.Int n) at) ≡ false
-  self-Int n = ap is_self (plain-Int at n)
-
-  pub self-Bool : (b : Bool) → is_self (plain_kind (e.Bool b) at) ≡ false
-  self-Bool b = ap is_self (plain-Bool at b)
-
-  pub self-Str : (x : Name) → is_self (plain_kind (e.Str x) at) ≡ false
-  self-Str x = ap is_self (plain-Str at x)
-
-  pub self-Nil : is_self (plain_kind e.Nil at) ≡ false
-  self-Nil = ap is_self (plain-Nil at)
-
-  pub self-Var : (x : Name) → is_self (plain_kind (e.Var x) at) ≡ false
-  self-Var x = ap is_self (plain-Var at x)
-
-  pub self-SelfRef : is_self (plain_kind e.SelfRef at) ≡ true
-  self-SelfRef = ap is_self (plain-SelfRef at)
-
-  pub self-Attr : (a : Box Expr Global) (x : PlacedName) → is_self (plain_kind (e.Attr a x) at) ≡ false
-  self-Attr a x = ap is_self (plain-Attr at a x)
-
-  pub self-Call : (a : Box Expr Global) (x : PlacedName) (es : List Expr) → is_self (plain_kind (e.Call a x es) at) ≡ false
-  self-Call a x es = ap is_self (plain-Call at a x es)
-
-  pub self-Apply : (x : Name) (es : List Expr) → is_self (plain_kind (e.Apply x es) at) ≡ false
-  self-Apply x es = ap is_self (plain-Apply at x es)
-
-  pub self-Index : (a b : Box Expr Global) → is_self (plain_kind (e.Index a b) at) ≡ false
-  self-Index a b = ap is_self (plain-Index at a b)
-
-  pub self-List : (es : List Expr) → is_self (plain_kind (e.List es) at) ≡ false
-  self-List es = ap is_self (plain-List at es)
-
-  pub self-Neg : (a : Box Expr Global) → is_self (plain_kind (e.Neg a) at) ≡ false
-  self-Neg a = ap is_self (plain-Neg at a)
-
-  pub self-Pos : (a : Box Expr Global) → is_self (plain_kind (e.Pos a) at) ≡ false
-  self-Pos a = ap is_self (plain-Pos at a)
-
-  pub self-Not : (a : Box Expr Global) → is_self (plain_kind (e.Not a) at) ≡ false
-  self-Not a = ap is_self (plain-Not at a)
-
-  pub self-Chain : (a : Box Expr Global) (ls : List Link) → is_self (plain_kind (e.Chain a ls) at) ≡ false
-  self-Chain a ls = ap is_self (plain-Chain at a ls)
-
-  pub self-And : (es : List Expr) → is_self (plain_kind (e.And es) at) ≡ false
-  self-And es = ap is_self (plain-And at es)
-
-  pub self-Or : (es : List Expr) → is_self (plain_kind (e.Or es) at) ≡ false
-  self-Or es = ap is_self (plain-Or at es)
-
-  pub self-Compare : (op : Cmp) (op_at : Place) (a b : Box Expr Global) → is_self (plain_kind (e.Compare op op_at a b) at) ≡ false
-  self-Compare op op_at a b = ap is_self (plain-Compare at op op_at a b)
-
-  pub self-IsNone : (a : Box Expr Global) (positive : Bool) → is_self (plain_kind (e.IsNone a positive) at) ≡ false
-  self-IsNone a positive = ap is_self (plain-IsNone at a positive)
-
-  pub self-Cond : (a b c : Box Expr Global) → is_self (plain_kind (e.Cond a b c) at) ≡ false
-  self-Cond a b c = ap is_self (plain-Cond at a b c)
+use Rattle.py_tree.proofs.ListWalks.{exprs_from, exprs_end, links_from, links_end}
 
 module _ (at : Place) (p : PlainProgram) (ms : List ℕ) (old : List Site) where
   pub sites-Int : (n : ℤ) → old ++ sites p ms (plain_kind (e.Int n) at) ≡ old
@@ -165,7 +103,7 @@ module _ (p : PlainProgram) (ms : List ℕ) (old : List Site) where
   pub exprs_more : (es : List Expr) (i : ℕ) (x : Expr) → i < length es → x ≡ get_or es i x → old ++ sites_in p ms (exprs_of (plain_exprs (drop i es))) ≡ (old ++ sites p ms (plain_expr x)) ++ sites_in p ms (exprs_of (plain_exprs (drop (i + 1) es)))
   unfolding sites_in
   exprs_more es i x within is =
-      ap (λ xs. old ++ sites_in p ms xs) (exprs_split es i x within is) ∙ two_parts old (sites p ms (plain_expr x)) (sites_in p ms (exprs_of (plain_exprs (drop (i + 1) es))))
+      ap (λ xs. old ++ sites_in p ms xs) (exprs_from es i x within is) ∙ two_parts old (sites p ms (plain_expr x)) (sites_in p ms (exprs_of (plain_exprs (drop (i + 1) es))))
 
   pub exprs_done : (es : List Expr) (i : ℕ) → length es ≤ i → old ++ sites_in p ms (exprs_of (plain_exprs (drop i es))) ≡ old
   unfolding sites_in
@@ -174,7 +112,7 @@ module _ (p : PlainProgram) (ms : List ℕ) (old : List Site) where
   pub links_more : (ls : List Link) (i : ℕ) (l : Link) → i < length ls → l ≡ get_or ls i l → old ++ sites_in_links p ms (links_of (plain_links (drop i ls))) ≡ (old ++ sites p ms (plain_expr l.right)) ++ sites_in_links p ms (links_of (plain_links (drop (i + 1) ls)))
   unfolding sites_in_links
   links_more ls i l within is =
-      ap (λ xs. old ++ sites_in_links p ms xs) (links_split ls i l within is) ∙ two_parts old (sites p ms (plain_expr l.right)) (sites_in_links p ms (links_of (plain_links (drop (i + 1) ls))))
+      ap (λ xs. old ++ sites_in_links p ms xs) (links_from ls i l within is) ∙ two_parts old (sites p ms (plain_expr l.right)) (sites_in_links p ms (links_of (plain_links (drop (i + 1) ls))))
 
   pub links_done : (ls : List Link) (i : ℕ) → length ls ≤ i → old ++ sites_in_links p ms (links_of (plain_links (drop i ls))) ≡ old
   unfolding sites_in_links
@@ -189,8 +127,6 @@ call_found at p ms old first second new k a x es on again is on_is again_is foun
     ∙ (λ i. ((old ++ sites p ms (plain_expr (on_is i))) ++ sites_in p ms (exprs_of (plain_exprs es))) ++ call ms (plain_expr a.value) x.name.0)
     ∙ sym (sites-Call at p ms old a x es)
     ∙ ap (λ k. old ++ sites p ms (plain_kind k at)) (sym is)
-
-pub ruleset self_rules = (self-Int, self-Bool, self-Str, self-Nil, self-Var, self-SelfRef, self-Attr, self-Call, self-Apply, self-Index, self-List, self-Neg, self-Pos, self-Not, self-Chain, self-And, self-Or, self-Compare, self-IsNone, self-Cond)
 
 pub ruleset expr_rules = (sites-Int, sites-Bool, sites-Str, sites-Nil, sites-Var, sites-SelfRef, sites-Attr, sites-Call, sites-Apply, sites-Index, sites-List, sites-Neg, sites-Pos, sites-Not, sites-Chain, sites-And, sites-Or, sites-Compare, sites-IsNone, sites-Cond)
 

@@ -12,7 +12,7 @@ use Rattle.call_graph.specs.Suspending.{method_names, method_sites, class_sites,
 use Rattle.call_graph.specs.Suspending as s
 use Rattle.call_graph.specs.Marks.{marked, MayLeave, AreExact, is_marked, IsGraph}
 use Rattle.call_graph.specs.Marks as m
-use Rattle.call_graph.proofs.Pieces.{map_more}
+use Rattle.py_tree.proofs.ListWalks.{map_more}
 
 module _ (names : List (List ℕ)) (program : PlainProgram) where
   to_program : (class : ℕ) (c : PlainClass) → slice_get program class ≡ Some c → (method : ℕ) → MayLeave (class_sites names program c) method → MaySuspend names program class method

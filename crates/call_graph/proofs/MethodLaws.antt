@@ -8,8 +8,8 @@ use Rattle.py_tree.specs.PlainProgram.{PlainMethod, PlainProgram, plain_method}
 use Rattle.py_tree.specs.ClassRules.{methods_of}
 use Rattle.call_graph.specs.declared.sites.Site.{Site}
 use Rattle.call_graph.specs.Suspending.{method_names, method_sites}
-use Rattle.call_graph.specs.Views.{numbers_of}
-use Rattle.call_graph.proofs.Pieces.{map_more}
+use Rattle.py_tree.specs.ClassViews.{numbers_of}
+use Rattle.py_tree.proofs.ListWalks.{map_more}
 
 grown : {X : Type 0} (give : PlainMethod → X) (names : List (List ℕ)) (xs : List Method) (i : ℕ) (x : Method) (old new : List X) → i < length xs → x ≡ get_or xs i x → old ≡ map give (methods_of names (map plain_method (take i xs))) → new ≡ old ++ map give (methods_of names (plain_method x ∷ [])) → new ≡ map give (methods_of names (map plain_method (take (i + 1) xs)))
 unfolding methods_of

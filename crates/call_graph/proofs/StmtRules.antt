@@ -15,7 +15,7 @@ use Rattle.py_tree.specs.PlainStatements.{plain_option, plain_over, plain_stmt_k
 use Rattle.py_tree.specs.PlainProgram.{PlainProgram}
 use Rattle.py_tree.specs.Reachability.{goes_on}
 use Rattle.py_tree.proofs.Views.{stmt-Pass, stmt-Break, stmt-Continue, stmt-Expr, stmt-Return, stmt-Raise, stmt-Assert, stmt-Assign, stmt-Augment, stmt-If, stmt-While, stmt-For}
-use Rattle.py_tree.proofs.ReachRules.{stmts_split, stmts_end, arms_split, arms_end}
+use Rattle.py_tree.proofs.ListWalks.{stmts_from, stmts_end, arms_from, arms_end}
 use Rattle.call_graph.specs.declared.sites.Site.{Site}
 use Rattle.call_graph.specs.Suspending.{sites, sites_if_there, sites_over, stmt_sites, sites_in_body, sites_in_arms}
 use Rattle.call_graph.proofs.Parts.{no_more, two_parts, three_parts}
@@ -74,7 +74,7 @@ module _ (p : PlainProgram) (ms : List ℕ) (old : List Site) where
   unfolding sites_in_body
   body_more ss i x within is on =
       let rest = sites_in_body p ms (stmts_of (plain_stmts (drop (i + 1) ss))) in
-      ap (λ xs. old ++ sites_in_body p ms xs) (stmts_split ss i x within is)
+      ap (λ xs. old ++ sites_in_body p ms xs) (stmts_from ss i x within is)
       ∙ ap (λ b. old ++ (stmt_sites p ms (plain_stmt x) ++ (if b then rest else []))) on
       ∙ two_parts old (stmt_sites p ms (plain_stmt x)) rest
 
@@ -82,7 +82,7 @@ module _ (p : PlainProgram) (ms : List ℕ) (old : List Site) where
   unfolding sites_in_body
   body_cut ss i x within is off =
       let rest = sites_in_body p ms (stmts_of (plain_stmts (drop (i + 1) ss))) in
-      ap (λ xs. old ++ sites_in_body p ms xs) (stmts_split ss i x within is)
+      ap (λ xs. old ++ sites_in_body p ms xs) (stmts_from ss i x within is)
       ∙ ap (λ b. old ++ (stmt_sites p ms (plain_stmt x) ++ (if b then rest else []))) off
       ∙ ap (λ xs. old ++ xs) (no_more (stmt_sites p ms (plain_stmt x)))
 
@@ -93,7 +93,7 @@ module _ (p : PlainProgram) (ms : List ℕ) (old : List Site) where
   pub arms_more : (xs : List Arm) (i : ℕ) (x : Arm) → i < length xs → x ≡ get_or xs i x → old ++ sites_in_arms p ms (arms_of (plain_arms (drop i xs))) ≡ ((old ++ sites p ms (plain_expr (out-Arm x).test)) ++ sites_in_body p ms (stmts_of (plain_stmts (out-Arm x).body))) ++ sites_in_arms p ms (arms_of (plain_arms (drop (i + 1) xs)))
   unfolding sites_in_arms
   arms_more xs i x within is =
-      ap (λ ys. old ++ sites_in_arms p ms ys) (arms_split xs i x within is)
+      ap (λ ys. old ++ sites_in_arms p ms ys) (arms_from xs i x within is)
       ∙ three_parts old (sites p ms (plain_expr (out-Arm x).test)) (sites_in_body p ms (stmts_of (plain_stmts (out-Arm x).body))) (sites_in_arms p ms (arms_of (plain_arms (drop (i + 1) xs))))
 
   pub arms_done : (xs : List Arm) (i : ℕ) → length xs ≤ i → old ++ sites_in_arms p ms (arms_of (plain_arms (drop i xs))) ≡ old

@@ -1,3 +1,2 @@
 pub mod Suspending
 pub mod Marks
-pub mod Views

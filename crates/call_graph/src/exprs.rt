@@ -5,7 +5,7 @@ ghost use Rattle.py_tree.specs.PlainExpressions.{plain_expr, plain_exprs, exprs_
 ghost use Rattle.py_tree.specs.PlainStatements.{plain_option, plain_over};
 ghost use Rattle.py_tree.specs.PlainProgram.{plain_class};
 ghost use Rattle.call_graph.specs.Suspending as spec;
-ghost use Rattle.call_graph.specs.Views.{numbers_of};
+ghost use Rattle.py_tree.specs.ClassViews.{numbers_of};
 
 use crate::sites::{Sites, add_call, add_creation};
 use py_tree::{Class, Expr, ExprKind, Exprs, Links, Name, Over};

@@ -6,7 +6,7 @@ ghost use Rattle.py_tree.specs.ClassRules.{methods_of};
 ghost use Rattle.py_tree.specs.CheckedViews.{checked_program, checked_names};
 ghost use Rattle.call_graph.specs.Suspending as suspending;
 ghost use Rattle.call_graph.specs.Marks as spec;
-ghost use Rattle.call_graph.specs.Views.{numbers_of};
+ghost use Rattle.py_tree.specs.ClassViews.{numbers_of};
 
 use crate::closure::{Marks, marks_of};
 use crate::sites::Sites;

@@ -3,11 +3,10 @@
 ghost use Rattle.std.specs.Prelude.{◌≡◌, ◌++◌, map, OnOk};
 ghost use Rattle.py_tree.specs.PlainExpressions.{plain_expr};
 ghost use Rattle.py_tree.specs.PlainProgram.{plain_class};
-ghost use Rattle.py_tree.specs.ClassRules as rules;
 ghost use Rattle.call_graph.specs.Suspending as spec;
-ghost use Rattle.call_graph.specs.Views.{numbers_of};
+ghost use Rattle.py_tree.specs.ClassViews.{numbers_of};
 
-use py_tree::{Class, Expr, ExprKind, Name};
+use py_tree::{Class, Expr, Name, has_class, is_self};
 use sf_list::Sequence;
 use std::alloc::{AllocError, Global};
 
@@ -22,50 +21,8 @@ pub enum Site {
 
 pub type Sites = Sequence<Site>;
 
-/// Whether one of these classes has this name.
-#[tactic(auto, unfolding(py_tree::specs::ClassRules::is_class))]
-fn has_class(classes: &[Class], name: Name) -> bool
-    ensures { result ≡ rules.is_class (map plain_class classes.now) name.0 }
-{
-    for class in classes {
-        if class.name.0 == name.0 {
-            return true;
-        }
-    }
-    false
-}
-
-/// Whether an expression is the word `self`.
-#[tactic(auto, using(crate::proofs::ExprRules::self_rules))]
-fn is_self(expr: &Expr) -> bool
-    ensures { result ≡ rules.is_self (plain_expr expr.now) }
-{
-    match expr.kind {
-        ExprKind::SelfRef => true,
-        ExprKind::Int(_)
-        | ExprKind::Bool(_)
-        | ExprKind::Str(_)
-        | ExprKind::Nil
-        | ExprKind::Var(_)
-        | ExprKind::Attr(..)
-        | ExprKind::Call(..)
-        | ExprKind::Apply(..)
-        | ExprKind::Index(..)
-        | ExprKind::List(_)
-        | ExprKind::Neg(_)
-        | ExprKind::Pos(_)
-        | ExprKind::Not(_)
-        | ExprKind::Chain(..)
-        | ExprKind::And(_)
-        | ExprKind::Or(_)
-        | ExprKind::Compare(..)
-        | ExprKind::IsNone(..)
-        | ExprKind::Cond { .. } => false,
-    }
-}
-
 /// The number of the method of this name.
-#[tactic(auto, using(crate::proofs::NumberLaws::number_laws))]
+#[tactic(auto, using(py_tree::proofs::ListWalks::place_laws))]
 fn number_of(methods: &[Name], name: Name) -> Option<usize>
     ensures { result ≡ spec.number_of (numbers_of methods.now) name.0 }
 {

@@ -4,7 +4,7 @@ ghost use Rattle.std.specs.Prelude.{◌≡◌, ◌++◌, map, OnOk};
 ghost use Rattle.py_tree.specs.PlainStatements.{plain_stmt, plain_stmts, stmts_of, plain_arms, arms_of};
 ghost use Rattle.py_tree.specs.PlainProgram.{plain_class};
 ghost use Rattle.call_graph.specs.Suspending as spec;
-ghost use Rattle.call_graph.specs.Views.{numbers_of};
+ghost use Rattle.py_tree.specs.ClassViews.{numbers_of};
 
 use crate::exprs::{find, find_if_there, find_over};
 use crate::sites::Sites;

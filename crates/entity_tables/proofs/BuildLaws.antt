@@ -1,5 +1,5 @@
 -- Lists that grow along a walk over a tree's lists.
-use Rattle.std.proofs.Common.{◌≡◌, ℕ, ◌+◌, ◌<◌, List, [], ◌∷◌, ◌++◌, length, map, take, get_or, refl, sym, ap, ◌∙◌}
+use Rattle.std.proofs.Common.{◌≡◌, ℕ, ◌+◌, ◌<◌, List, [], ◌∷◌, ◌++◌, length, map, take, get_or, refl, ap, ◌∙◌}
 use Rattle.std.proofs.lemmas.List.{map-append}
 use Rattle.std.proofs.lemmas.List.Elements.{filter_map-append, filter-append}
 use Rattle.py_tree.specs.declared.stmt.Stmt.{Stmt}
@@ -12,12 +12,7 @@ use Rattle.entity_tables.specs.declared.table.Field.{Field}
 use Rattle.entity_tables.specs.declared.table.SigParam.{SigParam}
 use Rattle.entity_tables.specs.declared.table.Sig.{Sig}
 use Rattle.entity_tables.specs.Views.{plain_field, plain_sig_param, plain_sig}
-use Rattle.entity_tables.proofs.Lists.{map_more}
-
--- what has grown by what an item gives is what all items so far give
-grown : {X A B : Type 0} (view : X → A) (give : List A → List B) → ((xs ys : List A) → give (xs ++ ys) ≡ give xs ++ give ys) → (xs : List X) (i : ℕ) (x : X) (old new : List B) → i < length xs → x ≡ get_or xs i x → old ≡ give (map view (take i xs)) → new ≡ old ++ give (view x ∷ []) → new ≡ give (map view (take (i + 1) xs))
-grown view give joins xs i x old new within is so_far more =
-    more ∙ ap (λ ys. ys ++ give (view x ∷ [])) so_far ∙ sym (joins (map view (take i xs)) (view x ∷ [])) ∙ ap give (sym (map_more view xs i x within is))
+use Rattle.py_tree.proofs.ListWalks.{grown}
 
 pub params_more : (xs : List Param) (i : ℕ) (x : Param) (old new : List SigParam) (y : SigParam) → i < length xs → x ≡ get_or xs i x → map plain_sig_param old ≡ sig_params (map plain_param (take i xs)) → plain_sig_param y ≡ sig_param (plain_param x) → new ≡ old ++ y ∷ [] → map plain_sig_param new ≡ sig_params (map plain_param (take (i + 1) xs))
 params_more xs i x old new y within is so_far one more =

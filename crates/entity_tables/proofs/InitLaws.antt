@@ -1,14 +1,13 @@
--- The fields that the statements of `__init__` declare, and the first fault of these.
-use Rattle.std.proofs.Common.{◌≡◌, ℕ, ◌+◌, ◌<◌, Option, Some, None, List, [], ◌∷◌, ◌++◌, length, take, drop, get_or, sym, ap, ◌∙◌}
-use Rattle.std.proofs.lemmas.List.Elements.{filter_map-append}
+-- The first fault of the statements of `__init__`.
+use Rattle.std.proofs.Common.{◌≡◌, ℕ, ◌+◌, ◌<◌, Option, Some, None, List, length, take, drop, get_or, sym, ap, ◌∙◌}
 use Rattle.py_tree.specs.declared.names.Name.{Name}
 use Rattle.py_tree.specs.declared.stmt.Stmt.{Stmt}
 use Rattle.py_tree.specs.declared.rule.RuleFault.{RuleFault}
 use Rattle.py_tree.specs.PlainStatements.{PlainStmt, plain_stmt, plain_stmts}
 use Rattle.py_tree.specs.PlainProgram.{PlainProgram, PlainMethod}
+use Rattle.py_tree.specs.ClassViews.{numbers_of}
 use Rattle.py_tree.specs.ClassRules.{first_behind, field_names, init_stmt_fault}
-use Rattle.entity_tables.specs.Answers.{numbers_of}
-use Rattle.entity_tables.proofs.Lists.{map_more, first_passes, first_stops}
+use Rattle.entity_tables.proofs.Lists.{first_passes, first_stops}
 
 abbrev pub stmt_fault : List (List ℕ) → PlainProgram → List PlainMethod → List PlainStmt → PlainStmt → Option RuleFault
 stmt_fault names p members before s = init_stmt_fault names p members (field_names before) s
@@ -21,10 +20,4 @@ init_passes names p members declared xs i x within is so_far none = first_passes
 pub init_stops : (names : List (List ℕ)) (p : PlainProgram) (members : List PlainMethod) (declared : List Name) (xs : List Stmt) (i : ℕ) (x : Stmt) (f : RuleFault) → i < length xs → x ≡ get_or xs i x → numbers_of declared ≡ field_names (plain_stmts (take i xs)) → init_stmt_fault names p members (numbers_of declared) (plain_stmt x) ≡ Some f → first_behind (stmt_fault names p members) (plain_stmts (take i xs)) (plain_stmts (drop i xs)) ≡ Some f
 init_stops names p members declared xs i x f within is so_far some = first_stops plain_stmt (stmt_fault names p members) xs i x f within is (ap (λ ns. init_stmt_fault names p members ns (plain_stmt x)) (sym so_far) ∙ some)
 
--- the fields behind a statement
-pub names_more : (old new : List Name) (xs : List Stmt) (i : ℕ) (x : Stmt) → i < length xs → x ≡ get_or xs i x → numbers_of old ≡ field_names (plain_stmts (take i xs)) → numbers_of new ≡ numbers_of old ++ field_names (plain_stmt x ∷ []) → numbers_of new ≡ field_names (plain_stmts (take (i + 1) xs))
-unfolding field_names
-names_more old new xs i x within is so_far more =
-    more ∙ ap (λ ns. ns ++ field_names (plain_stmt x ∷ [])) so_far ∙ sym (filter_map-append _ (plain_stmts (take i xs)) (plain_stmt x ∷ [])) ∙ ap field_names (sym (map_more plain_stmt xs i x within is))
-
-pub ruleset init_laws = (init_passes, init_stops, names_more)
+pub ruleset init_laws = (init_passes, init_stops)

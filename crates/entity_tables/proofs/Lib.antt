@@ -1,9 +1,6 @@
 pub mod Lists
-pub mod Rules
 pub mod ExprRules
-pub mod StmtRules
 pub mod InitLaws
-pub mod KeyLaws
 pub mod BuildLaws
 pub mod SmallLaws
 pub mod WholeLaws

@@ -1,24 +1,15 @@
 -- Faults along lists.
-use Rattle.std.proofs.Common.{◌≡◌, ℕ, suc, arith, ◌+◌, ◌<◌, Option, Some, None, List, [], ◌∷◌, ◌++◌, length, map, take, drop, get_or, drop-cons, refl, sym, ap, ◌∙◌}
-use Rattle.std.proofs.lemmas.List.{take_more, map-append}
+use Rattle.std.proofs.Common.{◌≡◌, ℕ, ◌+◌, ◌<◌, Option, Some, None, List, [], ◌∷◌, length, map, take, drop, get_or, sym, ap, ◌∙◌}
 use Rattle.py_tree.specs.declared.rule.RuleFault.{RuleFault}
 use Rattle.py_tree.specs.ClassRules.{first_of, first_behind}
-
--- the items up to one and the one itself
-pub map_more : {X A : Type 0} (view : X → A) (xs : List X) (i : ℕ) (x : X) → i < length xs → x ≡ get_or xs i x → map view (take (i + 1) xs) ≡ map view (take i xs) ++ view x ∷ []
-map_more view xs i x within is = ap (map view) (take_more xs i x within ∙ ap (λ z. take i xs ++ z ∷ []) (sym is)) ∙ map-append view (take i xs) (x ∷ [])
+use Rattle.py_tree.proofs.ListWalks.{map_from, map_more}
+use Rattle.py_tree.proofs.ClassRuleLaws.{first_of_one}
 
 -- from an item on, behind those before it
 split_at : {X A : Type 0} (view : X → A) (fault : List A → A → Option RuleFault) (xs : List X) (i : ℕ) (x : X) → i < length xs → x ≡ get_or xs i x → first_behind fault (map view (take i xs)) (map view (drop i xs)) ≡ first_of (fault (map view (take i xs)) (view x) ∷ first_behind fault (map view (take (i + 1) xs)) (map view (drop (i + 1) xs)) ∷ [])
 split_at view fault xs i x within is =
-    let next : suc i ≡ i + 1 = omega arith in
-    ap (λ ys. first_behind fault (map view (take i xs)) (map view ys)) (drop-cons xs i x within ∙ (λ j. sym is j ∷ drop (next j) xs))
+    ap (first_behind fault (map view (take i xs))) (map_from view xs i x within is)
     ∙ ap (λ zs. first_of (fault (map view (take i xs)) (view x) ∷ first_behind fault zs (map view (drop (i + 1) xs)) ∷ [])) (sym (map_more view xs i x within is))
-
--- what stands last decides alone
-first_of_one : (f : Option RuleFault) → first_of (f ∷ []) ≡ f
-first_of_one None = refl
-first_of_one (Some f) = refl
 
 -- an item without a fault
 pub first_passes : {X A : Type 0} (view : X → A) (fault : List A → A → Option RuleFault) (xs : List X) (i : ℕ) (x : X) → i < length xs → x ≡ get_or xs i x → fault (map view (take i xs)) (view x) ≡ None → first_behind fault (map view (take i xs)) (map view (drop i xs)) ≡ first_behind fault (map view (take (i + 1) xs)) (map view (drop (i + 1) xs))

@@ -8,7 +8,8 @@ use Rattle.py_tree.specs.ClassRules.{first_behind, class_fault, table_of, tables
 use Rattle.entity_tables.specs.declared.table.ClassTable.{ClassTable}
 use Rattle.entity_tables.specs.Answers.{class_faults}
 use Rattle.entity_tables.specs.Views.{plain_table, plain_tables}
-use Rattle.entity_tables.proofs.Lists.{map_more, first_passes, first_stops}
+use Rattle.py_tree.proofs.ListWalks.{map_more}
+use Rattle.entity_tables.proofs.Lists.{first_passes, first_stops}
 
 pub tables_more : (names : List (List ℕ)) (xs : List Class) (i : ℕ) (x : Class) (old new : List ClassTable) (t : ClassTable) → i < length xs → x ≡ get_or xs i x → plain_tables old ≡ tables_of names (map plain_class (take i xs)) → plain_table t ≡ table_of names (plain_class x) → new ≡ old ++ t ∷ [] → plain_tables new ≡ tables_of names (map plain_class (take (i + 1) xs))
 tables_more names xs i x old new t within is so_far one more =

@@ -1,6 +1,5 @@
 -- What a check answers, as the class rules see it.
-use Rattle.std.specs.Prelude.{◌≡◌, ◌≤◌, ℕ, List, length, map, Option, Some, None, Result, Ok, Err}
-use Rattle.py_tree.specs.declared.names.Name.{Name}
+use Rattle.std.specs.Prelude.{◌≡◌, ◌≤◌, ℕ, List, length, Option, Some, None, Result, Ok, Err}
 use Rattle.py_tree.specs.declared.rule.RuleFault.{RuleFault}
 use Rattle.py_tree.specs.PlainProgram.{PlainMethod, PlainClass, PlainProgram}
 use Rattle.py_tree.specs.ClassRules.{class_fault, init_of, params_of, body_of, fields_of}
@@ -32,6 +31,3 @@ class_faults names program before c = class_fault names program c
 pub record IsSmall (names : List (List ℕ)) (members : List PlainMethod) : Type 0 where
   pub params : length (params_of (init_of names members)) ≤ 256
   pub fields : length (fields_of (body_of (init_of names members))) ≤ 256
-
-abbrev pub numbers_of : List Name → List ℕ
-numbers_of = map (λ name. name.0)

@@ -1,24 +1,14 @@
 -- Tables and their parts as plain ones.
 use Rattle.std.specs.Prelude.{List, map}
-use Rattle.py_tree.specs.PlainTypes.{plain_ty, plain_written}
-use Rattle.py_tree.specs.PlainExpressions.{plain_expr}
-use Rattle.py_tree.specs.ClassRules.{PlainKey, PlainField, PlainSigParam, PlainSig, PlainTable}
-use Rattle.py_tree.specs.ClassRules as spec
-use Rattle.entity_tables.specs.declared.declarations.Declaration.{Declaration}
-use Rattle.entity_tables.specs.declared.key.Key.{Key}
+use Rattle.py_tree.specs.PlainTypes.{plain_ty}
+use Rattle.py_tree.specs.ClassRules.{PlainField, PlainSigParam, PlainSig, PlainTable}
 use Rattle.entity_tables.specs.declared.table.Field.{Field}
 use Rattle.entity_tables.specs.declared.table.SigParam.{SigParam}
 use Rattle.entity_tables.specs.declared.table.Sig.{Sig}
 use Rattle.entity_tables.specs.declared.table.ClassTable.{ClassTable}
 
-abbrev pub plain_declaration : Declaration → spec.Declaration
-plain_declaration d = record { field = d.field; ty = plain_written d.ty.now; value = plain_expr d.value.now }
-
 abbrev pub plain_field : Field → PlainField
 plain_field f = record { name = f.name.0; ty = plain_ty f.ty }
-
-abbrev pub plain_key : Key → PlainKey
-plain_key k = record { field = k.field; param = k.param }
 
 abbrev pub plain_sig_param : SigParam → PlainSigParam
 plain_sig_param x = record { name = x.name.0; ty = plain_ty x.ty }

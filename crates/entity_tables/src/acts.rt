@@ -5,10 +5,9 @@ ghost use Rattle.py_tree.specs.PlainExpressions.{plain_expr, plain_exprs, exprs_
 ghost use Rattle.py_tree.specs.PlainStatements.{plain_option};
 ghost use Rattle.py_tree.specs.PlainProgram.{plain_class};
 ghost use Rattle.py_tree.specs.ClassRules as spec;
-ghost use Rattle.entity_tables.specs.Answers.{numbers_of};
+ghost use Rattle.py_tree.specs.ClassViews.{numbers_of};
 
-use crate::classes::has_class;
-use py_tree::{Class, Expr, ExprKind, Exprs, Links, Name};
+use py_tree::{Class, Expr, ExprKind, Exprs, Links, Name, has_class, is_self};
 
 /// Whether this is one of these names.
 #[tactic(auto, unfolding(py_tree::specs::ClassRules::is_field))]
@@ -21,35 +20,6 @@ pub fn has_field(fields: &[Name], name: Name) -> bool
         }
     }
     false
-}
-
-/// Whether an expression is the word `self`.
-#[tactic(auto, using(crate::proofs::ExprRules::self_rules))]
-pub fn is_self(expr: &Expr) -> bool
-    ensures { result ≡ spec.is_self (plain_expr expr.now) }
-{
-    match expr.kind {
-        ExprKind::SelfRef => true,
-        ExprKind::Int(_)
-        | ExprKind::Bool(_)
-        | ExprKind::Str(_)
-        | ExprKind::Nil
-        | ExprKind::Var(_)
-        | ExprKind::Attr(..)
-        | ExprKind::Call(..)
-        | ExprKind::Apply(..)
-        | ExprKind::Index(..)
-        | ExprKind::List(_)
-        | ExprKind::Neg(_)
-        | ExprKind::Pos(_)
-        | ExprKind::Not(_)
-        | ExprKind::Chain(..)
-        | ExprKind::And(_)
-        | ExprKind::Or(_)
-        | ExprKind::Compare(..)
-        | ExprKind::IsNone(..)
-        | ExprKind::Cond { .. } => false,
-    }
 }
 
 /// Whether an expression calls a method, makes an entity, or has `self` for more than to read one of

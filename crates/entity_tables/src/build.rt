@@ -7,15 +7,15 @@ ghost use Rattle.py_tree.specs.PlainProgram.{plain_param, plain_method};
 ghost use Rattle.py_tree.specs.ClassRules as spec;
 ghost use Rattle.entity_tables.specs.Views.{plain_field, plain_sig_param, plain_sig};
 
-use crate::declarations::declared_by;
-use crate::names::is_called;
 use crate::table::{Field, Fields, Sig, SigParam, SigParams, Sigs};
-use py_tree::{Method, Names, Param, Stmt, Ty, WrittenKind, WrittenTy};
+use py_tree::{
+    Method, Names, Param, Stmt, Ty, WrittenKind, WrittenTy, declared_by, is_called_by_name,
+};
 use sf_list::Sequence;
 use std::alloc::{AllocError, Global};
 
 /// The type that is written.
-#[tactic(auto, using(crate::proofs::Rules::type_rules, py_tree::proofs::Views::ty_views))]
+#[tactic(auto, using(py_tree::proofs::Views::written_views, py_tree::proofs::Views::ty_views))]
 pub fn type_of(alloc: Global, ty: &WrittenTy) -> Result<Ty, AllocError>
     ensures { IfOk result (λ made. plain_ty made ≡ the_type_of (plain_written ty.now)) }
 {
@@ -80,7 +80,7 @@ fn sig_of(alloc: Global, method: &Method) -> Result<Sig, AllocError>
 fn add_sig(alloc: Global, sigs: &mut Sigs, names: &Names, member: &Method) -> Result<(), AllocError>
     ensures { OnOk result (map plain_sig sigs.new ≡ map plain_sig sigs.old ++ map spec.sig_of (spec.methods_of names.now (plain_method member.now ∷ []))) }
 {
-    if is_called(names, member.name) {
+    if is_called_by_name(names, member.name) {
         return sigs.push(alloc, sig_of(alloc, member)?);
     }
     Ok(())

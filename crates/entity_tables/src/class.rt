@@ -10,11 +10,9 @@ ghost use Rattle.entity_tables.specs.Views.{plain_table, plain_tables};
 use crate::build::{fields_of, sig_params, sigs_of};
 use crate::fault::RuleError;
 use crate::init::check_init_body;
-use crate::key::{find_init, find_key, key_told};
 use crate::members::{check_member_name, check_params, check_result};
-use crate::names::is_init;
 use crate::table::{ClassTable, Tables};
-use py_tree::{Class, Method, Names, Place, Rule, RuleFault};
+use py_tree::{Class, Method, Names, Place, Rule, RuleFault, find_init, find_key, is_init, key_of};
 use sf_list::Sequence;
 use std::alloc::Global;
 
@@ -75,16 +73,16 @@ fn class_table(alloc: Global, names: &Names, class: &Class) -> Result<ClassTable
     let Some(method) = find_key(names, members) else {
         return Err(fault(Rule::KeyForm, class.place));
     };
-    let fields = fields_of(alloc, init.body.as_slice())?;
-    let Some(key) = key_told(method, init, fields.as_slice()) else {
+    let Some(key) = key_of(names, members) else {
         return Err(fault(Rule::KeyForm, method.place));
     };
+    let fields = fields_of(alloc, init.body.as_slice())?;
     let methods = sigs_of(alloc, names, members)?;
     let init = sig_params(alloc, init.params.as_slice())?;
     Ok(ClassTable {
         name: class.name,
-        key_field: key.field,
-        key_param: key.param,
+        key_field: key.field as u32,
+        key_param: key.param as u32,
         fields,
         methods,
         init,

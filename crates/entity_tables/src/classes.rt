@@ -7,20 +7,7 @@ ghost use Rattle.entity_tables.specs.Answers.{fault_of};
 
 use crate::fault::{is_full, refuse};
 use crate::names::is_reserved;
-use py_tree::{Class, Name, Rule, RuleFault};
-
-/// Whether one of these classes has this name.
-#[tactic(auto, unfolding(py_tree::specs::ClassRules::is_class))]
-pub fn has_class(classes: &[Class], name: Name) -> bool
-    ensures { result ≡ spec.is_class (map plain_class classes.now) name.0 }
-{
-    for class in classes {
-        if class.name.0 == name.0 {
-            return true;
-        }
-    }
-    false
-}
+use py_tree::{Class, Rule, RuleFault, has_class};
 
 /// The rules of a class's name, behind the other classes.
 #[tactic(auto, unfolding(py_tree::specs::ClassRules::class_name_fault))]

@@ -4,17 +4,17 @@ ghost use Rattle.std.specs.Prelude.{◌≡◌, map};
 ghost use Rattle.py_tree.specs.PlainStatements.{plain_stmt, plain_stmts};
 ghost use Rattle.py_tree.specs.PlainProgram.{plain_class, plain_method};
 ghost use Rattle.py_tree.specs.ClassRules as spec;
-ghost use Rattle.entity_tables.specs.Answers.{fault_of, Finds, numbers_of};
-ghost use Rattle.entity_tables.specs.Views.{plain_declaration};
+ghost use Rattle.py_tree.specs.ClassViews.{numbers_of, plain_declaration};
+ghost use Rattle.entity_tables.specs.Answers.{fault_of, Finds};
 
 use crate::acts::{acts, has_field, option_acts};
-use crate::declarations::{Declaration, add_declared, declared_by};
 use crate::fault::{RuleError, is_full, refuse};
 use crate::members::has_member;
-use crate::names::is_called;
 use crate::written::check_written;
-use py_tree::{Class, Method, Name, Names, Place, Rule, RuleFault, Stmt, StmtKind};
-use sf_list::Sequence;
+use py_tree::{
+    Class, Declaration, Method, Name, Names, Place, Rule, RuleFault, Stmt, StmtKind, add_declared,
+    declared_by, is_called_by_name,
+};
 use std::alloc::Global;
 
 /// The rules of a declaration that begins at a place, in a class with these members, behind the
@@ -34,13 +34,13 @@ fn check_declaration(
     let name = found.field.name;
     let is_taken = has_field(declared, name)
         || has_member(members, name)
-        || !is_called(names, name);
+        || !is_called_by_name(names, name);
     refuse(is_taken, Rule::DuplicateMember, found.field.place)?;
     check_written(classes, found.ty)
 }
 
 /// Whether a statement is an assert that only computes with these fields.
-#[tactic(auto, using(crate::proofs::StmtRules::assert_rules))]
+#[tactic(auto, using(py_tree::proofs::Views::stmt_views))]
 fn is_plain_assert(classes: &[Class], declared: &[Name], stmt: &Stmt) -> bool
     ensures { result ≡ spec.is_plain_assert (map plain_class classes.now) (numbers_of declared.now) (plain_stmt stmt.now) }
 {
@@ -63,7 +63,7 @@ fn is_plain_assert(classes: &[Class], declared: &[Name], stmt: &Stmt) -> bool
 }
 
 /// The rules of a statement of `__init__`.
-#[tactic(auto, using(crate::proofs::StmtRules::place_rules), unfolding(py_tree::specs::ClassRules::init_stmt_fault))]
+#[tactic(auto, using(py_tree::proofs::Places::places), unfolding(py_tree::specs::ClassRules::init_stmt_fault))]
 fn check_stmt(
     names: &Names,
     classes: &[Class],
@@ -83,7 +83,7 @@ fn check_stmt(
 }
 
 /// The rules of the body of `__init__`.
-#[tactic(auto, using(crate::proofs::InitLaws::init_laws), unfolding(py_tree::specs::ClassRules::init_body_fault))]
+#[tactic(auto, using(crate::proofs::InitLaws::init_laws, py_tree::proofs::DeclarationLaws::names_laws), unfolding(py_tree::specs::ClassRules::init_body_fault))]
 pub fn check_init_body(
     alloc: Global,
     names: &Names,
@@ -93,10 +93,10 @@ pub fn check_init_body(
 ) -> Result<(), RuleError>
     ensures { Finds (spec.init_body_fault names.now (map plain_class classes.now) (map plain_method members.now) (plain_stmts body.now)) result }
 {
-    let mut declared = Sequence::new(alloc);
+    let mut declared = Vec::new(alloc);
     for stmt in body {
         check_stmt(names, classes, members, declared.as_slice(), stmt)?;
-        add_declared(alloc, &mut declared, stmt)?;
+        add_declared(&mut declared, stmt)?;
     }
     Ok(())
 }

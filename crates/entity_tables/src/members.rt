@@ -7,11 +7,13 @@ ghost use Rattle.py_tree.specs.PlainProgram.{plain_class, plain_param, plain_met
 ghost use Rattle.py_tree.specs.ClassRules as spec;
 ghost use Rattle.entity_tables.specs.Answers.{fault_of};
 
-use crate::classes::has_class;
 use crate::fault::{is_full, refuse};
-use crate::names::{is_called, is_dunder, is_init, is_reserved};
+use crate::names::{is_dunder, is_reserved};
 use crate::written::{check_annotation, check_optional};
-use py_tree::{Class, Method, Name, Names, Param, Rule, RuleFault, WrittenKind, WrittenTy};
+use py_tree::{
+    Class, Method, Name, Names, Param, Rule, RuleFault, WrittenKind, WrittenTy, has_class,
+    is_called_by_name, is_init,
+};
 
 /// Whether one of these members has this name.
 #[tactic(auto, unfolding(py_tree::specs::ClassRules::is_member))]
@@ -33,7 +35,7 @@ fn count_called(names: &Names, members: &[Method]) -> usize
 {
     let mut count = 0;
     for member in members {
-        if is_called(names, member.name) {
+        if is_called_by_name(names, member.name) {
             count += 1;
         }
     }
@@ -45,7 +47,7 @@ fn count_called(names: &Names, members: &[Method]) -> usize
 pub fn check_member_name(names: &Names, before: &[Method], member: &Method) -> Result<(), RuleFault>
     ensures { fault_of result ≡ spec.member_name_fault names.now (map plain_method before.now) (plain_method member.now) }
 {
-    let called = is_called(names, member.name);
+    let called = is_called_by_name(names, member.name);
     let is_too_many = called && is_full(count_called(names, before));
     refuse(is_too_many, Rule::TooMany, member.place)?;
     let is_reserved = called && is_dunder(names, member.name);
@@ -96,7 +98,7 @@ pub fn check_params(classes: &[Class], params: &[Param]) -> Result<(), RuleFault
     Ok(())
 }
 
-#[tactic(auto, using(crate::proofs::Rules::more_rules))]
+#[tactic(auto, using(py_tree::proofs::Views::written_views))]
 fn is_more_than_none(ty: &WrittenTy) -> bool
     ensures { result ≡ spec.is_more_than_none (plain_written ty.now) }
 {
@@ -125,7 +127,7 @@ fn gives_more(result_ty: &Option<WrittenTy>) -> bool
 pub fn check_result(names: &Names, classes: &[Class], member: &Method) -> Result<(), RuleFault>
     ensures { fault_of result ≡ spec.result_fault names.now (map plain_class classes.now) (plain_method member.now) }
 {
-    if is_called(names, member.name) {
+    if is_called_by_name(names, member.name) {
         return check_annotation(classes, member.place, &member.result);
     }
     check_optional(classes, &member.result)?;

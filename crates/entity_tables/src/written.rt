@@ -7,12 +7,11 @@ ghost use Rattle.py_tree.specs.PlainProgram.{plain_class};
 ghost use Rattle.py_tree.specs.ClassRules as spec;
 ghost use Rattle.entity_tables.specs.Answers.{fault_of};
 
-use crate::classes::has_class;
 use crate::fault::refuse;
-use py_tree::{Class, Place, Rule, RuleFault, WrittenKind, WrittenTy};
+use py_tree::{Class, Place, Rule, RuleFault, WrittenKind, WrittenTy, has_class};
 
 /// Whether None belongs to a type.
-#[tactic(auto, using(crate::proofs::Rules::none_rules))]
+#[tactic(auto, using(py_tree::proofs::Views::written_views))]
 pub fn has_none(ty: &WrittenTy) -> bool
     ensures { result ≡ spec.has_none (plain_written ty.now) }
 {
@@ -27,7 +26,7 @@ pub fn has_none(ty: &WrittenTy) -> bool
 }
 
 /// The rules of a type, from the outside in.
-#[tactic(auto, using(crate::proofs::Rules::written_rules))]
+#[tactic(auto, using(py_tree::proofs::Views::written_views, py_tree::proofs::Places::places))]
 pub fn check_written(classes: &[Class], ty: &WrittenTy) -> Result<(), RuleFault>
     ensures { fault_of result ≡ spec.written_fault (map plain_class classes.now) (plain_written ty.now) }
 {

@@ -1,5 +1,4 @@
 pub mod EnvLaws
-pub mod ListWalks
 pub mod ShownLaws
 pub mod ScopeLaws
 pub mod WalkLaws

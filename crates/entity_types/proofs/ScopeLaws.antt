@@ -8,7 +8,7 @@ use Rattle.entity_types.specs.declared.env.Local.{Local}
 use Rattle.entity_types.specs.Views.{plain_local, plain_locals}
 use Rattle.entity_types.specs.Scopes.{known_by, plain_scope}
 use Rattle.entity_types.specs.declared.scope.Scope.{Scope}
-use Rattle.entity_types.proofs.ListWalks.{from_item}
+use Rattle.py_tree.proofs.ListWalks.{from_item}
 
 -- nothing is known but what the locals say
 pub known_as_is : (ls : List Local) → known_by (plain_locals ls) (map (λ l. l.not_none) ls) ≡ plain_locals ls

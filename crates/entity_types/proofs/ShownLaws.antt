@@ -7,7 +7,7 @@ use Rattle.py_tree.specs.declared.expr.Expr.{Expr}
 use Rattle.py_tree.specs.PlainExpressions.{PlainExpr, PVar, plain_expr, plain_exprs, exprs_of}
 use Rattle.py_tree.specs.ClassRules.{variable}
 use Rattle.py_tree.specs.FlowEnvironment.{has_name, variable_in, shown, shown_by_each}
-use Rattle.entity_types.proofs.ListWalks.{exprs_from, exprs_end}
+use Rattle.py_tree.proofs.ListWalks.{exprs_from, exprs_end}
 
 pub has_none_named : (name : ℕ) → has_name [] name ≡ false
 unfolding has_name

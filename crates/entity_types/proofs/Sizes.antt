@@ -9,54 +9,23 @@ use Rattle.py_tree.specs.declared.expr.Cmp.{Cmp}
 use Rattle.py_tree.specs.declared.expr.Expr.{Expr}
 use Rattle.py_tree.specs.declared.expr.Link.{Link}
 use Rattle.py_tree.specs.declared.expr.ExprKind as e
-use Rattle.py_tree.specs.PlainExpressions.{PlainExpr, PInt, PBool, PStr, PNil, PVar, PSelf, PAttr, PCall, PApply, PIndex, PList, PNeg, PPos, PNot, PChain, PAnd, POr, PCompare, PIsNone, PCond, PlainExprs, PNoExpr, PExpr, PLink, PlainLinks, PNoLink, PMoreLinks, plain_kind, plain_expr, plain_exprs, exprs_of, plain_links, links_of}
-use Rattle.entity_types.proofs.ListWalks.{rest}
+use Rattle.py_tree.specs.PlainExpressions.{plain_kind, plain_expr, plain_exprs, exprs_of, plain_links, links_of}
+use Rattle.py_tree.specs.Bounded.{expr_size, exprs_size, links_size}
+use Rattle.py_tree.proofs.ListWalks.{rest}
 use Rattle.py_tree.proofs.Views.{plain-Call, plain-Apply, plain-Index, plain-List, plain-Neg, plain-Pos, plain-Not, plain-Chain, plain-And, plain-Or, plain-Compare, plain-IsNone, plain-Cond}
 
-mutual
-  pub expr_size : PlainExpr → ℕ
-  expr_size (PInt at n) = 1
-  expr_size (PBool at b) = 1
-  expr_size (PStr at text) = 1
-  expr_size (PNil at) = 1
-  expr_size (PVar at name) = 1
-  expr_size (PSelf at) = 1
-  expr_size (PAttr at on name name_at) = 1 + expr_size on
-  expr_size (PCall at on name name_at args) = 1 + expr_size on + exprs_size args
-  expr_size (PApply at name args) = 1 + exprs_size args
-  expr_size (PIndex at on index) = 1 + expr_size on + expr_size index
-  expr_size (PList at items) = 1 + exprs_size items
-  expr_size (PNeg at a) = 1 + expr_size a
-  expr_size (PPos at a) = 1 + expr_size a
-  expr_size (PNot at a) = 1 + expr_size a
-  expr_size (PChain at first links) = 1 + expr_size first + links_size links
-  expr_size (PAnd at items) = 1 + exprs_size items
-  expr_size (POr at items) = 1 + exprs_size items
-  expr_size (PCompare at op op_at left right) = 1 + expr_size left + expr_size right
-  expr_size (PIsNone at a positive) = 1 + expr_size a
-  expr_size (PCond at test a b) = 1 + expr_size test + expr_size a + expr_size b
-
-  pub exprs_size : PlainExprs → ℕ
-  exprs_size PNoExpr = 0
-  exprs_size (PExpr x xs) = expr_size x + exprs_size xs
-
-  pub links_size : PlainLinks → ℕ
-  links_size PNoLink = 0
-  links_size (PMoreLinks (PLink op at right) more) = expr_size right + links_size more
-
 -- an item is no larger than its list
-
 pub item_size : (xs : List Expr) (i : ℕ) (x : Expr) → i < length xs → x ≡ get_or xs i x → expr_size (plain_expr x) ≤ exprs_size (exprs_of (plain_exprs xs))
 unfolding expr_size
 item_size [] i x within is = absurd (omega arith)
 item_size (y ∷ xs) zero x within is = let same : expr_size (plain_expr x) ≡ expr_size (plain_expr y) = ap (λ z. expr_size (plain_expr z)) is in omega (arith, same)
 item_size (y ∷ xs) (suc i) x within is = omega (arith, item_size xs i x (omega arith) is)
 
-pub link_size : (ls : List Link) (i : ℕ) (l : Link) → i < length ls → l ≡ get_or ls i l → expr_size (plain_expr l.right) ≤ links_size (links_of (plain_links ls))
+pub right_size : (ls : List Link) (i : ℕ) (l : Link) → i < length ls → l ≡ get_or ls i l → expr_size (plain_expr l.right) ≤ links_size (links_of (plain_links ls))
 unfolding expr_size
-link_size [] i l within is = absurd (omega arith)
-link_size (k ∷ ls) zero l within is = let same : expr_size (plain_expr l.right) ≡ expr_size (plain_expr k.right) = ap (λ z. expr_size (plain_expr z.right)) is in omega (arith, same)
-link_size (k ∷ ls) (suc i) l within is = omega (arith, link_size ls i l (omega arith) is)
+right_size [] i l within is = absurd (omega arith)
+right_size (k ∷ ls) zero l within is = let same : expr_size (plain_expr l.right) ≡ expr_size (plain_expr k.right) = ap (λ z. expr_size (plain_expr z.right)) is in omega (arith, same)
+right_size (k ∷ ls) (suc i) l within is = omega (arith, right_size ls i l (omega arith) is)
 
 -- what stands behind the first item
 pub rest_size : (xs : List Expr) → exprs_size (exprs_of (plain_exprs (take (length xs - 1) (drop 1 xs)))) ≤ exprs_size (exprs_of (plain_exprs xs))

@@ -19,7 +19,7 @@ use Rattle.entity_tables.specs.declared.table.SigParam.{SigParam}
 use Rattle.entity_tables.specs.Views.{plain_sig_param}
 use Rattle.entity_types.specs.Calls.{called, indexed}
 use Rattle.entity_types.specs.Functions.{count_asked, asked, given}
-use Rattle.entity_types.proofs.ListWalks.{from_item, exprs_from, exprs_end, links_from, links_end}
+use Rattle.py_tree.proofs.ListWalks.{from_item, exprs_from, exprs_end, links_from, links_end}
 
 -- Rules in a row
 

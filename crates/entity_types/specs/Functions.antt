@@ -3,15 +3,6 @@ use Rattle.std.specs.Prelude.{ℕ, Bool}
 use Rattle.py_tree.specs.PlainTypes.{PlainTy, TInt, TStr}
 use Rattle.py_tree.specs.ExpressionTypes.{is_int, is_str_or_list}
 use Rattle.py_tree.specs.ExpressionTypes as spec
-use Rattle.entity_types.specs.declared.functions.Function.{Function}
-use Rattle.entity_types.specs.declared.functions.Function.TheVariants as f
-
-abbrev pub plain_function : Function → spec.Function
-plain_function f.Length = spec.Length
-plain_function f.Text = spec.Text
-plain_function f.Absolute = spec.Absolute
-plain_function f.Least = spec.Least
-plain_function f.Greatest = spec.Greatest
 
 -- how many arguments it has
 abbrev pub count_asked : spec.Function → ℕ

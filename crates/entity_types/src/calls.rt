@@ -13,8 +13,8 @@ ghost use Rattle.entity_types.specs.Calls.{called as the_called, indexed as the_
 use crate::fault::{refuse, told};
 use crate::lookup::{field_of, method_of};
 use crate::types::{class_of, element_of, has_none};
-use entity_tables::{ClassTable, RuleError, Sig, is_self};
-use py_tree::{Expr, Place, PlacedName, Rule, Ty};
+use entity_tables::{ClassTable, RuleError, Sig};
+use py_tree::{Expr, Place, PlacedName, Rule, Ty, is_self};
 use sf_list::TryClone;
 use std::alloc::Global;
 

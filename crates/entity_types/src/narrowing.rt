@@ -7,8 +7,7 @@ ghost use Rattle.entity_types.specs.Views.{plain_locals, plain_env};
 ghost use Rattle.entity_types.specs.Scopes.{known_by};
 
 use crate::env::{FlowEnv, Local, Locals};
-use entity_tables::variable;
-use py_tree::{Expr, ExprKind, Name};
+use py_tree::{Expr, ExprKind, Name, variable};
 use sf_list::{Sequence, TryClone};
 use std::alloc::{AllocError, Global};
 

@@ -4,13 +4,14 @@ ghost use Rattle.std.specs.Prelude.{◌≡◌, Ok};
 ghost use Rattle.py_tree.specs.PlainTypes.{plain_ty, TInt, TBool};
 ghost use Rattle.py_tree.specs.ExpressionTypes as spec;
 ghost use Rattle.entity_types.specs.Answers.{Types, Checks};
-ghost use Rattle.entity_types.specs.Functions.{plain_function, asked};
+ghost use Rattle.py_tree.specs.Functions.{plain_function};
+ghost use Rattle.entity_types.specs.Functions.{asked};
 
 use crate::fault::refuse;
-use crate::functions::{Function, is_asked};
+use crate::functions::is_asked;
 use crate::types::{has_join, has_none, is_bool, is_int, is_list, is_str, same};
 use entity_tables::RuleError;
-use py_tree::{BinOp, Cmp, Place, Rule, Ty};
+use py_tree::{BinOp, Cmp, Function, Place, Rule, Ty};
 
 /// Both are whole numbers.
 pub fn are_ints(s: &Ty, t: &Ty) -> bool

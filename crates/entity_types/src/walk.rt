@@ -8,20 +8,21 @@ ghost use Rattle.py_tree.specs.FlowEnvironment.{where_test};
 ghost use Rattle.py_tree.specs.ExpressionTypes as spec;
 ghost use Rattle.entity_tables.specs.Views.{plain_sig_param, plain_tables};
 ghost use Rattle.entity_types.specs.Answers.{Types, Checks};
-ghost use Rattle.entity_types.specs.Functions.{plain_function, asked, given as the_given};
+ghost use Rattle.py_tree.specs.Functions.{plain_function};
+ghost use Rattle.entity_types.specs.Functions.{asked, given as the_given};
 ghost use Rattle.entity_types.specs.Scopes.{plain_scope};
 ghost use Rattle.entity_types.specs.Views.{plain_wanted};
 
 use crate::calls::{attribute, called, indexed};
 use crate::fault::{refuse, told};
-use crate::functions::{Function, count_asked, function_of, given};
+use crate::functions::{count_asked, given};
 use crate::known::{copy_scope, narrow_scope, variable_ty};
 use crate::lookup::{self_ty, table_named};
 use crate::operators::{check_asked, check_condition, combined, comparison, signed};
 use crate::scope::Scope;
 use crate::types::{assignable, element_wanted, is_int, join, list_of, right_wanted};
 use entity_tables::{ClassTable, RuleError, SigParam};
-use py_tree::{Expr, ExprKind, Link, Name, Place, PlacedName, Rule, Ty};
+use py_tree::{Expr, ExprKind, Function, Link, Name, Place, PlacedName, Rule, Ty, function_of};
 use sf_list::TryClone;
 use std::alloc::Global;
 

@@ -18,7 +18,8 @@ use Rattle.py_tree.specs.FlowEnvironment.{PlainLocal, shown, narrowed}
 use Rattle.py_tree.specs.ExpressionTypes.{with_found}
 use Rattle.py_tree.specs.Reachability.{goes_on, all_go_on, an_arm_goes_on, assigned_in}
 use Rattle.py_tree.specs.Flow.{Context, Way, within_loop, condition_at, known_at, settled, meet, way, behind_ways, with_local, needs_none, local_fault, stored, item_of, on, begun, after_while, after_for, at_head, for_head, flow, flow_all, flow_arms}
-use Rattle.py_tree.proofs.ReachRules.{goes_on_rules, stmts_split, stmts_end, arms_split, arms_end}
+use Rattle.py_tree.proofs.ListWalks.{stmts_from, stmts_end, arms_from, arms_end}
+use Rattle.py_tree.proofs.ReachRules.{goes_on_rules}
 use Rattle.py_tree.proofs.Views.{stmt-Pass, stmt-If, stmt-While, stmt-For}
 use Rattle.entity_tables.specs.declared.fault.RuleError.{RuleError}
 use Rattle.entity_tables.specs.declared.fault.RuleError.TheVariants.{Fault, NoMemory}
@@ -106,7 +107,7 @@ as_statement c w at k kind plain goes old new breaks r is seen told answer =
 module _ (c : Context) (w : Way) (ss : List Stmt) (i : ℕ) (s : Stmt) where
   from_one : i < length ss → s ≡ get_or ss i s → flow_all c w (stmts_of (plain_stmts (drop i ss))) ≡ with_found (flow c w (plain_stmt s)) (λ next. if goes_on (plain_stmt s) then flow_all c next (stmts_of (plain_stmts (drop (i + 1) ss))) else Ok next)
   unfolding flow
-  from_one within is = ap (flow_all c w) (stmts_split ss i s within is)
+  from_one within is = ap (flow_all c w) (stmts_from ss i s within is)
 
   pub list_fails : (f : RuleFault) → i < length ss → s ≡ get_or ss i s → flow c w (plain_stmt s) ≡ Err f → flow_all c w (stmts_of (plain_stmts (drop i ss))) ≡ Err f
   list_fails f within is fails = from_one within is ∙ ap (λ r. with_found r (λ next. if goes_on (plain_stmt s) then flow_all c next (stmts_of (plain_stmts (drop (i + 1) ss))) else Ok next)) fails
@@ -125,7 +126,7 @@ list_ends c w ss i past = ap (flow_all c w) (stmts_end ss i past)
 module _ (c : Context) (f : Fork) (xs : List Arm) (i : ℕ) (x : Arm) where
   from_arm : i < length xs → x ≡ get_or xs i x → behind_arms c f (arms_of (plain_arms (drop i xs))) ≡ with_found (behind_arm c f (plain_arm x)) (λ next. behind_arms c next (arms_of (plain_arms (drop (i + 1) xs))))
   unfolding behind_arms
-  from_arm within is = ap (behind_arms c f) (arms_split xs i x within is)
+  from_arm within is = ap (behind_arms c f) (arms_from xs i x within is)
 
   pub arms_fail : (e : RuleFault) → i < length xs → x ≡ get_or xs i x → behind_arm c f (plain_arm x) ≡ Err e → behind_arms c f (arms_of (plain_arms (drop i xs))) ≡ Err e
   arms_fail e within is fails = from_arm within is ∙ ap (λ r. with_found r (λ next. behind_arms c next (arms_of (plain_arms (drop (i + 1) xs))))) fails
@@ -139,11 +140,7 @@ arms_done c f xs i past = ap (behind_arms c f) (arms_end xs i past)
 
 pub one_goes : (xs : List Arm) (i : ℕ) (x : Arm) → i < length xs → x ≡ get_or xs i x → an_arm_goes_on (arms_of (plain_arms (drop i xs))) ≡ (all_go_on (stmts_of (plain_stmts (out-Arm x).body)) || an_arm_goes_on (arms_of (plain_arms (drop (i + 1) xs))))
 unfolding an_arm_goes_on
-one_goes xs i x within is = ap an_arm_goes_on (arms_split xs i x within is)
-
-pub or_false : (b : Bool) → (b || false) ≡ b
-or_false true = refl
-or_false false = refl
+one_goes xs i x within is = ap an_arm_goes_on (arms_from xs i x within is)
 
 -- where an environment differs in its locals alone, its statements stand where they stood
 pub same_place : (tables : List PlainTable) (env old : FlowEnv) (in_loop : Bool) → env.class ≡ old.class → env.method ≡ old.method → context_of tables env in_loop ≡ context_of tables old in_loop

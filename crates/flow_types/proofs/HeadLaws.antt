@@ -1,31 +1,28 @@
 -- Locals at the head of a loop: one by one, and name by name.
 use Rattle.std.specs.Prelude.{◌||◌, ◌==◌, if◌then◌else◌, slice_set}
-use Rattle.std.proofs.Common.{◌≡◌, ℕ, zero, suc, arith, ◌+◌, ◌<◌, ◌≤◌, Bool, true, false, List, [], ◌∷◌, ◌++◌, length, take, drop, get_or, append-nil, refl, sym, ap, ◌∙◌}
+use Rattle.std.proofs.Common.{◌≡◌, ℕ, ◌+◌, ◌<◌, ◌≤◌, Bool, true, false, List, [], ◌∷◌, ◌++◌, length, take, drop, get_or, refl, sym, ap, ◌∙◌}
 use Rattle.std.proofs.lemmas.Bool.{eq-eqb, ne_eqb}
-use Rattle.std.proofs.lemmas.List.{drop_all, take_all}
+use Rattle.std.proofs.Math.Bool.{or-false}
 use Rattle.py_tree.specs.declared.stmt.Stmt.{Stmt}
 use Rattle.py_tree.specs.declared.stmt.Arm.{Arm, out-Arm}
 use Rattle.py_tree.specs.PlainStatements.{plain_stmt, plain_stmts, stmts_of, plain_arms, arms_of}
 use Rattle.py_tree.specs.Reachability.{goes_on, assigns, assigned_in, assigned_in_arms}
 use Rattle.py_tree.specs.FlowEnvironment.{PlainLocal, has_name}
 use Rattle.py_tree.specs.Flow.{forgotten, at_head}
-use Rattle.py_tree.proofs.ReachRules.{stmts_split, stmts_end, arms_split, arms_end}
+use Rattle.py_tree.proofs.ListWalks.{stmts_from, stmts_end, arms_from, arms_end}
 use Rattle.entity_types.specs.declared.env.Local.{Local}
 use Rattle.entity_types.specs.Views.{plain_local, plain_locals}
 use Rattle.entity_types.proofs.ShownLaws.{has_none_named, has_named_append}
-
-or_false : (b : Bool) → (b || false) ≡ b
-or_false true = refl
-or_false false = refl
+use Rattle.flow_types.proofs.LocalLaws.{changed_more, changed_all}
 
 -- a name alone
 pub is_named : (x name : ℕ) → name ≡ x → has_name (x ∷ []) name ≡ true
 unfolding has_name
-is_named x name same = or_false (x == name) ∙ eq-eqb x name (sym same)
+is_named x name same = or-false (x == name) ∙ eq-eqb x name (sym same)
 
 pub is_other : (x name : ℕ) → (name ≡ x → ⊥) → has_name (x ∷ []) name ≡ false
 unfolding has_name
-is_other x name other = or_false (x == name) ∙ ne_eqb x name (λ e. other (sym e))
+is_other x name other = or-false (x == name) ∙ ne_eqb x name (λ e. other (sym e))
 
 pub ruleset name_laws = (is_named, is_other)
 
@@ -59,27 +56,23 @@ head_cons x xs ls = head_append (x ∷ []) xs ls
 pub ruleset head_laws = (head_of_none, head_append, head_cons)
 
 -- locals that are forgotten one by one, those before one of them so far
-head_further : (names : List ℕ) (ls : List Local) (i : ℕ) (l made : Local) → i < length ls → l ≡ get_or ls i l → at_head names (plain_local l ∷ []) ≡ plain_local made ∷ [] → take i (plain_locals ls) ++ at_head names (drop i (plain_locals ls)) ≡ take (suc i) (plain_locals (slice_set ls i made)) ++ at_head names (drop (suc i) (plain_locals (slice_set ls i made)))
-unfolding at_head
-head_further names [] i l made within is one = absurd (omega arith)
-head_further names (x ∷ ls) zero l made within is one = ap (λ y. at_head names (plain_local y ∷ []) ++ at_head names (plain_locals ls)) (sym is) ∙ ap (λ p. p ++ at_head names (plain_locals ls)) one
-head_further names (x ∷ ls) (suc i) l made within is one = ap (λ more. plain_local x ∷ more) (head_further names ls i l made (omega arith) is one)
-
 pub head_more : (names : List ℕ) (ls more : List Local) (i : ℕ) (l made : Local) → i < length ls → l ≡ get_or ls i l → at_head names (plain_local l ∷ []) ≡ plain_local made ∷ [] → more ≡ slice_set ls i made → take i (plain_locals ls) ++ at_head names (drop i (plain_locals ls)) ≡ take (i + 1) (plain_locals more) ++ at_head names (drop (i + 1) (plain_locals more))
+unfolding at_head
 head_more names ls more i l made within is one sets =
-    let next : suc i ≡ i + 1 = omega arith in
-    head_further names ls i l made within is one ∙ (λ j. take (next j) (plain_locals (sym sets j)) ++ at_head names (drop (next j) (plain_locals (sym sets j))))
+    let forgets : PlainLocal → PlainLocal = λ l. if has_name names l.name then forgotten l else l in
+    let made_is : plain_local made ≡ forgets (plain_local l) = cc in
+    changed_more forgets ls more i l made within is made_is sets
 
 pub head_all : (names : List ℕ) (ls : List PlainLocal) (i : ℕ) → length ls ≤ i → take i ls ++ at_head names (drop i ls) ≡ ls
 unfolding at_head
-head_all names ls i past = (λ j. take_all i ls past j ++ at_head names (drop_all i ls past j)) ∙ append-nil ls
+head_all names ls i past = changed_all (λ l. if has_name names l.name then forgotten l else l) ls i past
 
 -- statements, from one of them on
 module _ (ss : List Stmt) (i : ℕ) (s : Stmt) (ls : List PlainLocal) where
   body_from : i < length ss → s ≡ get_or ss i s → at_head (assigned_in (stmts_of (plain_stmts (drop i ss)))) ls ≡ at_head (if goes_on (plain_stmt s) then assigned_in (stmts_of (plain_stmts (drop (i + 1) ss))) else []) (at_head (assigns (plain_stmt s)) ls)
   unfolding assigned_in
   body_from within is =
-      ap (λ b. at_head (assigned_in b) ls) (stmts_split ss i s within is)
+      ap (λ b. at_head (assigned_in b) ls) (stmts_from ss i s within is)
       ∙ head_append (assigns (plain_stmt s)) (if goes_on (plain_stmt s) then assigned_in (stmts_of (plain_stmts (drop (i + 1) ss))) else []) ls
 
   pub body_passes : i < length ss → s ≡ get_or ss i s → goes_on (plain_stmt s) ≡ true → at_head (assigned_in (stmts_of (plain_stmts (drop i ss)))) ls ≡ at_head (assigned_in (stmts_of (plain_stmts (drop (i + 1) ss)))) (at_head (assigns (plain_stmt s)) ls)
@@ -98,7 +91,7 @@ pub ruleset body_laws = (body_passes, body_stops, body_ends)
 pub arms_pass : (xs : List Arm) (i : ℕ) (x : Arm) (ls : List PlainLocal) → i < length xs → x ≡ get_or xs i x → at_head (assigned_in_arms (arms_of (plain_arms (drop i xs)))) ls ≡ at_head (assigned_in_arms (arms_of (plain_arms (drop (i + 1) xs)))) (at_head (assigned_in (stmts_of (plain_stmts (out-Arm x).body))) ls)
 unfolding assigned_in_arms
 arms_pass xs i x ls within is =
-    ap (λ b. at_head (assigned_in_arms b) ls) (arms_split xs i x within is)
+    ap (λ b. at_head (assigned_in_arms b) ls) (arms_from xs i x within is)
     ∙ head_append (assigned_in (stmts_of (plain_stmts (out-Arm x).body))) (assigned_in_arms (arms_of (plain_arms (drop (i + 1) xs)))) ls
 
 pub arms_done : (xs : List Arm) (i : ℕ) (ls : List PlainLocal) → length xs ≤ i → at_head (assigned_in_arms (arms_of (plain_arms (drop i xs)))) ls ≡ ls

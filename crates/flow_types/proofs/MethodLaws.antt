@@ -1,7 +1,7 @@
 -- Parameters as locals, methods by their numbers, and faults along them.
-use Rattle.std.specs.Prelude.{slice_get, if◌then◌else◌}
-use Rattle.std.proofs.Common.{◌≡◌, ℕ, zero, suc, arith, ◌+◌, ◌-◌, ◌<◌, ◌≤◌, true, false, Option, Some, None, Ok, Err, List, [], ◌∷◌, ◌++◌, length, map, take, drop, get_or, refl, sym, ap, subst, ◌∙◌}
-use Rattle.std.proofs.lemmas.List.{take_more, map-append, drop_all, length-map}
+use Rattle.std.specs.Prelude.{slice_get}
+use Rattle.std.proofs.Common.{◌≡◌, ℕ, zero, suc, arith, ◌+◌, ◌-◌, ◌<◌, ◌≤◌, true, false, Some, None, Ok, Err, List, [], ◌∷◌, ◌++◌, length, map, take, drop, get_or, refl, sym, ap, subst, ◌∙◌}
+use Rattle.std.proofs.lemmas.List.{map-append, drop_all, length-map}
 use Rattle.py_tree.specs.declared.program.Method.{Method}
 use Rattle.py_tree.specs.declared.program.Class.{Class}
 use Rattle.py_tree.specs.declared.rule.RuleFault.{RuleFault}
@@ -11,34 +11,29 @@ use Rattle.py_tree.specs.ClassRules.{PlainTable, first_of, is_called, methods_of
 use Rattle.py_tree.specs.Flow.{param_local, fault_in, flow, method_locals, init_flow_fault, methods_flow_fault, class_flow_fault, classes_flow_fault}
 use Rattle.entity_tables.specs.declared.table.SigParam.{SigParam}
 use Rattle.entity_tables.specs.Views.{plain_sig_param}
-use Rattle.py_tree.proofs.ClassRuleLaws.{few_classes, few_methods}
+use Rattle.py_tree.proofs.ClassRuleLaws.{first_of_one, few_classes, few_methods}
+use Rattle.py_tree.proofs.CheckedLaws.{called_from, called_end}
 use Rattle.entity_types.specs.declared.env.Local.{Local}
 use Rattle.entity_types.specs.Views.{plain_local, plain_locals}
-use Rattle.entity_types.proofs.ListWalks.{from_item}
+use Rattle.py_tree.proofs.ListWalks.{from_item, map_more}
 
 pub params_more : (xs : List SigParam) (i : ℕ) (x : SigParam) (made more : List Local) (l : Local) → i < length xs → x ≡ get_or xs i x → plain_locals made ≡ map param_local (map plain_sig_param (take i xs)) → plain_local l ≡ param_local (plain_sig_param x) → more ≡ made ++ l ∷ [] → plain_locals more ≡ map param_local (map plain_sig_param (take (i + 1) xs))
 params_more xs i x made more l within is so_far one grown =
-    let view : List SigParam → List PlainLocal = λ ys. map param_local (map plain_sig_param ys) in
     ap plain_locals grown ∙ map-append plain_local made (l ∷ []) ∙ (λ j. so_far j ++ one j ∷ [])
-    ∙ sym (ap view (take_more xs i x within ∙ ap (λ z. take i xs ++ z ∷ []) (sym is)) ∙ ap (map param_local) (map-append plain_sig_param (take i xs) (x ∷ [])) ∙ map-append param_local (map plain_sig_param (take i xs)) (plain_sig_param x ∷ []))
+    ∙ sym (ap (map param_local) (map_more plain_sig_param xs i x within is) ∙ map-append param_local (map plain_sig_param (take i xs)) (plain_sig_param x ∷ []))
 
 pub ruleset param_laws = (params_more)
 
 -- the methods among members, from one of them on
 module _ (names : List (List ℕ)) (ms : List Method) (i : ℕ) (m : Method) where
-  from_member : i < length ms → m ≡ get_or ms i m → methods_of names (map plain_method (drop i ms)) ≡ (if is_called names m.name.0 then plain_method m ∷ methods_of names (map plain_method (drop (i + 1) ms)) else methods_of names (map plain_method (drop (i + 1) ms)))
-  unfolding methods_of
-  from_member within is = ap (λ ys. methods_of names (map plain_method ys)) (from_item ms i m within is)
-
   pub is_method : i < length ms → m ≡ get_or ms i m → is_called names m.name.0 ≡ true → methods_of names (map plain_method (drop i ms)) ≡ plain_method m ∷ methods_of names (map plain_method (drop (i + 1) ms))
-  is_method within is called = from_member within is ∙ ap (λ b. if b then plain_method m ∷ methods_of names (map plain_method (drop (i + 1) ms)) else methods_of names (map plain_method (drop (i + 1) ms))) called
+  is_method within is called = called_from names ms i m true within is called
 
   pub no_method : i < length ms → m ≡ get_or ms i m → is_called names m.name.0 ≡ false → methods_of names (map plain_method (drop i ms)) ≡ methods_of names (map plain_method (drop (i + 1) ms))
-  no_method within is other = from_member within is ∙ ap (λ b. if b then plain_method m ∷ methods_of names (map plain_method (drop (i + 1) ms)) else methods_of names (map plain_method (drop (i + 1) ms))) other
+  no_method within is other = called_from names ms i m false within is other
 
 pub no_methods : (names : List (List ℕ)) (ms : List Method) (i : ℕ) → length ms ≤ i → methods_of names (map plain_method (drop i ms)) ≡ []
-unfolding methods_of
-no_methods names ms i past = ap (λ ys. methods_of names (map plain_method ys)) (drop_all i ms past)
+no_methods names ms i past = called_end names ms i past
 
 pub found_here : {A : Type 0} (x : A) (xs : List A) (left : ℕ) → left ≡ 0 → slice_get (x ∷ xs) left ≡ Some x
 found_here x xs left none = ap (slice_get (x ∷ xs)) none
@@ -47,11 +42,6 @@ pub found_later : {A : Type 0} (x : A) (xs : List A) (left : ℕ) → (left ≡ 
 found_later x xs left more =
     let next : left ≡ suc (left - 1) = omega arith in
     ap (slice_get (x ∷ xs)) next
-
--- what stands last decides alone
-first_of_one : (f : Option RuleFault) → first_of (f ∷ []) ≡ f
-first_of_one None = refl
-first_of_one (Some f) = refl
 
 module _ (tables : List PlainTable) (class number : ℕ) (m : PlainMethod) (ms : List PlainMethod) where
   pub methods_pass : (ls : List PlainLocal) → method_locals tables class number m ≡ Ok ls → methods_flow_fault tables class number (m ∷ ms) ≡ methods_flow_fault tables class (number + 1) ms

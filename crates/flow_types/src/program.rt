@@ -9,9 +9,8 @@ ghost use Rattle.entity_tables.specs.Views.{plain_tables};
 ghost use Rattle.flow_types.specs.Views.{method_at};
 
 use crate::methods::{check_init, method_locals};
-use entity_tables::names::is_called;
-use entity_tables::{RuleError, Tables, find_init};
-use py_tree::{Class, Method, Names};
+use entity_tables::{RuleError, Tables};
+use py_tree::{Class, Method, Names, find_init, is_called_by_name};
 use std::alloc::Global;
 
 /// The method of this number among those that are called by name.
@@ -21,7 +20,7 @@ fn method_of<'a>(names: &Names, members: &'a [Method], number: u32) -> Option<&'
 {
     let mut left = number;
     for member in members {
-        if is_called(names, member.name) {
+        if is_called_by_name(names, member.name) {
             if left == 0 {
                 return Some(member);
             }
@@ -58,7 +57,7 @@ fn check_methods(
 {
     let mut number = 0;
     for member in members {
-        if is_called(names, member.name) {
+        if is_called_by_name(names, member.name) {
             method_locals(alloc, tables, names, class, number, member)?;
             number += 1;
         }

@@ -13,7 +13,7 @@ use entity_types::{RuleError, refuse};
 use py_tree::{Rule, WrittenKind, WrittenTy};
 
 /// The rules of a type, from the outside in.
-#[tactic(auto, using(py_tree::proofs::Views::written_views, entity_tables::proofs::Rules::place_is))]
+#[tactic(auto, using(py_tree::proofs::Views::written_views, py_tree::proofs::Places::places))]
 pub fn check_written(tables: &Tables, ty: &WrittenTy) -> Result<(), RuleError>
     ensures { Finds (type_fault (spec.is_class_in (plain_tables tables.now)) (plain_written ty.now)) result }
 {

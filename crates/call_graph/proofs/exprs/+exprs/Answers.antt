@@ -1,7 +1,7 @@
 use Rattle.std.proofs.Common.{map}
 use Rattle.std.proofs.lemmas.Result.{on_ok_weaker}
 use Rattle.py_tree.specs.PlainProgram.{plain_class}
-use Rattle.call_graph.specs.Views.{numbers_of}
+use Rattle.py_tree.specs.ClassViews.{numbers_of}
 use Rattle.call_graph.proofs.ExprRules.{call_found}
 use Rattle.call_graph.proofs.exprs.+exprs.Goals as goal
 

@@ -2,7 +2,7 @@ use Rattle.std.proofs.Common.{◌≡◌, ◌++◌, map, drop}
 use Rattle.py_tree.specs.PlainExpressions.{plain_exprs, exprs_of, plain_links, links_of}
 use Rattle.py_tree.specs.PlainProgram.{plain_class}
 use Rattle.call_graph.specs.Suspending.{sites_in, sites_in_links}
-use Rattle.call_graph.specs.Views.{numbers_of}
+use Rattle.py_tree.specs.ClassViews.{numbers_of}
 use Rattle.call_graph.proofs.exprs.+exprs.Given as goal
 
 abbrev pub invariant-find_in-loop-expr : goal.invariant-find_in-loop-expr

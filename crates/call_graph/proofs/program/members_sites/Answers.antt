@@ -1,6 +1,6 @@
 use Rattle.std.proofs.Common.{map}
 use Rattle.py_tree.specs.PlainProgram.{plain_class}
-use Rattle.call_graph.specs.Views.{numbers_of}
+use Rattle.py_tree.specs.ClassViews.{numbers_of}
 use Rattle.call_graph.proofs.MethodLaws.{rows_more}
 use Rattle.call_graph.proofs.program.members_sites.Goals as goal
 

@@ -2,7 +2,7 @@ use Rattle.std.proofs.Common.{◌≡◌, map, take}
 use Rattle.py_tree.specs.PlainProgram.{plain_class, plain_method}
 use Rattle.py_tree.specs.ClassRules.{methods_of}
 use Rattle.call_graph.specs.Suspending.{method_sites}
-use Rattle.call_graph.specs.Views.{numbers_of}
+use Rattle.py_tree.specs.ClassViews.{numbers_of}
 use Rattle.call_graph.proofs.program.members_sites.Given as goal
 
 abbrev pub invariant-loop-member : goal.invariant-loop-member

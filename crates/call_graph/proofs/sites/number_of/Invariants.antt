@@ -1,7 +1,7 @@
 use Rattle.std.proofs.Common.{◌≡◌, drop}
 use Rattle.std.specs.Prelude.{◌==◌}
 use Rattle.std.specs.List.{position_from}
-use Rattle.call_graph.specs.Views.{numbers_of}
+use Rattle.py_tree.specs.ClassViews.{numbers_of}
 use Rattle.call_graph.proofs.sites.number_of.Given as goal
 
 abbrev pub invariant-loop-number : goal.invariant-loop-number

@@ -2,7 +2,7 @@ use Rattle.std.proofs.Common.{◌≡◌, ◌++◌, map, drop}
 use Rattle.py_tree.specs.PlainStatements.{plain_stmts, stmts_of, plain_arms, arms_of}
 use Rattle.py_tree.specs.PlainProgram.{plain_class}
 use Rattle.call_graph.specs.Suspending.{sites_in_body, sites_in_arms}
-use Rattle.call_graph.specs.Views.{numbers_of}
+use Rattle.py_tree.specs.ClassViews.{numbers_of}
 use Rattle.call_graph.proofs.stmts.+stmts.Given as goal
 
 abbrev pub invariant-find_in_body-loop-stmt : goal.invariant-find_in_body-loop-stmt

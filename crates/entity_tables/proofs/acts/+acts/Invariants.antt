@@ -2,7 +2,7 @@ use Rattle.std.proofs.Common.{◌≡◌, map, drop}
 use Rattle.py_tree.specs.PlainExpressions.{plain_exprs, exprs_of, plain_links, links_of}
 use Rattle.py_tree.specs.PlainProgram.{plain_class}
 use Rattle.py_tree.specs.ClassRules.{any_acts, any_link_acts}
-use Rattle.entity_tables.specs.Answers.{numbers_of}
+use Rattle.py_tree.specs.ClassViews.{numbers_of}
 use Rattle.entity_tables.proofs.acts.+acts.Given as goal
 
 abbrev pub invariant-any_acts-loop-expr : goal.invariant-any_acts-loop-expr

@@ -1,6 +1,6 @@
 use Rattle.std.proofs.Common.{◌≡◌, drop}
 use Rattle.py_tree.specs.ClassRules.{is_field}
-use Rattle.entity_tables.specs.Answers.{numbers_of}
+use Rattle.py_tree.specs.ClassViews.{numbers_of}
 use Rattle.entity_tables.proofs.acts.has_field.Given as goal
 
 abbrev pub invariant-loop-field : goal.invariant-loop-field

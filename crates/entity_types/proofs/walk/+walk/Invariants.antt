@@ -3,9 +3,10 @@ use Rattle.py_tree.specs.PlainTypes.{plain_ty}
 use Rattle.py_tree.specs.PlainExpressions.{plain_expr, plain_exprs, exprs_of, plain_links, links_of}
 use Rattle.py_tree.specs.ExpressionTypes.{conditions, arguments, each_is, elements, linked}
 use Rattle.entity_tables.specs.Views.{plain_sig_param, plain_tables}
-use Rattle.entity_types.specs.Functions.{plain_function, asked, given}
+use Rattle.entity_types.specs.Functions.{asked, given}
+use Rattle.py_tree.specs.Functions.{plain_function}
 use Rattle.entity_types.specs.Scopes.{plain_scope}
-use Rattle.entity_types.proofs.Sizes.{expr_size, exprs_size, links_size}
+use Rattle.py_tree.specs.Bounded.{expr_size, exprs_size, links_size}
 use Rattle.entity_types.proofs.walk.+walk.Given as goal
 
 abbrev pub invariant-conditions_in-loop-operand : goal.invariant-conditions_in-loop-operand

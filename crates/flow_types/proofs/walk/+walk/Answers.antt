@@ -1,5 +1,6 @@
 use Rattle.std.proofs.Common.{◌≡◌, ◌∙◌, ◌+◌, true, false, drop, sym, ap}
 use Rattle.std.specs.Prelude.{◌||◌}
+use Rattle.std.proofs.Math.Bool.{or-false}
 use Rattle.py_tree.specs.declared.stmt.StmtKind as s
 use Rattle.py_tree.specs.PlainExpressions.{plain_expr}
 use Rattle.py_tree.specs.PlainTypes.{plain_written}
@@ -10,7 +11,7 @@ use Rattle.py_tree.proofs.Views.{stmt-Break, stmt-Continue, stmt-Expr, stmt-Retu
 use Rattle.py_tree.proofs.ReachRules.{goes-Break, goes-Continue, goes-Expr, goes-Return, goes-Raise, goes-Assert, goes-Assign, goes-Augment, all_passes, all_stops, all_ends, arm_ends}
 use Rattle.entity_tables.specs.Views.{plain_tables}
 use Rattle.flow_types.specs.Views.{context_of, way_of, plain_breaks}
-use Rattle.flow_types.proofs.FlowLaws.{as_statement, same_place, list_passes, list_stops, list_ends, arms_pass, arms_done, one_goes, or_false}
+use Rattle.flow_types.proofs.FlowLaws.{as_statement, same_place, list_passes, list_stops, list_ends, arms_pass, arms_done, one_goes}
 use Rattle.flow_types.specs.Parts.{Fork, behind_arm}
 use Rattle.flow_types.proofs.walk.+walk.Goals as goal
 use Rattle.flow_types.proofs.walk.+walk.Goals.{through_arms-then-one_goes_on, through_arms-else-one_goes_on}
@@ -144,4 +145,4 @@ through_arms-returns t c =
     let arms = c.args.arms.now in
     let inv = c.loop-arm.invariant in
     let fork : Fork = record { next = way_of c.loop-arm.env c.loop-arm.breaks; ended = plain_breaks c.loop-arm.ended } in
-    (inv.forks ∙ arms_done (context_of tables c.args.env.now c.args.context.now.in_loop) fork arms c.loop-arm.arm-index c.loop-arm-test.false, sym (inv.goes ∙ ap (λ b. c.loop-arm.one_goes_on || b) (arm_ends arms c.loop-arm.arm-index c.loop-arm-test.false) ∙ or_false c.loop-arm.one_goes_on), inv.class, inv.method)
+    (inv.forks ∙ arms_done (context_of tables c.args.env.now c.args.context.now.in_loop) fork arms c.loop-arm.arm-index c.loop-arm-test.false, sym (inv.goes ∙ ap (λ b. c.loop-arm.one_goes_on || b) (arm_ends arms c.loop-arm.arm-index c.loop-arm-test.false) ∙ or-false c.loop-arm.one_goes_on), inv.class, inv.method)
