@@ -1,16 +1,10 @@
 pub mod Ahead
 pub mod BlockLoops
 pub mod Docstrings
-pub mod Fails
-pub mod FirstPathLaws
 pub mod GrammarRules
-pub mod InputLaws
 pub mod Loops
 pub mod NameTexts
-pub mod OneClass
 pub mod Places
 pub mod ProgramLaws
 pub mod Counted
-pub mod RuleLaws
-pub mod Rules
 pub mod Tables

@@ -11,7 +11,7 @@ use Rattle.py_lexer.specs.declared.token.Token.{Token}
 use Rattle.py_lexer.specs.declared.token.Line.{Line}
 use Rattle.py_lexer.specs.Spans.{IsOf, Rise, risen, rise, LinesRise, lines_risen, lines_rise}
 use Rattle.py_lexer.specs.Views.{bytes_of, plain_kind, plain_token, plain_line}
-use Rattle.py_lexer.proofs.SpanLaws.{one_of, one_of_line}
+use Rattle.py_lexer.proofs.SpanLaws.{one_of}
 use Rattle.py_parser.specs.Reads.{IsReading, AreOf, tokens_of_first, first_is_string}
 
 rise-forward : (text : List ℕ) (from upto : ℕ) (ts : List Token) → Rise text from ts upto → from ≤ upto
@@ -75,9 +75,6 @@ are_of_line text tokens (l ∷ ls) names r = are_of text l.tokens ls names (begu
 
 pub nth-of : (text : List ℕ) (tokens : List Token) (n : ℕ) (d : Token) → AreOf text tokens → n < length tokens → IsOf text (slice_index_or tokens n d)
 nth-of text tokens n d are within = are.each n (slice_index_or tokens n d) (slice_get-get_or tokens n d within)
-
-pub nth-line-of : (text : List ℕ) (lines : List Line) (n : ℕ) (d : Line) → LinesRise text 0 lines (length text) → n < length lines → AreOf text (slice_index_or lines n d).tokens
-nth-line-of text lines n d rises within = record { each = λ k t e. one_of_line text 0 (length text) lines n k (slice_index_or lines n d) t rises (slice_get-get_or lines n d within) e }
 
 -- the tokens as the grammar sees them
 pub passed-tokens : (text : List ℕ) (tokens : List Token) → map (plain_token text) (drop 1 tokens) ≡ other_tokens (map (plain_token text) tokens)

@@ -1,7 +1,8 @@
-//! Texts that are programs of today, and near misses.
+//! A text that has a tree, and one with a token that is refused.
 
-use crate::{is_first_path, parse};
+use crate::{SyntaxError, parse};
 use py_lexer::lex;
+use py_tree::SyntaxKind;
 use std::alloc::{AllocError, Global};
 use std::test::Fail;
 
@@ -18,91 +19,35 @@ class Counter:
         return self.n
 ";
 
-/// Whether a text is a program of today.
-fn is_accepted(alloc: Global, text: &str) -> Result<bool, AllocError> {
+/// How many members the classes of a text have, or the line and kind of its fault.
+fn read(alloc: Global, text: &str) -> Result<Result<Vec<usize>, (u32, SyntaxKind)>, AllocError> {
     let text = text.as_bytes();
-    match lex(alloc, text) {
-        Ok(lines) => match parse(alloc, &lines, text) {
-            Ok(parsed) => is_first_path(alloc, text, &lines, &parsed.names),
-            Err(_) => Ok(false),
-        },
-        Err(_) => Ok(false),
+    let Ok(lines) = lex(alloc, text) else {
+        return Err(AllocError);
+    };
+    match parse(alloc, &lines, text) {
+        Ok(parsed) => {
+            let mut members = Vec::new(alloc);
+            for class in parsed.program.classes.as_slice() {
+                members.push(class.members.len())?;
+            }
+            Ok(Ok(members))
+        }
+        Err(SyntaxError::Fault(fault)) => Ok(Err((fault.place.line, fault.kind))),
+        Err(SyntaxError::NoMemory) => Err(AllocError),
     }
 }
 
 #[test]
-fn the_counter_is_accepted(rt: HostRuntime) -> Result<(), Fail> {
-    assert!(rt; is_accepted(rt.alloc(), COUNTER)?);
-    Ok(())
-}
-
-/// A class of one method, with this line in `__init__` and these in the method's body.
-fn class_of(alloc: Global, field: &str, body: &str) -> Result<String, Fail> {
-    Ok(format!(in alloc;
-        "@entity\nclass C:\n  def __init__(self, k: str, n: int):\n    self.k: str = k\n{field}  def __key__(self):\n    return self.k\n  def m(self, d: int) -> int:\n{body}"
-    )?)
-}
-
-#[test]
-fn a_last_line_needs_no_line_end(rt: HostRuntime) -> Result<(), Fail> {
-    let fields = "    self.n: int = n - 1_000\n\n";
-    let text = class_of(rt.alloc(), fields, "   a = d\n   \n   return a + self.n")?;
-    assert!(rt; is_accepted(rt.alloc(), text.as_str())?);
+fn a_class_has_a_tree(rt: HostRuntime) -> Result<(), Fail> {
+    let read = read(rt.alloc(), COUNTER)?;
+    assert!(rt; matches!(&read, Ok(members) if members.as_slice() == [3].as_slice()));
     Ok(())
 }
 
 #[test]
-fn a_local_may_be_a_text(rt: HostRuntime) -> Result<(), Fail> {
-    let fields = "    self.n: int = n\n";
-    let text = class_of(
-        rt.alloc(),
-        fields,
-        "   a = self.k\n   a = a + self.k\n   return d\n",
-    )?;
-    assert!(rt; is_accepted(rt.alloc(), text.as_str())?);
-    Ok(())
-}
-
-#[test]
-fn near_misses_are_refused(rt: HostRuntime) -> Result<(), Fail> {
-    let good = "    self.n: int = n\n";
-    let bodies = [
-        "   return a\n   a = d\n",
-        "   a = b\n   return a\n",
-        "\ta = d\n   return a\n",
-        "   return d # sum\n",
-        "   return d\r\n",
-        "   return 1__0\n",
-        "   return 01\n",
-        "   return 170141183460469231731687303715884105728\n",
-        "   a = d\n    return a\n",
-        "   return d\n   return d\n",
-        "   return d\nx\n",
-        "   return d == d\n",
-        "   return self.k\n",
-        "   a = self.k + d\n   return d\n",
-        "   a = self.k - self.k\n   return d\n",
-        "   a = self.k\n   a = d\n   return d\n",
-        "   d = self.k\n   return d\n",
-        "   self.k = d\n   return d\n",
-        "   return self\n",
-        "   C = d\n   return C\n",
-        "   len = d\n   return len\n",
-    ];
-    for body in bodies {
-        let text = class_of(rt.alloc(), good, body)?;
-        assert!(rt; !is_accepted(rt.alloc(), text.as_str())?, "{body}");
-    }
-    let fields = [
-        "    self.k: int = n\n",
-        "    self.m: int = n\n",
-        "    self.n: int = k\n",
-        "    self.n: int = self.n\n",
-        "    self.__init__: int = n\n",
-    ];
-    for field in fields {
-        let text = class_of(rt.alloc(), field, "   return d\n")?;
-        assert!(rt; !is_accepted(rt.alloc(), text.as_str())?, "{field}");
-    }
+fn a_word_that_is_left_out_is_told(rt: HostRuntime) -> Result<(), Fail> {
+    let read = read(rt.alloc(), "@entity\nclass C:\n  def m(self): del self\n")?;
+    assert!(rt; matches!(read, Err((3, SyntaxKind::LeftOut))));
     Ok(())
 }
