@@ -1,12 +1,11 @@
 -- Laws of arguments, one for each parameter.
-use Rattle.std.proofs.Common.{◌≡◌, ◌<◌, ◌≤◌, ◌+◌, ℕ, List, [], ◌∷◌, ◌++◌, map, length, drop, get_or, Option, Some, None, refl, sym, ap, ◌∙◌, append_assoc, append-nil, add-one, drop-cons, arith, length-drop}
+use Rattle.std.proofs.Common.{◌≡◌, ◌<◌, ◌≤◌, ◌+◌, ℕ, List, [], ◌∷◌, ◌++◌, length, drop, get_or, Option, Some, None, refl, sym, ap, ◌∙◌, append_assoc, add-one, drop-cons, arith, length-drop}
 use Rattle.std.specs.Option.{option_map}
 use Rattle.std.proofs.lemmas.List.{drop_all}
-use Rattle.serde_json.specs.Data.{Items, no_items, item}
 use Rattle.serde_json.specs.View.{view, items_view}
 use Rattle.serde_json.specs.declared.value.Value.{Value}
 use Rattle.py_tree.specs.declared.program.Param.{Param}
-use Rattle.py_tree.specs.PlainProgram.{plain_param, plain_params, PlainParam}
+use Rattle.py_tree.specs.PlainProgram.{plain_param, plain_params}
 use Rattle.sf_value.specs.declared.value.Value.{Value as Arg}
 use Rattle.request_json.specs.RequestLines.{◌>>?◌, arg_of, args_of}
 

@@ -3,7 +3,7 @@ use Rattle.std.proofs.Common.{◌≡◌, ℕ, suc, nat_eq, List, [], ◌∷◌, 
 use Rattle.serde_json.specs.Data.{Data, Members}
 use Rattle.serde_json.specs.Data as json
 use Rattle.serde_json.specs.Find.{as_object}
-use Rattle.serde_json.specs.View.{view, members_view}
+use Rattle.serde_json.specs.View.{members_view}
 use Rattle.serde_json.specs.declared.value.Value.{Value}
 use Rattle.request_json.specs.RequestLines.{count_of, has_members}
 

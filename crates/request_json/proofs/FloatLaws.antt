@@ -8,7 +8,7 @@ use Rattle.sf_value.specs.declared.value.Value.{Value}
 use Rattle.sf_value.specs.declared.value.Value as value
 use Rattle.sf_value.specs.declared.Outcome.{Outcome}
 use Rattle.sf_value.specs.declared.Outcome.TheVariants as outcome
-use Rattle.request_json.specs.ReplyLines.{is_short, int_data, value_data, reply_data}
+use Rattle.request_json.specs.ReplyLines.{is_short, value_data, reply_data}
 
 int_has_no_float : (z : ℤ) (b : Bool) → has_float (cond b (json.number (of_integer z)) (json.string (signed_decimal z))) ≡ false
 int_has_no_float (pos n) true = refl

@@ -1,3 +1,4 @@
 pub mod DataLaws
 pub mod ArgLaws
+pub mod ClassLaws
 pub mod FloatLaws

@@ -1,5 +1,5 @@
 -- Which request a line of JSON is (RFC 8259).
-use Rattle.std.specs.Prelude.{ℕ, suc, Bool, false, ◌&&◌, ◌==◌, nat_eq, nat_le, List, [], ◌∷◌, length, slice_get, is_some, None, Some, codes, if◌then◌else◌}
+use Rattle.std.specs.Prelude.{ℕ, suc, Bool, true, false, ◌&&◌, ◌==◌, nat_eq, nat_le, List, [], ◌∷◌, length, slice_get, is_some, None, Some, codes, if◌then◌else◌}
 use Rattle.std.specs.declared.option.Option.{Option}
 use Rattle.std.specs.Option.{option_map}
 use Rattle.std.specs.List.{list_all}
@@ -10,13 +10,15 @@ use Rattle.serde_json.specs.Data as json
 use Rattle.serde_json.specs.Read.{read}
 use Rattle.serde_json.specs.Find.{get, as_str, as_array, as_number, as_i64}
 use Rattle.py_tree.specs.PlainTypes.{PlainWritten, WInt, WStr}
-use Rattle.py_tree.specs.PlainProgram.{PlainParam}
+use Rattle.py_tree.specs.PlainProgram.{PlainParam, PlainMethod}
+use Rattle.py_tree.specs.ClassRules.{params_of}
+use Rattle.py_tree.specs.Acceptance.{class_number, method_number}
 use Rattle.sf_value.specs.declared.value.Value.{Value}
 use Rattle.sf_value.specs.declared.value.Value.TheVariants as value
 use Rattle.sf_value.specs.declared.Act.{Act}
 use Rattle.sf_value.specs.declared.Act.TheVariants as act
 use Rattle.sf_value.specs.declared.Request.{Request}
-use Rattle.source_meaning.specs.ClassTables.{Source, methods_of, init_of, params_of, class_named, method_named}
+use Rattle.source_meaning.specs.ClassTables.{Source, methods_of, init_of}
 
 -- goes on with a value, where there is one
 infixl 10 ◌>>?◌
@@ -79,16 +81,53 @@ args_of (p ∷ ps) (item d ds) = arg_of p.ty d >>? λ v. args_of ps ds >>? λ vs
 
 -- the number of the class that is named
 abbrev pub class_of : Source → Data → Option ℕ
-class_of src d = text_at (codes "class") d >>? class_named src
+class_of src d = text_at (codes "class") d >>? class_number src.names src.program
+
+-- a type that is written, and is int, or str
+abbrev pub is_int : Option PlainWritten → Bool
+is_int (Some (WInt at)) = true
+is_int ty = false
+
+abbrev pub is_str : Option PlainWritten → Bool
+is_str (Some (WStr at)) = true
+is_str ty = false
+
+abbrev pub are_ints : List PlainParam → Bool
+are_ints [] = true
+are_ints (p ∷ ps) = is_int p.ty && are_ints ps
+
+-- one of the parameters is a str, and the others are ints; the key of an accepted class comes from a str, and so from that one
+abbrev pub are_key_and_ints : List PlainParam → Bool
+are_key_and_ints [] = false
+are_key_and_ints (p ∷ ps) = if is_str p.ty then are_ints ps else is_int p.ty && are_key_and_ints ps
+
+-- a line can only call a method that takes ints and gives one
+abbrev pub is_callable : Option PlainMethod → Bool
+is_callable None = false
+is_callable (Some m) = are_ints m.params && is_int m.result
+
+-- and only make an entity from its key and ints
+abbrev pub is_makeable : Option PlainMethod → Bool
+is_makeable init = are_key_and_ints (params_of init)
+
+-- the arguments of what can be asked for
+abbrev pub args_for : Bool → List PlainParam → Items → Option (List Value)
+args_for can params ds = if can then args_of params ds else None
+
+abbrev pub call_args : Option PlainMethod → Items → Option (List Value)
+call_args method ds = args_for (is_callable method) (params_of method) ds
+
+abbrev pub creation_args : Option PlainMethod → Items → Option (List Value)
+creation_args init ds = args_for (is_makeable init) (params_of init) ds
 
 abbrev pub call_of : Source → Data → Option Act
 call_of src d = class_of src d >>? λ class.
-    text_at (codes "key") d >>? λ key. text_at (codes "method") d >>? λ m. method_named src class m >>? λ method.
-    array_at (codes "args") d >>? λ ds. args_of (params_of (slice_get (methods_of src class) method)) ds >>? λ args. Some (act.Call class (chars key) method args)
+    text_at (codes "key") d >>? λ key. text_at (codes "method") d >>? λ m. method_number src.names src.program class m >>? λ method.
+    array_at (codes "args") d >>? λ ds. call_args (slice_get (methods_of src class) method) ds >>? λ args. Some (act.Call class (chars key) method args)
 
 abbrev pub creation_of : Source → Data → Option Act
 creation_of src d = class_of src d >>? λ class.
-    array_at (codes "new") d >>? λ ds. args_of (params_of (init_of src class)) ds >>? λ args. Some (act.New class args)
+    array_at (codes "new") d >>? λ ds. creation_args (init_of src class) ds >>? λ args. Some (act.New class args)
 
 abbrev pub act_of : Source → Data → Option Act
 act_of src d = if has_keys call_keys d then call_of src d else (if has_keys creation_keys d then creation_of src d else None)

@@ -1,6 +1,7 @@
 //! Lines of JSON: a request that is read, a reply that is written.
 #![tactic(auto)]
 
+mod callable;
 mod read;
 #[cfg(test)]
 mod tests;

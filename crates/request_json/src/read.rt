@@ -1,20 +1,23 @@
 //! Requests, read from lines.
 
-ghost use Rattle.std.specs.Prelude.{◌≡◌, is_some, codes, IfOk};
+ghost use Rattle.std.specs.Prelude.{◌≡◌, ◌<◌, length, slice_get, is_some, codes, IfOk, IfSome};
 ghost use Rattle.std.specs.Option.{option_map};
 ghost use Rattle.std.specs.List.{list_all};
 ghost use Rattle.serde_json.specs.Find.{get};
 ghost use Rattle.serde_json.specs.View.{view, items_view};
 ghost use Rattle.py_tree.specs.PlainTypes.{plain_written};
-ghost use Rattle.py_tree.specs.PlainProgram.{plain_param, plain_params, plain_program};
-ghost use Rattle.source_meaning.specs.Agrees.{source_of};
-ghost use Rattle.request_json.specs.RequestLines.{data_of, has_members, has_keys, call_keys, creation_keys, text_at, array_at, id_of, int_arg as int_arg_of, text_arg as text_arg_of, typed_arg as typed_arg_of, arg_of, args_of, ◌>>?◌, class_of, call_of, creation_of, act_of, of_data, request_of};
+ghost use Rattle.py_tree.specs.PlainProgram.{plain_param, plain_params};
+ghost use Rattle.py_tree.specs.CheckedViews.{checked_program};
+ghost use Rattle.source_meaning.specs.Sources.{source_of};
+ghost use Rattle.source_meaning.specs.ClassTables.{methods_of, init_of};
+ghost use Rattle.request_json.specs.RequestLines.{data_of, has_members, has_keys, call_keys, creation_keys, text_at, array_at, id_of, int_arg as int_arg_of, text_arg as text_arg_of, typed_arg as typed_arg_of, arg_of, args_of, call_args as call_args_of, creation_args as creation_args_of, ◌>>?◌, class_of, call_of, creation_of, act_of, of_data, request_of};
 
-use py_tree::{Names, Param, Program, WrittenKind, WrittenTy};
+use crate::callable::{are_key_and_ints, is_callable};
+use py_tree::{Checked, Param, WrittenKind, WrittenTy};
 use serde_json::Value;
 use sf_list::Sequence;
 use sf_value::{Act, Request, Text, Value as Arg, Values};
-use source_meaning::{class_named, init_params, method_named, method_params};
+use source_meaning::{init_params, method_params};
 use std::alloc::{AllocError, Global};
 use std::str;
 
@@ -149,15 +152,42 @@ fn args(alloc: Global, params: &[Param], items: &[Value]) -> Result<Option<Value
     Ok(Some(made))
 }
 
-fn call(
+/// The arguments of a call, where a line can make it.
+fn call_args(
     alloc: Global,
-    program: &Program,
-    names: &Names,
-    value: &Value,
-) -> Result<Option<Act>, AllocError>
-    ensures { IfOk result (λ act. act ≡ call_of (source_of (plain_program program.now) names.now) (view value.now)) }
+    program: &Checked,
+    class: u32,
+    number: u32,
+    items: &[Value],
+) -> Result<Option<Values>, AllocError>
+    ensures { IfOk result (λ made. made ≡ call_args_of (slice_get (methods_of (source_of program.now) class) number) (items_view items.now)) }
 {
-    let Some(class) = class_in(program, names, value) else {
+    if !is_callable(program, class, number) {
+        return Ok(None);
+    }
+    args(alloc, method_params(program, class, number), items)
+}
+
+/// The arguments of a creation, where a line can make it.
+fn creation_args(
+    alloc: Global,
+    program: &Checked,
+    class: u32,
+    items: &[Value],
+) -> Result<Option<Values>, AllocError>
+    ensures { IfOk result (λ made. made ≡ creation_args_of (init_of (source_of program.now) class) (items_view items.now)) }
+{
+    let params = init_params(program, class);
+    if !are_key_and_ints(params) {
+        return Ok(None);
+    }
+    args(alloc, params, items)
+}
+
+fn call(alloc: Global, program: &Checked, value: &Value) -> Result<Option<Act>, AllocError>
+    ensures { IfOk result (λ act. act ≡ call_of (source_of program.now) (view value.now)) }
+{
+    let Some(class) = class_in(program, value) else {
         return Ok(None);
     };
     let Some(key) = text(value, "key") else {
@@ -166,14 +196,13 @@ fn call(
     let Some(name) = text(value, "method") else {
         return Ok(None);
     };
-    let Some(method) = method_named(program, names, class, name) else {
+    let Some(method) = program.method_of(class, name) else {
         return Ok(None);
     };
     let Some(items) = array(value, "args") else {
         return Ok(None);
     };
-    let params = method_params(program, names, class, method);
-    let Some(args) = args(alloc, params, items.as_slice())? else {
+    let Some(args) = call_args(alloc, program, class, method, items.as_slice())? else {
         return Ok(None);
     };
     let key = Text::of(alloc, key)?;
@@ -185,49 +214,40 @@ fn call(
     }))
 }
 
-fn class_in(program: &Program, names: &Names, value: &Value) -> Option<u32>
-    ensures { result ≡ class_of (source_of (plain_program program.now) names.now) (view value.now) }
+#[tactic(auto, using(crate::proofs::ClassLaws::class_laws))]
+fn class_in(program: &Checked, value: &Value) -> Option<u32>
+    ensures class { result ≡ class_of (source_of program.now) (view value.now) }
+    ensures within { IfSome result (λ class. class < length (checked_program program.now)) }
 {
     match text(value, "class") {
-        Some(name) => class_named(program, names, name),
+        Some(name) => program.class_of(name),
         None => None,
     }
 }
 
-fn creation(
-    alloc: Global,
-    program: &Program,
-    names: &Names,
-    value: &Value,
-) -> Result<Option<Act>, AllocError>
-    ensures { IfOk result (λ act. act ≡ creation_of (source_of (plain_program program.now) names.now) (view value.now)) }
+fn creation(alloc: Global, program: &Checked, value: &Value) -> Result<Option<Act>, AllocError>
+    ensures { IfOk result (λ act. act ≡ creation_of (source_of program.now) (view value.now)) }
 {
-    let Some(class) = class_in(program, names, value) else {
+    let Some(class) = class_in(program, value) else {
         return Ok(None);
     };
     let Some(items) = array(value, "new") else {
         return Ok(None);
     };
-    let params = init_params(program, names, class);
-    let Some(args) = args(alloc, params, items.as_slice())? else {
+    let Some(args) = creation_args(alloc, program, class, items.as_slice())? else {
         return Ok(None);
     };
     Ok(Some(Act::New { class, args }))
 }
 
-fn act(
-    alloc: Global,
-    program: &Program,
-    names: &Names,
-    value: &Value,
-) -> Result<Option<Act>, AllocError>
-    ensures { IfOk result (λ act. act ≡ act_of (source_of (plain_program program.now) names.now) (view value.now)) }
+fn act(alloc: Global, program: &Checked, value: &Value) -> Result<Option<Act>, AllocError>
+    ensures { IfOk result (λ act. act ≡ act_of (source_of program.now) (view value.now)) }
 {
     if is_call(value) {
-        return call(alloc, program, names, value);
+        return call(alloc, program, value);
     }
     if is_creation(value) {
-        return creation(alloc, program, names, value);
+        return creation(alloc, program, value);
     }
     Ok(None)
 }
@@ -241,15 +261,10 @@ fn id_in(alloc: Global, value: &Value) -> Result<Option<Text>, AllocError>
     }
 }
 
-fn request(
-    alloc: Global,
-    program: &Program,
-    names: &Names,
-    value: &Value,
-) -> Result<Option<Request>, AllocError>
-    ensures { IfOk result (λ r. r ≡ of_data (source_of (plain_program program.now) names.now) (view value.now)) }
+fn request(alloc: Global, program: &Checked, value: &Value) -> Result<Option<Request>, AllocError>
+    ensures { IfOk result (λ r. r ≡ of_data (source_of program.now) (view value.now)) }
 {
-    let Some(act) = act(alloc, program, names, value)? else {
+    let Some(act) = act(alloc, program, value)? else {
         return Ok(None);
     };
     let Some(id) = id_in(alloc, value)? else {
@@ -261,14 +276,13 @@ fn request(
 /// The request that a line is, where it is one. The line is given without its line end.
 pub fn read_request(
     alloc: Global,
-    program: &Program,
-    names: &Names,
+    program: &Checked,
     line: &[u8],
 ) -> Result<Option<Request>, AllocError>
-    ensures { IfOk result (λ r. r ≡ request_of (source_of (plain_program program.now) names.now) line.now) }
+    ensures { IfOk result (λ r. r ≡ request_of (source_of program.now) line.now) }
 {
     match parse(alloc, line)? {
-        Some(value) => request(alloc, program, names, &value),
+        Some(value) => request(alloc, program, &value),
         None => Ok(None),
     }
 }

@@ -5,7 +5,8 @@ use Rattle.sf_value.specs.declared.Request.{Request}
 use Rattle.source_meaning.specs.ClassTables.{Source}
 use Rattle.source_meaning.specs.RequestRun.{run}
 use Rattle.source_meaning.specs.Serial.{Core, no_state, is_committed}
-use Rattle.request_json.specs.Actions.{Line, Action, Skip, Refuse, Ask, action_of}
+use Rattle.sf_outside.specs.Gains.{joined}
+use Rattle.request_json.specs.Actions.{Line, Action, Skip, Refuse, Ask, action_of, all_lines}
 use Rattle.request_json.specs.ReplyLines.{reply_line, bad_line}
 
 -- a request with what it comes to in this state
@@ -57,3 +58,7 @@ replies src s (line ∷ lines) = reply src s line ∷ replies src (step src s li
 unfoldable pub after : Source → Standing → List Line → Standing
 after src s [] = s
 after src s (line ∷ lines) = after src (step src s line) lines
+
+-- the text that a session gives for a whole input
+abbrev pub output_text : Source → List ℕ → List ℕ
+output_text src bytes = joined (replies src start (all_lines bytes))

@@ -1,8 +1,7 @@
 //! One line at a time: what it asks, what it comes to, and its reply line.
 
 ghost use Rattle.std.specs.Prelude.{◌≡◌, ◌+◌, ◌<◌, ◌≤◌, ◌^◌, [], ◌∷◌, ◌++◌, length, false, take, IfOk, OnOk};
-ghost use Rattle.py_tree.specs.PlainProgram.{plain_program};
-ghost use Rattle.source_meaning.specs.Agrees.{source_of};
+ghost use Rattle.source_meaning.specs.Sources.{source_of};
 ghost use Rattle.source_meaning.specs.Serial.{is_committed};
 ghost use Rattle.request_json.specs.ReplyLines.{reply_line};
 ghost use Rattle.request_json.specs.Actions.{without_cr, used};
@@ -10,7 +9,7 @@ ghost use Rattle.session.specs.OutputText.{after_action, reply_to, refusal, repl
 ghost use Rattle.session.specs.Standings.{core_of, standing_of, line_of, asking};
 
 use crate::history::History;
-use py_tree::{Names, Program};
+use py_tree::Checked;
 use request_json::{read_request, write_bad, write_reply};
 use sf_list::{Sequence, TryClone};
 use sf_value::{Bytes, Reply, Request};
@@ -51,18 +50,17 @@ impl Standing {
     fn commit(
         &mut self,
         alloc: Global,
-        program: &Program,
-        names: &Names,
+        program: &Checked,
         request: Request,
     ) -> Result<Bytes, AllocError>
         requires fresh { is_committed self.old.history request.id ≡ false }
         requires room { length self.old.history + 1 < 2 ^ 32 }
         ensures lines { self.new.lines ≡ self.old.lines }
         ensures length { length self.new.history ≤ length self.old.history + 1 }
-        ensures text { IfOk result (λ line. line ≡ reply_line request.id (entry_of (source_of (plain_program program.now) names.now) (core_of self.old) request).outcome (length self.old.history + 1)) }
-        ensures core { OnOk result (core_of self.new ≡ commit (source_of (plain_program program.now) names.now) (core_of self.old) request) }
+        ensures text { IfOk result (λ line. line ≡ reply_line request.id (entry_of (source_of program.now) (core_of self.old) request).outcome (length self.old.history + 1)) }
+        ensures core { OnOk result (core_of self.new ≡ commit (source_of program.now) (core_of self.old) request) }
     {
-        let outcome = self.local.run(alloc, program, names, &request)?;
+        let outcome = self.local.run(alloc, program, &request)?;
         let reply = Reply {
             seq: (self.history.len() + 1) as u32,
             outcome: outcome.try_clone(alloc)?,
@@ -77,23 +75,22 @@ impl Standing {
     fn ask(
         &mut self,
         alloc: Global,
-        program: &Program,
-        names: &Names,
+        program: &Checked,
         asked: Option<Request>,
         number: u64,
     ) -> Result<Bytes, AllocError>
         requires { length self.old.history + 1 < 2 ^ 32 }
         ensures lines { self.new.lines ≡ self.old.lines }
         ensures length { length self.new.history ≤ length self.old.history + 1 }
-        ensures text { IfOk result (λ line. line ≡ reply_to (source_of (plain_program program.now) names.now) (core_of self.old) number (asking asked)) }
-        ensures core { OnOk result (core_of self.new ≡ after_action (source_of (plain_program program.now) names.now) (core_of self.old) (asking asked)) }
+        ensures text { IfOk result (λ line. line ≡ reply_to (source_of program.now) (core_of self.old) number (asking asked)) }
+        ensures core { OnOk result (core_of self.new ≡ after_action (source_of program.now) (core_of self.old) (asking asked)) }
     {
         match asked {
             Some(request) => {
                 if self.history.contains(&request.id) {
                     return refuse(alloc, number);
                 }
-                self.commit(alloc, program, names, request)
+                self.commit(alloc, program, request)
             }
             None => refuse(alloc, number),
         }
@@ -104,22 +101,21 @@ impl Standing {
     fn answer_content(
         &mut self,
         alloc: Global,
-        program: &Program,
-        names: &Names,
+        program: &Checked,
         content: &[u8],
         number: u64,
     ) -> Result<Bytes, AllocError>
         requires { length self.old.history + 1 < 2 ^ 32 }
         ensures lines { self.new.lines ≡ self.old.lines }
         ensures length { length self.new.history ≤ length self.old.history + 1 }
-        ensures text { IfOk result (λ line. line ≡ reply_to (source_of (plain_program program.now) names.now) (core_of self.old) number (used (source_of (plain_program program.now) names.now) content.now)) }
-        ensures core { OnOk result (core_of self.new ≡ after_action (source_of (plain_program program.now) names.now) (core_of self.old) (used (source_of (plain_program program.now) names.now) content.now)) }
+        ensures text { IfOk result (λ line. line ≡ reply_to (source_of program.now) (core_of self.old) number (used (source_of program.now) content.now)) }
+        ensures core { OnOk result (core_of self.new ≡ after_action (source_of program.now) (core_of self.old) (used (source_of program.now) content.now)) }
     {
         if content.is_empty() {
             return Ok(Sequence::new(alloc));
         }
-        let asked = read_request(alloc, program, names, content)?;
-        self.ask(alloc, program, names, asked, number)
+        let asked = read_request(alloc, program, content)?;
+        self.ask(alloc, program, asked, number)
     }
 
     /// Answers a line, given without its LF. Of a line that is too long, its first bytes up to one
@@ -128,8 +124,7 @@ impl Standing {
     pub(crate) fn answer(
         &mut self,
         alloc: Global,
-        program: &Program,
-        names: &Names,
+        program: &Checked,
         line: &[u8],
         ended: bool,
     ) -> Result<Bytes, AllocError>
@@ -137,15 +132,15 @@ impl Standing {
         requires lines { self.old.lines + 1 < 2 ^ 64 }
         ensures lines { self.new.lines ≤ self.old.lines + 1 }
         ensures length { length self.new.history ≤ length self.old.history + 1 }
-        ensures text { IfOk result (λ made. made ≡ reply (source_of (plain_program program.now) names.now) (standing_of self.old) (line_of ended line.now)) }
-        ensures standing { OnOk result (standing_of self.new ≡ step (source_of (plain_program program.now) names.now) (standing_of self.old) (line_of ended line.now)) }
+        ensures text { IfOk result (λ made. made ≡ reply (source_of program.now) (standing_of self.old) (line_of ended line.now)) }
+        ensures standing { OnOk result (standing_of self.new ≡ step (source_of program.now) (standing_of self.old) (line_of ended line.now)) }
     {
         let number = self.lines + 1;
         let made = if line.len() > LONGEST {
             refuse(alloc, number)?
         } else {
             let content = if ended { trimmed(line) } else { line };
-            self.answer_content(alloc, program, names, content, number)?
+            self.answer_content(alloc, program, content, number)?
         };
         self.lines = number;
         Ok(made)

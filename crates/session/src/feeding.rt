@@ -1,10 +1,9 @@
 //! The input, piece by piece: each line is answered as soon as it is whole.
 
 ghost use Rattle.std.specs.Prelude.{◌≡◌, ◌≤◌, ◌<◌, ◌++◌, ◌+◌, ◌^◌, min, length, List, ℕ, [], ◌∷◌, OnOk};
-ghost use Rattle.py_tree.specs.PlainProgram.{plain_program};
 ghost use Rattle.sf_outside.specs.Causes.{Rose};
 ghost use Rattle.sf_outside.specs.Gains.{Wrote, Counts};
-ghost use Rattle.source_meaning.specs.Agrees.{source_of};
+ghost use Rattle.source_meaning.specs.Sources.{source_of};
 ghost use Rattle.request_json.specs.Actions.{last_line};
 ghost use Rattle.session.specs.OutputText.{replies, after, reply, start};
 ghost use Rattle.session.specs.Standings.{standing_of, line_of};
@@ -13,7 +12,7 @@ ghost use Rattle.session.specs.Takes.{Takes};
 
 use crate::answering::{LONGEST, Standing};
 use crate::history::History;
-use py_tree::{Names, Program};
+use py_tree::Checked;
 use sf_outside::{Sink, Source, WriteStop, write_line};
 use source_meaning::Local;
 use std::alloc::{AllocError, Global};
@@ -67,8 +66,7 @@ impl Session {
     fn answer<K: Sink>(
         &mut self,
         alloc: Global,
-        program: &Program,
-        names: &Names,
+        program: &Checked,
         out: &mut K,
         ended: bool,
     ) -> Result<(), WriteStop>
@@ -76,14 +74,14 @@ impl Session {
         requires lines { self.old.standing.lines + 1 < 2 ^ 64 }
         ensures lines { self.new.standing.lines ≤ self.old.standing.lines + 1 }
         ensures length { length self.new.standing.history ≤ length self.old.standing.history + 1 }
-        ensures wrote { Wrote result (K.held out.old) (K.held out.new) (replies (source_of (plain_program program.now) names.now) (standing_of self.old.standing) (line_of ended self.old.kept.items ∷ [])) }
+        ensures wrote { Wrote result (K.held out.old) (K.held out.new) (replies (source_of program.now) (standing_of self.old.standing) (line_of ended self.old.kept.items ∷ [])) }
         ensures counts { Counts (K.faults out.old) (K.faults out.new) result }
-        ensures standing { OnOk result (standing_of self.new.standing ≡ after (source_of (plain_program program.now) names.now) (standing_of self.old.standing) (line_of ended self.old.kept.items ∷ [])) }
+        ensures standing { OnOk result (standing_of self.new.standing ≡ after (source_of program.now) (standing_of self.old.standing) (line_of ended self.old.kept.items ∷ [])) }
         ensures kept { OnOk result (self.new.kept.items ≡ []) }
     {
         let line = self
             .standing
-            .answer(alloc, program, names, self.kept.as_slice(), ended)?;
+            .answer(alloc, program, self.kept.as_slice(), ended)?;
         write_line(out, line.as_slice())?;
         self.kept.clear();
         Ok(())
@@ -92,8 +90,7 @@ impl Session {
     fn take_byte<K: Sink>(
         &mut self,
         alloc: Global,
-        program: &Program,
-        names: &Names,
+        program: &Checked,
         out: &mut K,
         byte: u8,
     ) -> Result<(), WriteStop>
@@ -101,11 +98,11 @@ impl Session {
         requires lines { self.old.standing.lines + 1 < 2 ^ 64 }
         ensures lines { self.new.standing.lines ≤ self.old.standing.lines + 1 }
         ensures length { length self.new.standing.history ≤ length self.old.standing.history + 1 }
-        ensures feeds { (part : List ℕ) → IsStart self.old.kept.items part → Feeds (source_of (plain_program program.now) names.now) result self.old self.new (K.held out.old) (K.held out.new) part (byte ∷ []) }
+        ensures feeds { (part : List ℕ) → IsStart self.old.kept.items part → Feeds (source_of program.now) result self.old self.new (K.held out.old) (K.held out.new) part (byte ∷ []) }
         ensures counts { Counts (K.faults out.old) (K.faults out.new) result }
     {
         if byte == b'\n' {
-            self.answer(alloc, program, names, out, true)
+            self.answer(alloc, program, out, true)
         } else {
             self.keep(byte)?;
             Ok(())
@@ -116,8 +113,7 @@ impl Session {
     fn take_piece<K: Sink>(
         &mut self,
         alloc: Global,
-        program: &Program,
-        names: &Names,
+        program: &Checked,
         out: &mut K,
         piece: &[u8],
     ) -> Result<(), WriteStop>
@@ -125,11 +121,11 @@ impl Session {
         requires lines { self.old.standing.lines + length piece.now < 2 ^ 64 }
         ensures lines { self.new.standing.lines ≤ self.old.standing.lines + length piece.now }
         ensures length { length self.new.standing.history ≤ length self.old.standing.history + length piece.now }
-        ensures feeds { (part : List ℕ) → IsStart self.old.kept.items part → Feeds (source_of (plain_program program.now) names.now) result self.old self.new (K.held out.old) (K.held out.new) part piece.now }
+        ensures feeds { (part : List ℕ) → IsStart self.old.kept.items part → Feeds (source_of program.now) result self.old self.new (K.held out.old) (K.held out.new) part piece.now }
         ensures counts { Counts (K.faults out.old) (K.faults out.new) result }
     {
         for &byte in piece {
-            self.take_byte(alloc, program, names, out, byte)?;
+            self.take_byte(alloc, program, out, byte)?;
         }
         Ok(())
     }
@@ -138,19 +134,18 @@ impl Session {
     pub(crate) fn take_end<K: Sink>(
         &mut self,
         alloc: Global,
-        program: &Program,
-        names: &Names,
+        program: &Checked,
         out: &mut K,
     ) -> Result<(), WriteStop>
         requires history { length self.old.standing.history + 1 < 2 ^ 32 }
         requires lines { self.old.standing.lines + 1 < 2 ^ 64 }
-        ensures wrote { (part : List ℕ) → IsStart self.old.kept.items part → Wrote result (K.held out.old) (K.held out.new) (replies (source_of (plain_program program.now) names.now) (standing_of self.old.standing) (last_line part)) }
+        ensures wrote { (part : List ℕ) → IsStart self.old.kept.items part → Wrote result (K.held out.old) (K.held out.new) (replies (source_of program.now) (standing_of self.old.standing) (last_line part)) }
         ensures counts { Counts (K.faults out.old) (K.faults out.new) result }
     {
         if self.kept.is_empty() {
             return Ok(());
         }
-        self.answer(alloc, program, names, out, false)
+        self.answer(alloc, program, out, false)
     }
 
     /// Takes at most `limit` bytes, piece by piece, and answers each line as soon as it is whole.
@@ -158,8 +153,7 @@ impl Session {
         &mut self,
         alloc: Global,
         limit: u64,
-        program: &Program,
-        names: &Names,
+        program: &Checked,
         input: &mut S,
         out: &mut K,
     ) -> Result<InputEnd, WriteStop>
@@ -172,7 +166,7 @@ impl Session {
         ensures counts { Counts (K.faults out.old) (K.faults out.new) result }
         ensures read { S.faults input.old ≤ S.faults input.new }
         ensures cause { result ≡ Ok InputEnd.ReadFault → Rose (S.faults input.old) (S.faults input.new) }
-        ensures takes { Takes (source_of (plain_program program.now) names.now) limit (S.left input.old) (S.left input.new) (K.held out.old) (K.held out.new) self.old self.new result }
+        ensures takes { Takes (source_of program.now) limit (S.left input.old) (S.left input.new) (K.held out.old) (K.held out.new) self.old self.new result }
     {
         let mut buf = [0; PIECE];
         let mut taken: u64 = 0;
@@ -182,7 +176,7 @@ impl Session {
                 Err(_) => return Ok(InputEnd::ReadFault),
                 Ok(0) => return Ok(InputEnd::End),
                 Ok(count) => {
-                    self.take_piece(alloc, program, names, out, &buf[..count])?;
+                    self.take_piece(alloc, program, out, &buf[..count])?;
                     taken += count as u64;
                 }
             }

@@ -1,22 +1,20 @@
 //! The whole of a session.
 
 ghost use Rattle.std.specs.Prelude.{◌≡◌, ◌≤◌, ◌<◌, ◌^◌};
-ghost use Rattle.py_tree.specs.PlainProgram.{plain_program};
 ghost use Rattle.sf_outside.specs.Causes.{Rose};
 ghost use Rattle.sf_outside.specs.Gains.{Counts};
-ghost use Rattle.source_meaning.specs.Agrees.{source_of};
+ghost use Rattle.source_meaning.specs.Sources.{source_of};
 ghost use Rattle.session.specs.Served.{Served};
 
 use crate::feeding::{InputEnd, Session};
-use py_tree::{Names, Program};
+use py_tree::Checked;
 use sf_outside::{Sink, Source, WriteStop};
 use std::alloc::Global;
 
 fn answer_all<S: Source, K: Sink>(
     alloc: Global,
     limit: u64,
-    program: &Program,
-    names: &Names,
+    program: &Checked,
     input: &mut S,
     out: &mut K,
 ) -> Result<InputEnd, WriteStop>
@@ -24,12 +22,12 @@ fn answer_all<S: Source, K: Sink>(
     ensures counts { Counts (K.faults out.old) (K.faults out.new) result }
     ensures read { S.faults input.old ≤ S.faults input.new }
     ensures cause { result ≡ Ok InputEnd.ReadFault → Rose (S.faults input.old) (S.faults input.new) }
-    ensures served { Served (source_of (plain_program program.now) names.now) limit (S.left input.old) (S.left input.new) (K.held out.old) (K.held out.new) result }
+    ensures served { Served (source_of program.now) limit (S.left input.old) (S.left input.new) (K.held out.old) (K.held out.new) result }
 {
     let mut session = Session::new(alloc);
-    match session.take_input(alloc, limit, program, names, input, out)? {
+    match session.take_input(alloc, limit, program, input, out)? {
         InputEnd::End => {
-            session.take_end(alloc, program, names, out)?;
+            session.take_end(alloc, program, out)?;
             Ok(InputEnd::End)
         }
         InputEnd::ReadFault => Ok(InputEnd::ReadFault),
@@ -42,8 +40,7 @@ fn answer_all<S: Source, K: Sink>(
 pub fn serve<S: Source, K: Sink>(
     alloc: Global,
     limit: u64,
-    program: &Program,
-    names: &Names,
+    program: &Checked,
     input: &mut S,
     out: &mut K,
 ) -> Result<InputEnd, WriteStop>
@@ -51,9 +48,9 @@ pub fn serve<S: Source, K: Sink>(
     ensures counts { Counts (K.faults out.old) (K.faults out.new) result }
     ensures read { S.faults input.old ≤ S.faults input.new }
     ensures cause { result ≡ Ok InputEnd.ReadFault → Rose (S.faults input.old) (S.faults input.new) }
-    ensures served { Served (source_of (plain_program program.now) names.now) limit (S.left input.old) (S.left input.new) (K.held out.old) (K.held out.new) result }
+    ensures served { Served (source_of program.now) limit (S.left input.old) (S.left input.new) (K.held out.old) (K.held out.new) result }
 {
-    let ended = answer_all(alloc, limit, program, names, input, out)?;
+    let ended = answer_all(alloc, limit, program, input, out)?;
     out.flush()?;
     Ok(ended)
 }

@@ -36,7 +36,7 @@ shadowed : {A : Type 0} (b : Bool) (x y z : A) → cond b x z ≡ cond b x (cond
 shadowed true x y z = refl
 shadowed false x y z = refl
 
-swapped : {A : Type 0} (a b : Bool) (x y z : A) → (a ≡ true → b ≡ true → ⊥) → cond a x (cond b y z) ≡ cond b y (cond a x z)
+pub swapped : {A : Type 0} (a b : Bool) (x y z : A) → (a ≡ true → b ≡ true → ⊥) → cond a x (cond b y z) ≡ cond b y (cond a x z)
 swapped true true x y z apart = absurd (apart refl refl)
 swapped true false x y z apart = refl
 swapped false b x y z apart = refl
@@ -48,10 +48,10 @@ ref_ties a b = (λ i. unsigned_ties a.class b.class i && texts_ties a.key b.key 
 pub tied_key : (x y : Key) → eq_by_cmp key_cmp x y ≡ true → x ≡ y
 tied_key x y h = key_exact x y (is_equal (key_cmp x y) h)
 
-tied_refl : (a b : Ref) → key_of a ≡ key_of b → ref_eq a b ≡ true
+pub tied_refl : (a b : Ref) → key_of a ≡ key_of b → ref_eq a b ≡ true
 tied_refl a b same = ref_ties a b ∙ ap (λ key. eq_by_cmp key_cmp key (key_of b)) same ∙ (eq_by_cmp_equiv key_total).refl (key_of b)
 
-same_key : (a b : Ref) → ref_eq a b ≡ true → key_of a ≡ key_of b
+pub same_key : (a b : Ref) → ref_eq a b ≡ true → key_of a ≡ key_of b
 same_key a b h = tied_key _ _ (sym (ref_ties a b) ∙ h)
 
 abbrev pub keyed : {X : Type 0} → List (Ref × X) → List (Key × X)
@@ -65,7 +65,7 @@ find-keyed q (e ∷ es) = λ i. cond (sym (ref_ties q e.0) i) (Some e.1) (find-k
 pub get-keyed : {X : Type 0} (es : List (Ref × X)) (q : Ref) → get (from_entries {R = key_cmp} (keyed es)) (key_of q) ≡ lookup (ref_eq q) es
 get-keyed es q = get-from_entries key_total (keyed es) (key_of q) ∙ find-keyed q es
 
-find-insert_entry : {X : Type 0} (k : Ref) (v : X) (es : List (Ref × X)) (q : Key) → find key_cmp q (keyed (insert_entry ref_eq es k v)) ≡ cond (eq_by_cmp key_cmp q (key_of k)) (Some v) (find key_cmp q (keyed es))
+pub find-insert_entry : {X : Type 0} (k : Ref) (v : X) (es : List (Ref × X)) (q : Key) → find key_cmp q (keyed (insert_entry ref_eq es k v)) ≡ cond (eq_by_cmp key_cmp q (key_of k)) (Some v) (find key_cmp q (keyed es))
 find-insert_entry k v [] q = refl
 find-insert_entry k v (e ∷ es) q = by (ref_eq k e.0) refl (find-insert_entry k v es q)
   where

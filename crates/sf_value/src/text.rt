@@ -1,6 +1,6 @@
 //! A text that contracts see as its code points.
 
-ghost use Rattle.std.specs.Prelude.{◌≡◌, ◌↔◌, ◌==◌, true, IfOk, IsTrue};
+ghost use Rattle.std.specs.Prelude.{◌≡◌, ◌↔◌, ◌==◌, ◌++◌, true, IfOk, IsTrue};
 ghost use Rattle.std.specs.Str.{all_scalars, chars, encode_utf8_all};
 ghost use Rattle.std.specs.Cmp.Rules.{comparing, hashing};
 ghost use Rattle.std.specs.Cmp.Lexicographic.{pointwise};
@@ -45,6 +45,15 @@ impl Text {
         ensures unicode { all_scalars self.now ≡ true }
     {
         self.inner.as_str()
+    }
+
+    /// A text of this one and another behind it.
+    pub fn joined(&self, alloc: Global, other: &Text) -> Result<Text, AllocError>
+        ensures { IfOk result (λ made. made ≡ self.now ++ other.now) }
+    {
+        let mut inner = String::from_str(alloc, self.as_str())?;
+        inner.push_str(other.as_str())?;
+        Ok(Text { inner })
     }
 
     /// Whether two texts are equal. It takes no memory.

@@ -1,5 +1,6 @@
--- What a statement does on one record, at each variant.
-use Rattle.std.proofs.Common.{◌≡◌, ◌<◌, ◌≤◌, ◌+◌, ℕ, List, [], ◌∷◌, Option, Some, None, drop, get_or, length, refl, sym, ap, ◌∙◌, add-one, drop-cons, subst}
+-- What a statement does, at each variant and at each part of a walk.
+use Rattle.std.proofs.Common.{◌≡◌, ◌<◌, ◌≤◌, ◌+◌, ◌-◌, ℕ, zero, suc, ℤ, pos, ◌+ℤ◌, true, false, List, [], ◌∷◌, Option, if◌then◌else◌, drop, get_or, length, refl, sym, ap, ◌∙◌, add-one, drop-cons, subst, arith}
+use Rattle.std.specs.Ordering.{int_cmp, is_lt}
 use Rattle.std.proofs.lemmas.List.{drop_all}
 use Rattle.py_tree.specs.declared.names.Place.{Place}
 use Rattle.py_tree.specs.declared.names.PlacedName.{PlacedName}
@@ -9,108 +10,203 @@ use Rattle.py_tree.specs.declared.ty.WrittenTy.{WrittenTy}
 use Rattle.py_tree.specs.declared.stmt.Target.{Target}
 use Rattle.py_tree.specs.declared.stmt.Over.{Over}
 use Rattle.py_tree.specs.declared.stmt.Stmt.{Stmt}
-use Rattle.py_tree.specs.declared.stmt.Arm.{Arm}
-use Rattle.py_tree.specs.declared.stmt.StmtKind as s
+use Rattle.py_tree.specs.declared.stmt.StmtKind as kind
+use Rattle.py_tree.specs.declared.stmt.Arm.{Arm, out-Arm}
 use Rattle.py_tree.specs.PlainExpressions.{plain_expr}
-use Rattle.py_tree.specs.PlainStatements.{plain_stmt_kind, plain_stmt, plain_stmts, stmts_of, PlainStmt, PPass, PBreak, PContinue, PDo, PReturn, PRaise, PAssert, PAssign, PAugment, PIf, PWhile, PFor, PStmt}
-use Rattle.py_tree.proofs.Views.{stmt-Assign, stmt-Return, stmt-Pass, stmt-Break, stmt-Continue, stmt-Expr, stmt-Raise, stmt-Assert, stmt-Augment, stmt-If, stmt-While, stmt-For}
+use Rattle.py_tree.specs.PlainStatements.{plain_option, plain_over, plain_stmt_kind, plain_stmt, plain_stmts, stmts_of, plain_arm, plain_arms, arms_of, PlainStmt, PPass, PBreak, PContinue, PDo, PReturn, PRaise, PAssert, PAssign, PAugment, PIf, PWhile, PFor, PStmt, PMoreArms}
+use Rattle.py_tree.proofs.Views.{stmt-Pass, stmt-Break, stmt-Continue, stmt-Expr, stmt-Return, stmt-Raise, stmt-Assert, stmt-Assign, stmt-Augment, stmt-If, stmt-While, stmt-For}
 use Rattle.sf_value.specs.declared.value.Value.{Value}
+use Rattle.sf_value.specs.declared.value.Value.TheVariants as value
 use Rattle.source_meaning.specs.declared.vars.Var.{Var}
-use Rattle.source_meaning.specs.World.{step, step_limit, with_value}
-use Rattle.source_meaning.specs.Evaluation.{value_of}
-use Rattle.source_meaning.specs.Here.{On, Gave, Broke, next_here, assign_here, act_here, act_all_here}
+use Rattle.source_meaning.specs.World.{Gives, Got, Ends, Goes, Returns, Breaks, Continues, Fails, step, step_limit, with_given, next, next_turn, assigned}
+use Rattle.source_meaning.specs.Operations.{is_true}
+use Rattle.source_meaning.specs.Evaluation.{Site, eval}
+use Rattle.source_meaning.specs.Execution.{act, act_all, act_arms, all_of, checked, store, augmented, value_or_none, message, turns_of, over_turns, over_items, over_numbers, while_turns, stepping}
 
 -- a step that there is
 pub step_more : {A : Type 0} (n m : ℕ) (a : A) (f : ℕ → A) → n ≡ m + 1 → step n a f ≡ f m
 step_more n m a f h = ap (λ k. step k a f) (h ∙ add-one m)
 
--- with no step left every statement fails
-act_zero : (names : List ℕ) (x : PlainStmt) (vars : List Var) (fields : List Value) → act_here names x vars fields 0 ≡ Broke step_limit vars fields 0
-unfolding act_here
-act_zero names (PPass at) vars fields = refl
-act_zero names (PBreak at) vars fields = refl
-act_zero names (PContinue at) vars fields = refl
-act_zero names (PDo at e) vars fields = refl
-act_zero names (PReturn at None) vars fields = refl
-act_zero names (PReturn at (Some e)) vars fields = refl
-act_zero names (PRaise at k e) vars fields = refl
-act_zero names (PAssert at t e) vars fields = refl
-act_zero names (PAssign at x ty e) vars fields = refl
-act_zero names (PAugment at x o o_at e) vars fields = refl
-act_zero names (PIf at arms other) vars fields = refl
-act_zero names (PWhile at t body) vars fields = refl
-act_zero names (PFor at x x_at over body) vars fields = refl
+-- and one that there isn't
+pub step_none : {A : Type 0} (n : ℕ) (a : A) (f : ℕ → A) → n ≡ 0 → step n a f ≡ a
+step_none n a f h = ap (λ k. step k a f) h
 
-pub act_none : (names : List ℕ) (x : PlainStmt) (vars : List Var) (fields : List Value) (n : ℕ) → n ≡ 0 → act_here names x vars fields n ≡ Broke step_limit vars fields n
-act_none names x vars fields n h = subst (λ k. act_here names x vars fields k ≡ Broke step_limit vars fields k) (sym h) (act_zero names x vars fields)
+module _ {W : Type 0} (s : Site W) (vars : List Var) (w : W) where
+  -- with no step left every statement fails
+  act_zero : (x : PlainStmt) → act s x vars w 0 ≡ Fails step_limit vars w 0
+  unfolding act
+  act_zero (PPass at) = refl
+  act_zero (PBreak at) = refl
+  act_zero (PContinue at) = refl
+  act_zero (PDo at e) = refl
+  act_zero (PReturn at e) = refl
+  act_zero (PRaise at k e) = refl
+  act_zero (PAssert at t e) = refl
+  act_zero (PAssign at x ty e) = refl
+  act_zero (PAugment at x o o_at e) = refl
+  act_zero (PIf at arms other) = refl
+  act_zero (PWhile at t body) = refl
+  act_zero (PFor at x x_at over body) = refl
 
-module _ (names : List ℕ) (at : Place) (vars : List Var) (fields : List Value) (n m : ℕ) (more : n ≡ m + 1) where
-  pub act-Assign : (target : Target) (ty : Option WrittenTy) (x : Expr) → act_here names (plain_stmt_kind (s.Assign target ty x) at) vars fields n ≡ with_value (value_of names (plain_expr x) vars fields) (λ f. Broke f vars fields m) (λ v. assign_here names target v vars fields m)
-  unfolding act_here
-  act-Assign target ty x = ap (λ t. act_here names t vars fields n) (stmt-Assign at target ty x) ∙ step_more n m _ _ more
+  pub act_none : (x : PlainStmt) (n : ℕ) → n ≡ 0 → act s x vars w n ≡ Fails step_limit vars w n
+  act_none x n h = subst (λ k. act s x vars w k ≡ Fails step_limit vars w k) (sym h) (act_zero x)
 
-  pub act-Return : (x : Option Expr) (e : Expr) → x ≡ Some e → act_here names (plain_stmt_kind (s.Return x) at) vars fields n ≡ with_value (value_of names (plain_expr e) vars fields) (λ f. Broke f vars fields m) (λ v. Gave v fields m)
-  unfolding act_here
-  act-Return x e h = ap (λ t. act_here names t vars fields n) (ap (λ y. plain_stmt_kind (s.Return y) at) h ∙ stmt-Return at (Some e)) ∙ step_more n m _ _ more
+module _ {W : Type 0} (s : Site W) (at : Place) (vars : List Var) (w : W) (n m : ℕ) (more : n ≡ m + 1) where
+  pub act-Pass : act s (plain_stmt_kind kind.Pass at) vars w n ≡ Goes vars w m
+  unfolding act
+  act-Pass = ap (λ t. act s t vars w n) (stmt-Pass at) ∙ step_more n m _ _ more
 
-  pub act-Return_none : (x : Option Expr) → x ≡ None → act_here names (plain_stmt_kind (s.Return x) at) vars fields n ≡ On vars fields m
-  unfolding act_here
-  act-Return_none x h = ap (λ t. act_here names t vars fields n) (ap (λ y. plain_stmt_kind (s.Return y) at) h ∙ stmt-Return at None) ∙ step_more n m _ _ more
+  pub act-Break : act s (plain_stmt_kind kind.Break at) vars w n ≡ Breaks vars w m
+  unfolding act
+  act-Break = ap (λ t. act s t vars w n) (stmt-Break at) ∙ step_more n m _ _ more
 
-  pub act-Pass : act_here names (plain_stmt_kind s.Pass at) vars fields n ≡ On vars fields m
-  unfolding act_here
-  act-Pass = ap (λ t. act_here names t vars fields n) (stmt-Pass at) ∙ step_more n m _ _ more
+  pub act-Continue : act s (plain_stmt_kind kind.Continue at) vars w n ≡ Continues vars w m
+  unfolding act
+  act-Continue = ap (λ t. act s t vars w n) (stmt-Continue at) ∙ step_more n m _ _ more
 
-  pub act-Break : act_here names (plain_stmt_kind s.Break at) vars fields n ≡ On vars fields m
-  unfolding act_here
-  act-Break = ap (λ t. act_here names t vars fields n) (stmt-Break at) ∙ step_more n m _ _ more
+  pub act-Expr : (x : Expr) → act s (plain_stmt_kind (kind.Expr x) at) vars w n ≡ with_given vars (eval s (plain_expr x) vars w m) (λ v w n. Goes vars w n)
+  unfolding act
+  act-Expr x = ap (λ t. act s t vars w n) (stmt-Expr at x) ∙ step_more n m _ _ more
 
-  pub act-Continue : act_here names (plain_stmt_kind s.Continue at) vars fields n ≡ On vars fields m
-  unfolding act_here
-  act-Continue = ap (λ t. act_here names t vars fields n) (stmt-Continue at) ∙ step_more n m _ _ more
+  pub act-Return : (x : Option Expr) → act s (plain_stmt_kind (kind.Return x) at) vars w n ≡ with_given vars (value_or_none s (plain_option plain_expr x) vars w m) (λ v w n. Returns v w n)
+  unfolding act
+  act-Return x = ap (λ t. act s t vars w n) (stmt-Return at x) ∙ step_more n m _ _ more
 
-  pub act-Expr : (x : Expr) → act_here names (plain_stmt_kind (s.Expr x) at) vars fields n ≡ On vars fields m
-  unfolding act_here
-  act-Expr x = ap (λ t. act_here names t vars fields n) (stmt-Expr at x) ∙ step_more n m _ _ more
+  pub act-Raise : (number : ℕ) (x : Option Expr) → act s (plain_stmt_kind (kind.Raise number x) at) vars w n ≡ with_given vars (message s (plain_option plain_expr x) vars w m) (λ text w n. Fails (record { kind = number; message = text }) vars w n)
+  unfolding act
+  act-Raise number x = ap (λ t. act s t vars w n) (stmt-Raise at number x) ∙ step_more n m _ _ more
 
-  pub act-Raise : (kind : ℕ) (x : Option Expr) → act_here names (plain_stmt_kind (s.Raise kind x) at) vars fields n ≡ On vars fields m
-  unfolding act_here
-  act-Raise kind x = ap (λ t. act_here names t vars fields n) (stmt-Raise at kind x) ∙ step_more n m _ _ more
+  pub act-Assert : (test : Expr) (x : Option Expr) → act s (plain_stmt_kind (kind.Assert test x) at) vars w n ≡ with_given vars (eval s (plain_expr test) vars w m) (checked s (plain_option plain_expr x) vars)
+  unfolding act
+  act-Assert test x = ap (λ t. act s t vars w n) (stmt-Assert at test x) ∙ step_more n m _ _ more
 
-  pub act-Assert : (test : Expr) (x : Option Expr) → act_here names (plain_stmt_kind (s.Assert test x) at) vars fields n ≡ On vars fields m
-  unfolding act_here
-  act-Assert test x = ap (λ t. act_here names t vars fields n) (stmt-Assert at test x) ∙ step_more n m _ _ more
+  pub act-Assign : (target : Target) (ty : Option WrittenTy) (x : Expr) → act s (plain_stmt_kind (kind.Assign target ty x) at) vars w n ≡ with_given vars (eval s (plain_expr x) vars w m) (λ v w n. store s target v vars w n)
+  unfolding act
+  act-Assign target ty x = ap (λ t. act s t vars w n) (stmt-Assign at target ty x) ∙ step_more n m _ _ more
 
-  pub act-Augment : (target : Target) (o : BinOp) (o_at : Place) (x : Expr) → act_here names (plain_stmt_kind (s.Augment target o o_at x) at) vars fields n ≡ On vars fields m
-  unfolding act_here
-  act-Augment target o o_at x = ap (λ t. act_here names t vars fields n) (stmt-Augment at target o o_at x) ∙ step_more n m _ _ more
+  pub act-Augment : (target : Target) (op : BinOp) (op_at : Place) (x : Expr) → act s (plain_stmt_kind (kind.Augment target op op_at x) at) vars w n ≡ with_given vars (augmented s target op (plain_expr x) vars w m) (λ v w n. store s target v vars w n)
+  unfolding act
+  act-Augment target op op_at x = ap (λ t. act s t vars w n) (stmt-Augment at target op op_at x) ∙ step_more n m _ _ more
 
-  pub act-If : (arms : List Arm) (other : List Stmt) → act_here names (plain_stmt_kind (s.If arms other) at) vars fields n ≡ On vars fields m
-  unfolding act_here
-  act-If arms other = ap (λ t. act_here names t vars fields n) (stmt-If at arms other) ∙ step_more n m _ _ more
+  pub act-If : (arms : List Arm) (other : List Stmt) → act s (plain_stmt_kind (kind.If arms other) at) vars w n ≡ act_arms s (arms_of (plain_arms arms)) (all_of s (stmts_of (plain_stmts other))) vars w m
+  unfolding act
+  act-If arms other = ap (λ t. act s t vars w n) (stmt-If at arms other) ∙ step_more n m _ _ more
 
-  pub act-While : (test : Expr) (body : List Stmt) → act_here names (plain_stmt_kind (s.While test body) at) vars fields n ≡ On vars fields m
-  unfolding act_here
-  act-While test body = ap (λ t. act_here names t vars fields n) (stmt-While at test body) ∙ step_more n m _ _ more
+  pub act-While : (test : Expr) (body : List Stmt) → act s (plain_stmt_kind (kind.While test body) at) vars w n ≡ while_turns (suc m) (λ vars w n. eval s (plain_expr test) vars w n) (all_of s (stmts_of (plain_stmts body))) vars w m
+  unfolding act
+  act-While test body = ap (λ t. act s t vars w n) (stmt-While at test body) ∙ step_more n m _ _ more
 
-  pub act-For : (x : PlacedName) (items : Over) (body : List Stmt) → act_here names (plain_stmt_kind (s.For x items body) at) vars fields n ≡ On vars fields m
-  unfolding act_here
-  act-For x items body = ap (λ t. act_here names t vars fields n) (stmt-For at x items body) ∙ step_more n m _ _ more
+  pub act-For : (x : PlacedName) (over : Over) (body : List Stmt) → act s (plain_stmt_kind (kind.For x over body) at) vars w n ≡ with_given vars (turns_of s (plain_over over) vars w m) (λ turns w n. over_turns x.name.0 (all_of s (stmts_of (plain_stmts body))) turns vars w n)
+  unfolding act
+  act-For x over body = ap (λ t. act s t vars w n) (stmt-For at x over body) ∙ step_more n m _ _ more
 
-pub ruleset act_is = (act_none, act-Return_none, act-Assign, act-Return, act-Pass, act-Break, act-Continue, act-Expr, act-Raise, act-Assert, act-Augment, act-If, act-While, act-For)
+pub ruleset act_is = (act-Pass, act-Break, act-Continue, act-Expr, act-Return, act-Raise, act-Assert, act-Assign, act-Augment, act-If, act-While, act-For, act_none)
 
-stmts_from : (ss : List Stmt) (i : ℕ) (d : Stmt) → i < length ss → stmts_of (plain_stmts (drop i ss)) ≡ PStmt (plain_stmt (get_or ss i d)) (stmts_of (plain_stmts (drop (i + 1) ss)))
-stmts_from ss i d lt = let cut : drop i ss ≡ get_or ss i d ∷ drop (i + 1) ss = rw (add-one, drop-cons ss i d) in ap (λ l. stmts_of (plain_stmts l)) cut
+stmts_from : (ss : List Stmt) (i : ℕ) (x : Stmt) → i < length ss → x ≡ get_or ss i x → stmts_of (plain_stmts (drop i ss)) ≡ PStmt (plain_stmt x) (stmts_of (plain_stmts (drop (i + 1) ss)))
+stmts_from ss i x lt is =
+    let cut : drop i ss ≡ get_or ss i x ∷ drop (i + 1) ss = rw (add-one, drop-cons ss i x) in
+    ap (λ l. stmts_of (plain_stmts l)) cut ∙ ap (λ y. PStmt (plain_stmt y) (stmts_of (plain_stmts (drop (i + 1) ss)))) (sym is)
 
--- one statement of a walk
-pub act_next : (names : List ℕ) (ss : List Stmt) (i : ℕ) (x : Stmt) (vars : List Var) (fields : List Value) (n : ℕ) → i < length ss → x ≡ get_or ss i x
-    → act_all_here names (stmts_of (plain_stmts (drop i ss))) vars fields n ≡ next_here (act_here names (plain_stmt x) vars fields n) (act_all_here names (stmts_of (plain_stmts (drop (i + 1) ss))))
-unfolding act_all_here
-act_next names ss i x vars fields n lt same =
-    let k : stmts_of (plain_stmts (drop i ss)) ≡ PStmt (plain_stmt x) (stmts_of (plain_stmts (drop (i + 1) ss))) = stmts_from ss i x lt ∙ ap (λ d. PStmt (plain_stmt d) (stmts_of (plain_stmts (drop (i + 1) ss)))) (sym same) in
-    ap (λ t. act_all_here names t vars fields n) k
+arms_from : (xs : List Arm) (i : ℕ) (x : Arm) → i < length xs → x ≡ get_or xs i x → arms_of (plain_arms (drop i xs)) ≡ PMoreArms (plain_arm x) (arms_of (plain_arms (drop (i + 1) xs)))
+arms_from xs i x lt is =
+    let cut : drop i xs ≡ get_or xs i x ∷ drop (i + 1) xs = rw (add-one, drop-cons xs i x) in
+    ap (λ l. arms_of (plain_arms l)) cut ∙ ap (λ y. PMoreArms (plain_arm y) (arms_of (plain_arms (drop (i + 1) xs)))) (sym is)
 
--- and its end
-pub act_end : (names : List ℕ) (ss : List Stmt) (i : ℕ) (vars : List Var) (fields : List Value) (n : ℕ) → length ss ≤ i → act_all_here names (stmts_of (plain_stmts (drop i ss))) vars fields n ≡ On vars fields n
-unfolding act_all_here
-act_end names ss i vars fields n le = let cut : drop i ss ≡ [] = drop_all i ss le in ap (λ l. act_all_here names (stmts_of (plain_stmts l)) vars fields n) cut
+values_from : (vs : List Value) (i : ℕ) (v : Value) → i < length vs → v ≡ get_or vs i v → drop i vs ≡ v ∷ drop (i + 1) vs
+values_from vs i v lt is =
+    let cut : drop i vs ≡ get_or vs i v ∷ drop (i + 1) vs = rw (add-one, drop-cons vs i v) in
+    cut ∙ ap (λ y. y ∷ drop (i + 1) vs) (sym is)
+
+module _ {W : Type 0} (s : Site W) (vars : List Var) (w : W) (n : ℕ) where
+  pub stmts_next : (ss : List Stmt) (i : ℕ) (x : Stmt) → i < length ss → x ≡ get_or ss i x
+      → act_all s (stmts_of (plain_stmts (drop i ss))) vars w n ≡ next (act s (plain_stmt x) vars w n) (λ vars w n. act_all s (stmts_of (plain_stmts (drop (i + 1) ss))) vars w n)
+  unfolding act_all
+  stmts_next ss i x lt is = ap (λ t. act_all s t vars w n) (stmts_from ss i x lt is)
+
+  pub stmts_end : (ss : List Stmt) (i : ℕ) → length ss ≤ i → act_all s (stmts_of (plain_stmts (drop i ss))) vars w n ≡ Goes vars w n
+  unfolding act_all
+  stmts_end ss i le = let cut : drop i ss ≡ [] = drop_all i ss le in ap (λ l. act_all s (stmts_of (plain_stmts l)) vars w n) cut
+
+  pub arms_next : (xs : List Arm) (i : ℕ) (x : Arm) (other : List Var → W → ℕ → Ends W) → i < length xs → x ≡ get_or xs i x
+      → act_arms s (arms_of (plain_arms (drop i xs))) other vars w n ≡ with_given vars (eval s (plain_expr (out-Arm x).test) vars w n) (λ v w n. if is_true v then act_all s (stmts_of (plain_stmts (out-Arm x).body)) vars w n else act_arms s (arms_of (plain_arms (drop (i + 1) xs))) other vars w n)
+  unfolding act_arms
+  arms_next xs i x other lt is = ap (λ t. act_arms s t other vars w n) (arms_from xs i x lt is)
+
+  pub arms_end : (xs : List Arm) (i : ℕ) (other : List Var → W → ℕ → Ends W) → length xs ≤ i → act_arms s (arms_of (plain_arms (drop i xs))) other vars w n ≡ other vars w n
+  unfolding act_arms
+  arms_end xs i other le = let cut : drop i xs ≡ [] = drop_all i xs le in ap (λ l. act_arms s (arms_of (plain_arms l)) other vars w n) cut
+
+module _ {W : Type 0} (vars : List Var) (w : W) (n : ℕ) where
+  pub while_next : (most : ℕ) (test : List Var → W → ℕ → Gives W Value) (body : List Var → W → ℕ → Ends W) → 0 < most
+      → while_turns most test body vars w n ≡ with_given vars (test vars w n) (λ v w n. if is_true v then next_turn (stepping vars w n (λ n. body vars w n)) (while_turns (most - 1) test body) else Goes vars w n)
+  unfolding while_turns
+  while_next zero test body lt = absurd (omega arith)
+  while_next (suc most) test body lt = let less : suc most - 1 ≡ most = omega arith in rw less refl
+
+  pub while_over : (most : ℕ) (test : List Var → W → ℕ → Gives W Value) (body : List Var → W → ℕ → Ends W) → most ≡ 0 → while_turns most test body vars w n ≡ Fails step_limit vars w n
+  unfolding while_turns
+  while_over most test body none = ap (λ k. while_turns k test body vars w n) none
+
+  pub items_next : (name : ℕ) (body : List Var → W → ℕ → Ends W) (vs : List Value) (i : ℕ) (v : Value) → i < length vs → v ≡ get_or vs i v
+      → over_items name body (drop i vs) vars w n ≡ next_turn (stepping vars w n (λ n. body (assigned vars name v) w n)) (over_items name body (drop (i + 1) vs))
+  unfolding over_items
+  items_next name body vs i v lt is = ap (λ l. over_items name body l vars w n) (values_from vs i v lt is)
+
+  pub items_end : (name : ℕ) (body : List Var → W → ℕ → Ends W) (vs : List Value) (i : ℕ) → length vs ≤ i → over_items name body (drop i vs) vars w n ≡ Goes vars w n
+  unfolding over_items
+  items_end name body vs i le = let cut : drop i vs ≡ [] = drop_all i vs le in ap (λ l. over_items name body l vars w n) cut
+
+  pub numbers_next : (most name : ℕ) (body : List Var → W → ℕ → Ends W) (from to : ℤ) → 0 < most
+      → over_numbers most name body from to vars w n ≡ (if is_lt (int_cmp from to) then next_turn (stepping vars w n (λ n. body (assigned vars name (value.Int from)) w n)) (over_numbers (most - 1) name body (from +ℤ pos 1) to) else Goes vars w n)
+  unfolding over_numbers
+  numbers_next zero name body from to lt = absurd (omega arith)
+  numbers_next (suc most) name body from to lt = let less : suc most - 1 ≡ most = omega arith in rw less refl
+
+  pub numbers_over : (most name : ℕ) (body : List Var → W → ℕ → Ends W) (from to : ℤ) → most ≡ 0 → over_numbers most name body from to vars w n ≡ Fails step_limit vars w n
+  unfolding over_numbers
+  numbers_over most name body from to none = ap (λ k. over_numbers k name body from to vars w n) none
+
+-- a turn of a `while`, by what its test gives
+module _ {W : Type 0} (vars : List Var) (w : W) (n most : ℕ) (test : List Var → W → ℕ → Gives W Value) (body : List Var → W → ℕ → Ends W) (lt : 0 < most) where
+  pub while_given : while_turns most test body vars w n ≡ with_given vars (test vars w n) (λ v w n. if is_true v then next_turn (stepping vars w n (λ n. body vars w n)) (while_turns (most - 1) test body) else Goes vars w n)
+  while_given = while_next vars w n most test body lt
+
+  pub while_ends : (v : Value) (x : W) (m : ℕ) → test vars w n ≡ Got v x m → is_true v ≡ false → while_turns most test body vars w n ≡ Goes vars x m
+  while_ends v x m given off =
+      while_given
+      ∙ ap (λ g. with_given vars g (λ v w n. if is_true v then next_turn (stepping vars w n (λ n. body vars w n)) (while_turns (most - 1) test body) else Goes vars w n)) given
+      ∙ ap (λ b. if b then next_turn (stepping vars x m (λ n. body vars x n)) (while_turns (most - 1) test body) else Goes vars x m) off
+
+  while_goes : (v : Value) (x : W) (m : ℕ) → test vars w n ≡ Got v x m → is_true v ≡ true → while_turns most test body vars w n ≡ next_turn (stepping vars x m (λ n. body vars x n)) (while_turns (most - 1) test body)
+  while_goes v x m given on =
+      while_given
+      ∙ ap (λ g. with_given vars g (λ v w n. if is_true v then next_turn (stepping vars w n (λ n. body vars w n)) (while_turns (most - 1) test body) else Goes vars w n)) given
+      ∙ ap (λ b. if b then next_turn (stepping vars x m (λ n. body vars x n)) (while_turns (most - 1) test body) else Goes vars x m) on
+
+  pub while_stops : (v : Value) (x : W) (m : ℕ) → test vars w n ≡ Got v x m → is_true v ≡ true → m ≡ 0 → while_turns most test body vars w n ≡ Fails step_limit vars x m
+  while_stops v x m given on none = while_goes v x m given on ∙ ap (λ e. next_turn e (while_turns (most - 1) test body)) (step_none m _ _ none)
+
+  pub while_turn : (v : Value) (x : W) (m k : ℕ) → test vars w n ≡ Got v x m → is_true v ≡ true → m ≡ k + 1 → while_turns most test body vars w n ≡ next_turn (body vars x k) (while_turns (most - 1) test body)
+  while_turn v x m k given on more = while_goes v x m given on ∙ ap (λ e. next_turn e (while_turns (most - 1) test body)) (step_more m k _ _ more)
+
+-- a turn of a `for` over items
+module _ {W : Type 0} (vars : List Var) (w : W) (n name : ℕ) (body : List Var → W → ℕ → Ends W) (vs : List Value) (i : ℕ) (v : Value) (lt : i < length vs) (is : v ≡ get_or vs i v) where
+  pub items_stop : n ≡ 0 → over_items name body (drop i vs) vars w n ≡ Fails step_limit vars w n
+  items_stop none = items_next vars w n name body vs i v lt is ∙ ap (λ e. next_turn e (over_items name body (drop (i + 1) vs))) (step_none n _ _ none)
+
+  pub items_turn : (m : ℕ) → n ≡ m + 1 → over_items name body (drop i vs) vars w n ≡ next_turn (body (assigned vars name v) w m) (over_items name body (drop (i + 1) vs))
+  items_turn m more = items_next vars w n name body vs i v lt is ∙ ap (λ e. next_turn e (over_items name body (drop (i + 1) vs))) (step_more n m _ _ more)
+
+-- a turn of a `for` over numbers
+module _ {W : Type 0} (vars : List Var) (w : W) (n most name : ℕ) (body : List Var → W → ℕ → Ends W) (from to : ℤ) (lt : 0 < most) where
+  pub numbers_end : is_lt (int_cmp from to) ≡ false → over_numbers most name body from to vars w n ≡ Goes vars w n
+  numbers_end on = numbers_next vars w n most name body from to lt ∙ ap (λ b. if b then next_turn (stepping vars w n (λ n. body (assigned vars name (value.Int from)) w n)) (over_numbers (most - 1) name body (from +ℤ pos 1) to) else Goes vars w n) on
+
+  numbers_go : is_lt (int_cmp from to) ≡ true → over_numbers most name body from to vars w n ≡ next_turn (stepping vars w n (λ n. body (assigned vars name (value.Int from)) w n)) (over_numbers (most - 1) name body (from +ℤ pos 1) to)
+  numbers_go on = numbers_next vars w n most name body from to lt ∙ ap (λ b. if b then next_turn (stepping vars w n (λ n. body (assigned vars name (value.Int from)) w n)) (over_numbers (most - 1) name body (from +ℤ pos 1) to) else Goes vars w n) on
+
+  pub numbers_stop : is_lt (int_cmp from to) ≡ true → n ≡ 0 → over_numbers most name body from to vars w n ≡ Fails step_limit vars w n
+  numbers_stop on none = numbers_go on ∙ ap (λ e. next_turn e (over_numbers (most - 1) name body (from +ℤ pos 1) to)) (step_none n _ _ none)
+
+  pub numbers_turn : (m : ℕ) → is_lt (int_cmp from to) ≡ true → n ≡ m + 1 → over_numbers most name body from to vars w n ≡ next_turn (body (assigned vars name (value.Int from)) w m) (over_numbers (most - 1) name body (from +ℤ pos 1) to)
+  numbers_turn m on more = numbers_go on ∙ ap (λ e. next_turn e (over_numbers (most - 1) name body (from +ℤ pos 1) to)) (step_more n m _ _ more)

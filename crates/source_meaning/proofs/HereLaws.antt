@@ -1,125 +1,176 @@
--- Code that calls no other entity does on the whole state what it does on the own record.
-use Rattle.std.proofs.Common.{◌≡◌, ℕ, zero, suc, Bool, true, false, cond, List, [], Ok, Err, Some, None, unwrap_or, refl, sym, ap, ◌∙◌, subst, true≢false}
-use Rattle.std.specs.declared.result.Result.{Result}
-use Rattle.std.specs.declared.cmp.Ordering.{Ordering}
-use Rattle.std.specs.declared.cmp.Ordering.TheVariants.{Less, Equal, Greater}
-use Rattle.std.specs.Ordering.{eq_by_cmp, is_eq}
-use Rattle.std.proofs.lemmas.Cmp.{eq_by_cmp_equiv}
-use Rattle.std.specs.FinMap.{get, insert, get-insert, same_map}
-use Rattle.py_tree.specs.declared.stmt.Target.{Target}
-use Rattle.py_tree.specs.declared.stmt.Target.TheVariants as target
-use Rattle.py_tree.specs.PlainStatements.{PlainStmt, PlainStmts, PPass, PBreak, PContinue, PDo, PReturn, PRaise, PAssert, PAssign, PAugment, PIf, PWhile, PFor, PNoStmt, PStmt}
+-- The record of one entity, seen in the world of a transaction that holds this entity alone.
+use Rattle.std.proofs.Common.{◌≡◌, ◌∙◌, ℕ, Bool, true, false, true≢false, ◌||◌, cond, List, [], Option, Some, None, Ok, Err, Result, refl, sym, ap, subst}
+use Rattle.std.specs.Prelude.{IfOk, IfSome, is_some, unwrap_or}
+use Rattle.std.specs.FinMap as map
+use Rattle.std.specs.FinSet as set
+use Rattle.std.specs.Cmp.{eq_by_cmp_equiv}
+use Rattle.py_tree.specs.PlainExpressions.{PlainExpr}
+use Rattle.py_tree.specs.PlainStatements.{PlainStmts}
 use Rattle.sf_value.specs.Keys.{Key, key_cmp}
-use Rattle.sf_value.proofs.Maps.{key_total, key_exact}
 use Rattle.sf_value.specs.declared.value.Value.{Value}
-use Rattle.sf_value.specs.declared.Failure.{Failure}
+use Rattle.sf_value.specs.declared.Outcome.{Outcome}
+use Rattle.sf_value.proofs.Maps.{key_total}
+use Rattle.source_meaning.specs.declared.Stop.{Stop}
+use Rattle.source_meaning.specs.declared.Stop.TheVariants as stop
+use Rattle.source_meaning.specs.declared.here.Ended.{Ended}
 use Rattle.source_meaning.specs.declared.vars.Var.{Var}
-use Rattle.source_meaning.specs.ClassTables.{Source, fields_of}
-use Rattle.source_meaning.specs.World.{State, World, Calls, Ends, Goes, Returns, Fails, with_value, next, record_at, with_field}
-use Rattle.source_meaning.specs.Evaluation.{value_of}
-use Rattle.source_meaning.specs.Execution.{act, act_all, assign}
-use Rattle.source_meaning.specs.Here.{Ended, On, Gave, Broke, next_here, assign_here, act_here, act_all_here}
+use Rattle.source_meaning.specs.declared.walk.Flow.{Flow}
+use Rattle.source_meaning.specs.declared.walk.Flow.TheVariants as flow
+use Rattle.source_meaning.specs.ClassTables.{Source}
+use Rattle.source_meaning.specs.World.{World, Own, Gives, Got, Fell, Ends, Goes, Returns, Breaks, Continues, Fails, record_at, writing}
+use Rattle.source_meaning.specs.Evaluation.{Site, eval}
+use Rattle.source_meaning.specs.Execution.{act_all}
+use Rattle.source_meaning.specs.Calls.{Held, own_held, own_at, calls_within, on_record}
+use Rattle.source_meaning.specs.RequestRun.{at_first}
+use Rattle.source_meaning.specs.Serial.{no_state}
+use Rattle.source_meaning.specs.Agrees.{Agrees, EndsAs}
+use Rattle.source_meaning.specs.Here.{at_end, EndsHere, GivesHere, EndedAs, ComesTo}
+use Rattle.source_meaning.proofs.ViewLaws.{viewed, viewed_end, eval_within, acts_within}
+use Rattle.source_meaning.proofs.DeclareLaws.{record_written}
 
-is_equal : (r : Ordering) → is_eq r ≡ true → r ≡ Equal
-is_equal Less h = absurd (true≢false (sym h))
-is_equal Equal h = refl
-is_equal Greater h = absurd (true≢false (sym h))
+-- the worlds that a part ends in
+abbrev pub world_in : {W A : Type 0} → Gives W A → W
+world_in (Got x w n) = w
+world_in (Fell e w n) = w
 
--- the record that an entity was given
-pub get_own : (s : State) (me : Key) (fields : List Value) → get (insert s me fields) me ≡ Some fields
-get_own s me fields = get-insert key_total s me fields me ∙ ap (λ b. cond b (Some fields) (get s me)) ((eq_by_cmp_equiv key_total).refl me)
+abbrev pub end_world : {W : Type 0} → Ends W → W
+end_world (Goes vars w n) = w
+end_world (Returns v w n) = w
+end_world (Breaks vars w n) = w
+end_world (Continues vars w n) = w
+end_world (Fails e vars w n) = w
 
-hidden : {A : Type 0} (b : Bool) (x y z : A) → cond b x (cond b y z) ≡ cond b x z
-hidden true x y z = refl
-hidden false x y z = refl
+world_viewed : {V W A : Type 0} (f : W → V) (g : Gives W A) → world_in (viewed f g) ≡ f (world_in g)
+world_viewed f (Got x w n) = refl
+world_viewed f (Fell e w n) = refl
 
--- the last record counts
-pub insert_twice : (s : State) (me : Key) (a b : List Value) → insert (insert s me a) me b ≡ insert s me b
-insert_twice s me a b = same_map key_total key_exact _ _ (λ q.
-    get-insert key_total (insert s me a) me b q
-    ∙ ap (cond (eq_by_cmp key_cmp q me) (Some b)) (get-insert key_total s me a q)
-    ∙ hidden (eq_by_cmp key_cmp q me) (Some b) (Some a) (get s q)
-    ∙ sym (get-insert key_total s me b q))
+end_viewed : {V W : Type 0} (f : W → V) (e : Ends W) → end_world (viewed_end f e) ≡ f (end_world e)
+end_viewed f (Goes vars w n) = refl
+end_viewed f (Returns v w n) = refl
+end_viewed f (Breaks vars w n) = refl
+end_viewed f (Continues vars w n) = refl
+end_viewed f (Fails e vars w n) = refl
 
-kept : (s : State) (me q : Key) (a : List Value) (b : Bool) → eq_by_cmp key_cmp q me ≡ b → get s me ≡ Some a → cond b (Some a) (get s q) ≡ get s q
-kept s me q a true h e = sym e ∙ ap (get s) (sym (key_exact q me (is_equal (key_cmp q me) h)))
-kept s me q a false h e = refl
+or_true : (b : Bool) → (b || true) ≡ true
+or_true true = refl
+or_true false = refl
 
--- the record that is there may be put again
-pub insert_same : (s : State) (me : Key) (a : List Value) → get s me ≡ Some a → insert s me a ≡ s
-insert_same s me a e = same_map key_total key_exact _ _ (λ q. get-insert key_total s me a q ∙ kept s me q a (eq_by_cmp key_cmp q me) refl e)
+or_false : (b : Bool) → (b || false) ≡ b
+or_false true = refl
+or_false false = refl
 
-module _ (me : Key) (s : State) where
-  -- the ends are alike, and the state is the first one with the own record as it is now
-  pub data Follows : Ends → Ended → Type 0 where
-    goes : {vars : List Var} {w : World} {fields : List Value} {n : ℕ} → w.state ≡ insert s me fields → Follows (Goes vars w n) (On vars fields n)
-    gives : {v : Value} {w : World} {fields : List Value} {n : ℕ} → w.state ≡ insert s me fields → Follows (Returns v w n) (Gave v fields n)
-    breaks : {f : Failure} {vars : List Var} {w : World} {fields : List Value} {n : ℕ} → w.state ≡ insert s me fields → Follows (Fails f vars w n) (Broke f vars fields n)
+-- the entity is among those written
+wrote_it : (w : World) (me : Key) (fields : List Value) → set.contains (writing w me fields).writes me ≡ true
+wrote_it w me fields = set.contains-insert key_total w.writes me me ∙ ap (λ b. b || set.contains w.writes me) ((eq_by_cmp_equiv key_total).refl me)
 
-  own_record : (w : World) (fields : List Value) → w.state ≡ insert s me fields → record_at w me ≡ fields
-  own_record w fields e = ap (λ t. unwrap_or (get t me) []) e ∙ ap (λ o. unwrap_or o []) (get_own s me fields)
+-- the record of an entity in a world, and whether it was assigned, here or before
+abbrev pub held_in : Key → Bool → World → Held
+held_in me before w = record { fields = record_at w me; wrote = before || set.contains w.writes me }
 
-  next_follows : (e : Ends) (h : Ended) (f : List Var → World → ℕ → Ends) (g : List Var → List Value → ℕ → Ended) → Follows e h
-      → ((vars : List Var) (w : World) (fields : List Value) (n : ℕ) → w.state ≡ insert s me fields → Follows (f vars w n) (g vars fields n)) → Follows (next e f) (next_here h g)
-  next_follows e h f g (goes p) k = k _ _ _ _ p
-  next_follows e h f g (gives p) k = gives p
-  next_follows e h f g (breaks p) k = breaks p
+-- the state of one entity alone
+abbrev pub alone : Key → List Value → World
+alone me fields = at_first (map.insert no_state me fields)
 
-  module _ (src : Source) (call : Calls) where
-    assign_follows : (x : Target) (v : Value) (vars : List Var) (w : World) (fields : List Value) (n : ℕ) → w.state ≡ insert s me fields
-        → Follows (assign src me x v vars w n) (assign_here (fields_of src me.0) x v vars fields n)
-    assign_follows (target.Local x) v vars w fields n e = goes e
-    assign_follows (target.Field x) v vars w fields n e =
-        let new : List Value → List Value = λ r. with_field (fields_of src me.0) r x.name.0 v in
-        goes (ap (λ t. insert t me (new (record_at w me))) e ∙ ap (λ r. insert (insert s me fields) me (new r)) (own_record w fields e) ∙ insert_twice s me fields (new fields))
+-- the entity's code, where its calls reach its own methods alone
+abbrev pub within : Source → Key → ℕ → Site World
+within src me d = record { src = src; own = own_at me; calls = calls_within (own_at me) src me d; me = me }
 
-    set_follows : (x : Target) (r : Result Value Failure) (vars : List Var) (w : World) (fields : List Value) (n : ℕ) → w.state ≡ insert s me fields
-        → Follows (with_value r (λ f. Fails f vars w n) (λ v. assign src me x v vars w n)) (with_value r (λ f. Broke f vars fields n) (λ v. assign_here (fields_of src me.0) x v vars fields n))
-    set_follows x (Ok v) vars w fields n e = assign_follows x v vars w fields n e
-    set_follows x (Err f) vars w fields n e = breaks e
+alone_record : (me : Key) (fields : List Value) → map.get (map.insert no_state me fields) me ≡ Some fields
+alone_record me fields = map.get-insert key_total no_state me fields me ∙ ap (λ b. cond b (Some fields) (map.get no_state me)) ((eq_by_cmp_equiv key_total).refl me)
 
-    return_follows : (r : Result Value Failure) (vars : List Var) (w : World) (fields : List Value) (n : ℕ) → w.state ≡ insert s me fields
-        → Follows (with_value r (λ f. Fails f vars w n) (λ v. Returns v w n)) (with_value r (λ f. Broke f vars fields n) (λ v. Gave v fields n))
-    return_follows (Ok v) vars w fields n e = gives e
-    return_follows (Err f) vars w fields n e = breaks e
+held_first : (me : Key) (before : Bool) (fields : List Value) → held_in me before (alone me fields) ≡ record { fields = fields; wrote = before }
+held_first me before fields = λ i. record { fields = unwrap_or (alone_record me fields i) []; wrote = (ap (λ b. before || b) (set.contains-empty key_cmp me) ∙ or_false before) i }
 
-    act_follows : (x : PlainStmt) (vars : List Var) (w : World) (fields : List Value) (n : ℕ) → w.state ≡ insert s me fields
-        → Follows (act src call me x vars w n) (act_here (fields_of src me.0) x vars fields n)
-    unfolding act act_here
-    act_follows (PPass at) vars w fields zero q = breaks q
-    act_follows (PPass at) vars w fields (suc n) q = goes q
-    act_follows (PBreak at) vars w fields zero q = breaks q
-    act_follows (PBreak at) vars w fields (suc n) q = goes q
-    act_follows (PContinue at) vars w fields zero q = breaks q
-    act_follows (PContinue at) vars w fields (suc n) q = goes q
-    act_follows (PDo at e) vars w fields zero q = breaks q
-    act_follows (PDo at e) vars w fields (suc n) q = goes q
-    act_follows (PReturn at None) vars w fields zero q = breaks q
-    act_follows (PReturn at None) vars w fields (suc n) q = goes q
-    act_follows (PReturn at (Some e)) vars w fields zero q = breaks q
-    act_follows (PReturn at (Some e)) vars w fields (suc n) q =
-        subst (λ r. Follows (with_value (value_of (fields_of src me.0) e vars r) (λ f. Fails f vars w n) (λ v. Returns v w n)) (with_value (value_of (fields_of src me.0) e vars fields) (λ f. Broke f vars fields n) (λ v. Gave v fields n)))
-        (sym (own_record w fields q)) (return_follows (value_of (fields_of src me.0) e vars fields) vars w fields n q)
-    act_follows (PRaise at k e) vars w fields zero q = breaks q
-    act_follows (PRaise at k e) vars w fields (suc n) q = goes q
-    act_follows (PAssert at t e) vars w fields zero q = breaks q
-    act_follows (PAssert at t e) vars w fields (suc n) q = goes q
-    act_follows (PAssign at x ty e) vars w fields zero q = breaks q
-    act_follows (PAssign at x ty e) vars w fields (suc n) q =
-        subst (λ r. Follows (with_value (value_of (fields_of src me.0) e vars r) (λ f. Fails f vars w n) (λ v. assign src me x v vars w n)) (with_value (value_of (fields_of src me.0) e vars fields) (λ f. Broke f vars fields n) (λ v. assign_here (fields_of src me.0) x v vars fields n)))
-        (sym (own_record w fields q)) (set_follows x (value_of (fields_of src me.0) e vars fields) vars w fields n q)
-    act_follows (PAugment at x o o_at e) vars w fields zero q = breaks q
-    act_follows (PAugment at x o o_at e) vars w fields (suc n) q = goes q
-    act_follows (PIf at arms other) vars w fields zero q = breaks q
-    act_follows (PIf at arms other) vars w fields (suc n) q = goes q
-    act_follows (PWhile at t body) vars w fields zero q = breaks q
-    act_follows (PWhile at t body) vars w fields (suc n) q = goes q
-    act_follows (PFor at x x_at over body) vars w fields zero q = breaks q
-    act_follows (PFor at x x_at over body) vars w fields (suc n) q = goes q
+put_held : (me : Key) (before : Bool) (w : World) (fields : List Value) → own_held.put (held_in me before w) fields ≡ held_in me before ((own_at me).put w fields)
+put_held me before w fields = sym (λ i. record { fields = record_written w me fields i; wrote = (ap (λ b. before || b) (wrote_it w me fields) ∙ or_true before) i })
 
-    -- the whole body
-    pub all_follows : (ss : PlainStmts) (vars : List Var) (w : World) (fields : List Value) (n : ℕ) → w.state ≡ insert s me fields
-        → Follows (act_all src call me ss vars w n) (act_all_here (fields_of src me.0) ss vars fields n)
-    unfolding act_all act_all_here
-    all_follows PNoStmt vars w fields n q = goes q
-    all_follows (PStmt x ss) vars w fields n q = next_follows _ _ _ _ (act_follows x vars w fields n q) (all_follows ss)
+module _ (src : Source) (me : Key) (d : ℕ) (before : Bool) (fields : List Value) where
+  eval_held : (e : PlainExpr) (vars : List Var) (n : ℕ) → eval (on_record src me d) e vars (record { fields = fields; wrote = before }) n ≡ viewed (held_in me before) (eval (within src me d) e vars (alone me fields) n)
+  eval_held e vars n =
+      ap (λ h. eval (on_record src me d) e vars h n) (sym (held_first me before fields))
+      ∙ eval_within (held_in me before) src me (own_at me) own_held (λ w. refl) (put_held me before) d e vars (alone me fields) n
+
+  acts_held : (xs : PlainStmts) (vars : List Var) (n : ℕ) → act_all (on_record src me d) xs vars (record { fields = fields; wrote = before }) n ≡ viewed_end (held_in me before) (act_all (within src me d) xs vars (alone me fields) n)
+  acts_held xs vars n =
+      ap (λ h. act_all (on_record src me d) xs vars h n) (sym (held_first me before fields))
+      ∙ acts_within (held_in me before) src me (own_at me) own_held (λ w. refl) (put_held me before) d xs vars (alone me fields) n
+
+-- A record that isn't written stays
+
+-- a world that has this record until the entity is written
+record Kept (me : Key) (fields : List Value) : Type 0 where
+  world : World
+  kept : set.contains world.writes me ≡ false → record_at world me ≡ fields
+
+module _ (src : Source) (me : Key) (d : ℕ) (fields : List Value) where
+  abbrev own_kept : Own (Kept me fields)
+  own_kept = record {
+    fields = λ k. record_at k.world me;
+    put = λ k new. record { world = writing k.world me new; kept = λ unwritten. absurd (true≢false (sym (wrote_it k.world me new) ∙ unwritten)) };
+  }
+
+  abbrev first_kept : Kept me fields
+  first_kept = record { world = alone me fields; kept = λ unwritten. ap (λ o. unwrap_or o []) (alone_record me fields) }
+
+  is_kept : (k : Kept me fields) (w : World) → w ≡ k.world → set.contains w.writes me ≡ false → record_at w me ≡ fields
+  is_kept k w same unwritten = ap (λ w. record_at w me) same ∙ k.kept (sym (ap (λ w. set.contains w.writes me) same) ∙ unwritten)
+
+  eval_keeps : (e : PlainExpr) (vars : List Var) (n : ℕ) (w : World) → w ≡ world_in (eval (within src me d) e vars (alone me fields) n) → set.contains w.writes me ≡ false → record_at w me ≡ fields
+  eval_keeps e vars n w is =
+      let g : Gives (Kept me fields) Value = eval (record { src = src; own = own_kept; calls = calls_within own_kept src me d; me = me }) e vars first_kept n in
+      is_kept (world_in g) w (is ∙ ap world_in (eval_within (λ k. k.world) src me own_kept (own_at me) (λ k. refl) (λ k new. refl) d e vars first_kept n) ∙ world_viewed (λ k. k.world) g)
+
+  acts_keep : (xs : PlainStmts) (vars : List Var) (n : ℕ) (w : World) → w ≡ end_world (act_all (within src me d) xs vars (alone me fields) n) → set.contains w.writes me ≡ false → record_at w me ≡ fields
+  acts_keep xs vars n w is =
+      let e : Ends (Kept me fields) = act_all (record { src = src; own = own_kept; calls = calls_within own_kept src me d; me = me }) xs vars first_kept n in
+      is_kept (end_world e) w (is ∙ ap end_world (acts_within (λ k. k.world) src me own_kept (own_at me) (λ k. refl) (λ k new. refl) d xs vars first_kept n) ∙ end_viewed (λ k. k.world) e)
+
+-- What is taken back
+
+-- the record that was written, or else the one that there was
+taken_back : (me : Key) (before : Bool) (fields left : List Value) (w : World) (written : Option (List Value))
+    → is_some written ≡ set.contains w.writes me → IfSome written (λ new. map.get w.state me ≡ Some new)
+    → (set.contains w.writes me ≡ false → record_at w me ≡ fields)
+    → held_in me before w ≡ record { fields = unwrap_or written (unwrap_or (map.get (map.insert no_state me fields) me) left); wrote = before || is_some written }
+taken_back me before fields left w (Some new) among is kept = λ i. record { fields = unwrap_or (is i) []; wrote = before || sym among i }
+taken_back me before fields left w None among is kept = λ i. record { fields = (kept (sym among) ∙ sym (ap (λ o. unwrap_or o left) (alone_record me fields))) i; wrote = before || sym among i }
+
+pub mapped_ok : {A E : Type 0} (r : Result A E) (P Q : A → Type 0) → ((x : A) → P x → Q x) → IfOk r P → IfOk r Q
+mapped_ok (Ok x) P Q f h = f x h
+mapped_ok (Err e) P Q f h = tt
+
+-- How code ends on the record, where its statements end so in the world
+
+ends_by : (r : Result Flow Stop) (x : Ended) (vars : List Var) (w : World) (n : ℕ) (e : Ends World) (f : World → Held) (h : Held) → EndedAs r x → EndsAs r vars w n e → (w ≡ end_world e → f w ≡ h) → EndsHere x vars h n (viewed_end f e)
+ends_by (Ok flow.On) x vars w n e f h so ends taken = subst (λ y. EndsHere y vars h n (viewed_end f e)) (sym so) (ap (λ l. at_end (viewed_end f l)) ends ∙ ap (λ y. Goes vars y n) (taken (sym (ap end_world ends))))
+ends_by (Ok (flow.Gave v)) x vars w n e f h so ends taken = subst (λ y. EndsHere y vars h n (viewed_end f e)) (sym so) (ap (viewed_end f) ends ∙ ap (λ y. Returns v y n) (taken (sym (ap end_world ends))))
+ends_by (Ok flow.Broke) x vars w n e f h so ends taken = subst (λ y. EndsHere y vars h n (viewed_end f e)) (sym so) (ap (λ l. at_end (viewed_end f l)) ends ∙ ap (λ y. Goes vars y n) (taken (sym (ap end_world ends))))
+ends_by (Ok flow.Continued) x vars w n e f h so ends taken = subst (λ y. EndsHere y vars h n (viewed_end f e)) (sym so) (ap (λ l. at_end (viewed_end f l)) ends ∙ ap (λ y. Goes vars y n) (taken (sym (ap end_world ends))))
+ends_by (Err stop.NoMemory) x vars w n e f h so ends taken = absurd so
+ends_by (Err (stop.Failed c)) x vars w n e f h so ends taken = subst (λ y. EndsHere y vars h n (viewed_end f e)) (sym so) (ap (viewed_end f) ends ∙ ap (λ y. Fails c vars y n) (taken (sym (ap end_world ends))))
+
+gives_by : (r : Result Value Stop) (x : Outcome) (w : World) (n : ℕ) (g : Gives World Value) (f : World → Held) (h : Held) → ComesTo r x → Agrees r w n g → (w ≡ world_in g → f w ≡ h) → GivesHere x h n (viewed f g)
+gives_by (Ok v) x w n g f h so gives taken = subst (λ y. GivesHere y h n (viewed f g)) (sym so) (ap (viewed f) gives ∙ ap (λ y. Got v y n) (taken (sym (ap world_in gives))))
+gives_by (Err stop.NoMemory) x w n g f h so gives taken = absurd so
+gives_by (Err (stop.Failed c)) x w n g f h so gives taken = subst (λ y. GivesHere y h n (viewed f g)) (sym so) (ap (viewed f) gives ∙ ap (λ y. Fell c y n) (taken (sym (ap world_in gives))))
+
+-- Code as it is run: in a transaction that began on the record alone, which is taken back
+
+module _ (src : Source) (me : Key) (d k : ℕ) (room : k ≡ d) (before : Bool) (fields left : List Value) (start w : World) (written : Option (List Value)) (h : Held)
+    (began : start ≡ alone me fields)
+    (among : is_some written ≡ set.contains w.writes me)
+    (is : IfSome written (λ new. map.get w.state me ≡ Some new))
+    (back : h ≡ record { fields = unwrap_or written (unwrap_or (map.get (map.insert no_state me fields) me) left); wrote = before || is_some written }) where
+  pub acts_here : (xs : PlainStmts) (vars after : List Var) (n m : ℕ) (r : Result Flow Stop) → EndsAs r after w m (act_all (within src me k) xs vars start n) → (x : Ended) → EndedAs r x → EndsHere x after h m (act_all (on_record src me d) xs vars (record { fields = fields; wrote = before }) n)
+  acts_here xs vars after n m r ends x so =
+      subst (EndsHere x after h m) (sym (acts_held src me d before fields xs vars n))
+      (ends_by r x after w m (act_all (within src me d) xs vars (alone me fields) n) (held_in me before) h so
+      (subst (λ s. EndsAs r after w m (act_all (within src me d) xs vars s n)) began (subst (λ y. EndsAs r after w m (act_all (within src me y) xs vars start n)) room ends))
+      (λ last. taken_back me before fields left w written among is (acts_keep src me d fields xs vars n w last) ∙ sym back))
+
+  pub gives_here : (e : PlainExpr) (vars : List Var) (n m : ℕ) (r : Result Value Stop) → Agrees r w m (eval (within src me k) e vars start n) → (x : Outcome) → ComesTo r x → GivesHere x h m (eval (on_record src me d) e vars (record { fields = fields; wrote = before }) n)
+  gives_here e vars n m r gives x so =
+      subst (GivesHere x h m) (sym (eval_held src me d before fields e vars n))
+      (gives_by r x w m (eval (within src me d) e vars (alone me fields) n) (held_in me before) h so
+      (subst (λ s. Agrees r w m (eval (within src me d) e vars s n)) began (subst (λ y. Agrees r w m (eval (within src me y) e vars start n)) room gives))
+      (λ last. taken_back me before fields left w written among is (eval_keeps src me d fields e vars n w last) ∙ sym back))

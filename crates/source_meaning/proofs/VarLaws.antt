@@ -1,5 +1,7 @@
 -- Laws of look-ups by name.
-use Rattle.std.proofs.Common.{◌≡◌, ◌≤◌, ℕ, zero, suc, nat_eq, List, [], ◌∷◌, map, length, position, slice_set, refl, ap, arith}
+use Rattle.std.proofs.Common.{◌≡◌, ◌≤◌, ℕ, zero, suc, nat_eq, List, [], ◌∷◌, map, length, position, slice_set, Option, Some, None, refl, ap, arith}
+use Rattle.sf_value.specs.declared.value.Value.TheVariants as value
+use Rattle.source_meaning.specs.World.{value_at, field_value}
 use Rattle.py_tree.specs.declared.names.Name.{Name}
 use Rattle.py_tree.proofs.NameLaws.{position-map}
 
@@ -12,3 +14,13 @@ pub set_past : {A : Type 0} (xs : List A) (at : ℕ) (x : A) → length xs ≤ a
 set_past [] at x past = refl
 set_past (y ∷ xs) zero x past = absurd (omega arith)
 set_past (y ∷ xs) (suc at) x past = ap (λ l. y ∷ l) (set_past xs at x (omega arith))
+
+empty_at : (o : Option ℕ) → value_at [] o ≡ value.Nil
+empty_at None = refl
+empty_at (Some zero) = refl
+empty_at (Some (suc i)) = refl
+
+-- a record without fields gives None at each name
+pub no_field : (names : List ℕ) (x : ℕ) → field_value names [] x ≡ value.Nil
+unfolding field_value
+no_field names x = empty_at (position (λ y. nat_eq y x) names)

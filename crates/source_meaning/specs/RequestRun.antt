@@ -11,7 +11,7 @@ use Rattle.sf_value.specs.declared.Outcome.{Outcome}
 use Rattle.sf_value.specs.declared.Outcome.TheVariants as outcome
 use Rattle.source_meaning.specs.ClassTables.{Source}
 use Rattle.source_meaning.specs.World.{State, Keys, World, Gives, Got, Fell, size_limit}
-use Rattle.source_meaning.specs.Calls.{call_at, make_at}
+use Rattle.source_meaning.specs.Calls.{calls_at}
 
 -- what a run comes to, the next state, the entities read and written, and the steps left
 pub record Ran : Type 0 where
@@ -40,14 +40,18 @@ is_too_heavy (act.Call class key method args) = nat_lt 65536 (1 + length (encode
 is_too_heavy (act.New class args) = list_any is_heavy args
 
 -- the call or the creation at depth 1
-unfoldable pub begin : Source → Act → State → Gives
-begin src (act.Call class key method args) s = call_at src depth_limit (class, key) method args (at_first s) steps_at_first
-begin src (act.New class args) s = make_at src depth_limit class args (at_first s) steps_at_first
+unfoldable pub begin : Source → Act → State → Gives World Value
+begin src (act.Call class key method args) s = (calls_at src depth_limit).call (class, key) method args (at_first s) steps_at_first
+begin src (act.New class args) s = (calls_at src depth_limit).make class args (at_first s) steps_at_first
 
 -- after a failure the state is as before, and nothing counts as written
-abbrev pub ended : State → Gives → Ran
+abbrev pub ended : State → Gives World Value → Ran
 ended s (Got v w n) = record { outcome = outcome.Value v; state = w.state; reads = w.reads; writes = w.writes; steps = n }
 ended s (Fell f w n) = record { outcome = outcome.Failed f; state = s; reads = w.reads; writes = set.empty; steps = n }
 
+-- a request that weighs too much runs nothing
+abbrev pub refused : State → Ran
+refused s = record { outcome = outcome.Failed size_limit; state = s; reads = set.empty; writes = set.empty; steps = steps_at_first }
+
 unfoldable pub run : Source → State → Act → Ran
-run src s asked = if is_too_heavy asked then record { outcome = outcome.Failed size_limit; state = s; reads = set.empty; writes = set.empty; steps = steps_at_first } else ended s (begin src asked s)
+run src s asked = if is_too_heavy asked then refused s else ended s (begin src asked s)

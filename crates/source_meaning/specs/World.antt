@@ -1,4 +1,4 @@
--- The world that a program acts on, and what its parts come to.
+-- The world that a program of the whole language acts on, and what its parts come to.
 use Rattle.std.specs.Prelude.{ℕ, zero, suc, Bool, List, [], ◌∷◌, ◌++◌, Some, None, Ok, Err, nat_eq, slice_get, slice_set, position, unwrap_or}
 use Rattle.std.specs.declared.option.Option.{Option}
 use Rattle.std.specs.declared.result.Result.{Result}
@@ -27,6 +27,16 @@ pub record World : Type 0 where
 abbrev pub failure : ℕ → Failure
 failure kind = record { kind = kind; message = [] }
 
+abbrev pub zero_division_error : Failure
+zero_division_error = failure 1
+
+abbrev pub index_error : Failure
+index_error = failure 2
+
+-- an assert that doesn't hold, with its message
+abbrev pub assertion_error : List ℕ → Failure
+assertion_error message = record { kind = 3; message = message }
+
 abbrev pub recursion_error : Failure
 recursion_error = failure 4
 
@@ -45,41 +55,73 @@ size_limit = failure 11
 abbrev pub step_limit : Failure
 step_limit = failure 12
 
--- a call ends with a value or fails, in a world with so many steps left
-pub data Gives : Type 0 where
-  Got : (v : Value) → (w : World) → (n : ℕ) → Gives
-  Fell : (f : Failure) → (w : World) → (n : ℕ) → Gives
+-- an expression or a call gives something or fails, in a world with so many steps left
+pub data Gives (W A : Type 0) : Type 0 where
+  Got : (x : A) → (w : W) → (n : ℕ) → Gives W A
+  Fell : (f : Failure) → (w : W) → (n : ℕ) → Gives W A
 
--- a statement goes on, returns a value, or fails with the locals of that moment
-pub data Ends : Type 0 where
-  Goes : (vars : List Var) → (w : World) → (n : ℕ) → Ends
-  Returns : (v : Value) → (w : World) → (n : ℕ) → Ends
-  Fails : (f : Failure) → (vars : List Var) → (w : World) → (n : ℕ) → Ends
+-- a statement goes on, returns a value, leaves the loop around it or goes to its next turn, or fails with the locals of that moment
+pub data Ends (W : Type 0) : Type 0 where
+  Goes : (vars : List Var) → (w : W) → (n : ℕ) → Ends W
+  Returns : (v : Value) → (w : W) → (n : ℕ) → Ends W
+  Breaks : (vars : List Var) → (w : W) → (n : ℕ) → Ends W
+  Continues : (vars : List Var) → (w : W) → (n : ℕ) → Ends W
+  Fails : (f : Failure) → (vars : List Var) → (w : W) → (n : ℕ) → Ends W
 
--- what a call does, from the entity, the method, the arguments, the world and the steps left
-abbrev pub Calls : Type 0
-Calls = Key → ℕ → List Value → World → ℕ → Gives
+-- what calls and creations do: from the entity, the number of the method and the arguments; from the number of the class and
+-- the arguments
+pub record Calls (W : Type 0) : Type 0 where
+  pub call : Key → ℕ → List Value → W → ℕ → Gives W Value
+  pub make : ℕ → List Value → W → ℕ → Gives W Value
+
+-- how code reaches the record of its own entity in a world
+pub record Own (W : Type 0) : Type 0 where
+  pub fields : W → List Value
+  pub put : W → List Value → W
 
 -- takes a step, if there is one
 abbrev pub step : {A : Type 0} → ℕ → A → (ℕ → A) → A
 step zero none f = none
 step (suc n) none f = f n
 
--- goes on with a value, or falls
-abbrev pub with_value : {X A : Type 0} → Result X Failure → (Failure → A) → (X → A) → A
-with_value (Ok x) falls f = f x
-with_value (Err e) falls f = falls e
+-- goes on with what was given, or falls
+infixl 10 ◌>>=◌
+abbrev pub ◌>>=◌ : {W A B : Type 0} → Gives W A → (A → W → ℕ → Gives W B) → Gives W B
+Got x w n >>= f = f x w n
+Fell e w n >>= f = Fell e w n
+
+-- a result that needs no world
+abbrev pub told : {W : Type 0} → Result Value Failure → W → ℕ → Gives W Value
+told (Ok v) w n = Got v w n
+told (Err e) w n = Fell e w n
+
+-- a statement goes on with what an expression gives, or fails with the locals of that moment
+abbrev pub with_given : {W A : Type 0} → List Var → Gives W A → (A → W → ℕ → Ends W) → Ends W
+with_given vars (Got x w n) f = f x w n
+with_given vars (Fell e w n) f = Fails e vars w n
 
 -- the next statement, where this one goes on
-abbrev pub next : Ends → (List Var → World → ℕ → Ends) → Ends
+abbrev pub next : {W : Type 0} → Ends W → (List Var → W → ℕ → Ends W) → Ends W
 next (Goes vars w n) f = f vars w n
 next (Returns v w n) f = Returns v w n
+next (Breaks vars w n) f = Breaks vars w n
+next (Continues vars w n) f = Continues vars w n
 next (Fails e vars w n) f = Fails e vars w n
 
+-- the next turn of a loop, where the body of this one goes on or asks for it
+abbrev pub next_turn : {W : Type 0} → Ends W → (List Var → W → ℕ → Ends W) → Ends W
+next_turn (Goes vars w n) f = f vars w n
+next_turn (Returns v w n) f = Returns v w n
+next_turn (Breaks vars w n) f = Goes vars w n
+next_turn (Continues vars w n) f = f vars w n
+next_turn (Fails e vars w n) f = Fails e vars w n
+
 -- a method that falls off its end gives None
-abbrev pub result_of : Ends → Gives
+abbrev pub result_of : {W : Type 0} → Ends W → Gives W Value
 result_of (Goes vars w n) = Got value.Nil w n
 result_of (Returns v w n) = Got v w n
+result_of (Breaks vars w n) = Got value.Nil w n
+result_of (Continues vars w n) = Got value.Nil w n
 result_of (Fails e vars w n) = Fell e w n
 
 abbrev pub is_named : ℕ → Var → Bool

@@ -8,6 +8,18 @@ use crate::Stop;
 use sf_value::{Failure, Text};
 use std::alloc::{AllocError, Global};
 
+/// `ZeroDivisionError`.
+pub(crate) const ZERO_DIVISION_ERROR: u8 = 1;
+
+/// `IndexError`.
+pub(crate) const INDEX_ERROR: u8 = 2;
+
+/// `AssertionError`.
+pub(crate) const ASSERTION_ERROR: u8 = 3;
+
+/// `RecursionError`.
+pub(crate) const RECURSION_ERROR: u8 = 4;
+
 /// `OverflowError`.
 pub(crate) const OVERFLOW_ERROR: u8 = 5;
 

@@ -4,18 +4,25 @@
 //! exactly what they say.
 #![tactic(auto)]
 
-mod calls;
-mod evaluate;
-mod execute;
 mod failures;
+mod here;
+mod laws;
 mod local;
+mod operations;
+mod site;
 mod tables;
+#[cfg(test)]
+mod tests;
+mod transaction;
 mod vars;
+mod walk;
 
-pub use local::Local;
+pub use here::{Ended, eval_here, run_here};
+pub use laws::nothing_goes_wrong;
+pub use local::{Attempt, Local};
 use sf_value::Failure;
 use std::alloc::{AllocError, AllocFailed};
-pub use tables::{class_named, init_params, method_named, method_params};
+pub use tables::{init_params, method_params};
 pub use vars::{Var, Vars};
 
 /// Why a part of a run stops without a value.

@@ -1,32 +1,39 @@
 //! The state of all entities, and requests run on it one at a time.
 
-ghost use Rattle.std.specs.Prelude.{◌≡◌, is_some, IfOk, OnOk, OnErr};
+ghost use Rattle.std.specs.Prelude.{◌≡◌, IfOk, OnOk, OnErr};
 ghost use Rattle.std.specs.FinMap as finite;
-ghost use Rattle.std.specs.Option.{option_copied};
-ghost use Rattle.py_tree.specs.PlainProgram.{plain_program};
-ghost use Rattle.sf_value.specs.Keys.{key_of};
-ghost use Rattle.source_meaning.specs.Serial.{no_state};
-ghost use Rattle.source_meaning.specs.RequestRun.{run as run_of, begin, ended, is_too_heavy, is_heavy as is_heavy_value};
-ghost use Rattle.sf_value.specs.declared.Act.TheVariants as act;
 ghost use Rattle.std.specs.List.{list_any};
-ghost use Rattle.source_meaning.specs.Agrees.{RunsAs, source_of};
+ghost use Rattle.std.specs.Option.{option_copied};
+ghost use Rattle.sf_value.specs.Keys.{key_of};
+ghost use Rattle.source_meaning.specs.Agrees.{Agrees};
+ghost use Rattle.source_meaning.specs.Attempts.{ran_of};
+ghost use Rattle.source_meaning.specs.RequestRun.{at_first, steps_at_first, run as run_of, begin as the_begin, refused, is_too_heavy, is_heavy as is_heavy_value};
+ghost use Rattle.source_meaning.specs.World.{State};
+ghost use Rattle.source_meaning.specs.Serial.{no_state};
+ghost use Rattle.source_meaning.specs.Sources.{source_of};
+ghost use Rattle.source_meaning.specs.Transactions.{world_of, with_records};
 
 use crate::Stop;
-use crate::calls::{key_text, run_body, run_init};
-use crate::failures::{ALREADY_EXISTS, NO_ENTITY, SIZE_LIMIT, fail};
-use crate::tables::{called, class_fields, class_key, init};
-use indexmap::IndexMap;
-use py_tree::{Names, Program};
-use sf_list::{Sequence, TryClone};
-use sf_value::{Act, Outcome, Ref, Request, Text, Value, Values, text_weight, weight};
+use crate::failures::{SIZE_LIMIT, empty_text};
+use crate::site::{DEPTH_LIMIT, Room, Site};
+use crate::tables::class_fields;
+use crate::transaction::{Transaction, begin};
+use crate::walk::{call_entity, make_entity};
+use indexmap::{IndexMap, IndexSet};
+use py_tree::Checked;
+use sf_list::TryClone;
+use sf_value::{Act, Failure, Outcome, Ref, Request, Value, Values, text_weight, weight};
 use std::alloc::{AllocError, Global};
 use std::marker::Model;
 
 /// A key or an argument weighs at most this much.
 const WEIGHT_LIMIT: u64 = 65_536;
 
-/// The steps that are left of a request's 100,000 once its own call or creation has taken one.
-const STEPS_LEFT: u32 = 99_999;
+/// The steps that a request has.
+const STEPS: u32 = 100_000;
+
+/// No class has this number: a request comes from outside of all entities.
+const OUTSIDE: u32 = u32::MAX;
 
 /// The state of the direct interpreter: the record of each entity that there is.
 #[derive(Drop)]
@@ -43,6 +50,19 @@ impl Model for Local {
     ghost coded = { state_code };
 
     ghost view = { λ local. state_of local.records.entries };
+}
+
+/// What a request came to on a state, before it is committed.
+#[derive(Drop)]
+pub struct Attempt {
+    /// The value that it gives, or its failure.
+    pub outcome: Outcome,
+    /// The record of each entity that it wrote. A request that fails has written nothing.
+    pub changed: IndexMap<Ref, Values>,
+    /// Each entity that was called or created, also where it was found missing or the request then failed.
+    pub reads: IndexSet<Ref>,
+    /// The steps that are left of 100,000.
+    pub steps: u32,
 }
 
 impl Local {
@@ -62,98 +82,80 @@ impl Local {
         self.records.get(at)
     }
 
-    fn contains(&self, at: &Ref) -> bool
-        ensures { result ≡ is_some (finite.get self.now (key_of at.now)) }
+    /// The state of one entity alone.
+    pub(crate) fn of(alloc: Global, at: Ref, fields: Values) -> Result<Local, AllocError>
+        ensures { IfOk result (λ local. local ≡ finite.insert no_state (key_of at) fields) }
     {
-        self.get(at).is_some()
+        let mut records = IndexMap::new(alloc);
+        records.insert(at, fields)?;
+        Ok(Local { records })
     }
 
-    /// Gives an entity its record.
-    fn put(&mut self, at: Ref, fields: Values) -> Result<(), AllocError>
-        ensures ok { OnOk result (self.new ≡ finite.insert self.old (key_of at) fields) }
-        ensures err { OnErr result (self.new ≡ self.old) }
+    /// The record of an entity, where there is one. The rest of the state is dropped.
+    pub(crate) fn into_record(mut self, at: &Ref) -> Option<Values>
+        ensures { result ≡ finite.get self (key_of at.now) }
     {
-        self.records.insert(at, fields)?;
-        Ok(())
+        self.records.swap_remove(at)
     }
 
-    /// Calls a method of an entity at depth 1.
-    fn call(
-        &mut self,
+    /// Runs one request on the state as it is, and commits nothing.
+    pub fn attempt(
+        &self,
         alloc: Global,
-        program: &Program,
-        names: &Names,
-        at: Ref,
-        number: u32,
-        args: &Values,
-    ) -> Result<Value, Stop>
-        ensures { RunsAs result self.old self.new (ended self.old (begin (source_of (plain_program program.now) names.now) (act.Call at.class at.key number args.now) self.old)) }
-    {
-        let field_names = class_fields(alloc, program, names, at.class)?;
-        let Some(held) = self.get(&at) else {
-            return Err(fail(alloc, NO_ENTITY));
-        };
-        let mut fields = held.try_clone(alloc)?;
-        let mut steps = STEPS_LEFT;
-        let method = called(program, names, at.class, number);
-        let ended = run_body(
-            alloc,
-            field_names.as_slice(),
-            method,
-            args,
-            &mut fields,
-            &mut steps,
-        );
-        let value = ended?;
-        self.put(at, fields)?;
-        Ok(value)
-    }
-
-    /// Makes an entity at depth 1.
-    fn make(
-        &mut self,
-        alloc: Global,
-        program: &Program,
-        names: &Names,
-        class: u32,
-        args: &Values,
-    ) -> Result<Value, Stop>
-        ensures { RunsAs result self.old self.new (ended self.old (begin (source_of (plain_program program.now) names.now) (act.New class args.now) self.old)) }
-    {
-        let field_names = class_fields(alloc, program, names, class)?;
-        let key = key_text(alloc, args, class_key(program, names, class))?;
-        let at = Ref { class, key };
-        if self.contains(&at) {
-            return Err(fail(alloc, ALREADY_EXISTS));
-        }
-        let mut fields = Sequence::new(alloc);
-        let mut steps = STEPS_LEFT;
-        let init = init(program, names, class);
-        run_init(
-            alloc,
-            field_names.as_slice(),
-            init,
-            args,
-            &mut fields,
-            &mut steps,
-        )?;
-        let made = at.try_clone(alloc)?;
-        self.put(at, fields)?;
-        Ok(Value::Entity(made))
-    }
-
-    fn begin(
-        &mut self,
-        alloc: Global,
-        program: &Program,
-        names: &Names,
+        program: &Checked,
         asked: &Act,
-    ) -> Result<Value, Stop>
-        ensures { RunsAs result self.old self.new (run_of (source_of (plain_program program.now) names.now) self.old asked.now) }
+    ) -> Result<Attempt, AllocError>
+        ensures { IfOk result (λ made. ran_of self.now made ≡ run_of (source_of program.now) self.now asked.now) }
     {
         if is_heavy(asked) {
-            return Err(fail(alloc, SIZE_LIMIT));
+            return too_heavy(alloc);
         }
+        let mut tx = begin(alloc);
+        let mut steps = STEPS;
+        match self.first_call(alloc, program, asked, &mut tx, &mut steps) {
+            Ok(value) => Ok(Attempt {
+                outcome: Outcome::Value(value),
+                changed: tx.changed,
+                reads: tx.read,
+                steps,
+            }),
+            Err(Stop::Failed(failure)) => Ok(Attempt {
+                outcome: Outcome::Failed(failure),
+                changed: IndexMap::new(alloc),
+                reads: tx.read,
+                steps,
+            }),
+            Err(Stop::NoMemory) => Err(AllocError),
+        }
+    }
+
+    /// The call or the creation that a request asks for.
+    #[tactic(auto, unfolding(crate::specs::RequestRun::begin))]
+    fn first_call(
+        &self,
+        alloc: Global,
+        program: &Checked,
+        asked: &Act,
+        tx: &mut Transaction,
+        steps: &mut u32,
+    ) -> Result<Value, Stop>
+        requires fresh { world_of self.now tx.now ≡ at_first self.now }
+        requires all { steps.now ≡ steps_at_first }
+        ensures { Agrees result (world_of self.now tx.new) steps.new (the_begin (source_of program.now) asked.now self.now) }
+    {
+        let outside = Ref {
+            class: OUTSIDE,
+            key: empty_text(alloc)?,
+        };
+        let fields = class_fields(alloc, program, OUTSIDE)?;
+        let site = Site {
+            alloc,
+            program,
+            state: self,
+            me: &outside,
+            fields: fields.as_slice(),
+            room: Room::Open(DEPTH_LIMIT),
+        };
         match asked {
             Act::Call {
                 class,
@@ -165,30 +167,52 @@ impl Local {
                     class: *class,
                     key: key.try_clone(alloc)?,
                 };
-                self.call(alloc, program, names, at, *method, args)
+                call_entity(&site, DEPTH_LIMIT, at, *method, args, tx, steps)
             }
-            Act::New { class, args } => self.make(alloc, program, names, *class, args),
+            Act::New { class, args } => make_entity(&site, DEPTH_LIMIT, *class, args, tx, steps),
         }
+    }
+
+    /// Gives entities the records of a transaction, all of them or none.
+    fn commit(&mut self, mut changed: IndexMap<Ref, Values>) -> Result<(), AllocError>
+        ensures ok { OnOk result (self.new ≡ with_records self.old changed.entries) }
+        ensures err { OnErr result (self.new ≡ self.old) }
+    {
+        self.records.reserve(changed.len())?;
+        self.records.append(&mut changed)
     }
 
     /// Runs one request. A request that fails leaves the state as it was; so does want of memory.
     pub fn run(
         &mut self,
         alloc: Global,
-        program: &Program,
-        names: &Names,
+        program: &Checked,
         request: &Request,
     ) -> Result<Outcome, AllocError>
-        ensures outcome { IfOk result (λ o. o ≡ (run_of (source_of (plain_program program.now) names.now) self.old request.now.act).outcome) }
-        ensures state { OnOk result (self.new ≡ (run_of (source_of (plain_program program.now) names.now) self.old request.now.act).state) }
+        ensures outcome { IfOk result (λ o. o ≡ (run_of (source_of program.now) self.old request.now.act).outcome) }
+        ensures state { OnOk result (self.new ≡ (run_of (source_of program.now) self.old request.now.act).state) }
         ensures err { OnErr result (self.new ≡ self.old) }
     {
-        match self.begin(alloc, program, names, &request.act) {
-            Ok(value) => Ok(Outcome::Value(value)),
-            Err(Stop::Failed(failure)) => Ok(Outcome::Failed(failure)),
-            Err(Stop::NoMemory) => Err(AllocError),
-        }
+        let made = self.attempt(alloc, program, &request.act)?;
+        self.commit(made.changed)?;
+        Ok(made.outcome)
     }
+}
+
+/// A request of which a part weighs too much runs nothing.
+fn too_heavy(alloc: Global) -> Result<Attempt, AllocError>
+    ensures { (s : State) → IfOk result (λ made. ran_of s made ≡ refused s) }
+{
+    let failure = Failure {
+        kind: SIZE_LIMIT,
+        message: empty_text(alloc)?,
+    };
+    Ok(Attempt {
+        outcome: Outcome::Failed(failure),
+        changed: IndexMap::new(alloc),
+        reads: IndexSet::new(alloc),
+        steps: STEPS,
+    })
 }
 
 fn any_heavy(args: &[Value]) -> bool

@@ -2,9 +2,11 @@
 #![tactic(auto, unfolding(crate::specs::World::local_value, crate::specs::World::assigned, crate::specs::World::field_value, crate::specs::World::with_field))]
 
 ghost use Rattle.std.specs.Prelude.{◌≡◌, ◌<◌, IfOk, IfSome, OnOk, map, position, length, nat_eq};
+ghost use Rattle.py_tree.specs.PlainProgram.{plain_params};
+ghost use Rattle.source_meaning.specs.Calls.{bound};
 ghost use Rattle.source_meaning.specs.World.{local_value, assigned, field_value, with_field, is_named};
 
-use py_tree::Name;
+use py_tree::{Name, Param};
 use sf_list::{Sequence, TryClone};
 use sf_value::{Value, Values};
 use std::alloc::{AllocError, Global};
@@ -92,4 +94,25 @@ pub(crate) fn set_field(names: &[Name], fields: &mut Values, name: Name, value: 
     if at < fields.len() {
         fields.set(at, value);
     }
+}
+
+/// The arguments as the first locals.
+pub(crate) fn bind(alloc: Global, params: &[Param], args: &Values) -> Result<Vars, AllocError>
+    ensures { IfOk result (λ vars. vars ≡ bound (plain_params params.now) args.now) }
+{
+    let mut vars = Sequence::new(alloc);
+    for (i, param) in params.iter().enumerate() {
+        let Some(value) = args.get(i) else {
+            return Ok(vars);
+        };
+        let value = value.try_clone(alloc)?;
+        vars.push(
+            alloc,
+            Var {
+                name: param.name,
+                value,
+            },
+        )?;
+    }
+    Ok(vars)
 }

@@ -1,4 +1,4 @@
-use Rattle.std.proofs.Common.{◌≡◌, ◌++◌, ◌+◌, ◌∷◌, [], ◌∙◌, drop, ap, sym, append-nil, Option, Some, None, List, arith, ◌<◌, length}
+use Rattle.std.proofs.Common.{◌++◌, ◌+◌, ◌∷◌, ◌∙◌, drop, ap, sym, append-nil, Option, Some, List, arith}
 use Rattle.std.specs.Option.{option_map}
 use Rattle.serde_json.specs.View.{items_view}
 use Rattle.py_tree.specs.PlainProgram.{plain_params}

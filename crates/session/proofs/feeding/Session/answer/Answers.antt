@@ -1,9 +1,8 @@
 use Rattle.std.proofs.Common.{◌≡◌, [], ◌∷◌, ◌∙◌, ap, sym, subst, Err}
 use Rattle.std.proofs.lemmas.Result.{err_from_is_err_and}
 use Rattle.std.specs.Io.KnownBytes.{Appends}
-use Rattle.py_tree.specs.PlainProgram.{plain_program}
 use Rattle.sf_outside.specs.Gains.{Wrote, joined}
-use Rattle.source_meaning.specs.Agrees.{source_of}
+use Rattle.source_meaning.specs.Sources.{source_of}
 use Rattle.session.specs.OutputText.{replies, reply, step}
 use Rattle.session.specs.Standings.{standing_of, line_of}
 use Rattle.session.proofs.LineLaws.{replies-one, after-one}
@@ -19,7 +18,7 @@ returns-in_err-line-clause-wrote g c =
 pub returns-in_err-write_line-clause-wrote : goal.returns-in_err-write_line-clause-wrote
 returns-in_err-write_line-clause-wrote g c =
     let p = err_from_is_err_and c.from_residual-in_err-write_line.result c.from_residual-in_err-write_line.ensures.1 in
-    let src = (source_of (plain_program c.args.program.now) c.args.names.now) in
+    let src = (source_of c.args.program.now) in
     let st = standing_of c.args.self.now.standing in
     let line_is : c.as_slice-2.result.now ∷ [] ≡ replies src st (line_of c.args.ended c.args.self.now.kept.items ∷ []) =
     ap (λ l. l ∷ []) (c.as_slice-2.ensures ∙ c.in_ok-line.ensures.text ∙ ap (λ k. reply src st (line_of c.args.ended k)) c.as_slice.ensures.value)
@@ -29,7 +28,7 @@ returns-in_err-write_line-clause-wrote g c =
 
 pub returns-clause-wrote : goal.returns-clause-wrote
 returns-clause-wrote g c =
-    let src = (source_of (plain_program c.args.program.now) c.args.names.now) in
+    let src = (source_of c.args.program.now) in
     let st = standing_of c.args.self.now.standing in
     let line_is : c.as_slice-2.result.now ∷ [] ≡ replies src st (line_of c.args.ended c.args.self.now.kept.items ∷ []) =
     ap (λ l. l ∷ []) (c.as_slice-2.ensures ∙ c.in_ok-line.ensures.text ∙ ap (λ k. reply src st (line_of c.args.ended k)) c.as_slice.ensures.value)
@@ -38,6 +37,6 @@ returns-clause-wrote g c =
 
 pub returns-clause-standing : goal.returns-clause-standing
 returns-clause-standing g c =
-    let src = (source_of (plain_program c.args.program.now) c.args.names.now) in
+    let src = (source_of c.args.program.now) in
     let st = standing_of c.args.self.now.standing in
     c.in_ok-line.ensures.standing ∙ ap (λ k. step src st (line_of c.args.ended k)) c.as_slice.ensures.value ∙ sym (after-one src st (line_of c.args.ended c.args.self.now.kept.items))

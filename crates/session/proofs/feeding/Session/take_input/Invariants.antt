@@ -1,6 +1,5 @@
 use Rattle.std.proofs.Common.{◌≤◌, ◌-◌, length}
-use Rattle.py_tree.specs.PlainProgram.{plain_program}
-use Rattle.source_meaning.specs.Agrees.{source_of}
+use Rattle.source_meaning.specs.Sources.{source_of}
 use Rattle.session.proofs.TakeLaws.{Going}
 use Rattle.session.proofs.feeding.Session.take_input.Given as goal
 
@@ -9,7 +8,7 @@ decreases-loop-taken g l = l.limit - l.taken
 
 abbrev pub invariant-loop-taken : goal.invariant-loop-taken
 invariant-loop-taken g l = record {
-  going : Going (source_of (plain_program l.program) l.names) l.taken (g.S.Source.left l.fn.input) (g.S.Source.left l.input) (g.K.Sink.held l.fn.out) (g.K.Sink.held l.out) l.fn.self l.self;
+  going : Going (source_of l.program) l.taken (g.S.Source.left l.fn.input) (g.S.Source.left l.input) (g.K.Sink.held l.fn.out) (g.K.Sink.held l.out) l.fn.self l.self;
   lines : l.self.standing.lines ≤ l.taken;
   history : length l.self.standing.history ≤ l.taken;
   within : l.taken ≤ l.limit;

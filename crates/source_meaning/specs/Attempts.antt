@@ -1,0 +1,14 @@
+-- What a request came to before it is committed, as the meaning has it.
+use Rattle.source_meaning.specs.declared.local.Attempt.{Attempt}
+use Rattle.source_meaning.specs.World.{State}
+use Rattle.source_meaning.specs.RequestRun.{Ran}
+use Rattle.source_meaning.specs.Transactions.{with_records, keys_of, entities_of}
+
+abbrev pub ran_of : State → Attempt → Ran
+ran_of s a = record {
+  outcome = a.outcome;
+  state = with_records s a.changed.entries;
+  reads = keys_of a.reads.keys;
+  writes = keys_of (entities_of a.changed.entries);
+  steps = a.steps;
+}

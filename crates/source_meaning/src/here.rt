@@ -1,0 +1,168 @@
+//! Code that doesn't suspend, run on the record of one entity.
+//!
+//! Calls reach methods of that entity alone, and nothing is created.
+
+ghost use Rattle.std.specs.Prelude.{◌≡◌, ◌≤◌, ◌-◌, ◌||◌, IfOk, is_some, unwrap_or};
+ghost use Rattle.std.specs.FinMap as finite;
+ghost use Rattle.py_tree.specs.PlainExpressions.{plain_expr};
+ghost use Rattle.py_tree.specs.PlainStatements.{plain_stmts, stmts_of};
+ghost use Rattle.py_tree.specs.Bounded.{most_nodes, expr_size, stmts_size};
+ghost use Rattle.sf_value.specs.Keys.{key_of};
+ghost use Rattle.source_meaning.specs.Evaluation.{eval};
+ghost use Rattle.source_meaning.specs.Execution.{act_all};
+ghost use Rattle.source_meaning.specs.Calls.{on_record};
+ghost use Rattle.source_meaning.specs.RequestRun.{depth_limit};
+ghost use Rattle.source_meaning.specs.Serial.{no_state};
+ghost use Rattle.source_meaning.specs.Sources.{source_of};
+ghost use Rattle.source_meaning.specs.Here.{held as the_held, EndsHere, GivesHere, EndedAs, ComesTo};
+
+use crate::Stop;
+use crate::local::Local;
+use crate::site::{DEPTH_LIMIT, Room, Site};
+use crate::tables::class_fields;
+use crate::transaction::begin;
+use crate::vars::Vars;
+use crate::walk::{Flow, evaluate, execute_all};
+use py_tree::{Checked, Expr, Stmts};
+use sf_list::{Sequence, TryClone};
+use sf_value::{Failure, Outcome, Record, Ref, Value, Values};
+use std::alloc::{AllocError, Global};
+use std::mem;
+
+/// How code that doesn't suspend ends.
+#[derive(Drop)]
+pub enum Ended {
+    /// It came to its end, or to a `break` or a `continue` of a loop outside.
+    On,
+    /// It returned this value.
+    Returned(Value),
+    /// It failed.
+    Failed(Failure),
+}
+
+/// Runs code that doesn't suspend on the record of its entity, with so many calls open.
+///
+/// A call runs a method of this entity, and a creation fails with `RecursionError`. `wrote` becomes
+/// true where a field is assigned, also where its value stays equal or the code fails later, and is
+/// kept elsewhere. A failure leaves the locals, the record and the steps of that moment; after a
+/// value is returned the locals are of no meaning. It is an error where memory runs out: the record,
+/// the locals and the steps are given up then, and what they hold is of no meaning.
+pub fn run_here(
+    alloc: Global,
+    program: &Checked,
+    held: &mut Record,
+    vars: &mut Vars,
+    me: &Ref,
+    code: &Stmts,
+    wrote: &mut bool,
+    steps: &mut u32,
+    depth: u32,
+) -> Result<Ended, AllocError>
+    requires { stmts_size (stmts_of (plain_stmts code.now)) ≤ most_nodes }
+    ensures { IfOk result (λ ended. EndsHere ended vars.new (the_held held.new wrote.new) steps.new (act_all (on_record (source_of program.now) (key_of me.now) (depth_limit - depth)) (stmts_of (plain_stmts code.now)) vars.old (the_held held.old wrote.old) steps.old)) }
+{
+    let fields = class_fields(alloc, program, me.class)?;
+    let state = take_out(alloc, held, me)?;
+    let site = Site {
+        alloc,
+        program,
+        state: &state,
+        me,
+        fields: fields.as_slice(),
+        room: Room::Within(DEPTH_LIMIT.saturating_sub(depth)),
+    };
+    let mut tx = begin(alloc);
+    let ended = execute_all(&site, code.as_slice(), vars, &mut tx, steps);
+    let written = tx.into_written(me);
+    put_back(held, wrote, me, written, state);
+    ended_here(ended)
+}
+
+/// The value of an expression that doesn't suspend, on the record of its entity, with so many calls
+/// open.
+///
+/// A call runs a method of this entity, and a creation fails with `RecursionError`. `wrote` becomes
+/// true where a field is assigned, also where its value stays equal or the expression fails later,
+/// and is kept elsewhere. A failure leaves the record and the steps of that moment. It is an error
+/// where memory runs out: the record and the steps are given up then, and what they hold is of no
+/// meaning.
+pub fn eval_here(
+    alloc: Global,
+    program: &Checked,
+    held: &mut Record,
+    vars: &Vars,
+    me: &Ref,
+    expr: &Expr,
+    wrote: &mut bool,
+    steps: &mut u32,
+    depth: u32,
+) -> Result<Outcome, AllocError>
+    requires { expr_size (plain_expr expr.now) ≤ most_nodes }
+    ensures { IfOk result (λ outcome. GivesHere outcome (the_held held.new wrote.new) steps.new (eval (on_record (source_of program.now) (key_of me.now) (depth_limit - depth)) (plain_expr expr.now) vars.now (the_held held.old wrote.old) steps.old)) }
+{
+    let fields = class_fields(alloc, program, me.class)?;
+    let state = take_out(alloc, held, me)?;
+    let site = Site {
+        alloc,
+        program,
+        state: &state,
+        me,
+        fields: fields.as_slice(),
+        room: Room::Within(DEPTH_LIMIT.saturating_sub(depth)),
+    };
+    let mut tx = begin(alloc);
+    let given = evaluate(&site, expr, vars, &mut tx, steps);
+    let written = tx.into_written(me);
+    put_back(held, wrote, me, written, state);
+    outcome_here(given)
+}
+
+/// Moves a record into a state that holds its entity alone, and leaves an empty one.
+fn take_out(alloc: Global, held: &mut Record, me: &Ref) -> Result<Local, AllocError>
+    ensures { IfOk result (λ state. state ≡ finite.insert no_state (key_of me.now) held.old.fields) }
+{
+    let at = me.try_clone(alloc)?;
+    let fields = mem::replace(&mut held.fields, Sequence::new(alloc));
+    Local::of(alloc, at, fields)
+}
+
+/// Moves a record back, the one that was written, or else the one in the state.
+fn put_back(held: &mut Record, wrote: &mut bool, me: &Ref, written: Option<Values>, state: Local)
+    ensures fields { held.new.fields ≡ unwrap_or written (unwrap_or (finite.get state (key_of me.now)) held.old.fields) }
+    ensures flag { wrote.new ≡ (wrote.old || is_some written) }
+{
+    match written {
+        Some(fields) => {
+            held.fields = fields;
+            *wrote = true;
+        }
+        None => {
+            if let Some(fields) = state.into_record(me) {
+                held.fields = fields;
+            }
+        }
+    }
+}
+
+/// How code ends whose statements end so.
+fn ended_here(ended: Result<Flow, Stop>) -> Result<Ended, AllocError>
+    ensures { IfOk result (EndedAs ended) }
+{
+    match ended {
+        Ok(Flow::Gave(value)) => Ok(Ended::Returned(value)),
+        Ok(Flow::On | Flow::Broke | Flow::Continued) => Ok(Ended::On),
+        Err(Stop::Failed(failure)) => Ok(Ended::Failed(failure)),
+        Err(Stop::NoMemory) => Err(AllocError),
+    }
+}
+
+/// What an expression comes to that gives this.
+fn outcome_here(given: Result<Value, Stop>) -> Result<Outcome, AllocError>
+    ensures { IfOk result (ComesTo given) }
+{
+    match given {
+        Ok(value) => Ok(Outcome::Value(value)),
+        Err(Stop::Failed(failure)) => Ok(Outcome::Failed(failure)),
+        Err(Stop::NoMemory) => Err(AllocError),
+    }
+}
