@@ -3,4 +3,6 @@ pub mod LoadLaws
 pub mod PrintLaws
 pub mod OneReading
 pub mod GainedLaws
+pub mod CheckEndings
+pub mod RunEndings
 pub mod AnswerLaws

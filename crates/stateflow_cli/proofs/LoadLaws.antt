@@ -1,16 +1,16 @@
 -- Reading the first bytes of a file piece by piece.
-use Rattle.std.proofs.Common.{◌≡◌, ℕ, Bool, true, false, ◌+◌, ◌≤◌, ◌<◌, List, [], ◌++◌, length, map, take, Some, None, Ok, Err, refl, sym, ap, ◌∙◌, subst, arith}
+use Rattle.std.proofs.Common.{◌≡◌, ℕ, ◌+◌, ◌≤◌, ◌<◌, List, [], ◌++◌, length, map, take, Some, None, Ok, Err, refl, sym, ap, ◌∙◌, subst, arith}
 use Rattle.std.proofs.Math.Seq.{take-add}
 use Rattle.std.proofs.lemmas.List.{take_all, length-take, length-take-le, length-append, take-append-le}
 use Rattle.std.specs.declared.option.Option.{Option}
 use Rattle.std.specs.declared.result.Result.{Result}
 use Rattle.sf_outside.specs.Bytes.{ReadsAt}
-use Rattle.std.specs.Prelude.{◌↔◌, IsTrue}
 use Rattle.std.specs.List.{sum_by}
 use Rattle.py_tree.specs.Tokens.{PlainLine}
+use Rattle.py_tree.specs.declared.checked.Checked.{Checked}
+use Rattle.py_tree.specs.CheckedViews.{checked_program, checked_names}
 use Rattle.py_tree.specs.PlainProgram.{PlainProgram, plain_program}
 use Rattle.py_tree.specs.Grammar.{IsProgram, has_tree}
-use Rattle.py_parser.specs.FirstPath.{IsFirstPath}
 use Rattle.py_lexer.specs.declared.fault.LexFault.{LexFault}
 use Rattle.py_lexer.specs.declared.fault.LexError.{LexError}
 use Rattle.py_lexer.specs.declared.fault.LexError.TheVariants as lex
@@ -26,7 +26,9 @@ use Rattle.stateflow_cli.specs.declared.loading.Accepted.{Accepted}
 use Rattle.stateflow_cli.specs.declared.loading.LoadStop.{LoadStop}
 use Rattle.stateflow_cli.specs.declared.loading.LoadStop.TheVariants as stop
 use Rattle.stateflow_cli.specs.declared.printing.Counts.{Counts}
-use Rattle.stateflow_cli.specs.Loading.{MayBegin, Judges, ReadsAs, Gives, IsOf, IsCounted, IsParsed, IsAcceptedText, HasFault, has_lexical, has_syntax, has_rule, IsNotRun, is_faulty, is_unsupported, lexical_fault, unsupported, lex_stop, syntax_stop}
+use Rattle.stateflow_cli.specs.Loading.{MayBegin, Judges, ReadsAs, Gives, IsOf, IsCounted, IsChecked, IsAcceptedText, HasFault, has_lexical, has_syntax, has_rule, lexical_fault, lex_stop, syntax_stop}
+use Rattle.py_tree.specs.ClassRules.{tables_of}
+use Rattle.entity_tables.specs.declared.table.ClassTable.{ClassTable}
 use Rattle.stateflow_cli.proofs.CountLaws.{classes_counted, methods_counted}
 
 pub MayBegin-none : (content : Option (List ℕ)) → MayBegin content 0 []
@@ -65,19 +67,13 @@ fault_of text all f e (has_lexical {f = g} is) = lexical_of text all g e is
 fault_of text all f e (has_syntax {logical = ls} is parsed) = subst (λ t. HasFault t f) (whole text all e (lines_short text ls is)) (has_syntax is parsed)
 fault_of text all f e (has_rule {logical = ls} is parsed broken) = subst (λ t. HasFault t f) (whole text all e (lines_short text ls is)) (has_rule is parsed broken)
 
--- the same of why a text isn't run
-pub not_run_of : (text all : List ℕ) (f : TextFault) → text ≡ take 1048577 all → IsNotRun text f → IsNotRun all f
-not_run_of text all f e (is_faulty has) = is_faulty (fault_of text all f e has)
-not_run_of text all f e (is_unsupported accepted other) = subst (λ t. IsNotRun t f) (whole text all e (lines_short text accepted.logical accepted.lexed)) (is_unsupported accepted other)
-
 -- what the first bytes of a file are read as, its text is
-module _ {X : Type 0} (Is : List ℕ → X → Type 0) (IsRefused : List ℕ → TextFault → Type 0) (short : (text : List ℕ) (x : X) → Is text x → length text ≤ 1048576)
-    (refused_of : (text all : List ℕ) (f : TextFault) → text ≡ take 1048577 all → IsRefused text f → IsRefused all f) where
-  gives : (content : Option (List ℕ)) (text : List ℕ) (r : Result X LoadStop) → MayBegin content 1048577 text → ReadsAs Is IsRefused text r → Gives Is IsRefused content r
+module _ {X : Type 0} (Is : List ℕ → X → Type 0) (short : (text : List ℕ) (x : X) → Is text x → length text ≤ 1048576) where
+  gives : (content : Option (List ℕ)) (text : List ℕ) (r : Result X LoadStop) → MayBegin content 1048577 text → ReadsAs Is HasFault text r → Gives Is HasFault content r
   gives None text (Ok x) b is = record { text = text; told = tt; is = is }
   gives None text (Err (stop.Refused f)) b is = record { text = text; told = tt; is = is }
   gives (Some all) text (Ok x) b is = record { text = text; told = whole text all b (short text x is); is = is }
-  gives (Some all) text (Err (stop.Refused f)) b is = record { text = all; told = refl; is = refused_of text all f b is }
+  gives (Some all) text (Err (stop.Refused f)) b is = record { text = all; told = refl; is = fault_of text all f b is }
   gives None text (Err stop.FileFault) b is = tt
   gives None text (Err stop.NoMemory) b is = tt
   gives (Some all) text (Err stop.FileFault) b is = tt
@@ -87,10 +83,10 @@ accepted_short : (text : List ℕ) (program : PlainProgram) (names : List (List 
 accepted_short text program names a = lines_short text a.logical a.lexed
 
 pub gives_counts : (content : Option (List ℕ)) (text : List ℕ) (r : Result Counts LoadStop) → MayBegin content 1048577 text → ReadsAs IsCounted HasFault text r → Gives IsCounted HasFault content r
-gives_counts = gives IsCounted HasFault (λ text x is. accepted_short text is.program is.names is.is_accepted) fault_of
+gives_counts = gives IsCounted (λ text x is. accepted_short text is.program is.names is.is_accepted)
 
-pub gives_program : (content : Option (List ℕ)) (text : List ℕ) (r : Result Parsed LoadStop) → MayBegin content 1048577 text → ReadsAs IsParsed IsNotRun text r → Gives IsParsed IsNotRun content r
-gives_program = gives IsParsed IsNotRun (λ text x is. accepted_short text (plain_program x.program) x.names is.accepted) not_run_of
+pub gives_program : (content : Option (List ℕ)) (text : List ℕ) (r : Result Checked LoadStop) → MayBegin content 1048577 text → ReadsAs IsChecked HasFault text r → Gives IsChecked HasFault content r
+gives_program = gives IsChecked (λ text x is. accepted_short text (checked_program x) (checked_names x) is)
 
 -- a file that could not be read says nothing of its text
 pub gives_none : {X : Type 0} (Is : List ℕ → X → Type 0) (IsRefused : List ℕ → TextFault → Type 0) (content : Option (List ℕ)) (e : LoadStop) → ((f : TextFault) → e ≡ stop.Refused f → ⊥) → Gives Is IsRefused content (Err e)
@@ -113,39 +109,34 @@ reads_broken text ls parsed (stop.Refused fault) lexed is (f, broken, told) = su
 reads_broken text ls parsed stop.FileFault lexed is judged = absurd judged
 reads_broken text ls parsed stop.NoMemory lexed is judged = tt
 
+-- a text without memory for its program
+pub reads_no_memory : (text : List ℕ) (e : LoadStop) → e ≡ stop.NoMemory → ReadsAs {X = Accepted} IsOf HasFault text (Err e)
+reads_no_memory text e is = subst (λ f. ReadsAs {X = Accepted} IsOf HasFault text (Err f)) (sym is) tt
+
 -- an accepted text, as it was read
-abbrev pub accepted_of : (text : List ℕ) (a : Accepted) → IsOf text a → IsAcceptedText text (plain_program a.parsed.program) a.parsed.names
-accepted_of text a is = record { logical = map (plain_line text) a.lines; lexed = is.lexed; parsed = is.parsed; rules = is.rules }
+pub reads_accepted : (text : List ℕ) (ls : List Line) (parsed : Parsed) (c : Checked) (tables : List ClassTable) → IsText text (has_lines (map (plain_line text) ls)) → IsProgram (map (plain_line text) ls) (has_tree (plain_program parsed.program) parsed.names) → Judges parsed (Ok tables)
+    → checked_program c ≡ plain_program parsed.program → checked_names c ≡ parsed.names → IsOf text (record { program = c; tables = tables })
+reads_accepted text ls parsed c tables lexed is judged same_program same_names = record {
+  is_accepted = subst (λ ns. IsAcceptedText text (checked_program c) ns) (sym same_names)
+      (subst (λ p. IsAcceptedText text p parsed.names) (sym same_program) (record { logical = map (plain_line text) ls; lexed = lexed; parsed = is; rules = judged.0 }));
+  tables = judged.1 ∙ sym (ap (λ ns. tables_of ns (checked_program c)) same_names ∙ ap (tables_of parsed.names) same_program);
+}
 
 -- what is counted in it
 pub counted : (text : List ℕ) (a : Accepted) (counts : Counts) → IsOf text a → counts.classes ≡ length a.tables → counts.methods ≡ sum_by (λ t. length t.methods) a.tables → IsCounted text counts
 counted text a counts is classes methods = record {
-  program = plain_program a.parsed.program;
-  names = a.parsed.names;
-  is_accepted = accepted_of text a is;
-  classes = classes ∙ classes_counted a.parsed.names (plain_program a.parsed.program) a.tables is.tables;
-  methods = methods ∙ methods_counted a.parsed.names (plain_program a.parsed.program) a.tables is.tables;
+  program = checked_program a.program;
+  names = checked_names a.program;
+  is_accepted = is.is_accepted;
+  classes = classes ∙ classes_counted (checked_names a.program) (checked_program a.program) a.tables is.tables;
+  methods = methods ∙ methods_counted (checked_names a.program) (checked_program a.program) a.tables is.tables;
 }
 
--- a text that isn't accepted isn't run
-pub not_run : (text : List ℕ) (e : LoadStop) → ReadsAs {X = Accepted} IsOf HasFault text (Err e) → ReadsAs IsParsed IsNotRun text (Err e)
-not_run text (stop.Refused f) is = is_faulty is
-not_run text stop.FileFault is = absurd is
-not_run text stop.NoMemory is = tt
-
--- nor is anything counted in it
-pub not_counted : (text : List ℕ) (e : LoadStop) → ReadsAs {X = Accepted} IsOf HasFault text (Err e) → ReadsAs IsCounted HasFault text (Err e)
-not_counted text (stop.Refused f) is = is
-not_counted text stop.FileFault is = absurd is
-not_counted text stop.NoMemory is = tt
-
--- an accepted program that isn't one of today
-pub reads_other : (text : List ℕ) (a : Accepted) (is : Bool) → IsOf text a → IsTrue is ↔ IsFirstPath text (map (plain_line text) a.lines) a.parsed.names → is ≡ false → IsNotRun text unsupported
-reads_other text a is of both e = is_unsupported (accepted_of text a of) (λ f. let t = both.1 f in let bad : ⊥ = cc in bad)
-
--- and one that is
-pub reads_today : (text : List ℕ) (a : Accepted) (is : Bool) → IsOf text a → IsTrue is ↔ IsFirstPath text (map (plain_line text) a.lines) a.parsed.names → is ≡ true → IsParsed text a.parsed
-reads_today text a is of both e = record { accepted = accepted_of text a of; first_path = both.0 e }
+-- a text that isn't accepted gives nothing
+pub reads_none : {X : Type 0} (Is : List ℕ → X → Type 0) (text : List ℕ) (e : LoadStop) → ReadsAs {X = Accepted} IsOf HasFault text (Err e) → ReadsAs Is HasFault text (Err e)
+reads_none Is text (stop.Refused f) is = is
+reads_none Is text stop.FileFault is = absurd is
+reads_none Is text stop.NoMemory is = tt
 
 -- one round: what was read begins the file, and so it goes on
 pub read_more : (E : Type 0) (content now : Option (List ℕ)) (text buf rest new : List ℕ) (at n : ℕ) → MayBegin content (length text) text → now ≡ content → at ≡ length text → ReadsAt {E = E} now at (Ok n) buf → n ≤ length buf

@@ -1,4 +1,4 @@
--- A text is accepted with one tree, or has one fault; and it is a program of today, or isn't run for one reason.
+-- A text is accepted with one tree, or has one fault.
 use Rattle.std.proofs.Common.{◌≡◌, ℕ, ◌⊎◌, inl, inr, List, Option, Some, None, refl, ap, subst}
 use Rattle.py_tree.specs.declared.fault.SyntaxFault.{SyntaxFault}
 use Rattle.py_tree.specs.declared.rule.RuleFault.{RuleFault}
@@ -12,9 +12,8 @@ use Rattle.py_tree.proofs.OneProgram as tree
 use Rattle.py_lexer.specs.declared.fault.LexFault.{LexFault}
 use Rattle.py_lexer.specs.LogicalLines as lines
 use Rattle.py_lexer.proofs.OneOutcome as lexer
-use Rattle.py_parser.specs.FirstPath.{IsFirstPath}
 use Rattle.stateflow_cli.specs.declared.fault.TextFault.{TextFault}
-use Rattle.stateflow_cli.specs.Loading.{lexical_fault, syntax_fault, broken_rule, IsAcceptedText, HasFault, has_lexical, has_syntax, has_rule, IsProgramText, IsNotRun, is_faulty, is_unsupported}
+use Rattle.stateflow_cli.specs.Loading.{MayHold, HoldsOne, Holds, Refuses, lexical_fault, syntax_fault, broken_rule, IsAcceptedText, HasFault, has_lexical, has_syntax, has_rule}
 
 same_lines : {a b : List PlainLine} → lines.has_lines a ≡ lines.has_lines b → a ≡ b
 same_lines e = cc
@@ -100,18 +99,14 @@ module _ (text : List ℕ) where
   one_fault f g (has_rule a x s) (has_syntax b y) = no_tree _ _ _ _ _ a b x y
   one_fault f g (has_rule a x s) (has_rule b y t) = ap broken_rule (same_broken _ _ _ _ _ _ _ _ a b x y s t)
 
-  not_today : (a b : List PlainLine) (p q : PlainProgram) (names others : List (List ℕ)) → lines.IsText text (lines.has_lines a) → lines.IsText text (lines.has_lines b)
-      → grammar.IsProgram a (grammar.has_tree p names) → grammar.IsProgram b (grammar.has_tree q others) → IsFirstPath text a names → IsFirstPath text b others
-  not_today a b p q names others l m x y is =
-      let e = same_tree (one_parse a b _ _ l m x y) in
-      subst (λ ls. IsFirstPath text ls others) (one_lines a b l m) (subst (IsFirstPath text a) e.1 is)
+-- a file that holds a text holds no other
+told_text : (Is : List ℕ → Type 0) (content : Option (List ℕ)) (text : List ℕ) → content ≡ Some text → HoldsOne Is content → Is text
+told_text Is content text holds one = subst Is (subst (λ o. MayHold o one.text) holds one.told) one.is
 
-  pub runs_or_not : (p : PlainProgram) (names : List (List ℕ)) (f : TextFault) → IsProgramText text p names → IsNotRun text f → ⊥
-  runs_or_not p names f a (is_faulty has) = no_fault p names f a.accepted has
-  runs_or_not p names f a (is_unsupported b other) = other (not_today a.accepted.logical b.logical p _ names _ a.accepted.lexed b.lexed a.accepted.parsed b.parsed a.first_path)
+-- a file that holds an accepted text holds none with a fault
+module _ (content : Option (List ℕ)) (text : List ℕ) (told : content ≡ Some text) where
+  pub never_refused : {P : Type 0} (program : PlainProgram) (names : List (List ℕ)) (f : TextFault) → IsAcceptedText text program names → Refuses content f → P
+  never_refused program names f is one = absurd (no_fault text program names f is (told_text (λ t. HasFault t f) content text told one))
 
-  pub one_reason : (f g : TextFault) → IsNotRun text f → IsNotRun text g → f ≡ g
-  one_reason f g (is_faulty a) (is_faulty b) = one_fault f g a b
-  one_reason f g (is_faulty a) (is_unsupported b other) = absurd (no_fault _ _ f b a)
-  one_reason f g (is_unsupported a other) (is_faulty b) = absurd (no_fault _ _ g a b)
-  one_reason f g (is_unsupported a other) (is_unsupported b another) = refl
+  pub never_held : {P : Type 0} (f : TextFault) → HasFault text f → Holds content → P
+  never_held f has h = absurd (no_fault text h.program h.names f (told_text (λ t. IsAcceptedText t h.program h.names) content text told h.holds) has)

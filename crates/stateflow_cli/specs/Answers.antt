@@ -6,11 +6,12 @@ use Rattle.sf_outside.specs.Bytes.{AppendsPrefix}
 use Rattle.sf_outside.specs.Causes.{Rose}
 use Rattle.py_tree.specs.PlainProgram.{PlainProgram}
 use Rattle.session.specs.declared.feeding.InputEnd.TheVariants.{End}
+use Rattle.session.specs.OutputText.{output_text}
 use Rattle.session.specs.SerialOutput.{SerialRun}
-use Rattle.stateflow_cli.specs.Words.{Asked, Check, Run, file_of}
+use Rattle.stateflow_cli.specs.Words.{Asked, Check, Local, Run, file_of}
 use Rattle.stateflow_cli.specs.CheckLine.{check_line}
 use Rattle.stateflow_cli.specs.Devices.{Devices, Untouched}
-use Rattle.stateflow_cli.specs.Loading.{IsAcceptedText, IsProgramText, HasFault, IsNotRun, Refuses, Holds, Loaded, source_in}
+use Rattle.stateflow_cli.specs.Loading.{IsAcceptedText, HasFault, Refuses, Holds, source_in}
 use Rattle.stateflow_cli.specs.Endings.{Ends, Prints, Ran}
 use Rattle.stateflow_cli.specs.StatusLines.{status_of, line_of, fault_line}
 use Rattle.stateflow_cli.specs.Telling.{Told}
@@ -32,7 +33,20 @@ pub record Answers (limit : ℕ) (asked : Option Asked) (before after : Devices)
 abbrev pub Completes : ℕ → Option Asked → Devices → Devices → Type 0
 Completes limit None before after = ⊥
 Completes limit (Some (Check file)) before after = Prints file before after
+Completes limit (Some (Local file)) before after = Ran limit file before after (Ok End)
 Completes limit (Some (Run file)) before after = Ran limit file before after (Ok End)
+
+-- the output gained exactly the text that the file's program defines for the whole input, where that is told
+pub record WritesText (file : List ℕ) (before after : Devices) : Type 0 where
+  pub holds : Holds (before.content file)
+  pub text : (all : List ℕ) → before.left ≡ Some all → Appends before.held after.held (output_text (source_in (before.content file) holds) all)
+
+-- that is what `local` gives
+abbrev pub GivesText : Option Asked → Devices → Devices → Type 0
+GivesText None before after = ⊤
+GivesText (Some (Check file)) before after = ⊤
+GivesText (Some (Local file)) before after = WritesText file before after
+GivesText (Some (Run file)) before after = ⊤
 
 -- the output gained a front of the line of the file's program
 pub record PrintsFront (file : List ℕ) (before after : Devices) : Type 0 where
@@ -42,7 +56,7 @@ pub record PrintsFront (file : List ℕ) (before after : Devices) : Type 0 where
 -- the text of the file has a fault, which was told
 pub record TellsFault (file : List ℕ) (before : Devices) (said said' : Option (List ℕ)) : Type 0 where
   pub fault : TextFault
-  pub refused : Refuses (Check file) (before.content file) fault
+  pub refused : Refuses (before.content file) fault
   pub line : Appends said said' (fault_line file fault)
 
 -- `check` took nothing from the input; it printed the line of the file's program, or told the fault of its text, or neither;
@@ -57,37 +71,60 @@ pub record Checks (file : List ℕ) (before after : Devices) (said said' : Optio
 abbrev pub ChecksText : Option Asked → Devices → Devices → Option (List ℕ) → Option (List ℕ) → ℕ → Type 0
 ChecksText None before after said said' status = ⊤
 ChecksText (Some (Check file)) before after said said' status = Checks file before after said said' status
+ChecksText (Some (Local file)) before after said said' status = ⊤
 ChecksText (Some (Run file)) before after said said' status = ⊤
 
--- the output gained nothing, or what a serial run of the file's program prints, or a prefix of that; `check` runs nothing
+-- the output gained what a serial run of the file's program prints, or a prefix of it
+pub record PrintsRun (file : List ℕ) (before after : Devices) : Type 0 where
+  pub holds : Holds (before.content file)
+  pub serial : SerialRun (source_in (before.content file) holds) before.held after.held
+
+-- the output gained nothing, or a front of what the command prints of the file's program
 abbrev pub PrintsSerially : Option Asked → Devices → Devices → Type 0
 PrintsSerially None before after = Keeps before.held after.held
 PrintsSerially (Some (Check file)) before after = Keeps before.held after.held ⊎ PrintsFront file before after
-PrintsSerially (Some (Run file)) before after = Keeps before.held after.held ⊎ ((l : Loaded (before.content file)) × SerialRun (source_in (before.content file) l) before.held after.held)
+PrintsSerially (Some (Local file)) before after = Keeps before.held after.held ⊎ PrintsRun file before after
+PrintsSerially (Some (Run file)) before after = Keeps before.held after.held ⊎ PrintsRun file before after
 
--- the text of the file is refused by the command that is asked for
+-- the text of the file that is asked for has a fault
 abbrev pub IsRefused : Option Asked → Devices → Type 0
 IsRefused None before = ⊥
-IsRefused (Some asked) before = (fault : TextFault) × Refuses asked (before.content (file_of asked)) fault
+IsRefused (Some asked) before = (fault : TextFault) × Refuses (before.content (file_of asked)) fault
 
 -- a fault of the file, or of the input where that is served, was counted
+abbrev pub FileRose : List ℕ → Devices → Devices → Type 0
+FileRose file before after = Rose (before.file_faults file) (after.file_faults file)
+
+abbrev pub ServedRose : List ℕ → Devices → Devices → Type 0
+ServedRose file before after = FileRose file before after ⊎ Rose before.input_faults after.input_faults
+
 abbrev pub ReadRose : Option Asked → Devices → Devices → Type 0
 ReadRose None before after = ⊥
-ReadRose (Some (Check file)) before after = Rose (before.file_faults file) (after.file_faults file)
-ReadRose (Some (Run file)) before after = Rose (before.file_faults file) (after.file_faults file) ⊎ Rose before.input_faults after.input_faults
+ReadRose (Some (Check file)) before after = FileRose file before after
+ReadRose (Some (Local file)) before after = ServedRose file before after
+ReadRose (Some (Run file)) before after = ServedRose file before after
 
--- where the input is served and told
+-- more bytes are left than the limit, where that is told
+abbrev pub Exceeds : ℕ → Option (List ℕ) → Type 0
+Exceeds limit None = ⊤
+Exceeds limit (Some all) = limit < length all
+
+abbrev pub Fits : ℕ → Option (List ℕ) → Type 0
+Fits limit None = ⊤
+Fits limit (Some all) = length all ≤ limit
+
+-- where the input is served
 abbrev pub IsLonger : ℕ → Option Asked → Option (List ℕ) → Type 0
 IsLonger limit None left = ⊥
 IsLonger limit (Some (Check file)) left = ⊥
-IsLonger limit (Some (Run file)) None = ⊤
-IsLonger limit (Some (Run file)) (Some all) = limit < length all
+IsLonger limit (Some (Local file)) left = Exceeds limit left
+IsLonger limit (Some (Run file)) left = Exceeds limit left
 
 abbrev pub IsWithin : ℕ → Option Asked → Option (List ℕ) → Type 0
 IsWithin limit None left = ⊥
 IsWithin limit (Some (Check file)) left = ⊤
-IsWithin limit (Some (Run file)) None = ⊤
-IsWithin limit (Some (Run file)) (Some all) = length all ≤ limit
+IsWithin limit (Some (Local file)) left = Fits limit left
+IsWithin limit (Some (Run file)) left = Fits limit left
 
 -- each status has its cause; that of want of memory alone is free
 pub record HasCauses (limit : ℕ) (asked : Option Asked) (before after : Devices) (errors errors' status : ℕ) : Type 0 where
@@ -111,13 +148,14 @@ pub record ChecksWhole (text : List ℕ) (status : ℕ) : Type 0 where
   pub accepted : (program : PlainProgram) (names : List (List ℕ)) → IsAcceptedText text program names → (status ≡ 0) ⊎ (status ≡ 8)
   pub refused : (fault : TextFault) → HasFault text fault → (status ≡ 1) ⊎ (status ≡ 8)
 
--- it ran to the end, or the input was too long, where the text is a program of today, and else that was told; or memory ran out
+-- it ran to the end, or the input was too long, where the text is accepted, and else its fault was told; or memory ran out
 pub record RunsWhole (text : List ℕ) (status : ℕ) : Type 0 where
-  pub ran : (program : PlainProgram) (names : List (List ℕ)) → IsProgramText text program names → (status ≡ 0) ⊎ ((status ≡ 8) ⊎ (status ≡ 9))
-  pub refused : (fault : TextFault) → IsNotRun text fault → (status ≡ 1) ⊎ (status ≡ 8)
+  pub accepted : (program : PlainProgram) (names : List (List ℕ)) → IsAcceptedText text program names → (status ≡ 0) ⊎ ((status ≡ 8) ⊎ (status ≡ 9))
+  pub refused : (fault : TextFault) → HasFault text fault → (status ≡ 1) ⊎ (status ≡ 8)
 
 -- what an undisturbed call answers
 abbrev pub IsComplete : Option Asked → Devices → Devices → ℕ → ℕ → ℕ → Type 0
 IsComplete None before after errors errors' status = (Rose errors errors' → ⊥) → status ≡ 2
 IsComplete (Some (Check file)) before after errors errors' status = (text : List ℕ) → IsUndisturbed file text before after errors errors' → ChecksWhole text status
+IsComplete (Some (Local file)) before after errors errors' status = (text : List ℕ) → IsUndisturbed file text before after errors errors' → RunsWhole text status
 IsComplete (Some (Run file)) before after errors errors' status = (text : List ℕ) → IsUndisturbed file text before after errors errors' → RunsWhole text status

@@ -10,10 +10,11 @@ use Rattle.sf_outside.specs.declared.gains.WriteStop.TheVariants.{WriteFault}
 use Rattle.session.specs.Served as session
 use Rattle.session.specs.declared.feeding.InputEnd.{InputEnd}
 use Rattle.session.specs.declared.feeding.InputEnd.TheVariants.{ReadFault}
-use Rattle.stateflow_cli.specs.Words.{Asked, Check, Run, file_of}
+use Rattle.stateflow_cli.specs.Words.{Asked, Check, Local, Run}
 use Rattle.stateflow_cli.specs.CheckLine.{check_line}
 use Rattle.stateflow_cli.specs.Devices.{Devices, Untouched}
-use Rattle.stateflow_cli.specs.Loading.{Refuses, Holds, Loaded, source_in}
+use Rattle.stateflow_cli.specs.Loading.{Refuses, Holds, source_in}
+use Rattle.stateflow_cli.specs.declared.fault.TextFault.{TextFault}
 use Rattle.stateflow_cli.specs.declared.ending.Ending.{Ending}
 use Rattle.stateflow_cli.specs.declared.ending.Ending.TheVariants.{Misused, Refused, FileFault, NoMemory, Printed, Unprinted, Served, Stopped}
 
@@ -36,25 +37,48 @@ pub record PrintsInPart (file : List ℕ) (before after : Devices) : Type 0 wher
 
 -- the file's program served the input, of which at most so many bytes count
 pub record Ran (limit : ℕ) (file : List ℕ) (before after : Devices) (result : Result InputEnd WriteStop) : Type 0 where
-  pub loaded : Loaded (before.content file)
-  pub served : session.Served (source_in (before.content file) loaded) limit before.left after.left before.held after.held result
+  pub holds : Holds (before.content file)
+  pub served : session.Served (source_in (before.content file) holds) limit before.left after.left before.held after.held result
   pub input_cause : result ≡ Ok ReadFault → Rose before.input_faults after.input_faults
   pub out_cause : result ≡ Err WriteFault → Rose before.out_faults after.out_faults
 
--- only `check` prints what it found of a program, and only `run` serves the input
+-- the file's text has this fault
+pub record IsTurnedDown (file : List ℕ) (before after : Devices) (fault : TextFault) : Type 0 where
+  pub refused : Refuses (before.content file) fault
+  pub untouched : Untouched before after
+
+-- the file could not be read
+pub record IsUnread (file : List ℕ) (before after : Devices) : Type 0 where
+  pub file_cause : Rose (before.file_faults file) (after.file_faults file)
+  pub untouched : Untouched before after
+
+-- a check serves no input
+abbrev pub CheckEnds : List ℕ → Devices → Devices → Ending → Type 0
+CheckEnds file before after Misused = ⊥
+CheckEnds file before after (Refused fault) = IsTurnedDown file before after fault
+CheckEnds file before after FileFault = IsUnread file before after
+CheckEnds file before after NoMemory = Untouched before after
+CheckEnds file before after Printed = Prints file before after
+CheckEnds file before after Unprinted = PrintsInPart file before after
+CheckEnds file before after (Served end) = ⊥
+CheckEnds file before after (Stopped stop) = ⊥
+
+-- a run prints nothing of what it found of the program
+abbrev pub RunEnds : ℕ → List ℕ → Devices → Devices → Ending → Type 0
+RunEnds limit file before after Misused = ⊥
+RunEnds limit file before after (Refused fault) = IsTurnedDown file before after fault
+RunEnds limit file before after FileFault = IsUnread file before after
+RunEnds limit file before after NoMemory = Untouched before after
+RunEnds limit file before after Printed = ⊥
+RunEnds limit file before after Unprinted = ⊥
+RunEnds limit file before after (Served end) = Ran limit file before after (Ok end)
+RunEnds limit file before after (Stopped stop) = Ran limit file before after (Err stop)
+
+-- `local` and `run` serve the input, each request at once
 abbrev pub EndsOn : ℕ → Asked → Devices → Devices → Ending → Type 0
-EndsOn limit asked before after Misused = ⊥
-EndsOn limit asked before after (Refused fault) = Refuses asked (before.content (file_of asked)) fault × Untouched before after
-EndsOn limit asked before after FileFault = Rose (before.file_faults (file_of asked)) (after.file_faults (file_of asked)) × Untouched before after
-EndsOn limit asked before after NoMemory = Untouched before after
-EndsOn limit (Check file) before after Printed = Prints file before after
-EndsOn limit (Check file) before after Unprinted = PrintsInPart file before after
-EndsOn limit (Check file) before after (Served end) = ⊥
-EndsOn limit (Check file) before after (Stopped stop) = ⊥
-EndsOn limit (Run file) before after Printed = ⊥
-EndsOn limit (Run file) before after Unprinted = ⊥
-EndsOn limit (Run file) before after (Served end) = Ran limit file before after (Ok end)
-EndsOn limit (Run file) before after (Stopped stop) = Ran limit file before after (Err stop)
+EndsOn limit (Check file) before after ending = CheckEnds file before after ending
+EndsOn limit (Local file) before after ending = RunEnds limit file before after ending
+EndsOn limit (Run file) before after ending = RunEnds limit file before after ending
 
 -- where no command is asked for the words are misused; else it is done
 abbrev pub Ends : ℕ → Option Asked → Devices → Devices → Ending → Type 0

@@ -12,7 +12,7 @@ use Rattle.sf_outside.specs.declared.gains.WriteStop.TheVariants as stop
 use Rattle.session.specs.declared.feeding.InputEnd.{InputEnd}
 use Rattle.session.specs.declared.feeding.InputEnd.TheVariants as input
 use Rattle.stateflow_cli.specs.declared.fault.FaultKind.{FaultKind}
-use Rattle.stateflow_cli.specs.declared.fault.FaultKind.TheVariants.{Lexical, Syntax, Broken, Unsupported}
+use Rattle.stateflow_cli.specs.declared.fault.FaultKind.TheVariants.{Lexical, Syntax, Broken}
 use Rattle.stateflow_cli.specs.declared.fault.TextFault.{TextFault}
 use Rattle.stateflow_cli.specs.declared.ending.Ending.{Ending}
 use Rattle.stateflow_cli.specs.declared.ending.Ending.TheVariants.{Misused, Refused, FileFault, NoMemory, Printed, Unprinted, Served, Stopped}
@@ -79,7 +79,6 @@ abbrev pub kind_name : FaultKind → List ℕ
 kind_name (Lexical kind) = lex_name kind
 kind_name (Syntax kind) = syntax_name kind
 kind_name (Broken rule) = rule_name rule
-kind_name Unsupported = codes "Unsupported"
 
 -- `stateflow: FILE:LINE:COL: KIND`
 abbrev pub placed_line : List ℕ → List ℕ → List ℕ → List ℕ → List ℕ

@@ -14,8 +14,6 @@ pub enum FaultKind {
     Syntax(SyntaxKind),
     /// Its program breaks this rule.
     Broken(Rule),
-    /// Its program isn't one of those that are run today.
-    Unsupported,
 }
 
 /// The fault of a text, and where it stands.
@@ -91,7 +89,6 @@ impl FaultKind {
             FaultKind::Lexical(kind) => name_of_lexical(kind),
             FaultKind::Syntax(kind) => name_of_syntax(kind),
             FaultKind::Broken(rule) => name_of_rule(rule),
-            FaultKind::Unsupported => b"Unsupported",
         }
     }
 }

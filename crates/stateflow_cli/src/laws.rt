@@ -4,7 +4,7 @@ ghost use Rattle.std.specs.Prelude.{◌≡◌, ◌⊎◌, ℕ, List, Some};
 ghost use Rattle.py_tree.specs.declared.rule.RuleFault.{RuleFault};
 ghost use Rattle.py_tree.specs.PlainProgram.{PlainProgram};
 ghost use Rattle.py_tree.specs.Acceptance.{KeepsRules, rule_fault};
-ghost use Rattle.stateflow_cli.specs.Loading.{IsAcceptedText, HasFault, IsProgramText, IsNotRun};
+ghost use Rattle.stateflow_cli.specs.Loading.{IsAcceptedText, HasFault};
 ghost use Rattle.stateflow_cli.specs.declared.fault.TextFault.{TextFault as AFault};
 
 /// A text is accepted with one tree and one table of names, or has one fault, and not both. A tree
@@ -14,10 +14,4 @@ pub fn has_one_reading()
     ensures fault { (text : List ℕ) (f g : AFault) → HasFault text f → HasFault text g → f ≡ g }
     ensures apart { (text : List ℕ) (p : PlainProgram) (names : List (List ℕ)) (f : AFault) → IsAcceptedText text p names → HasFault text f → ⊥ }
     ensures judged { (p : PlainProgram) (names : List (List ℕ)) → KeepsRules names p ⊎ ((f : RuleFault) × (rule_fault names p ≡ Some f)) }
-{}
-
-/// A text is a program of today, or isn't run for one reason, and not both.
-pub fn is_run_or_not()
-    ensures reason { (text : List ℕ) (f g : AFault) → IsNotRun text f → IsNotRun text g → f ≡ g }
-    ensures apart { (text : List ℕ) (p : PlainProgram) (names : List (List ℕ)) (f : AFault) → IsProgramText text p names → IsNotRun text f → ⊥ }
 {}

@@ -17,6 +17,6 @@ mod top_call;
 mod words;
 
 pub use fault::{FaultKind, TextFault};
-pub use laws::{has_one_reading, is_run_or_not};
+pub use laws::has_one_reading;
 pub use real_devices::{NamedFiles, Reading, Writing};
 pub use top_call::stateflow;

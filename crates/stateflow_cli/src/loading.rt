@@ -2,16 +2,16 @@
 
 ghost use Rattle.std.specs.Prelude.{◌≡◌, ◌≤◌, ◌<◌, min, IfOk, Err};
 ghost use Rattle.sf_outside.specs.Causes.{Rose};
-ghost use Rattle.stateflow_cli.specs.Loading.{MayBegin, Judges, ReadsAs, Gives, IsOf, IsCounted, IsParsed, HasFault, IsNotRun};
+ghost use Rattle.stateflow_cli.specs.Loading.{MayBegin, Judges, ReadsAs, Gives, IsOf, IsCounted, IsChecked, HasFault};
 ghost use Rattle.stateflow_cli.specs.declared.fault.TextFault.{TextFault as AFault};
 
 use crate::fault::{FaultKind, TextFault};
 use crate::printing::Counts;
 use entity_tables::{RuleError, Tables, tables};
 use flow_types::check_program;
-use py_lexer::{LexError, Lines, lex};
-use py_parser::{Parsed, SyntaxError, is_first_path, parse};
-use py_tree::Place;
+use py_lexer::{LexError, lex};
+use py_parser::{Parsed, SyntaxError, parse};
+use py_tree::Checked;
 use sf_outside::{Failed, Files};
 use std::alloc::{AllocError, Global};
 
@@ -21,17 +21,10 @@ const PIECE: usize = 16384;
 /// How many bytes of a file are read: one more than a program may have.
 const LONGEST_READ: usize = 1_048_577;
 
-/// What is told of a program that isn't run today.
-const UNSUPPORTED: TextFault = TextFault {
-    place: Place { line: 1, col: 1 },
-    kind: FaultKind::Unsupported,
-};
-
-/// An accepted program, the logical lines that it was read from, and the tables of its classes.
+/// An accepted program, and the tables of its classes.
 #[derive(Drop)]
 pub struct Accepted {
-    pub lines: Lines,
-    pub parsed: Parsed,
+    pub program: Checked,
     pub tables: Tables,
 }
 
@@ -159,18 +152,16 @@ fn judge(alloc: Global, parsed: &Parsed) -> Result<Tables, LoadStop>
     Ok(tables)
 }
 
-/// The program of a text that is accepted.
+/// The program of a text that is accepted, with its tables.
 fn read_accepted(alloc: Global, text: &[u8]) -> Result<Accepted, LoadStop>
     ensures { ReadsAs IsOf HasFault text.now result }
 {
     let lines = lex(alloc, text)?;
     let parsed = parse(alloc, &lines, text)?;
     let tables = judge(alloc, &parsed)?;
-    Ok(Accepted {
-        lines,
-        parsed,
-        tables,
-    })
+    let Parsed { program, names } = parsed;
+    let program = Checked::new(alloc, program, names)?;
+    Ok(Accepted { program, tables })
 }
 
 /// What there is to count in a text that is accepted.
@@ -181,15 +172,12 @@ fn read_counts(alloc: Global, text: &[u8]) -> Result<Counts, LoadStop>
     Ok(Counts::of(accepted.tables.as_slice()))
 }
 
-/// The program of a text that is run.
-fn read_program(alloc: Global, text: &[u8]) -> Result<Parsed, LoadStop>
-    ensures { ReadsAs IsParsed IsNotRun text.now result }
+/// The program of a text that is accepted, without its tables.
+fn read_program(alloc: Global, text: &[u8]) -> Result<Checked, LoadStop>
+    ensures { ReadsAs IsChecked HasFault text.now result }
 {
     let accepted = read_accepted(alloc, text)?;
-    if !is_first_path(alloc, text, &accepted.lines, &accepted.parsed.names)? {
-        return Err(LoadStop::Refused(UNSUPPORTED));
-    }
-    Ok(accepted.parsed)
+    Ok(accepted.program)
 }
 
 /// Reads what there is to count in a file's program.
@@ -201,9 +189,9 @@ pub(crate) fn count<F: Files>(alloc: Global, files: &mut F, name: &str) -> Resul
     read_counts(alloc, text.as_slice())
 }
 
-/// Reads a file's program that is run.
-pub(crate) fn load<F: Files>(alloc: Global, files: &mut F, name: &str) -> Result<Parsed, LoadStop>
-    ensures gives { Gives IsParsed IsNotRun (F.content files.old name.now) result }
+/// Reads a file's program.
+pub(crate) fn load<F: Files>(alloc: Global, files: &mut F, name: &str) -> Result<Checked, LoadStop>
+    ensures gives { Gives IsChecked HasFault (F.content files.old name.now) result }
     ensures cause { result ≡ Err LoadStop.FileFault → Rose (F.faults files.old name.now) (F.faults files.new name.now) }
 {
     let text = read_first(alloc, LONGEST_READ, files, name)?;

@@ -5,13 +5,17 @@ mod bounds;
 mod check_rows;
 mod checking;
 mod class_rules;
+mod entities;
 mod flow_rules;
+mod interpreter;
 mod levels;
 mod lexing;
+mod local;
 mod order;
 mod parsing;
 mod refused_texts;
 mod refused_tokens;
+mod request_lines;
 mod rule_order;
 mod shop;
 mod trees;
@@ -73,25 +77,25 @@ struct Answer {
     err: MemSink,
 }
 
-/// The words that run a file, with this one for the size of a batch.
-fn run_words(alloc: Global, file: &str, size: &str) -> Result<Vec<String>, AllocError> {
-    let mut words = Vec::new(alloc);
-    for word in ["run", file, "--batch", size] {
-        words.push(String::from_str(alloc, word)?)?;
+/// Words, as a call takes them.
+fn words_of(alloc: Global, words: &[&str]) -> Result<Vec<String>, AllocError> {
+    let mut owned = Vec::new(alloc);
+    for word in words {
+        owned.push(String::from_str(alloc, word)?)?;
     }
-    Ok(words)
+    Ok(owned)
 }
 
-/// Runs a text as this file on an input, with this word for the size of a batch.
-fn run_text<S: Source>(
+/// Makes a call with these words, where a file has this text.
+fn call<S: Source>(
     alloc: Global,
+    words: &[&str],
     file: &str,
-    size: &str,
     text: &[u8],
     input: &mut S,
     faults: Faults<'_>,
 ) -> Result<Answer, AllocError> {
-    let words = run_words(alloc, file, size)?;
+    let words = words_of(alloc, words)?;
     let mut files = MemFiles::new(alloc, &[file], &[text], faults.file)?;
     let mut out = MemSink::new(alloc, 1000, faults.out)?;
     let mut err = MemSink::new(alloc, 1000, faults.err)?;
@@ -104,6 +108,25 @@ fn run_text<S: Source>(
         &mut err,
     );
     Ok(Answer { status, out, err })
+}
+
+/// Runs a text as this file on an input, with this word for the size of a batch.
+fn run_text<S: Source>(
+    alloc: Global,
+    file: &str,
+    size: &str,
+    text: &[u8],
+    input: &mut S,
+    faults: Faults<'_>,
+) -> Result<Answer, AllocError> {
+    call(
+        alloc,
+        &["run", file, "--batch", size],
+        file,
+        text,
+        input,
+        faults,
+    )
 }
 
 /// Runs the counter on its requests, with this word for the size of a batch.

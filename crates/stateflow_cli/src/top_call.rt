@@ -4,7 +4,7 @@ ghost use Rattle.std.specs.Prelude.{ℕ, ◌≡◌, map, string_bytes};
 ghost use Rattle.stateflow_cli.specs.Words.{asked, asked_by};
 ghost use Rattle.stateflow_cli.specs.Devices.{devices};
 ghost use Rattle.stateflow_cli.specs.Endings.{EndsOn, longest_input};
-ghost use Rattle.stateflow_cli.specs.Answers.{Answers, Completes, PrintsSerially, HasCauses, IsComplete, ChecksText};
+ghost use Rattle.stateflow_cli.specs.Answers.{Answers, Completes, PrintsSerially, HasCauses, IsComplete, ChecksText, GivesText};
 
 use crate::checking::check_file;
 use crate::ending::Ending;
@@ -29,6 +29,7 @@ fn perform<F: Files, S: Source, K: Sink>(
 {
     match command {
         Command::Check(file) => check_file(alloc, file, files, out),
+        Command::Local(file) => run_file(alloc, file, files, input, out),
         Command::Run(file) => run_file(alloc, file, files, input, out),
     }
 }
@@ -56,8 +57,8 @@ fn run_words<F: Files, S: Source, K: Sink, E: Sink>(
     }
 }
 
-/// StateFlow: `check FILE` checks the program in FILE, and `run FILE --batch 1` runs the request
-/// lines of `input` on it.
+/// StateFlow: `check FILE` checks the program in FILE; `local FILE` and `run FILE --batch 1` run the
+/// request lines of `input` on it, each request at once.
 pub fn stateflow<F: Files, S: Source, K: Sink, E: Sink>(
     alloc: Global,
     words: &[String],
@@ -77,6 +78,9 @@ pub fn stateflow<F: Files, S: Source, K: Sink, E: Sink>(
         (devices (F.content files.old) (F.faults files.old) (S.left input.old) (S.faults input.old) (K.held out.old) (K.faults out.old))
         (devices (F.content files.new) (F.faults files.new) (S.left input.new) (S.faults input.new) (K.held out.new) (K.faults out.new))
         (E.held err.old) (E.held err.new) result }
+    ensures local_text { result ≡ 0 → GivesText (asked (map string_bytes words.now))
+        (devices (F.content files.old) (F.faults files.old) (S.left input.old) (S.faults input.old) (K.held out.old) (K.faults out.old))
+        (devices (F.content files.new) (F.faults files.new) (S.left input.new) (S.faults input.new) (K.held out.new) (K.faults out.new)) }
     ensures serial { PrintsSerially (asked (map string_bytes words.now))
         (devices (F.content files.old) (F.faults files.old) (S.left input.old) (S.faults input.old) (K.held out.old) (K.faults out.old))
         (devices (F.content files.new) (F.faults files.new) (S.left input.new) (S.faults input.new) (K.held out.new) (K.faults out.new)) }

@@ -2,9 +2,8 @@
 
 use super::checking::{check_beside, check_text};
 use super::shop::SHOP;
-use super::{COUNTER, Faults, NO_FAULTS};
-use crate::stateflow;
-use sf_outside::{MemFiles, MemSink, MemSource, Source};
+use super::{COUNTER, Faults, NO_FAULTS, call};
+use sf_outside::{MemSource, Source};
 use std::alloc::{AllocError, Global};
 use std::test::Fail;
 
@@ -194,25 +193,18 @@ fn check_takes_one_file_and_no_option(rt: HostRuntime) -> Result<(), Fail> {
         &["check", "counter.py", "counter.py"],
         &["check", "counter.py", "--batch", "1"],
     ];
-    for row in &rows {
-        let mut words = Vec::new(rt.alloc());
-        for word in *row {
-            words.push(String::from_str(rt.alloc(), word)?)?;
-        }
-        let mut files = MemFiles::new(rt.alloc(), &["counter.py"], &[COUNTER], &[])?;
+    for words in rows {
         let mut input = MemSource::new(rt.alloc(), b"", &[])?;
-        let mut out = MemSink::new(rt.alloc(), 1000, &[])?;
-        let mut err = MemSink::new(rt.alloc(), 1000, &[])?;
-        let status = stateflow(
+        let answer = call(
             rt.alloc(),
-            words.as_slice(),
-            &mut files,
+            words,
+            "counter.py",
+            COUNTER,
             &mut input,
-            &mut out,
-            &mut err,
-        );
-        assert_eq!(rt; status, 2);
-        assert_eq!(rt; out.bytes(), b"".as_slice());
+            NO_FAULTS,
+        )?;
+        assert_eq!(rt; answer.status, 2);
+        assert_eq!(rt; answer.out.bytes(), b"".as_slice());
     }
     Ok(())
 }

@@ -1,8 +1,7 @@
 //! Checks of texts over forms in memory: what they print and tell.
 
-use super::{Answer, Faults, NO_FAULTS};
-use crate::stateflow;
-use sf_outside::{MemFiles, MemSink, MemSource, Source};
+use super::{Answer, Faults, NO_FAULTS, call};
+use sf_outside::{MemSource, Source};
 use std::alloc::{AllocError, Global};
 
 /// No text.
@@ -36,15 +35,6 @@ class A:
     def f(self, x: int, o: Optional[int], xs: List[int], s: str, b: bool, a: 'A', oa: Optional['A']) -> None:
 ";
 
-/// The words that check a file.
-pub fn check_words(alloc: Global, file: &str) -> Result<Vec<String>, AllocError> {
-    let mut words = Vec::new(alloc);
-    for word in ["check", file] {
-        words.push(String::from_str(alloc, word)?)?;
-    }
-    Ok(words)
-}
-
 /// Checks a text as this file, beside this input.
 pub fn check_beside<S: Source>(
     alloc: Global,
@@ -53,19 +43,7 @@ pub fn check_beside<S: Source>(
     input: &mut S,
     faults: Faults<'_>,
 ) -> Result<Answer, AllocError> {
-    let words = check_words(alloc, file)?;
-    let mut files = MemFiles::new(alloc, &[file], &[text], faults.file)?;
-    let mut out = MemSink::new(alloc, 1000, faults.out)?;
-    let mut err = MemSink::new(alloc, 1000, faults.err)?;
-    let status = stateflow(
-        alloc,
-        words.as_slice(),
-        &mut files,
-        input,
-        &mut out,
-        &mut err,
-    );
-    Ok(Answer { status, out, err })
+    call(alloc, &["check", file], file, text, input, faults)
 }
 
 /// Checks a text as this file. The input fails wherever it is read.

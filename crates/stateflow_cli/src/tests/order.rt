@@ -2,7 +2,7 @@
 
 ghost use Rattle.std.specs.Prelude.{None};
 
-use super::{COUNTER, REPLIES, REQUESTS, run_words};
+use super::{COUNTER, REPLIES, REQUESTS, words_of};
 use crate::stateflow;
 use sf_outside::{Failed, MemFiles, MemSink, MemSource, Sink, Source};
 use std::cell::Cell;
@@ -71,7 +71,7 @@ fn lines_of_a_piece_are_answered_before_the_next_is_read(rt: HostRuntime) -> Res
     };
     let mut out = CountingSink { written: &written };
     let mut err = MemSink::new(alloc, 1000, &[])?;
-    let words = run_words(alloc, "counter.py", "1")?;
+    let words = words_of(alloc, &["run", "counter.py", "--batch", "1"])?;
     let status = stateflow(
         alloc,
         words.as_slice(),

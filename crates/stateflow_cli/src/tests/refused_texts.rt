@@ -74,20 +74,16 @@ fn each_syntax_fault_is_told_by_its_name(rt: HostRuntime) -> Result<(), Fail> {
 }
 
 #[test]
-fn programs_that_are_not_run_today_are_unsupported(rt: HostRuntime) -> Result<(), Fail> {
-    let rows: [&[u8]; 4] = [
+fn programs_that_no_request_can_call_are_run(rt: HostRuntime) -> Result<(), Fail> {
+    let rows: [&[u8]; 3] = [
         b"",
         b"# a comment\n",
         b"@entity\nclass C:\n  def __init__(self, k: str):\n    self.k: str = k\n  def __key__(self):\n    return self.k\n",
-        b"@entity\nclass C:\n  def __init__(self, k: str):\n    self.k: str = k\n  def __key__(self):\n    return self.k\n  def m(self) -> int:\n    return (1)\n",
     ];
     for text in &rows {
         let (status, line) = said(rt.alloc(), "c.py", text)?;
-        assert_eq!(rt; status, 1);
-        assert_eq!(rt;
-            line.as_slice(),
-            b"stateflow: c.py:1:1: Unsupported\n".as_slice()
-        );
+        assert_eq!(rt; status, 0);
+        assert_eq!(rt; line.as_slice(), b"".as_slice());
     }
     Ok(())
 }

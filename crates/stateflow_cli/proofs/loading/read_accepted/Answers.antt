@@ -1,5 +1,5 @@
 use Rattle.std.proofs.lemmas.Result.{err_from_is_err_and}
-use Rattle.stateflow_cli.proofs.LoadLaws.{reads_no_lines, reads_no_tree, reads_broken}
+use Rattle.stateflow_cli.proofs.LoadLaws.{reads_no_lines, reads_no_tree, reads_broken, reads_no_memory, reads_accepted}
 use Rattle.stateflow_cli.proofs.loading.read_accepted.Goals as goal
 
 pub returns-in_err-lines : goal.returns-in_err-lines
@@ -16,3 +16,11 @@ pub returns-in_err-tables : goal.returns-in_err-tables
 returns-in_err-tables c =
     let p = err_from_is_err_and c.from_residual-in_err-tables.result c.from_residual-in_err-tables.ensures.1 in
     rw (p.1, p.2) (reads_broken c.args.text.now c.in_ok-lines.lines c.in_ok-parsed.parsed _ c.in_ok-lines.ensures.lines c.in_ok-parsed.ensures.outcome c.in_err-tables.ensures)
+
+pub returns-in_err-program : goal.returns-in_err-program
+returns-in_err-program c =
+    let p = err_from_is_err_and c.from_residual-in_err-program.result c.from_residual-in_err-program.ensures.1 in
+    rw (p.1) (reads_no_memory c.args.text.now _ p.2)
+
+pub returns : goal.returns
+returns c = reads_accepted c.args.text.now c.in_ok-lines.lines c.in_ok-parsed.parsed c.in_ok-program.program c.in_ok-tables.tables c.in_ok-lines.ensures.lines c.in_ok-parsed.ensures.outcome c.in_ok-tables.ensures c.in_ok-program.ensures.program c.in_ok-program.ensures.names

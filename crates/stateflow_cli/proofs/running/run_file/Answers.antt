@@ -1,9 +1,9 @@
-use Rattle.py_tree.specs.PlainProgram.{plain_program}
+use Rattle.py_tree.specs.CheckedViews.{checked_program, checked_names}
 use Rattle.stateflow_cli.proofs.running.run_file.Goals as goal
 
 pub returns-in-Ok-serve : goal.returns-in-Ok-serve
 returns-in-Ok-serve g c = record {
-  loaded = record { program = plain_program c.in-Ok.parsed.program; names = c.in-Ok.parsed.names; loads = c.in-Ok.ensures.gives };
+  holds = record { program = checked_program c.in-Ok.program; names = checked_names c.in-Ok.program; holds = c.in-Ok.ensures.gives };
   served = c.in-Ok-serve.ensures.served;
   input_cause = c.in-Ok-serve.ensures.cause;
   out_cause = c.in-Ok-serve.ensures.counts.rose;
@@ -11,7 +11,7 @@ returns-in-Ok-serve g c = record {
 
 pub returns : goal.returns
 returns g c = record {
-  loaded = record { program = plain_program c.in-Ok.parsed.program; names = c.in-Ok.parsed.names; loads = c.in-Ok.ensures.gives };
+  holds = record { program = checked_program c.in-Ok.program; names = checked_names c.in-Ok.program; holds = c.in-Ok.ensures.gives };
   served = c.in-Err.ensures.served;
   input_cause = c.in-Err.ensures.cause;
   out_cause = c.in-Err.ensures.counts.rose;

@@ -1,5 +1,4 @@
-use Rattle.stateflow_cli.specs.Endings.{longest_input}
 use Rattle.stateflow_cli.proofs.top_call.perform.Goals as goal
 
 pub returns-in-Check : goal.returns-in-Check
-returns-in-Check g c = rw c.in-Check.is (c.check_file.ensures longest_input (g.S.Source.left c.args.input.now) (g.S.Source.faults c.args.input.now))
+returns-in-Check g c = rw c.in-Check.is (c.check_file.ensures (g.S.Source.left c.args.input.now) (g.S.Source.faults c.args.input.now))
