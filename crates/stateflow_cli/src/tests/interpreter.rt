@@ -54,25 +54,43 @@ class Num:
 ";
 
 const PUT: u32 = 1;
+
 const DIV: u32 = 2;
+
 const MOD: u32 = 3;
+
 const BIG: u32 = 4;
+
 const OVER: u32 = 5;
+
 const BOTH: u32 = 6;
+
 const SPIN: u32 = 7;
+
 const DOWN: u32 = 8;
+
 const AT: u32 = 9;
+
 const TWICE: u32 = 10;
+
 const CHECK_IT: u32 = 11;
 
 const ZERO_DIVISION_ERROR: u8 = 1;
+
 const INDEX_ERROR: u8 = 2;
+
 const ASSERTION_ERROR: u8 = 3;
+
 const RECURSION_ERROR: u8 = 4;
+
 const OVERFLOW_ERROR: u8 = 5;
+
 const NO_ENTITY: u8 = 9;
+
 const ALREADY_EXISTS: u8 = 10;
+
 const SIZE_LIMIT: u8 = 11;
+
 const STEP_LIMIT: u8 = 12;
 
 /// The kind of a failure, 0 for a value, and the number that the value is, for a text its code points.
