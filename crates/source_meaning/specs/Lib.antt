@@ -10,6 +10,7 @@ pub mod StateView
 pub mod Sources
 pub mod Sites
 pub mod Agrees
+pub mod InPlace
 pub mod Transactions
 pub mod Attempts
 pub mod Fits

@@ -6,6 +6,7 @@
 
 mod failures;
 mod here;
+mod in_place;
 mod laws;
 mod local;
 mod operations;

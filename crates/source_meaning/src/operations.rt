@@ -13,6 +13,7 @@ ghost use Rattle.sf_value.specs.declared.value.Value.{out-Value};
 ghost use Rattle.sf_value.specs.declared.value.Value.TheVariants as value;
 ghost use Rattle.source_meaning.specs.Operations.{in_range, divided, weighed, int_of, is_true as true_value, is_nil as nil_value, text_of, items_of, element, element_at, combined, sum_with, holds as the_holds, order as the_order, absolute, given_by, argument, size_in};
 ghost use Rattle.source_meaning.specs.Agrees.{Tells};
+ghost use Rattle.source_meaning.specs.InPlace.{Passes};
 
 use crate::Stop;
 use crate::failures::{
@@ -33,6 +34,17 @@ pub(crate) fn weigh(alloc: Global, value: Value) -> Result<Value, Stop>
         return Err(fail(alloc, SIZE_LIMIT));
     }
     Ok(value)
+}
+
+/// Tests the weight of a value where it stands.
+#[tactic(auto, unfolding(crate::specs::Operations::weighed))]
+pub(crate) fn check_weight(alloc: Global, value: &Value) -> Result<(), Stop>
+    ensures { Passes result value.now }
+{
+    if weight(value) > WEIGHT_LIMIT {
+        return Err(fail(alloc, SIZE_LIMIT));
+    }
+    Ok(())
 }
 
 /// The number that a value is.
@@ -280,7 +292,7 @@ fn code_points(text: &str) -> usize
 }
 
 /// How many code points a text has, or how many elements a list has.
-fn size(value: &Value) -> i128
+pub(crate) fn size(value: &Value) -> i128
     ensures { result ≡ pos (size_in (out-Value value.now)) }
 {
     match value {

@@ -1,7 +1,9 @@
 //! The locals of a running method, and the fields of its own record.
 #![tactic(auto, unfolding(crate::specs::World::local_value, crate::specs::World::assigned, crate::specs::World::field_value, crate::specs::World::with_field))]
 
-ghost use Rattle.std.specs.Prelude.{◌≡◌, ◌<◌, IfOk, IfSome, OnOk, map, position, length, nat_eq};
+ghost use Rattle.std.specs.Prelude.{◌≡◌, ◌<◌, IfOk, IfSome, OnOk, map, position, length, nat_eq, unwrap_or};
+ghost use Rattle.std.specs.Option.{option_copied};
+ghost use Rattle.sf_value.specs.declared.value.Value.TheVariants as value;
 ghost use Rattle.py_tree.specs.PlainProgram.{plain_params};
 ghost use Rattle.source_meaning.specs.Calls.{bound};
 ghost use Rattle.source_meaning.specs.World.{local_value, assigned, field_value, with_field, is_named};
@@ -20,15 +22,21 @@ pub struct Var {
 
 pub type Vars = Sequence<Var>;
 
+/// The value of a local, where there is one.
+pub(crate) fn local(vars: &Vars, name: Name) -> Option<&Value>
+    ensures { unwrap_or (option_copied result) value.Nil ≡ local_value vars.now name.0 }
+{
+    let at = place_of_local(vars.as_slice(), name)?;
+    let var = vars.get(at)?;
+    Some(&var.value)
+}
+
 /// A copy of a local's value.
 pub(crate) fn read_local(alloc: Global, vars: &Vars, name: Name) -> Result<Value, AllocError>
     ensures { IfOk result (λ value. value ≡ local_value vars.now name.0) }
 {
-    let Some(at) = place_of_local(vars.as_slice(), name) else {
-        return Ok(Value::Nil);
-    };
-    match vars.get(at) {
-        Some(var) => var.value.try_clone(alloc),
+    match local(vars, name) {
+        Some(value) => value.try_clone(alloc),
         None => Ok(Value::Nil),
     }
 }
@@ -64,8 +72,15 @@ fn place_of_field(names: &[Name], name: Name) -> Option<usize>
     names.iter().position(|field| field.0 == name.0)
 }
 
-/// A copy of a field's value.
+/// The value of a field, where there is one.
 #[tactic(auto, using(crate::proofs::VarLaws::position_names), unfolding(crate::specs::World::field_value))]
+pub(crate) fn field<'a>(names: &[Name], fields: &'a Values, name: Name) -> Option<&'a Value>
+    ensures { unwrap_or (option_copied result) value.Nil ≡ field_value (map (λ x. x.0) names.now) fields.now name.0 }
+{
+    fields.get(place_of_field(names, name)?)
+}
+
+/// A copy of a field's value.
 pub(crate) fn read_field(
     alloc: Global,
     names: &[Name],
@@ -74,10 +89,7 @@ pub(crate) fn read_field(
 ) -> Result<Value, AllocError>
     ensures { IfOk result (λ value. value ≡ field_value (map (λ x. x.0) names.now) fields.now name.0) }
 {
-    let Some(at) = place_of_field(names, name) else {
-        return Ok(Value::Nil);
-    };
-    match fields.get(at) {
+    match field(names, fields, name) {
         Some(value) => value.try_clone(alloc),
         None => Ok(Value::Nil),
     }

@@ -14,21 +14,24 @@ ghost use Rattle.sf_value.specs.Keys.{Key, key_of};
 ghost use Rattle.sf_value.specs.declared.value.Value.TheVariants as value;
 ghost use Rattle.source_meaning.specs.ClassTables.{init_of};
 ghost use Rattle.source_meaning.specs.World.{Goes, step_limit, with_given, record_at};
-ghost use Rattle.source_meaning.specs.Evaluation.{eval, eval_all, linked, each_is as the_each_is, applied, entity, key_in, method_of, literal as the_literal, own_field as the_own_field};
+ghost use Rattle.source_meaning.specs.Evaluation.{eval, eval_all, linked, each_is as the_each_is, applied as the_applied, entity, key_in, method_of, literal as the_literal, own_field as the_own_field};
 ghost use Rattle.source_meaning.specs.Execution.{act, act_all, act_arms, all_of, checked, store as the_store, target_value, augmented as the_augmented, value_or_none as the_value_or_none, message as the_message, start_of as the_start_of, turns_of, over_turns, over_items as the_over_items, over_numbers as the_over_numbers, while_turns as the_while_turns};
 ghost use Rattle.source_meaning.specs.Calls.{run_body as the_run_body, enter as the_enter, create as the_create, declare as the_declare, declare_all as the_declare_all, calls_at, calls_within, own_at, bound};
 ghost use Rattle.source_meaning.specs.Sources.{source_of};
 ghost use Rattle.source_meaning.specs.Sites.{site_of};
 ghost use Rattle.source_meaning.specs.Transactions.{world_of};
+ghost use Rattle.source_meaning.specs.InPlace.{element_in, applied_to};
 ghost use Rattle.source_meaning.specs.Agrees.{Agrees, FailsAs, EndsAs, MakesAs, GivesRecord};
 
 use crate::Stop;
 use crate::failures::{
     ALREADY_EXISTS, ASSERTION_ERROR, NO_ENTITY, RECURSION_ERROR, STEP_LIMIT, empty_text, fail,
 };
+use crate::in_place::{local_in_place, own_element, own_length};
 use crate::local::Local;
 use crate::operations::{
-    combine, element_copy, give, holds, is_nil, is_true, items, negate, number, text, weigh,
+    check_weight, combine, element_copy, give, holds, is_nil, is_true, items, negate, number, text,
+    weigh,
 };
 use crate::site::{Room, Site};
 use crate::tables::{
@@ -177,15 +180,8 @@ pub(crate) fn evaluate(
             let args = evaluate_all(site, args.as_slice(), vars, tx, steps)?;
             call(site, &on, name.name, &args, tx, steps)
         }
-        ExprKind::Apply(name, args) => {
-            let args = evaluate_all(site, args.as_slice(), vars, tx, steps)?;
-            apply(site, *name, &args, tx, steps)
-        }
-        ExprKind::Index(on, index) => {
-            let list = evaluate(site, on, vars, tx, steps)?;
-            let index = evaluate(site, index, vars, tx, steps)?;
-            element_copy(site.alloc, &list, &index)
-        }
+        ExprKind::Apply(name, args) => applied(site, *name, args.as_slice(), vars, tx, steps),
+        ExprKind::Index(on, index) => indexed(site, on, index, vars, tx, steps),
         ExprKind::List(items) => {
             let items = evaluate_all(site, items.as_slice(), vars, tx, steps)?;
             weigh(site.alloc, Value::List(items))
@@ -230,6 +226,32 @@ pub(crate) fn evaluate(
             }
         }
     }
+}
+
+/// `on[index]`. Of a list that stands in a local, or in an own field while no code runs, the element alone is copied.
+#[cycle(walk)]
+fn indexed(
+    site: &Site<'_>,
+    on: &Expr,
+    index: &Expr,
+    vars: &Vars,
+    tx: &mut Transaction,
+    steps: &mut u32,
+) -> Result<Value, Stop>
+    requires { expr_size (plain_expr on.now) + expr_size (plain_expr index.now) ≤ most_nodes }
+    ensures { Agrees result (world_of site.now.state.now tx.new) steps.new (element_in (eval (site_of site.now) (plain_expr on.now) vars.now (world_of site.now.state.now tx.old) steps.old) (eval (site_of site.now) (plain_expr index.now) vars.now)) }
+{
+    if let Some(list) = local_in_place(on, vars) {
+        check_weight(site.alloc, list)?;
+        let at = evaluate(site, index, vars, tx, steps)?;
+        return element_copy(site.alloc, list, &at);
+    }
+    if let Some(element) = own_element(site, on, index, vars, tx) {
+        return element;
+    }
+    let list = evaluate(site, on, vars, tx, steps)?;
+    let at = evaluate(site, index, vars, tx, steps)?;
+    element_copy(site.alloc, &list, &at)
 }
 
 /// The values of expressions in their order.
@@ -415,7 +437,27 @@ fn run_body(
     }
 }
 
-/// `f(args)`, or a creation where the name is no function's.
+/// `f(args)`. The length of what stands in a local or in an own field is told without a copy.
+#[cycle(walk)]
+fn applied(
+    site: &Site<'_>,
+    name: Name,
+    args: &[Expr],
+    vars: &Vars,
+    tx: &mut Transaction,
+    steps: &mut u32,
+) -> Result<Value, Stop>
+    requires { exprs_size (exprs_of (plain_exprs args.now)) ≤ most_nodes }
+    ensures { Agrees result (world_of site.now.state.now tx.new) steps.new (applied_to (site_of site.now) name.0 (eval_all (site_of site.now) (exprs_of (plain_exprs args.now)) [] vars.now (world_of site.now.state.now tx.old) steps.old)) }
+{
+    if let Some(length) = own_length(site, name, args, vars, tx) {
+        return length;
+    }
+    let args = evaluate_all(site, args, vars, tx, steps)?;
+    apply(site, name, &args, tx, steps)
+}
+
+/// What a function or a creation makes of its arguments, a creation where the name is no function's.
 #[cycle(walk)]
 fn apply(
     site: &Site<'_>,
@@ -424,7 +466,7 @@ fn apply(
     tx: &mut Transaction,
     steps: &mut u32,
 ) -> Result<Value, Stop>
-    ensures { Agrees result (world_of site.now.state.now tx.new) steps.new (applied (site_of site.now) (the_function_of name.0) name.0 args.now (world_of site.now.state.now tx.old) steps.old) }
+    ensures { Agrees result (world_of site.now.state.now tx.new) steps.new (the_applied (site_of site.now) (the_function_of name.0) name.0 args.now (world_of site.now.state.now tx.old) steps.old) }
 {
     match function_of(name) {
         Some(function) => give(site.alloc, function, args),

@@ -10,6 +10,7 @@ mod flow_rules;
 mod interpreter;
 mod levels;
 mod lexing;
+mod lists;
 mod local;
 mod order;
 mod parsing;

@@ -43,10 +43,10 @@ abbrev pub decreases-run_body : goal.decreases-run_body
 decreases-run_body l = 268435456 * rank l.site.now.room + (8 * stmts_size (stmts_of (body_of (option_map (λ m. plain_method m.now) l.method))) + 5)
 
 abbrev pub decreases-apply : goal.decreases-apply
-decreases-apply l = 268435456 * rank l.site.now.room + 7
+decreases-apply l = 268435456 * rank l.site.now.room + 6
 
 abbrev pub decreases-make : goal.decreases-make
-decreases-make l = 268435456 * rank l.site.now.room + 6
+decreases-make l = 268435456 * rank l.site.now.room + 5
 
 abbrev pub decreases-make_entity : goal.decreases-make_entity
 decreases-make_entity l = 268435456 * suc l.left + 4
@@ -125,3 +125,9 @@ invariant-over_items-loop-value l = over_items l.name.0 (all_of (site_of l.site)
 
 abbrev pub invariant-over_numbers-loop-turn : goal.invariant-over_numbers-loop-turn
 invariant-over_numbers-loop-turn l = over_numbers (l.limit - l._turn) l.name.0 (all_of (site_of l.site) (stmts_of (plain_stmts l.body))) l.at l.to l.vars (world_of l.site.state.now l.tx) l.steps ≡ over_numbers (suc l.fn.steps) l.name.0 (all_of (site_of l.site) (stmts_of (plain_stmts l.body))) l.fn.from l.to l.fn.vars (world_of l.site.state.now l.fn.tx) l.fn.steps
+
+abbrev pub decreases-indexed : goal.decreases-indexed
+decreases-indexed l = 268435456 * rank l.site.now.room + (8 * (expr_size (plain_expr l.on.now) + expr_size (plain_expr l.index.now)) + 1)
+
+abbrev pub decreases-applied : goal.decreases-applied
+decreases-applied l = 268435456 * rank l.site.now.room + (8 * exprs_size (exprs_of (plain_exprs l.args.now)) + 7)
