@@ -2,3 +2,4 @@ pub mod DataLaws
 pub mod ArgLaws
 pub mod ClassLaws
 pub mod FloatLaws
+pub mod RequestFits

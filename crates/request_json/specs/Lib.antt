@@ -1,3 +1,4 @@
 pub mod RequestLines
 pub mod ReplyLines
 pub mod Actions
+pub mod LinesFit

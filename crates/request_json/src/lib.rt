@@ -2,10 +2,12 @@
 #![tactic(auto)]
 
 mod callable;
+mod laws;
 mod read;
 #[cfg(test)]
 mod tests;
 mod write;
 
+pub use laws::lines_fit;
 pub use read::read_request;
 pub use write::{write_bad, write_reply};

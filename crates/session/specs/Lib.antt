@@ -5,3 +5,4 @@ pub mod Feeds
 pub mod Takes
 pub mod Served
 pub mod SerialOutput
+pub mod AnswersFit

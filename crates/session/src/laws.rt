@@ -1,4 +1,4 @@
-//! What follows from the contract of a session: it prints what one serial run prints.
+//! What follows from the contract of a session: it prints what one serial run prints, in which nothing goes wrong.
 
 ghost use Rattle.std.specs.Prelude.{List, ℕ};
 ghost use Rattle.std.specs.declared.option.Option.{Option};
@@ -9,6 +9,7 @@ ghost use Rattle.request_json.specs.Actions.{Line};
 ghost use Rattle.session.specs.declared.feeding.InputEnd.{InputEnd};
 ghost use Rattle.session.specs.Served.{Served};
 ghost use Rattle.session.specs.SerialOutput.{SerialLines, SerialRun};
+ghost use Rattle.session.specs.AnswersFit.{AnswersFit};
 
 /// The replies to all lines are those of one serial run.
 pub fn replies_are_serial()
@@ -18,4 +19,10 @@ pub fn replies_are_serial()
 /// Whatever the result, a session wrote what one serial run prints, or a prefix of it.
 pub fn serves_serially()
     ensures { (src : Source) (limit : ℕ) (left left' held held' : Option (List ℕ)) (result : Result InputEnd WriteStop) → Served src limit left left' held held' result → SerialRun src held held' }
+{}
+
+/// In a session over an accepted program nothing goes wrong: each request that a line asks fits the
+/// program, what it comes to fits the request, and the state fits.
+pub fn answers_fit()
+    ensures { AnswersFit }
 {}

@@ -1,7 +1,8 @@
 -- What a statement does, at each variant and at each part of a walk.
-use Rattle.std.proofs.Common.{◌≡◌, ◌<◌, ◌≤◌, ◌+◌, ◌-◌, ℕ, zero, suc, ℤ, pos, ◌+ℤ◌, true, false, List, [], ◌∷◌, Option, if◌then◌else◌, drop, get_or, length, refl, sym, ap, ◌∙◌, add-one, drop-cons, subst, arith}
+use Rattle.std.proofs.Common.{◌≡◌, ◌<◌, ◌≤◌, ◌+◌, ◌-◌, ℕ, zero, suc, ℤ, pos, ◌+ℤ◌, true, false, List, [], ◌∷◌, Option, if◌then◌else◌, drop, get_or, length, refl, sym, ap, ◌∙◌, add-one, subst, arith}
 use Rattle.std.specs.Ordering.{int_cmp, is_lt}
 use Rattle.std.proofs.lemmas.List.{drop_all}
+use Rattle.py_tree.proofs.ListWalks.{from_item, stmts_from, stmts_end as stmts_past, arms_from, arms_end as arms_past}
 use Rattle.py_tree.specs.declared.names.Place.{Place}
 use Rattle.py_tree.specs.declared.names.PlacedName.{PlacedName}
 use Rattle.py_tree.specs.declared.expr.BinOp.{BinOp}
@@ -13,7 +14,7 @@ use Rattle.py_tree.specs.declared.stmt.Stmt.{Stmt}
 use Rattle.py_tree.specs.declared.stmt.StmtKind as kind
 use Rattle.py_tree.specs.declared.stmt.Arm.{Arm, out-Arm}
 use Rattle.py_tree.specs.PlainExpressions.{plain_expr}
-use Rattle.py_tree.specs.PlainStatements.{plain_option, plain_over, plain_stmt_kind, plain_stmt, plain_stmts, stmts_of, plain_arm, plain_arms, arms_of, PlainStmt, PPass, PBreak, PContinue, PDo, PReturn, PRaise, PAssert, PAssign, PAugment, PIf, PWhile, PFor, PStmt, PMoreArms}
+use Rattle.py_tree.specs.PlainStatements.{plain_option, plain_over, plain_stmt_kind, plain_stmt, plain_stmts, stmts_of, plain_arms, arms_of, PlainStmt, PPass, PBreak, PContinue, PDo, PReturn, PRaise, PAssert, PAssign, PAugment, PIf, PWhile, PFor}
 use Rattle.py_tree.proofs.Views.{stmt-Pass, stmt-Break, stmt-Continue, stmt-Expr, stmt-Return, stmt-Raise, stmt-Assert, stmt-Assign, stmt-Augment, stmt-If, stmt-While, stmt-For}
 use Rattle.sf_value.specs.declared.value.Value.{Value}
 use Rattle.sf_value.specs.declared.value.Value.TheVariants as value
@@ -102,21 +103,6 @@ module _ {W : Type 0} (s : Site W) (at : Place) (vars : List Var) (w : W) (n m :
 
 pub ruleset act_is = (act-Pass, act-Break, act-Continue, act-Expr, act-Return, act-Raise, act-Assert, act-Assign, act-Augment, act-If, act-While, act-For, act_none)
 
-stmts_from : (ss : List Stmt) (i : ℕ) (x : Stmt) → i < length ss → x ≡ get_or ss i x → stmts_of (plain_stmts (drop i ss)) ≡ PStmt (plain_stmt x) (stmts_of (plain_stmts (drop (i + 1) ss)))
-stmts_from ss i x lt is =
-    let cut : drop i ss ≡ get_or ss i x ∷ drop (i + 1) ss = rw (add-one, drop-cons ss i x) in
-    ap (λ l. stmts_of (plain_stmts l)) cut ∙ ap (λ y. PStmt (plain_stmt y) (stmts_of (plain_stmts (drop (i + 1) ss)))) (sym is)
-
-arms_from : (xs : List Arm) (i : ℕ) (x : Arm) → i < length xs → x ≡ get_or xs i x → arms_of (plain_arms (drop i xs)) ≡ PMoreArms (plain_arm x) (arms_of (plain_arms (drop (i + 1) xs)))
-arms_from xs i x lt is =
-    let cut : drop i xs ≡ get_or xs i x ∷ drop (i + 1) xs = rw (add-one, drop-cons xs i x) in
-    ap (λ l. arms_of (plain_arms l)) cut ∙ ap (λ y. PMoreArms (plain_arm y) (arms_of (plain_arms (drop (i + 1) xs)))) (sym is)
-
-values_from : (vs : List Value) (i : ℕ) (v : Value) → i < length vs → v ≡ get_or vs i v → drop i vs ≡ v ∷ drop (i + 1) vs
-values_from vs i v lt is =
-    let cut : drop i vs ≡ get_or vs i v ∷ drop (i + 1) vs = rw (add-one, drop-cons vs i v) in
-    cut ∙ ap (λ y. y ∷ drop (i + 1) vs) (sym is)
-
 module _ {W : Type 0} (s : Site W) (vars : List Var) (w : W) (n : ℕ) where
   pub stmts_next : (ss : List Stmt) (i : ℕ) (x : Stmt) → i < length ss → x ≡ get_or ss i x
       → act_all s (stmts_of (plain_stmts (drop i ss))) vars w n ≡ next (act s (plain_stmt x) vars w n) (λ vars w n. act_all s (stmts_of (plain_stmts (drop (i + 1) ss))) vars w n)
@@ -125,7 +111,7 @@ module _ {W : Type 0} (s : Site W) (vars : List Var) (w : W) (n : ℕ) where
 
   pub stmts_end : (ss : List Stmt) (i : ℕ) → length ss ≤ i → act_all s (stmts_of (plain_stmts (drop i ss))) vars w n ≡ Goes vars w n
   unfolding act_all
-  stmts_end ss i le = let cut : drop i ss ≡ [] = drop_all i ss le in ap (λ l. act_all s (stmts_of (plain_stmts l)) vars w n) cut
+  stmts_end ss i le = ap (λ t. act_all s t vars w n) (stmts_past ss i le)
 
   pub arms_next : (xs : List Arm) (i : ℕ) (x : Arm) (other : List Var → W → ℕ → Ends W) → i < length xs → x ≡ get_or xs i x
       → act_arms s (arms_of (plain_arms (drop i xs))) other vars w n ≡ with_given vars (eval s (plain_expr (out-Arm x).test) vars w n) (λ v w n. if is_true v then act_all s (stmts_of (plain_stmts (out-Arm x).body)) vars w n else act_arms s (arms_of (plain_arms (drop (i + 1) xs))) other vars w n)
@@ -134,7 +120,7 @@ module _ {W : Type 0} (s : Site W) (vars : List Var) (w : W) (n : ℕ) where
 
   pub arms_end : (xs : List Arm) (i : ℕ) (other : List Var → W → ℕ → Ends W) → length xs ≤ i → act_arms s (arms_of (plain_arms (drop i xs))) other vars w n ≡ other vars w n
   unfolding act_arms
-  arms_end xs i other le = let cut : drop i xs ≡ [] = drop_all i xs le in ap (λ l. act_arms s (arms_of (plain_arms l)) other vars w n) cut
+  arms_end xs i other le = ap (λ t. act_arms s t other vars w n) (arms_past xs i le)
 
 module _ {W : Type 0} (vars : List Var) (w : W) (n : ℕ) where
   pub while_next : (most : ℕ) (test : List Var → W → ℕ → Gives W Value) (body : List Var → W → ℕ → Ends W) → 0 < most
@@ -150,7 +136,7 @@ module _ {W : Type 0} (vars : List Var) (w : W) (n : ℕ) where
   pub items_next : (name : ℕ) (body : List Var → W → ℕ → Ends W) (vs : List Value) (i : ℕ) (v : Value) → i < length vs → v ≡ get_or vs i v
       → over_items name body (drop i vs) vars w n ≡ next_turn (stepping vars w n (λ n. body (assigned vars name v) w n)) (over_items name body (drop (i + 1) vs))
   unfolding over_items
-  items_next name body vs i v lt is = ap (λ l. over_items name body l vars w n) (values_from vs i v lt is)
+  items_next name body vs i v lt is = ap (λ l. over_items name body l vars w n) (from_item vs i v lt is)
 
   pub items_end : (name : ℕ) (body : List Var → W → ℕ → Ends W) (vs : List Value) (i : ℕ) → length vs ≤ i → over_items name body (drop i vs) vars w n ≡ Goes vars w n
   unfolding over_items

@@ -1,6 +1,5 @@
 -- What an expression gives, at each variant and at each part of a walk.
-use Rattle.std.proofs.Common.{◌≡◌, ◌<◌, ◌≤◌, ◌+◌, ℕ, ℤ, pos, ◌-ℤ◌, Bool, true, false, not, List, [], ◌∷◌, ◌++◌, if◌then◌else◌, drop, get_or, length, sym, ap, ◌∙◌, add-one, drop-cons}
-use Rattle.std.proofs.lemmas.List.{drop_all}
+use Rattle.std.proofs.Common.{◌≡◌, ◌<◌, ◌≤◌, ◌+◌, ℕ, ℤ, pos, ◌-ℤ◌, Bool, true, false, not, List, [], ◌∷◌, ◌++◌, if◌then◌else◌, drop, get_or, length, sym, ap, ◌∙◌}
 use Rattle.std.specs.declared.alloc.Global.{Global}
 use Rattle.std.specs.declared.boxed.Box.{Box}
 use Rattle.py_tree.specs.declared.names.Name.{Name}
@@ -11,7 +10,8 @@ use Rattle.py_tree.specs.declared.expr.Expr.{Expr}
 use Rattle.py_tree.specs.declared.expr.Link.{Link}
 use Rattle.py_tree.specs.declared.expr.ExprKind as e
 use Rattle.py_tree.specs.ExpressionTypes.{function_of}
-use Rattle.py_tree.specs.PlainExpressions.{PExpr, PMoreLinks, plain_kind, plain_expr, plain_exprs, exprs_of, plain_link, plain_links, links_of}
+use Rattle.py_tree.specs.PlainExpressions.{plain_kind, plain_expr, plain_exprs, exprs_of, plain_links, links_of}
+use Rattle.py_tree.proofs.ListWalks.{exprs_from, exprs_end, links_from, links_end}
 use Rattle.py_tree.proofs.Views.{plain-Int, plain-Bool, plain-Str, plain-Nil, plain-Var, plain-SelfRef, plain-Attr, plain-Call, plain-Apply, plain-Index, plain-List, plain-Neg, plain-Pos, plain-Not, plain-Chain, plain-And, plain-Or, plain-Compare, plain-IsNone, plain-Cond}
 use Rattle.sf_value.specs.declared.value.Value.{Value}
 use Rattle.sf_value.specs.declared.value.Value.TheVariants as value
@@ -103,16 +103,6 @@ module _ {W : Type 0} (s : Site W) (at : Place) (vars : List Var) (w : W) (n : �
 
 pub ruleset eval_is = (eval-Int, eval-Bool, eval-Str, eval-Nil, eval-Var, eval-SelfRef, eval-Attr, eval-Call, eval-Apply, eval-Index, eval-List, eval-Neg, eval-Pos, eval-Not, eval-Chain, eval-And, eval-Or, eval-Compare, eval-IsNone, eval-Cond)
 
-exprs_from : (es : List Expr) (i : ℕ) (x : Expr) → i < length es → x ≡ get_or es i x → exprs_of (plain_exprs (drop i es)) ≡ PExpr (plain_expr x) (exprs_of (plain_exprs (drop (i + 1) es)))
-exprs_from es i x lt is =
-    let cut : drop i es ≡ get_or es i x ∷ drop (i + 1) es = rw (add-one, drop-cons es i x) in
-    ap (λ l. exprs_of (plain_exprs l)) cut ∙ ap (λ y. PExpr (plain_expr y) (exprs_of (plain_exprs (drop (i + 1) es)))) (sym is)
-
-links_from : (ls : List Link) (i : ℕ) (l : Link) → i < length ls → l ≡ get_or ls i l → links_of (plain_links (drop i ls)) ≡ PMoreLinks (plain_link l) (links_of (plain_links (drop (i + 1) ls)))
-links_from ls i l lt is =
-    let cut : drop i ls ≡ get_or ls i l ∷ drop (i + 1) ls = rw (add-one, drop-cons ls i l) in
-    ap (λ k. links_of (plain_links k)) cut ∙ ap (λ k. PMoreLinks (plain_link k) (links_of (plain_links (drop (i + 1) ls)))) (sym is)
-
 module _ {W : Type 0} (s : Site W) (vars : List Var) (w : W) (n : ℕ) where
   pub all_next : (es : List Expr) (i : ℕ) (x : Expr) (vs : List Value) → i < length es → x ≡ get_or es i x
       → eval_all s (exprs_of (plain_exprs (drop i es))) vs vars w n ≡ (eval s (plain_expr x) vars w n >>= λ v w n. eval_all s (exprs_of (plain_exprs (drop (i + 1) es))) (vs ++ v ∷ []) vars w n)
@@ -121,7 +111,7 @@ module _ {W : Type 0} (s : Site W) (vars : List Var) (w : W) (n : ℕ) where
 
   pub all_end : (es : List Expr) (i : ℕ) (vs : List Value) → length es ≤ i → eval_all s (exprs_of (plain_exprs (drop i es))) vs vars w n ≡ Got vs w n
   unfolding eval_all
-  all_end es i vs le = let cut : drop i es ≡ [] = drop_all i es le in ap (λ l. eval_all s (exprs_of (plain_exprs l)) vs vars w n) cut
+  all_end es i vs le = ap (λ t. eval_all s t vs vars w n) (exprs_end es i le)
 
   pub link_next : (ls : List Link) (i : ℕ) (l : Link) (v : Value) → i < length ls → l ≡ get_or ls i l
       → linked s (links_of (plain_links (drop i ls))) v vars w n ≡ (eval s (plain_expr l.right) vars w n >>= λ x w n. told (combined l.op v x) w n >>= λ both w n. linked s (links_of (plain_links (drop (i + 1) ls))) both vars w n)
@@ -130,7 +120,7 @@ module _ {W : Type 0} (s : Site W) (vars : List Var) (w : W) (n : ℕ) where
 
   pub link_end : (ls : List Link) (i : ℕ) (v : Value) → length ls ≤ i → linked s (links_of (plain_links (drop i ls))) v vars w n ≡ Got v w n
   unfolding linked
-  link_end ls i v le = let cut : drop i ls ≡ [] = drop_all i ls le in ap (λ l. linked s (links_of (plain_links l)) v vars w n) cut
+  link_end ls i v le = ap (λ t. linked s t v vars w n) (links_end ls i le)
 
   pub each_next : (truth : Bool) (es : List Expr) (i : ℕ) (x : Expr) → i < length es → x ≡ get_or es i x
       → each_is s truth (exprs_of (plain_exprs (drop i es))) vars w n ≡ (eval s (plain_expr x) vars w n >>= λ v w n. if same_truth (is_true v) truth then each_is s truth (exprs_of (plain_exprs (drop (i + 1) es))) vars w n else Got (value.Bool (not truth)) w n)
@@ -139,4 +129,4 @@ module _ {W : Type 0} (s : Site W) (vars : List Var) (w : W) (n : ℕ) where
 
   pub each_end : (truth : Bool) (es : List Expr) (i : ℕ) → length es ≤ i → each_is s truth (exprs_of (plain_exprs (drop i es))) vars w n ≡ Got (value.Bool truth) w n
   unfolding each_is
-  each_end truth es i le = let cut : drop i es ≡ [] = drop_all i es le in ap (λ l. each_is s truth (exprs_of (plain_exprs l)) vars w n) cut
+  each_end truth es i le = ap (λ t. each_is s truth t vars w n) (exprs_end es i le)

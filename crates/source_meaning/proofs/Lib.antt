@@ -40,4 +40,5 @@ pub mod RunFits
 pub mod Soundness
 mod FitsExamples
 pub mod HereLaws
+pub mod PurityLaws
 pub mod TestLaws

@@ -11,6 +11,7 @@ pub mod Sources
 pub mod Sites
 pub mod Agrees
 pub mod InPlace
+pub mod Purity
 pub mod Transactions
 pub mod Attempts
 pub mod Fits

@@ -10,6 +10,7 @@ mod in_place;
 mod laws;
 mod local;
 mod operations;
+mod purity;
 mod site;
 mod tables;
 #[cfg(test)]

@@ -80,21 +80,6 @@ pub(crate) fn field<'a>(names: &[Name], fields: &'a Values, name: Name) -> Optio
     fields.get(place_of_field(names, name)?)
 }
 
-/// A copy of a field's value.
-pub(crate) fn read_field(
-    alloc: Global,
-    names: &[Name],
-    fields: &Values,
-    name: Name,
-) -> Result<Value, AllocError>
-    ensures { IfOk result (λ value. value ≡ field_value (map (λ x. x.0) names.now) fields.now name.0) }
-{
-    match field(names, fields, name) {
-        Some(value) => value.try_clone(alloc),
-        None => Ok(Value::Nil),
-    }
-}
-
 /// Sets a field of a record.
 #[tactic(auto, using(crate::proofs::VarLaws::position_names, crate::proofs::VarLaws::set_past), unfolding(crate::specs::World::with_field))]
 pub(crate) fn set_field(names: &[Name], fields: &mut Values, name: Name, value: Value)

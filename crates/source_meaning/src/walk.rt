@@ -3,7 +3,7 @@
 //! Each function is the definition of the same part of the meaning, on the records that the
 //! transaction sees. What a call may do, and how many more may be open, stands in the site.
 
-ghost use Rattle.std.specs.Prelude.{◌≡◌, ◌≤◌, ◌+◌, ℕ, [], suc, map, option_map, IfErr, IfOk, OnOk, OnErr};
+ghost use Rattle.std.specs.Prelude.{◌≡◌, ◌≤◌, ◌+◌, ℕ, true, [], suc, map, option_map, IfErr, IfOk, OnOk, OnErr};
 ghost use Rattle.py_tree.specs.PlainExpressions.{plain_expr, plain_exprs, exprs_of, plain_links, links_of};
 ghost use Rattle.py_tree.specs.PlainStatements.{plain_option, plain_over, plain_stmt, plain_stmts, stmts_of, plain_arms, arms_of};
 ghost use Rattle.py_tree.specs.PlainProgram.{plain_method};
@@ -13,7 +13,9 @@ ghost use Rattle.py_tree.specs.Bounded.{most_nodes, of_option, expr_size, exprs_
 ghost use Rattle.sf_value.specs.Keys.{Key, key_of};
 ghost use Rattle.sf_value.specs.declared.value.Value.TheVariants as value;
 ghost use Rattle.source_meaning.specs.ClassTables.{init_of};
-ghost use Rattle.source_meaning.specs.World.{Goes, step_limit, with_given, record_at};
+ghost use Rattle.source_meaning.specs.World.{Goes, step_limit, with_given, record_at, told};
+ghost use Rattle.source_meaning.specs.Operations.{weighed};
+ghost use Rattle.source_meaning.specs.Purity.{is_pure as is_pure_expr};
 ghost use Rattle.source_meaning.specs.Evaluation.{eval, eval_all, linked, each_is as the_each_is, applied as the_applied, entity, key_in, method_of, literal as the_literal, own_field as the_own_field};
 ghost use Rattle.source_meaning.specs.Execution.{act, act_all, act_arms, all_of, checked, store as the_store, target_value, augmented as the_augmented, value_or_none as the_value_or_none, message as the_message, start_of as the_start_of, turns_of, over_turns, over_items as the_over_items, over_numbers as the_over_numbers, while_turns as the_while_turns};
 ghost use Rattle.source_meaning.specs.Calls.{run_body as the_run_body, enter as the_enter, create as the_create, declare as the_declare, declare_all as the_declare_all, calls_at, calls_within, own_at, bound};
@@ -27,18 +29,19 @@ use crate::Stop;
 use crate::failures::{
     ALREADY_EXISTS, ASSERTION_ERROR, NO_ENTITY, RECURSION_ERROR, STEP_LIMIT, empty_text, fail,
 };
-use crate::in_place::{local_in_place, own_element, own_length};
+use crate::in_place::{check_own_weight, local_in_place, own_element_copy, own_length, own_value};
 use crate::local::Local;
 use crate::operations::{
     check_weight, combine, element_copy, give, holds, is_nil, is_true, items, negate, number, text,
     weigh,
 };
+use crate::purity::is_pure;
 use crate::site::{Room, Site};
 use crate::tables::{
     body, called, class_fields, class_number, init, method_number, new_entity, params,
 };
 use crate::transaction::{Transaction, begin};
-use crate::vars::{Vars, assign_local, bind, read_field, read_local};
+use crate::vars::{Vars, assign_local, bind, read_local};
 use py_tree::{
     Arm, BinOp, Expr, ExprKind, Link, Method, Name, Over, Stmt, StmtKind, Target, function_of,
     name_text,
@@ -94,8 +97,8 @@ fn own_entity(site: &Site<'_>) -> Result<Value, AllocError>
 fn own_field(site: &Site<'_>, name: Name, tx: &Transaction) -> Result<Value, AllocError>
     ensures { IfOk result (λ v. v ≡ the_own_field (site_of site.now) name.0 (world_of site.now.state.now tx.now)) }
 {
-    match tx.record(site.state, site.me) {
-        Some(fields) => read_field(site.alloc, site.fields, fields, name),
+    match own_value(site, name, tx) {
+        Some(value) => value.try_clone(site.alloc),
         None => Ok(Value::Nil),
     }
 }
@@ -228,8 +231,9 @@ pub(crate) fn evaluate(
     }
 }
 
-/// `on[index]`. Of a list that stands in a local, or in an own field while no code runs, the element alone is copied.
+/// `on[index]`. Of a list that stands in a local, or in an own field that no code of the index can change, the element alone is copied.
 #[cycle(walk)]
+#[tactic(auto, using(crate::proofs::EvalLaws::eval_is))]
 fn indexed(
     site: &Site<'_>,
     on: &Expr,
@@ -246,12 +250,33 @@ fn indexed(
         let at = evaluate(site, index, vars, tx, steps)?;
         return element_copy(site.alloc, list, &at);
     }
-    if let Some(element) = own_element(site, on, index, vars, tx) {
-        return element;
+    if let ExprKind::Attr(_, field) = &on.kind {
+        if is_pure(index) {
+            return own_element(site, field.name, index, vars, tx, steps);
+        }
     }
     let list = evaluate(site, on, vars, tx, steps)?;
     let at = evaluate(site, index, vars, tx, steps)?;
     element_copy(site.alloc, &list, &at)
+}
+
+/// `self.name[index]`, where the index changes nothing.
+#[cycle(walk)]
+fn own_element(
+    site: &Site<'_>,
+    name: Name,
+    index: &Expr,
+    vars: &Vars,
+    tx: &mut Transaction,
+    steps: &mut u32,
+) -> Result<Value, Stop>
+    requires small { expr_size (plain_expr index.now) ≤ most_nodes }
+    requires pure { is_pure_expr (plain_expr index.now) ≡ true }
+    ensures { Agrees result (world_of site.now.state.now tx.new) steps.new (element_in (told (weighed (the_own_field (site_of site.now) name.0 (world_of site.now.state.now tx.old))) (world_of site.now.state.now tx.old) steps.old) (eval (site_of site.now) (plain_expr index.now) vars.now)) }
+{
+    check_own_weight(site, name, tx)?;
+    let at = evaluate(site, index, vars, tx, steps)?;
+    own_element_copy(site, name, &at, tx)
 }
 
 /// The values of expressions in their order.

@@ -22,6 +22,10 @@ class Row:
         xs = self.xs
         return xs[i - 1]
 
+    def from_end(self, i: int) -> int: return self.xs[len(self.xs) - 1 - i]
+
+    def chosen(self, i: int) -> int: return self.xs[self.xs[i] - 4 if i > 0 else -1]
+
     def size(self) -> int: return len(self.xs)
 
     def clear(self, i: int) -> int:
@@ -46,6 +50,11 @@ const REQUESTS: &[u8] = b"{\"id\":\"a\",\"class\":\"Row\",\"new\":[\"r\",4,5]}
 {\"id\":\"i\",\"class\":\"Row\",\"key\":\"r\",\"method\":\"at\",\"args\":[0]}
 {\"id\":\"j\",\"class\":\"Row\",\"new\":[\"s\",1,2]}
 {\"id\":\"k\",\"class\":\"Row\",\"key\":\"s\",\"method\":\"kept\",\"args\":[2]}
+{\"id\":\"l\",\"class\":\"Row\",\"new\":[\"t\",4,5]}
+{\"id\":\"m\",\"class\":\"Row\",\"key\":\"t\",\"method\":\"from_end\",\"args\":[0]}
+{\"id\":\"n\",\"class\":\"Row\",\"key\":\"t\",\"method\":\"chosen\",\"args\":[1]}
+{\"id\":\"o\",\"class\":\"Row\",\"key\":\"t\",\"method\":\"chosen\",\"args\":[0]}
+{\"id\":\"p\",\"class\":\"Row\",\"key\":\"t\",\"method\":\"chosen\",\"args\":[2]}
 ";
 
 /// The list is read before its index runs, as Python does, and an assignment gives the field another list.
@@ -60,6 +69,11 @@ const REPLIES: &[u8] = b"{\"id\":\"a\",\"ok\":\"r\",\"seq\":1}
 {\"error\":\"IndexError\",\"id\":\"i\",\"message\":\"\",\"seq\":9}
 {\"id\":\"j\",\"ok\":\"s\",\"seq\":10}
 {\"id\":\"k\",\"ok\":6,\"seq\":11}
+{\"id\":\"l\",\"ok\":\"t\",\"seq\":12}
+{\"id\":\"m\",\"ok\":9,\"seq\":13}
+{\"id\":\"n\",\"ok\":5,\"seq\":14}
+{\"id\":\"o\",\"ok\":9,\"seq\":15}
+{\"error\":\"IndexError\",\"id\":\"p\",\"message\":\"\",\"seq\":16}
 ";
 
 #[test]

@@ -50,6 +50,7 @@ use Rattle.source_meaning.proofs.ViewLaws.{viewed}
 use Rattle.source_meaning.proofs.EvalLaws.{eval-Call}
 use Rattle.source_meaning.proofs.SizeLaws.{size-Call}
 use Rattle.source_meaning.proofs.AgreeLaws.{turn_goes, gives_nil}
+use Rattle.source_meaning.proofs.InPlaceLaws.{element_told}
 use Rattle.source_meaning.proofs.walk.+walk.Goals as goal
 
 pub evaluate_all-evaluate-requires : goal.evaluate_all-evaluate-requires
@@ -348,3 +349,6 @@ execute-returns-in-While t c = subst (λ e. EndsAs c.while_turns.result c.while_
 
 pub execute-returns-in-For : goal.execute-returns-in-For
 execute-returns-in-For t c = subst (λ e. EndsAs c.execute_for.result c.execute_for.new.vars (world_of c.args.site.now.state.now c.execute_for.new.tx) c.execute_for.new.steps e) (sym (ap (λ k. act (site_of c.args.site.now) (plain_stmt_kind k c.args.stmt.now.place) c.args.vars.now (world_of c.args.site.now.state.now c.args.tx.now) c.args.steps.now) c.in-For.is ∙ act-For (site_of c.args.site.now) c.args.stmt.now.place c.args.vars.now (world_of c.args.site.now.state.now c.args.tx.now) c.args.steps.now c.take_step.new.steps c.in_ok-take_step.ensures.taken c.in-For.name c.in-For.over c.in-For.body ∙ ap (λ b. with_given c.args.vars.now (turns_of (site_of c.args.site.now) (plain_over c.in-For.over) c.args.vars.now (world_of c.args.site.now.state.now c.args.tx.now) c.take_step.new.steps) (λ turns w n. over_turns c.in-For.name.name.0 (all_of (site_of c.args.site.now) (stmts_of (plain_stmts b))) turns c.args.vars.now w n)) (sym c.as_slice-in-For.ensures))) c.execute_for.ensures
+
+pub own_element-returns : goal.own_element-returns
+own_element-returns t c = element_told (site_of c.args.site.now) c.args.name.0 (plain_expr c.args.index.now) c.args.vars.now (world_of c.args.site.now.state.now c.args.tx.now) (world_of c.args.site.now.state.now c.evaluate.new.tx) c.args.steps.now c.evaluate.new.steps c.in_ok-at.at c.own_element_copy.result c.requires.pure c.in_ok-check_own_weight.ensures c.in_ok-at.ensures c.own_element_copy.ensures

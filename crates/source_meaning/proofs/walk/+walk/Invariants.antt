@@ -127,7 +127,10 @@ abbrev pub invariant-over_numbers-loop-turn : goal.invariant-over_numbers-loop-t
 invariant-over_numbers-loop-turn l = over_numbers (l.limit - l._turn) l.name.0 (all_of (site_of l.site) (stmts_of (plain_stmts l.body))) l.at l.to l.vars (world_of l.site.state.now l.tx) l.steps ≡ over_numbers (suc l.fn.steps) l.name.0 (all_of (site_of l.site) (stmts_of (plain_stmts l.body))) l.fn.from l.to l.fn.vars (world_of l.site.state.now l.fn.tx) l.fn.steps
 
 abbrev pub decreases-indexed : goal.decreases-indexed
-decreases-indexed l = 268435456 * rank l.site.now.room + (8 * (expr_size (plain_expr l.on.now) + expr_size (plain_expr l.index.now)) + 1)
+decreases-indexed l = 268435456 * rank l.site.now.room + (8 * (expr_size (plain_expr l.on.now) + expr_size (plain_expr l.index.now)) + 2)
 
 abbrev pub decreases-applied : goal.decreases-applied
 decreases-applied l = 268435456 * rank l.site.now.room + (8 * exprs_size (exprs_of (plain_exprs l.args.now)) + 7)
+
+abbrev pub decreases-own_element : goal.decreases-own_element
+decreases-own_element l = 268435456 * rank l.site.now.room + (8 * expr_size (plain_expr l.index.now) + 1)
