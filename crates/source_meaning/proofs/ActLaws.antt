@@ -1,5 +1,5 @@
 -- What a statement does, at each variant and at each part of a walk.
-use Rattle.std.proofs.Common.{◌≡◌, ◌<◌, ◌≤◌, ◌+◌, ◌-◌, ℕ, zero, suc, ℤ, pos, ◌+ℤ◌, true, false, List, [], ◌∷◌, Option, if◌then◌else◌, drop, get_or, length, refl, sym, ap, ◌∙◌, add-one, subst, arith}
+use Rattle.std.proofs.Common.{◌≡◌, ◌<◌, ◌≤◌, ◌+◌, ◌-◌, ℕ, zero, suc, ℤ, pos, ◌+ℤ◌, true, false, List, [], Option, if◌then◌else◌, drop, get_or, length, refl, sym, ap, ◌∙◌, add-one, subst, arith}
 use Rattle.std.specs.Ordering.{int_cmp, is_lt}
 use Rattle.std.proofs.lemmas.List.{drop_all}
 use Rattle.py_tree.proofs.ListWalks.{from_item, stmts_from, stmts_end as stmts_past, arms_from, arms_end as arms_past}

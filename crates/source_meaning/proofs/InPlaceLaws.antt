@@ -7,7 +7,7 @@ use Rattle.sf_value.specs.declared.value.Value.{Value}
 use Rattle.sf_value.specs.declared.Failure.{Failure}
 use Rattle.source_meaning.specs.declared.vars.Var.{Var}
 use Rattle.source_meaning.specs.declared.Stop.{Stop}
-use Rattle.source_meaning.specs.World.{World, Gives, Got, ◌>>=◌, told}
+use Rattle.source_meaning.specs.World.{World, Got, ◌>>=◌, told}
 use Rattle.source_meaning.specs.Operations.{weighed, int_of, items_of, element, given_by}
 use Rattle.source_meaning.specs.Evaluation.{Site, eval, eval_all, applied, own_field}
 use Rattle.source_meaning.specs.Purity.{is_pure}

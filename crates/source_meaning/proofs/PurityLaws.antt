@@ -19,7 +19,7 @@ use Rattle.sf_value.specs.declared.value.Value.TheVariants as value
 use Rattle.sf_value.specs.declared.Failure.{Failure}
 use Rattle.source_meaning.specs.declared.vars.Var.{Var}
 use Rattle.source_meaning.specs.World.{Gives, Got, Fell, ◌>>=◌, told, local_value}
-use Rattle.source_meaning.specs.Operations.{in_range, weighed, int_of, is_true, is_nil, items_of, element, combined, holds, given_by}
+use Rattle.source_meaning.specs.Operations.{in_range, weighed, int_of, is_true, items_of, element, combined, given_by}
 use Rattle.source_meaning.specs.Evaluation.{Site, eval, eval_all, linked, each_is, same_truth, applied, entity, literal, own_field}
 use Rattle.source_meaning.specs.Purity.{is_pure, all_pure, links_pure}
 use Rattle.source_meaning.proofs.TypedParts.{both_true}
