@@ -1,5 +1,5 @@
 -- What a line asks fits the program: its arguments are of the types that the parameters declare.
-use Rattle.std.proofs.Common.{◌≡◌, ◌∙◌, ℕ, Bool, true, false, ◌&&◌, true≢false, List, [], ◌∷◌, map as over, Option, Some, None, if◌then◌else◌, refl, sym, ap, subst}
+use Rattle.std.proofs.Common.{◌≡◌, ◌∙◌, ℕ, Bool, true, false, List, [], ◌∷◌, Option, Some, None, if◌then◌else◌, refl, ap, subst}
 use Rattle.std.specs.Prelude.{slice_get, codes}
 use Rattle.std.specs.Str.{chars}
 use Rattle.py_tree.specs.Acceptance.{method_number}
@@ -18,7 +18,7 @@ use Rattle.sf_value.specs.declared.Request.{Request}
 use Rattle.source_meaning.specs.ClassTables.{Source, members_of, methods_of, init_of}
 use Rattle.source_meaning.specs.Fits.{HasTable, Fits, int, str, EachFits, no_value, one_more, param_types, CallFits, NewFits, ActFits}
 use Rattle.source_meaning.proofs.TableFacts.{map_found}
-use Rattle.request_json.specs.RequestLines.{◌>>?◌, int_arg, text_arg, typed_arg, arg_of, args_of, args_for, is_callable, is_makeable, call_args, creation_args, class_of, call_of, creation_of, act_of, with_id, id_of, text_at, array_at, has_keys, call_keys, creation_keys, of_data, data_of, request_of}
+use Rattle.request_json.specs.RequestLines.{◌>>?◌, arg_of, args_of, is_callable, is_makeable, call_args, creation_args, class_of, call_of, creation_of, act_of, with_id, id_of, text_at, array_at, has_keys, call_keys, creation_keys, of_data, data_of, request_of}
 
 -- what goes on had something to go on with
 then_some : {A B : Type 0} (o : Option A) (f : A → Option B) (y : B) → (o >>? f) ≡ Some y → (x : A) × (f x ≡ Some y)

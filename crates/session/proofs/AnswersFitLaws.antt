@@ -13,7 +13,7 @@ use Rattle.source_meaning.specs.Serial.{no_state, serial_outcomes, serial_state,
 use Rattle.source_meaning.specs.Fits.{StateFits, ActFits, OutcomeFits}
 use Rattle.source_meaning.proofs.Soundness.{first_fits, runs_fit}
 use Rattle.request_json.specs.RequestLines.{longest, request_of}
-use Rattle.request_json.specs.Actions.{Line, Skip, Refuse, Ask, asking, used, bytes_of, content_of, action_of}
+use Rattle.request_json.specs.Actions.{Line, Refuse, Ask, asking, used, content_of, action_of}
 use Rattle.request_json.proofs.RequestFits.{line_fits}
 use Rattle.session.specs.SerialOutput.{Printed, Nothing, Refused, Reply, Fits}
 use Rattle.session.specs.AnswersFit.{EntriesFit, AnswersFit}
