@@ -1,16 +1,15 @@
 //! What a line can ask for, by the types that a program declares.
 
 ghost use Rattle.std.specs.Prelude.{◌≡◌, slice_get};
-ghost use Rattle.std.specs.Option.{option_map};
 ghost use Rattle.py_tree.specs.PlainTypes.{plain_written};
 ghost use Rattle.py_tree.specs.PlainStatements.{plain_option};
-ghost use Rattle.py_tree.specs.PlainProgram.{plain_method, plain_methods, plain_params};
-ghost use Rattle.py_tree.specs.ClassRules.{methods_of as methods_among};
+ghost use Rattle.py_tree.specs.PlainProgram.{plain_params};
 ghost use Rattle.source_meaning.specs.Sources.{source_of};
-ghost use Rattle.source_meaning.specs.ClassTables.{members_at, methods_of};
+ghost use Rattle.source_meaning.specs.ClassTables.{methods_of};
 ghost use Rattle.request_json.specs.RequestLines as spec;
 
-use py_tree::{Checked, Method, Names, Param, WrittenKind, WrittenTy, is_called_by_name};
+use py_tree::{Checked, Param, WrittenKind, WrittenTy};
+use source_meaning::method_at;
 
 #[tactic(auto, using(py_tree::proofs::Views::written_views))]
 fn is_int(ty: &Option<WrittenTy>) -> bool
@@ -68,38 +67,11 @@ pub fn are_key_and_ints(params: &[Param]) -> bool
     }
 }
 
-/// What the class of a number defines.
-fn members(program: &Checked, class: u32) -> &[Method]
-    ensures { plain_methods result.now ≡ members_at (source_of program.now) class }
-{
-    match program.program().classes.get(class as usize) {
-        Some(class) => class.members.as_slice(),
-        None => &[],
-    }
-}
-
-/// The method of this number, counted without `__init__` and `__key__`.
-#[tactic(auto, using(source_meaning::proofs::TableLaws::method_laws))]
-fn method<'a>(names: &Names, members: &'a [Method], number: u32) -> Option<&'a Method>
-    ensures { option_map (λ m. plain_method m.now) result ≡ slice_get (methods_among names.now (plain_methods members.now)) number }
-{
-    let mut left = number;
-    for method in members {
-        if is_called_by_name(names, method.name) {
-            if left == 0 {
-                return Some(method);
-            }
-            left -= 1;
-        }
-    }
-    None
-}
-
 /// Whether the method of this number takes ints and gives one.
 pub fn is_callable(program: &Checked, class: u32, number: u32) -> bool
     ensures { result ≡ spec.is_callable (slice_get (methods_of (source_of program.now) class) number) }
 {
-    match method(program.names(), members(program, class), number) {
+    match method_at(program, class, number) {
         Some(method) => are_ints(method.params.as_slice()) && is_int(&method.result),
         None => false,
     }

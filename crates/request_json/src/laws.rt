@@ -2,8 +2,8 @@
 
 ghost use Rattle.request_json.specs.LinesFit.{LinesFit};
 
-/// What a line asks fits its program: there are the class and the method that it names, and each
-/// argument is of the type that its parameter declares.
+/// What a line asks fits its program: the class that it names is there, the method where it is a
+/// call, and each parameter has an argument of the type that it declares.
 pub fn lines_fit()
     ensures { LinesFit }
 {}

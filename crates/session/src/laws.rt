@@ -1,4 +1,5 @@
-//! What follows from the contract of a session: it prints what one serial run prints, in which nothing goes wrong.
+//! What the definitions of a session say by themselves: it prints what one serial run prints, and
+//! over an accepted program nothing goes wrong in that run.
 
 ghost use Rattle.std.specs.Prelude.{List, ℕ};
 ghost use Rattle.std.specs.declared.option.Option.{Option};

@@ -11,6 +11,7 @@ unfoldable mutual
   is_pure (PNil at) = true
   is_pure (PVar at x) = true
   is_pure (PSelf at) = true
+  -- a field is the own entity's, and what stands before the dot isn't evaluated
   is_pure (PAttr at on x x_at) = true
   is_pure (PCall at on m m_at args) = false
   is_pure (PApply at f args) = is_some (function_of f) && all_pure args

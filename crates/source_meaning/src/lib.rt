@@ -24,7 +24,7 @@ pub use laws::nothing_goes_wrong;
 pub use local::{Attempt, Local};
 use sf_value::Failure;
 use std::alloc::{AllocError, AllocFailed};
-pub use tables::{init_params, method_params};
+pub use tables::{init_params, method_at, method_params};
 pub use vars::{Var, Vars};
 
 /// Why a part of a run stops without a value.

@@ -81,8 +81,8 @@ pub(crate) fn init(program: &Checked, class: u32) -> Option<&Method>
     find_init(program.names(), members(program.program(), class))
 }
 
-/// The method of a class with this number.
-pub(crate) fn called(program: &Checked, class: u32, number: u32) -> Option<&Method>
+/// The method of a class with this number, counted without `__init__` and `__key__`.
+pub fn method_at(program: &Checked, class: u32, number: u32) -> Option<&Method>
     ensures method { option_map (λ m. plain_method m.now) result ≡ slice_get (methods_of (source_of program.now) class) number }
     ensures small { stmts_size (stmts_of (body_of (option_map (λ m. plain_method m.now) result))) ≤ most_nodes }
 {
@@ -112,7 +112,7 @@ pub(crate) fn class_key(program: &Checked, class: u32) -> Option<usize>
 pub fn method_params(program: &Checked, class: u32, number: u32) -> &[Param]
     ensures { plain_params result.now ≡ params_of (slice_get (methods_of (source_of program.now) class) number) }
 {
-    params(called(program, class, number))
+    params(method_at(program, class, number))
 }
 
 /// The parameters of a creation, which are those of `__init__`.

@@ -15,7 +15,7 @@ ghost use Rattle.sf_value.specs.declared.value.Value.TheVariants as value;
 ghost use Rattle.source_meaning.specs.ClassTables.{init_of};
 ghost use Rattle.source_meaning.specs.World.{Goes, step_limit, with_given, record_at, told};
 ghost use Rattle.source_meaning.specs.Operations.{weighed};
-ghost use Rattle.source_meaning.specs.Purity.{is_pure as is_pure_expr};
+ghost use Rattle.source_meaning.specs.Purity.{is_pure as the_is_pure};
 ghost use Rattle.source_meaning.specs.Evaluation.{eval, eval_all, linked, each_is as the_each_is, applied as the_applied, entity, key_in, method_of, literal as the_literal, own_field as the_own_field};
 ghost use Rattle.source_meaning.specs.Execution.{act, act_all, act_arms, all_of, checked, store as the_store, target_value, augmented as the_augmented, value_or_none as the_value_or_none, message as the_message, start_of as the_start_of, turns_of, over_turns, over_items as the_over_items, over_numbers as the_over_numbers, while_turns as the_while_turns};
 ghost use Rattle.source_meaning.specs.Calls.{run_body as the_run_body, enter as the_enter, create as the_create, declare as the_declare, declare_all as the_declare_all, calls_at, calls_within, own_at, bound};
@@ -38,7 +38,7 @@ use crate::operations::{
 use crate::purity::is_pure;
 use crate::site::{Room, Site};
 use crate::tables::{
-    body, called, class_fields, class_number, init, method_number, new_entity, params,
+    body, class_fields, class_number, init, method_at, method_number, new_entity, params,
 };
 use crate::transaction::{Transaction, begin};
 use crate::vars::{Vars, assign_local, bind, read_local};
@@ -231,7 +231,8 @@ pub(crate) fn evaluate(
     }
 }
 
-/// `on[index]`. Of a list that stands in a local, or in an own field that no code of the index can change, the element alone is copied.
+/// `on[index]`. Of a list that stands in a local, or in an own field while the index calls no
+/// method and creates nothing, the element alone is copied.
 #[cycle(walk)]
 #[tactic(auto, using(crate::proofs::EvalLaws::eval_is))]
 fn indexed(
@@ -271,7 +272,7 @@ fn own_element(
     steps: &mut u32,
 ) -> Result<Value, Stop>
     requires small { expr_size (plain_expr index.now) ≤ most_nodes }
-    requires pure { is_pure_expr (plain_expr index.now) ≡ true }
+    requires pure { the_is_pure (plain_expr index.now) ≡ true }
     ensures { Agrees result (world_of site.now.state.now tx.new) steps.new (element_in (told (weighed (the_own_field (site_of site.now) name.0 (world_of site.now.state.now tx.old))) (world_of site.now.state.now tx.old) steps.old) (eval (site_of site.now) (plain_expr index.now) vars.now)) }
 {
     check_own_weight(site, name, tx)?;
@@ -389,7 +390,7 @@ fn call_own(
         fields: site.fields,
         room: Room::Within(left),
     };
-    let method = called(site.program, site.me.class, number);
+    let method = method_at(site.program, site.me.class, number);
     run_body(&within, method, args, tx, steps)
 }
 
@@ -439,7 +440,7 @@ fn enter(
         fields: fields.as_slice(),
         room: Room::Open(left),
     };
-    let method = called(site.program, at.class, number);
+    let method = method_at(site.program, at.class, number);
     run_body(&inside, method, args, tx, steps)
 }
 

@@ -150,7 +150,7 @@ pub call_own-returns-in_default : goal.call_own-returns-in_default
 call_own-returns-in_default t c = let deep : c.args.left ≡ 0 = omega (arith, c.in_default.ensures) in λ at. falls_as c.fail.result recursion_error _ _ _ c.fail.ensures (within_deep (own_at (key_of c.args.site.now.me.now)) (source_of c.args.site.now.program.now) (key_of c.args.site.now.me.now) c.args.left at c.args.number c.args.args.now (world_of c.args.site.now.state.now c.args.tx.now) c.args.steps.now c.take_step.new.steps deep c.in_ok-take_step.ensures.taken)
 
 pub call_own-returns : goal.call_own-returns
-call_own-returns t c = let room : c.args.left ≡ suc c.in-Some.left = omega (arith, c.in-Some.ensures) in λ at. agrees_by c.run_body.result _ _ _ _ (within_more (own_at (key_of c.args.site.now.me.now)) (source_of c.args.site.now.program.now) (key_of c.args.site.now.me.now) c.args.left c.in-Some.left at c.args.number c.args.args.now (world_of c.args.site.now.state.now c.args.tx.now) c.args.steps.now c.take_step.new.steps room c.in_ok-take_step.ensures.taken ∙ ap (λ m. run_body (record { src = (source_of c.args.site.now.program.now); own = own_at (key_of c.args.site.now.me.now); calls = calls_within (own_at (key_of c.args.site.now.me.now)) (source_of c.args.site.now.program.now) (key_of c.args.site.now.me.now) c.in-Some.left; me = (key_of c.args.site.now.me.now) }) m c.args.args.now (world_of c.args.site.now.state.now c.args.tx.now) c.take_step.new.steps) (sym c.called-method.ensures.method)) c.run_body.ensures
+call_own-returns t c = let room : c.args.left ≡ suc c.in-Some.left = omega (arith, c.in-Some.ensures) in λ at. agrees_by c.run_body.result _ _ _ _ (within_more (own_at (key_of c.args.site.now.me.now)) (source_of c.args.site.now.program.now) (key_of c.args.site.now.me.now) c.args.left c.in-Some.left at c.args.number c.args.args.now (world_of c.args.site.now.state.now c.args.tx.now) c.args.steps.now c.take_step.new.steps room c.in_ok-take_step.ensures.taken ∙ ap (λ m. run_body (record { src = (source_of c.args.site.now.program.now); own = own_at (key_of c.args.site.now.me.now); calls = calls_within (own_at (key_of c.args.site.now.me.now)) (source_of c.args.site.now.program.now) (key_of c.args.site.now.me.now) c.in-Some.left; me = (key_of c.args.site.now.me.now) }) m c.args.args.now (world_of c.args.site.now.state.now c.args.tx.now) c.take_step.new.steps) (sym c.method_at-method.ensures.method)) c.run_body.ensures
 
 pub create-returns-then-contains : goal.create-returns-then-contains
 create-returns-then-contains t c = falls_as c.fail.result already_exists _ _ _ c.fail.ensures (create_taken (source_of c.args.site.now.program.now) (key_of c.args.at) c.args.args.now (world_of c.args.site.now.state.now c.args.tx.now) (world_of c.args.site.now.state.now c.mark_read.new.self) c.args.steps.now (c.in_ok-mark_read.ensures c.args.site.now.state.now ∙ ap (λ r. reading (world_of c.args.site.now.state.now c.args.tx.now) (key_of r)) c.in_ok-try_clone.ensures) (sym c.contains.ensures ∙ c.if-contains.true))
@@ -201,7 +201,7 @@ pub enter-returns-then-not-contains : goal.enter-returns-then-not-contains
 enter-returns-then-not-contains t c = let none : is_some (get (world_of c.args.site.now.state.now c.mark_read.new.self).state (key_of c.args.at)) ≡ false = sym c.contains.ensures ∙ c.if-not-contains.true in falls_as c.fail.result no_entity _ _ _ c.fail.ensures (enter_missing (source_of c.args.site.now.program.now) (key_of c.args.at) c.args.args.now (world_of c.args.site.now.state.now c.args.tx.now) (world_of c.args.site.now.state.now c.mark_read.new.self) c.args.steps.now (c.in_ok-mark_read.ensures c.args.site.now.state.now ∙ ap (λ r. reading (world_of c.args.site.now.state.now c.args.tx.now) (key_of r)) c.in_ok-try_clone.ensures) (calls_at (source_of c.args.site.now.program.now) c.args.left) c.args.number none)
 
 pub enter-returns : goal.enter-returns
-enter-returns t c = let there : is_some (get (world_of c.args.site.now.state.now c.mark_read.new.self).state (key_of c.args.at)) ≡ true = sym c.contains.ensures ∙ c.if-not-contains.false in agrees_by c.run_body.result _ _ _ _ (enter_found (source_of c.args.site.now.program.now) (key_of c.args.at) c.args.args.now (world_of c.args.site.now.state.now c.args.tx.now) (world_of c.args.site.now.state.now c.mark_read.new.self) c.args.steps.now (c.in_ok-mark_read.ensures c.args.site.now.state.now ∙ ap (λ r. reading (world_of c.args.site.now.state.now c.args.tx.now) (key_of r)) c.in_ok-try_clone.ensures) (calls_at (source_of c.args.site.now.program.now) c.args.left) c.args.number there ∙ ap (λ m. run_body (in_state (source_of c.args.site.now.program.now) (calls_at (source_of c.args.site.now.program.now) c.args.left) (key_of c.args.at)) m c.args.args.now (world_of c.args.site.now.state.now c.mark_read.new.self) c.args.steps.now) (sym c.called-method.ensures.method)) c.run_body.ensures
+enter-returns t c = let there : is_some (get (world_of c.args.site.now.state.now c.mark_read.new.self).state (key_of c.args.at)) ≡ true = sym c.contains.ensures ∙ c.if-not-contains.false in agrees_by c.run_body.result _ _ _ _ (enter_found (source_of c.args.site.now.program.now) (key_of c.args.at) c.args.args.now (world_of c.args.site.now.state.now c.args.tx.now) (world_of c.args.site.now.state.now c.mark_read.new.self) c.args.steps.now (c.in_ok-mark_read.ensures c.args.site.now.state.now ∙ ap (λ r. reading (world_of c.args.site.now.state.now c.args.tx.now) (key_of r)) c.in_ok-try_clone.ensures) (calls_at (source_of c.args.site.now.program.now) c.args.left) c.args.number there ∙ ap (λ m. run_body (in_state (source_of c.args.site.now.program.now) (calls_at (source_of c.args.site.now.program.now) c.args.left) (key_of c.args.at)) m c.args.args.now (world_of c.args.site.now.state.now c.mark_read.new.self) c.args.steps.now) (sym c.method_at-method.ensures.method)) c.run_body.ensures
 
 pub evaluate-evaluate_all-requires : goal.evaluate-evaluate_all-requires
 evaluate-evaluate_all-requires t c = let size : expr_size (plain_expr c.args.expr.now) ≡ 1 + expr_size (plain_expr c.deref.result.now) + exprs_size (exprs_of (plain_exprs c.as_slice.result.now)) = ap (λ k. expr_size (plain_kind k c.args.expr.now.place)) c.in-Call.is ∙ size-Call c.args.expr.now.place c.in-Call.on c.in-Call.name c.in-Call.args ∙ (λ j. 1 + expr_size (plain_expr (sym c.deref.ensures j)) + exprs_size (exprs_of (plain_exprs (sym c.as_slice.ensures j)))) in omega arith

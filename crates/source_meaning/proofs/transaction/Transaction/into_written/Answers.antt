@@ -1,10 +1,8 @@
 use Rattle.source_meaning.proofs.TransactionLaws.{is_written, written_record}
 use Rattle.source_meaning.proofs.transaction.Transaction.into_written.Goals as goal
 
--- src/transaction.rt:133:5
 pub returns-clause-written : goal.returns-clause-written
 returns-clause-written c = λ s. is_written c.args.self.changed.entries c.args.at.now c.swap_remove.result c.swap_remove.ensures.value
 
--- src/transaction.rt:133:5
 pub returns-clause-fields : goal.returns-clause-fields
 returns-clause-fields c = λ s. written_record s c.args.self.changed.entries c.args.at.now c.swap_remove.result c.swap_remove.ensures.value
