@@ -1,6 +1,6 @@
 //! Reply lines, written as JSON.
 
-ghost use Rattle.std.specs.Prelude.{◌≡◌, ◌++◌, ◌∷◌, [], codes, false, string_bytes, IfOk};
+ghost use Rattle.std.specs.Prelude.{◌≡◌, ◌++◌, ◌∷◌, [], codes, false, map, string_bytes, IfOk};
 ghost use Rattle.serde_json.specs.View.{view};
 ghost use Rattle.serde_json.specs.Written.{compact_text, has_float};
 ghost use Rattle.request_json.specs.ReplyLines.{int_data, value_data, kind_name, value_reply, failure_reply, reply_data, reply_line, bad_data, bad_line};
@@ -26,7 +26,20 @@ fn text_json(alloc: Global, text: &Text) -> Result<Json, AllocError>
     Ok(Json::String(String::from_str(alloc, text.as_str())?))
 }
 
-/// A result, in the form in which an argument is given.
+/// The elements of a list, one after another.
+#[cycle(values_json)]
+fn items_json(alloc: Global, items: &[Value]) -> Result<Vec<Json>, AllocError>
+    ensures { IfOk result (λ made. map view made.items ≡ map value_data items.now) }
+{
+    let mut made = Vec::new(alloc);
+    for item in items {
+        made.push(value_json(alloc, item)?)?;
+    }
+    Ok(made)
+}
+
+/// A result, in the form in which an argument is passed.
+#[cycle(values_json)]
 fn value_json(alloc: Global, value: &Value) -> Result<Json, AllocError>
     ensures { IfOk result (λ v. view v ≡ value_data value.now) }
 {
@@ -34,8 +47,9 @@ fn value_json(alloc: Global, value: &Value) -> Result<Json, AllocError>
         Value::Int(n) => int_json(alloc, *n),
         Value::Bool(b) => Ok(Json::Bool(*b)),
         Value::Str(text) => text_json(alloc, text),
+        Value::Nil => Ok(Json::Null),
+        Value::List(items) => Ok(Json::Array(items_json(alloc, items.as_slice())?)),
         Value::Entity(at) => text_json(alloc, &at.key),
-        Value::Nil | Value::List(_) => Ok(Json::Null),
     }
 }
 
