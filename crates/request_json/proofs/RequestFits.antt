@@ -27,7 +27,7 @@ use Rattle.source_meaning.proofs.Places.{position_is, position_of_more}
 use Rattle.request_json.specs.declared.fault.LineFault.{LineFault}
 use Rattle.request_json.specs.declared.fault.LineFault.TheVariants.{NotJson, NotRequest, UnknownClass, UnknownMethod, ArgumentCount, ArgumentType}
 use Rattle.request_json.specs.Arguments.{◌>>?◌, int_of, each_of, class_named, value_of, arg_of, args_of}
-use Rattle.request_json.specs.RequestLines.{◌>>=◌, length_of, is_id, id_of, text_at, id_in, text_in, array_in, class_of, method_of as method_in, arguments_of, call_of, creation_of, has_keys, call_keys, creation_keys, of_data, data_of, reading_of, accepted, request_of}
+use Rattle.request_json.specs.RequestLines.{◌>>=◌, length_of, is_id, id_of, text_at, id_in, text_in, array_in, class_of, method_of as method_in, arguments_of, call_of, creation_of, has_keys, call_keys, creation_keys, of_data, data_of, reading_of}
 use Rattle.request_json.specs.LinesFit.{IdFits, RequestFits, LinesFit}
 
 -- what goes on had something to go on with
@@ -201,11 +201,3 @@ module _ (names : List (List ℕ)) (program : PlainProgram) where
 
   pub reading_fits : (line : List ℕ) (r : Request) → reading_of src line ≡ Ok r → RequestFits tables r
   reading_fits line r is = let d = then_ok (ok_or (data_of line) NotJson) (of_data src) r is in asked d.0 r d.2
-
-  -- and so does what it asks for
-  pub line_fits : (line : List ℕ) (r : Request) → request_of src line ≡ Some r → ActFits tables r.act
-  line_fits line r = by (reading_of src line) (reading_fits line)
-    where
-      by : (told : Result Request LineFault) → ((q : Request) → told ≡ Ok q → RequestFits tables q) → accepted told ≡ Some r → ActFits tables r.act
-      by (Ok q) fits is = subst (λ (p : Request). ActFits tables p.act) (same_Some q r is) (fits q refl).act
-      by (Err fault) fits is = absurd (none-some r is)

@@ -122,11 +122,3 @@ text_of UnknownClass = codes "unknown class"
 text_of UnknownMethod = codes "unknown method"
 text_of ArgumentCount = codes "argument count"
 text_of ArgumentType = codes "argument type"
-
--- the request that a line is, where it is one
-abbrev pub accepted : Result Request LineFault → Option Request
-accepted (Ok r) = Some r
-accepted (Err fault) = None
-
-abbrev pub request_of : Source → List ℕ → Option Request
-request_of src line = accepted (reading_of src line)

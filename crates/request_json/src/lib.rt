@@ -11,5 +11,5 @@ mod write;
 
 pub use fault::{LineError, LineFault};
 pub use laws::lines_fit;
-pub use read::{read_line, read_request};
-pub use write::{write_bad, write_reply};
+pub use read::read_line;
+pub use write::{write_bad, write_entry, write_reply};

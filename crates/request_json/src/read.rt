@@ -185,18 +185,3 @@ pub fn read_line(alloc: Global, program: &Checked, line: &[u8]) -> Result<Reques
         None => Err(LineError::Fault(LineFault::NotJson)),
     }
 }
-
-/// The request that a line is, where it is one.
-pub fn read_request(
-    alloc: Global,
-    program: &Checked,
-    line: &[u8],
-) -> Result<Option<Request>, AllocError>
-    ensures { IfOk result (λ r. r ≡ spec.request_of (source_of program.now) line.now) }
-{
-    match read_line(alloc, program, line) {
-        Ok(request) => Ok(Some(request)),
-        Err(LineError::Fault(_)) => Ok(None),
-        Err(LineError::NoMemory) => Err(AllocError),
-    }
-}

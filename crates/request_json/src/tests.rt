@@ -1,13 +1,13 @@
 //! The exact text of replies.
 
-use crate::{write_bad, write_reply};
-use sf_value::{Failure, Outcome, Ref, Reply, Text, Value};
+use crate::{write_bad, write_entry};
+use sf_value::{Failure, Outcome, Ref, Text, Value};
 use std::alloc::{AllocError, Global};
 use std::test::Fail;
 
 /// The line of a reply to `r1` at this place.
 fn reply_line(alloc: Global, outcome: Outcome, seq: u32) -> Result<sf_value::Bytes, AllocError> {
-    write_reply(alloc, &Text::of(alloc, "r1")?, &Reply { seq, outcome })
+    write_entry(alloc, &Text::of(alloc, "r1")?, &outcome, seq)
 }
 
 fn failed(alloc: Global, kind: u8, message: &str) -> Result<Outcome, AllocError> {
