@@ -1,11 +1,16 @@
 //! Floor division and modulo of whole numbers.
 
 ghost use Rattle.std.specs.Prelude.{◌≡◌, ◌≢◌, ◌↔◌, ℤ, pos, IfSome, IsNone, IsTrue};
-ghost use Rattle.sf_value.specs.Arithmetic.{HaveOppositeSigns, FloorDivides, HasOneQuotient, HasNoQuotient};
+ghost use Rattle.sf_value.specs.Arithmetic.{HaveOppositeSigns, FloorDivides, HasOneQuotient, HasNoQuotient, floor_quotient, floor_rest};
 
 /// A divisor other than 0 gives one quotient and one remainder.
 pub fn has_one_quotient()
     ensures { (x y : ℤ) → y ≢ pos 0 → HasOneQuotient x y }
+{}
+
+/// What divides by the rules is what `floor_quotient` and `floor_rest` compute.
+pub fn has_computed_quotient()
+    ensures { (x y q r : ℤ) → y ≢ pos 0 → FloorDivides x y q r → (q ≡ floor_quotient x y) × (r ≡ floor_rest x y) }
 {}
 
 /// Whether a division towards zero that left this remainder rounded up.

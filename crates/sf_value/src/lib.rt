@@ -12,7 +12,7 @@ mod text;
 mod value;
 mod weighing;
 
-pub use arithmetic::{floor_div, floor_mod, has_one_quotient};
+pub use arithmetic::{floor_div, floor_mod, has_computed_quotient, has_one_quotient};
 use sf_list::{Sequence, TryClone};
 use std::alloc::{AllocError, Global};
 pub use text::Text;
