@@ -2,7 +2,7 @@
 
 use crate::{
     Disk, Failed, Files, MemDisk, MemFiles, MemSink, MemSource, MountFault, Sink, Source,
-    StoreFile, WriteStop, write_line,
+    StoreFile, write_line,
 };
 use std::test::Fail;
 
@@ -53,7 +53,7 @@ fn files_are_read_by_name(rt: HostRuntime) -> Result<(), Fail> {
 fn a_line_is_written_or_stops(rt: HostRuntime) -> Result<(), Fail> {
     let mut sink = MemSink::new(rt.alloc(), 9, &[2])?;
     assert_eq!(rt; write_line(&mut sink, b"one\n"), Ok(()));
-    assert_eq!(rt; write_line(&mut sink, b"two\n"), Err(WriteStop::WriteFault));
+    assert_eq!(rt; write_line(&mut sink, b"two\n"), Err(Failed));
     assert_eq!(rt; sink.bytes(), b"one\n".as_slice());
     Ok(())
 }
