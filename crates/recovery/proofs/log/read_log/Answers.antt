@@ -1,7 +1,8 @@
 use Rattle.std.proofs.Common.{Ok, IfSome, subst, ◌∙◌, arith}
 use Rattle.sf_outside.specs.DiskModel.{of_file}
+use Rattle.sf_outside.proofs.DiskLaws.{Stays-then}
 use Rattle.request_log.specs.Answers.{Answers, IsPlaced}
-use Rattle.recovery.proofs.Logs.{stays_then, logged_next, seen_next, seen_end}
+use Rattle.recovery.proofs.Logs.{logged_next, seen_next, seen_end}
 use Rattle.recovery.proofs.log.read_log.Goals as goal
 
 pub loop-batches-preserved : goal.loop-batches-preserved
@@ -18,7 +19,7 @@ loop-batches-preserved g c =
     record {
       logged = logged_next batches at found.batch found.next c.push.new.self c.in_ok-push.ensures.ok here before.logged;
       seen = seen_next c.args.file old.seen mid.seen before.stays.seen batches at before.seen found.batch found.next c.push.new.self c.in_ok-push.ensures.ok here.1 there;
-      stays = stays_then old mid new before.stays c.next.ensures.stays;
+      stays = Stays-then old mid new before.stays c.next.ensures.stays;
       later = omega (arith, before.later, c.next.ensures.later);
       mounts = c.next.ensures.mounts ∙ before.mounts;
     }
