@@ -15,7 +15,7 @@ use Rattle.sf_bytes.proofs.Wide.{IsBytes, IsBytes-rest, wide32}
 use Rattle.sf_outside.specs.Bytes.{CopiedAll}
 use Rattle.sf_outside.specs.DiskModel.{Image, of_file}
 use Rattle.sf_outside.specs.declared.store_disk.StoreFile.{StoreFile}
-use Rattle.sf_outside.proofs.ImageSteps.{if_both}
+use Rattle.sf_outside.proofs.ImageSteps.{if_one, if_both}
 use Rattle.sf_outside.proofs.WrittenBytes.{copied-stands}
 use Rattle.sf_value.specs.declared.BatchRecord.{BatchRecord}
 use Rattle.request_log.specs.LogFile.{gate_behind, RecordAt, IsBadAt, IsBatch}
@@ -87,12 +87,17 @@ module _ (file : List ℕ) (at len : ℕ) (short : len < 2 ^ 32) (claims : Stand
 -- ---- what was copied
 
 -- five bytes were asked for, and they say that no record is there
-pub broken : (file : List ℕ) (at n : ℕ) (buf : List ℕ) → length buf ≡ 5 → CopiedAll file at n buf → SaysFront (take n buf) Broken → IsBadAt file at
+broken : (file : List ℕ) (at n : ℕ) (buf : List ℕ) → length buf ≡ 5 → CopiedAll file at n buf → SaysFront (take n buf) Broken → IsBadAt file at
 broken file at n buf five copied (inl none) = inl (omega (arith, five, copied.count, ap length none, length-take n buf))
 broken file at n buf five copied (inr says) =
     let some : 1 ≤ n = omega (arith, ap length says.0, length-take 1 (take n buf), length-take n buf) in
     let open_there : OpenAt file at = sym (take-take 1 n (drop at file) some) ∙ ap (take 1) (sym copied.bytes) ∙ says.0 in
     inr (open_there, λ batch next there. absurd (omega (arith, five, copied.count, says.1, length-take n buf, there.ends, Record-length file at batch next there)))
+
+pub seen_broken : (file : StoreFile) (seen : Option Image) (at n : ℕ) (buf : List ℕ) → length buf ≡ 5 → IfSome seen (λ now. CopiedAll (of_file file now) at n buf) → SaysFront (take n buf) Broken
+    → IfSome seen (λ now. IsBadAt (of_file file now) at)
+seen_broken file seen at n buf five copied says =
+    if_one seen (λ now. CopiedAll (of_file file now) at n buf) (λ now. IsBadAt (of_file file now) at) (λ now copy. broken (of_file file now) at n buf five copy says) copied
 
 -- ---- what the bytes that a read gives say
 

@@ -105,7 +105,7 @@ fn record_of<D: Disk>(
 }
 
 /// The batch whose bytes these are, with none left over.
-pub(crate) fn whole_batch(alloc: Global, bytes: &[u8]) -> Result<Option<BatchRecord>, AllocError>
+fn whole_batch(alloc: Global, bytes: &[u8]) -> Result<Option<BatchRecord>, AllocError>
     ensures { IfOk result (λ found. SaysBatch bytes.now found) }
 {
     let Some((batch, count)) = read_batch(alloc, bytes)? else {

@@ -1,6 +1,6 @@
-//! What the forms in memory do, call by call.
+//! What the devices in memory do, call by call.
 
-use crate::{
+use sf_outside::{
     Disk, Failed, Files, MemDisk, MemFiles, MemSink, MemSource, MountFault, Sink, Source,
     StoreFile, write_line,
 };

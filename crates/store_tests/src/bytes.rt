@@ -1,12 +1,13 @@
-use super::*;
-use sf_value::Act;
-use std::test::Fail;
+//! The bytes of values, requests, outcomes, batches and snapshots.
 
-/// One new request, which makes an entity of class 0 by the key `apple` and the number 3, and is committed.
-const BATCH: [u8; 53] = [
-    0, 0, 0, 1, 0, 0, 0, 1, b'a', 1, 0, 0, 0, 0, 0, 0, 0, 2, 4, 0, 0, 0, 5, b'a', b'p', b'p', b'l',
-    b'e', 3, 0, 0, 0, 0, 0, 0, 0, 0, 0, 0, 0, 0, 0, 0, 0, 3, 0, 0, 0, 1, 0, 0, 0, 0,
-];
+use crate::kept::BATCH;
+use sf_bytes::{
+    read_batch, read_outcome, read_request, read_snapshot, read_value, write_batch, write_outcome,
+    write_request, write_snapshot, write_value,
+};
+use sf_value::{Act, Value};
+use std::alloc::{AllocError, Global};
+use std::test::Fail;
 
 #[test]
 fn a_batch_is_read_and_written_again(rt: HostRuntime) -> Result<(), Fail> {
@@ -70,25 +71,54 @@ fn is_snapshot(alloc: Global, bytes: &[u8]) -> Result<bool, AllocError> {
     Ok(taken == bytes.len() && write_snapshot(alloc, &item)?.as_slice() == bytes)
 }
 
+/// The list of the list of -1, and of the entity of class 1 with the key `k`.
+const NESTED: [u8; 37] = [
+    5, 0, 0, 0, 2, 5, 0, 0, 0, 1, 3, 255, 255, 255, 255, 255, 255, 255, 255, 255, 255, 255, 255,
+    255, 255, 255, 255, 6, 0, 0, 0, 1, 0, 0, 0, 1, b'k',
+];
+
 #[test]
-fn each_thing_has_a_shortest_spelling(rt: HostRuntime) -> Result<(), Fail> {
+fn each_thing_is_read_and_written_again(rt: HostRuntime) -> Result<(), Fail> {
     let alloc = rt.alloc();
-    assert!(rt; is_value(alloc, &[0])?);
-    assert!(rt; is_request(alloc, &[0, 0, 0, 0, 1, 0, 0, 0, 0, 0, 0, 0, 0])?);
-    assert!(rt; is_outcome(alloc, &[0, 0])?);
-    assert!(rt; is_batch(alloc, &[0; 8])?);
-    assert!(rt; is_snapshot(alloc, &[0; 20])?);
+    assert!(rt; is_value(alloc, &[0])?, "None");
+    assert!(rt;
+        is_value(alloc, &NESTED)?,
+        "a list of a list of -1, and an entity"
+    );
+    assert!(rt;
+        is_request(alloc, &[0, 0, 0, 0, 1, 0, 0, 0, 0, 0, 0, 0, 0])?,
+        "an empty id"
+    );
+    assert!(rt; is_outcome(alloc, &[0, 0])?, "the value None");
+    assert!(rt;
+        is_outcome(alloc, &[1, 12, 0, 0, 0, 0])?,
+        "a failure of kind 12"
+    );
+    assert!(rt; is_batch(alloc, &[0; 8])?, "an empty batch");
+    assert!(rt; is_snapshot(alloc, &[0; 20])?, "an empty snapshot");
     Ok(())
 }
 
 #[test]
-fn a_list_of_a_list_of_minus_one_is_read_and_written_again(rt: HostRuntime) -> Result<(), Fail> {
+fn what_is_no_value_is_none(rt: HostRuntime) -> Result<(), Fail> {
     let alloc = rt.alloc();
-    let bytes = [
-        5, 0, 0, 0, 2, 5, 0, 0, 0, 1, 3, 255, 255, 255, 255, 255, 255, 255, 255, 255, 255, 255,
-        255, 255, 255, 255, 255, 6, 0, 0, 0, 1, 0, 0, 0, 1, b'k',
-    ];
-    assert!(rt; is_value(alloc, &bytes)?);
+    assert!(rt;
+        !is_value(alloc, &[5, 255, 255, 255, 255, 0])?,
+        "items that aren't there"
+    );
+    assert!(rt;
+        !is_value(alloc, &[4, 0, 0, 0, 1, 255])?,
+        "a text that is no UTF-8"
+    );
+    assert!(rt; !is_value(alloc, &[7])?, "a tag too high");
+    assert!(rt;
+        !is_outcome(alloc, &[1, 13, 0, 0, 0, 0])?,
+        "a failure of kind 13"
+    );
+    assert!(rt;
+        !is_outcome(alloc, &[1, 0, 0, 0, 0, 0])?,
+        "a failure of kind 0"
+    );
     Ok(())
 }
 
@@ -97,26 +127,5 @@ fn bytes_after_a_value_stay(rt: HostRuntime) -> Result<(), Fail> {
     let (value, taken) = read_value(rt.alloc(), &[2, 9, 9])?.ok_or("no value")?;
     assert!(rt; matches!(value, Value::Bool(true)));
     assert_eq!(rt; taken, 1);
-    Ok(())
-}
-
-#[test]
-fn a_count_of_items_that_are_not_there_is_none(rt: HostRuntime) -> Result<(), Fail> {
-    assert!(rt; read_value(rt.alloc(), &[5, 255, 255, 255, 255, 0])?.is_none());
-    Ok(())
-}
-
-#[test]
-fn a_text_that_is_no_utf8_is_none(rt: HostRuntime) -> Result<(), Fail> {
-    assert!(rt; read_value(rt.alloc(), &[4, 0, 0, 0, 1, 255])?.is_none());
-    Ok(())
-}
-
-#[test]
-fn a_failure_of_kind_13_is_none(rt: HostRuntime) -> Result<(), Fail> {
-    assert!(rt; read_outcome(rt.alloc(), &[1, 13, 0, 0, 0, 0])?.is_none());
-    let (outcome, taken) = read_outcome(rt.alloc(), &[1, 12, 0, 0, 0, 0])?.ok_or("no outcome")?;
-    assert!(rt; matches!(outcome, Outcome::Failed(_)));
-    assert_eq!(rt; taken, 6);
     Ok(())
 }
