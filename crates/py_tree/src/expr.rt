@@ -35,7 +35,6 @@ pub struct Expr {
 pub type Exprs = Sequence<Expr>;
 
 #[cycle(expr)]
-#[derive(Drop)]
 pub enum ExprKind {
     Int(i128),
     Bool(bool),
@@ -71,6 +70,51 @@ pub enum ExprKind {
         yes: Box<Expr>,
         no: Box<Expr>,
     },
+}
+
+/// Gives each owned part to a call of `drop`, so that a function that lets a tree go has one step for it.
+impl Drop for ExprKind {
+    #[cycle(expr_drop)]
+    fn drop(self) {
+        match self {
+            ExprKind::Int(_)
+            | ExprKind::Bool(_)
+            | ExprKind::Str(_)
+            | ExprKind::Nil
+            | ExprKind::Var(_)
+            | ExprKind::SelfRef => {}
+            ExprKind::Attr(on, _) => drop(on),
+            ExprKind::Call(on, _, args) => {
+                drop(on);
+                drop(args);
+            }
+            ExprKind::Apply(_, args) => drop(args),
+            ExprKind::Index(on, at) => {
+                drop(on);
+                drop(at);
+            }
+            ExprKind::List(items) => drop(items),
+            ExprKind::Neg(of) => drop(of),
+            ExprKind::Pos(of) => drop(of),
+            ExprKind::Not(of) => drop(of),
+            ExprKind::Chain(first, links) => {
+                drop(first);
+                drop(links);
+            }
+            ExprKind::And(parts) => drop(parts),
+            ExprKind::Or(parts) => drop(parts),
+            ExprKind::Compare(_, _, left, right) => {
+                drop(left);
+                drop(right);
+            }
+            ExprKind::IsNone(of, _) => drop(of),
+            ExprKind::Cond { test, yes, no } => {
+                drop(test);
+                drop(yes);
+                drop(no);
+            }
+        }
+    }
 }
 
 /// An operator with its place and what stands right of it.

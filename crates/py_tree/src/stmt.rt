@@ -31,7 +31,6 @@ pub struct Stmt {
 pub type Stmts = Sequence<Stmt>;
 
 #[cycle(stmt)]
-#[derive(Drop)]
 pub enum StmtKind {
     Pass,
     Break,
@@ -66,6 +65,53 @@ pub enum StmtKind {
         over: Over,
         body: Stmts,
     },
+}
+
+/// Gives each owned part to a call of `drop`, so that a function that lets a tree go has one step for it.
+impl Drop for StmtKind {
+    #[cycle(stmt_drop)]
+    fn drop(self) {
+        match self {
+            StmtKind::Pass | StmtKind::Break | StmtKind::Continue => {}
+            StmtKind::Expr(value) => drop(value),
+            StmtKind::Return(value) => drop(value),
+            StmtKind::Raise(_, message) => drop(message),
+            StmtKind::Assert(test, message) => {
+                drop(test);
+                drop(message);
+            }
+            StmtKind::Assign {
+                target: _,
+                ty,
+                value,
+            } => {
+                drop(ty);
+                drop(value);
+            }
+            StmtKind::Augment {
+                target: _,
+                op: _,
+                op_place: _,
+                value,
+            } => drop(value),
+            StmtKind::If { arms, other } => {
+                drop(arms);
+                drop(other);
+            }
+            StmtKind::While { test, body } => {
+                drop(test);
+                drop(body);
+            }
+            StmtKind::For {
+                name: _,
+                over,
+                body,
+            } => {
+                drop(over);
+                drop(body);
+            }
+        }
+    }
 }
 
 /// A test and what runs where it holds: an `if` or an `elif`.
