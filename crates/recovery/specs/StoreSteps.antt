@@ -18,11 +18,12 @@ pub record HoldsBatches (image : Image) (epoch : ℕ) (kept : Snapshot) (batches
   pub log : LogFrom (of_file (log_of epoch) image) 0 batches at
 
 abbrev pub OldHoldsBatches : Type 0
-OldHoldsBatches = (image : Image) (epoch : ℕ) (kept : Snapshot) (batches : List Placed) (at : ℕ) → IsOld image epoch kept batches at → HoldsBatches image epoch kept (batches_of batches) at
+OldHoldsBatches = (image : Image) (epoch : ℕ) (kept : Snapshot) (batches : List Placed) (at : ℕ)
+    → IsOld image epoch kept batches at → HoldsBatches image epoch kept (batches_of batches) at
 
 abbrev pub BatchesHavePlaces : Type 0
-BatchesHavePlaces = (image : Image) (epoch : ℕ) (kept : Snapshot) (batches : List BatchRecord) (at : ℕ) → HoldsBatches image epoch kept batches at
-    → (placed : List Placed) × (batches_of placed ≡ batches) × IsOld image epoch kept placed at
+BatchesHavePlaces = (image : Image) (epoch : ℕ) (kept : Snapshot) (batches : List BatchRecord) (at : ℕ)
+    → HoldsBatches image epoch kept batches at → (placed : List Placed) × (batches_of placed ≡ batches) × IsOld image epoch kept placed at
 
 -- ---- one record more
 
@@ -32,18 +33,20 @@ pub record LogSteps (epoch : ℕ) (Step : List ℕ → List ℕ → Type 0) (bef
   pub others : now ≡ with_file (log_of epoch) (of_file (log_of epoch) now) before
 
 abbrev pub RecordAddsBatch : Type 0
-RecordAddsBatch = (before now : Image) (epoch : ℕ) (kept : Snapshot) (batches : List BatchRecord) (at : ℕ) (body : List ℕ) (batch : BatchRecord) → HoldsBatches before epoch kept batches at → IsBatch body batch
-    → LogSteps epoch (HasRecord at body) before now → HoldsBatches now epoch kept (batches ++ batch ∷ []) (gate_behind at (length body))
+RecordAddsBatch = (before now : Image) (epoch : ℕ) (kept : Snapshot) (batches : List BatchRecord) (at : ℕ) (body : List ℕ) (batch : BatchRecord)
+    → HoldsBatches before epoch kept batches at → IsBatch body batch → LogSteps epoch (HasRecord at body) before now
+    → HoldsBatches now epoch kept (batches ++ batch ∷ []) (gate_behind at (length body))
 
 abbrev pub ClosedGateAddsNone : Type 0
-ClosedGateAddsNone = (before now : Image) (epoch : ℕ) (kept : Snapshot) (batches : List BatchRecord) (at : ℕ) → HoldsBatches before epoch kept batches at
-    → LogSteps epoch (StaysClosed at) before now → HoldsBatches now epoch kept batches at
+ClosedGateAddsNone = (before now : Image) (epoch : ℕ) (kept : Snapshot) (batches : List BatchRecord) (at : ℕ)
+    → HoldsBatches before epoch kept batches at → LogSteps epoch (StaysClosed at) before now → HoldsBatches now epoch kept batches at
 
 -- ---- one checkpoint more
 
 abbrev pub CheckpointBegins : Type 0
-CheckpointBegins = (image : Image) (epoch : ℕ) (body : List ℕ) (kept : Snapshot) → IsSnapshot body kept → IsKept epoch body image → HoldsBatches image epoch kept [] 0
+CheckpointBegins = (image : Image) (epoch : ℕ) (body : List ℕ) (kept : Snapshot)
+    → IsSnapshot body kept → IsKept epoch body image → HoldsBatches image epoch kept [] 0
 
 abbrev pub CheckpointKeeps : Type 0
-CheckpointKeeps = (before now : Image) (epoch : ℕ) (kept : Snapshot) (batches : List BatchRecord) (at : ℕ) → HoldsBatches before epoch kept batches at
-    → KeepsNewest before now → HoldsBatches now epoch kept batches at
+CheckpointKeeps = (before now : Image) (epoch : ℕ) (kept : Snapshot) (batches : List BatchRecord) (at : ℕ)
+    → HoldsBatches before epoch kept batches at → KeepsNewest before now → HoldsBatches now epoch kept batches at
