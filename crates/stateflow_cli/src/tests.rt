@@ -7,7 +7,6 @@ mod checking;
 mod class_rules;
 mod entities;
 mod flow_rules;
-mod interpreter;
 mod levels;
 mod lexing;
 mod lists;

@@ -1,16 +1,15 @@
 //! Requests of every kind on the state: what each comes to, what it reads and writes, and what it leaves.
 
-use crate::loading::load;
+use crate::accepted::accepted;
 use py_tree::Checked;
 use sf_list::Sequence;
-use sf_outside::MemFiles;
 use sf_value::{Act, Outcome, Ref, Request, Text, Value, Values};
 use source_meaning::{Attempt, Local};
 use std::alloc::{AllocError, Global};
 use std::test::Fail;
 
 /// Numbers, with a method for each kind of failure. The methods are numbered from `get` on.
-const NUM: &[u8] = b"from stateflow import entity
+const NUM: &str = "from stateflow import entity
 
 
 @entity
@@ -103,14 +102,6 @@ fn told(outcome: &Outcome) -> (u8, i128) {
     }
 }
 
-fn program(alloc: Global) -> Result<Checked, Fail> {
-    let mut files = MemFiles::new(alloc, &["num.py"], &[NUM], &[])?;
-    match load(alloc, &mut files, "num.py") {
-        Ok(program) => Ok(program),
-        Err(_) => Err(Fail::new("the program is accepted")),
-    }
-}
-
 fn entity(alloc: Global, key: &str) -> Result<Ref, AllocError> {
     Ok(Ref {
         class: 0,
@@ -157,7 +148,7 @@ fn two_numbers(alloc: Global, program: &Checked) -> Result<Local, AllocError> {
 
 /// What a call of a method of `p` comes to after `p` and `q` are made.
 fn attempted(alloc: Global, method: u32, args: Values) -> Result<Attempt, Fail> {
-    let program = program(alloc)?;
+    let program = accepted(alloc, NUM)?;
     let state = two_numbers(alloc, &program)?;
     let made = state.attempt(alloc, &program, &call_of(alloc, "p", method, args)?)?;
     Ok(made)
@@ -165,57 +156,60 @@ fn attempted(alloc: Global, method: u32, args: Values) -> Result<Attempt, Fail> 
 
 const MOST: i128 = 170141183460469231731687303715884105727;
 
+const LEAST: i128 = -MOST - 1;
+
 #[test]
 fn arithmetic_is_floored_and_stays_in_range(rt: HostRuntime) -> Result<(), Fail> {
-    let rows: [(u32, &[i128], (u8, i128)); 8] = [
-        (DIV, &[-7, 2], (0, -4)),
-        (MOD, &[-7, 2], (0, 1)),
-        (MOD, &[7, -2], (0, -1)),
-        (DIV, &[1, 0], (ZERO_DIVISION_ERROR, 0)),
-        (BIG, &[], (0, MOST)),
-        (OVER, &[], (OVERFLOW_ERROR, 0)),
-        (DIV, &[-MOST - 1, -1], (OVERFLOW_ERROR, 0)),
-        (DIV, &[9223372036854775807, 1], (0, 9223372036854775807)),
+    const WIDE: i128 = i64::MAX as i128;
+    let rows: [(&str, u32, &[i128], (u8, i128)); 8] = [
+        ("a quotient below 0", DIV, &[-7, 2], (0, -4)),
+        ("a rest of what is below 0", MOD, &[-7, 2], (0, 1)),
+        ("a rest by what is below 0", MOD, &[7, -2], (0, -1)),
+        ("by 0", DIV, &[1, 0], (ZERO_DIVISION_ERROR, 0)),
+        ("the greatest literal", BIG, &[], (0, MOST)),
+        ("one above it", OVER, &[], (OVERFLOW_ERROR, 0)),
+        ("least by -1", DIV, &[LEAST, -1], (OVERFLOW_ERROR, 0)),
+        ("most of 64 bits", DIV, &[WIDE, 1], (0, WIDE)),
     ];
-    for (method, args, wanted) in rows {
+    for (label, method, args, wanted) in rows {
         let args = numbers(rt.alloc(), args)?;
         let made = attempted(rt.alloc(), method, args)?;
-        assert_eq!(rt; told(&made.outcome), wanted);
+        assert_eq!(rt; told(&made.outcome), wanted, "{label}");
     }
     Ok(())
 }
 
 #[test]
 fn steps_and_depth_have_limits(rt: HostRuntime) -> Result<(), Fail> {
-    let rows: [(u32, &[i128], (u8, i128), u32); 4] = [
-        (SPIN, &[], (STEP_LIMIT, 0), 0),
-        (DOWN, &[1], (0, 1), 99_997),
-        (DOWN, &[64], (0, 64), 99_808),
-        (DOWN, &[65], (RECURSION_ERROR, 0), 99_807),
+    let rows: [(&str, u32, &[i128], (u8, i128), u32); 4] = [
+        ("no end", SPIN, &[], (STEP_LIMIT, 0), 0),
+        ("one call", DOWN, &[1], (0, 1), 99_997),
+        ("64 calls", DOWN, &[64], (0, 64), 99_808),
+        ("65 calls", DOWN, &[65], (RECURSION_ERROR, 0), 99_807),
     ];
-    for (method, args, wanted, steps) in rows {
+    for (label, method, args, wanted, steps) in rows {
         let args = numbers(rt.alloc(), args)?;
         let made = attempted(rt.alloc(), method, args)?;
-        assert_eq!(rt; told(&made.outcome), wanted);
-        assert_eq!(rt; made.steps, steps);
+        assert_eq!(rt; told(&made.outcome), wanted, "{label}");
+        assert_eq!(rt; made.steps, steps, "{label}");
     }
     Ok(())
 }
 
 #[test]
 fn index_counts_from_either_end_within_the_list(rt: HostRuntime) -> Result<(), Fail> {
-    let rows: [(&[i128], i128, (u8, i128)); 4] = [
-        (&[1, 2, 3], -1, (0, 3)),
-        (&[1, 2, 3], -4, (INDEX_ERROR, 0)),
-        (&[1, 2, 3], 3, (INDEX_ERROR, 0)),
-        (&[], 0, (INDEX_ERROR, 0)),
+    let rows: [(&str, &[i128], i128, (u8, i128)); 4] = [
+        ("the last", &[1, 2, 3], -1, (0, 3)),
+        ("before the first", &[1, 2, 3], -4, (INDEX_ERROR, 0)),
+        ("behind the last", &[1, 2, 3], 3, (INDEX_ERROR, 0)),
+        ("of no element", &[], 0, (INDEX_ERROR, 0)),
     ];
-    for (list, index, wanted) in rows {
+    for (label, list, index, wanted) in rows {
         let mut args = Sequence::new(rt.alloc());
         args.push(rt.alloc(), Value::List(numbers(rt.alloc(), list)?))?;
         args.push(rt.alloc(), Value::Int(index))?;
         let made = attempted(rt.alloc(), AT, args)?;
-        assert_eq!(rt; told(&made.outcome), wanted);
+        assert_eq!(rt; told(&made.outcome), wanted, "{label}");
     }
     Ok(())
 }
@@ -240,7 +234,7 @@ fn values_weigh_at_most_so_much(rt: HostRuntime) -> Result<(), Fail> {
         let mut args = Sequence::new(rt.alloc());
         args.push(rt.alloc(), Value::Str(letters(rt.alloc(), count)?))?;
         let made = attempted(rt.alloc(), TWICE, args)?;
-        assert_eq!(rt; told(&made.outcome), wanted);
+        assert_eq!(rt; told(&made.outcome), wanted, "{count}");
     }
     Ok(())
 }
@@ -283,7 +277,7 @@ fn request_that_gives_a_value_writes_what_it_assigned(rt: HostRuntime) -> Result
 #[test]
 fn missing_entity_is_read_and_one_that_is_there_is_not_made(rt: HostRuntime) -> Result<(), Fail> {
     let alloc = rt.alloc();
-    let program = program(alloc)?;
+    let program = accepted(alloc, NUM)?;
     let state = two_numbers(alloc, &program)?;
     let missing = call_of(alloc, "r", BIG, numbers(alloc, &[])?)?;
     let made = state.attempt(alloc, &program, &missing)?;
