@@ -7,18 +7,12 @@ mod checking;
 mod class_rules;
 mod entities;
 mod flow_rules;
-mod levels;
-mod lexing;
 mod lists;
 mod local;
 mod order;
-mod parsing;
 mod refused_texts;
-mod refused_tokens;
 mod request_lines;
 mod rule_order;
-mod shop;
-mod trees;
 mod type_rules;
 
 use crate::stateflow;

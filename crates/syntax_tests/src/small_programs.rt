@@ -1,23 +1,11 @@
 //! A text that has a tree, and one with a token that is refused.
 
-use crate::{SyntaxError, parse};
 use py_lexer::lex;
+use py_parser::{SyntaxError, parse};
 use py_tree::SyntaxKind;
 use std::alloc::{AllocError, Global};
 use std::test::Fail;
-
-const COUNTER: &str = "from stateflow import entity
-@entity
-class Counter:
-    def __init__(self, k: str, n: int):
-        self.k: str = k
-        self.n: int = n
-    def __key__(self):
-        return self.k
-    def add(self, d: int) -> int:
-        self.n = self.n + d
-        return self.n
-";
+use test_support::COUNTER;
 
 /// How many members the classes of a text have, or the line and kind of its fault.
 fn read(alloc: Global, text: &str) -> Result<Result<Vec<usize>, (u32, SyntaxKind)>, AllocError> {

@@ -1,6 +1,6 @@
-//! Lines and strings, read once.
+//! Lines of tokens, and the texts of strings.
 
-use crate::{LexError, LexFault, LexKind, Token, TokenKind, lex, str_text};
+use py_lexer::{LexError, LexFault, LexKind, Token, TokenKind, lex, str_text};
 use py_tree::Place;
 use sf_value::Text;
 use std::alloc::Global;
@@ -23,22 +23,22 @@ fn first_string(alloc: Global, text: &[u8]) -> Result<Option<Text>, LexError> {
 
 #[test]
 fn a_string_has_its_text(rt: HostRuntime) -> Result<(), Fail> {
-    let rows: [(&[u8], &str); 9] = [
-        (b"'a\\n\\x41\\\\' 1", "a\nA\\"),
-        (b"'\\'' ", "'"),
-        (b"'\\\"'", "\""),
-        (b"'\\r'", "\r"),
-        (b"'\\t'", "\t"),
-        (b"\"\"\"a\r\nb\"\"\"", "a\nb"),
-        (b"'\xc3\xa9\\xE9\\u00e9'", "\u{e9}\u{e9}\u{e9}"),
-        (b"'\\u20AC'", "\u{20ac}"),
-        (b"''", ""),
+    let rows: [(&str, &[u8], &str); 9] = [
+        ("two escapes", b"'a\\n\\x41\\\\' 1", "a\nA\\"),
+        ("the quote itself", b"'\\'' ", "'"),
+        ("the other quote", b"'\\\"'", "\""),
+        ("a return", b"'\\r'", "\r"),
+        ("a tab", b"'\\t'", "\t"),
+        ("a line end", b"\"\"\"a\r\nb\"\"\"", "a\nb"),
+        ("e acute thrice", b"'\xc3\xa9\\xE9\\u00e9'", "ééé"),
+        ("the euro sign", b"'\\u20AC'", "\u{20ac}"),
+        ("nothing", b"''", ""),
     ];
-    for (text, wanted) in rows {
+    for (label, text, wanted) in rows {
         let Ok(Some(found)) = first_string(rt.alloc(), text) else {
             return Err(Fail::from("no string"));
         };
-        assert_eq!(rt; found.as_str(), wanted);
+        assert_eq!(rt; found.as_str(), wanted, "{label}");
     }
     Ok(())
 }

@@ -1,75 +1,11 @@
 //! A program of three classes, whole and with a token dropped, doubled or replaced.
 
-use super::parsing::outcome;
+use crate::outcome::parsed;
 use py_lexer::{LexError, Token, lex};
 use py_parser::{SyntaxError, parse};
 use std::alloc::{AllocError, Global};
 use std::test::Fail;
-
-pub const SHOP: &[u8] = b"from typing import List
-from stateflow import entity, transactional
-
-
-@entity
-class Item:
-    def __init__(self, name: str, cost: int):
-        self.name: str = name
-        self.cost: int = cost
-        self.stock: int = 0
-
-    def __key__(self):
-        return self.name
-
-    def price(self) -> int:
-        return self.cost
-
-    def update_stock(self, amount: int) -> bool:
-        if self.stock + amount < 0:
-            return False
-        self.stock += amount
-        return True
-
-
-@entity
-class User:
-    def __init__(self, username: str):
-        self.username: str = username
-        self.balance: int = 10
-
-    def __key__(self):
-        return self.username
-
-    @transactional
-    def buy_item(self, amount: int, item: Item) -> bool:
-        \"\"\"Buy some items, or change nothing.\"\"\"
-        total = amount * item.price()
-        if self.balance < total:
-            return False
-        if not item.update_stock(-amount):
-            return False
-        self.balance -= total
-        return True
-
-    def money(self) -> int:
-        return self.balance
-
-
-@entity
-class Cart:
-    def __init__(self, k: str):
-        self.k: str = k
-
-    def __key__(self):
-        return self.k
-
-    def first_dear(self, items: List[Item], least: int) -> int:
-        found = 0
-        for it in items:
-            if it.price() >= least:
-                found = it.price()
-                break
-        return found
-";
+use test_support::SHOP;
 
 /// The line on which a fault of a text stands, or 0 where it has a tree.
 fn line_of_fault(alloc: Global, text: &[u8]) -> Result<u32, AllocError> {
@@ -94,16 +30,16 @@ fn part(text: &[u8], from: u32, upto: u32) -> &[u8] {
 /// Whether a program with these bytes in place of a token has a tree, or a fault on the token's line
 /// or a later one.
 fn is_told(alloc: Global, token: &Token, bytes: &[u8]) -> Result<bool, AllocError> {
-    let mut text = Vec::from_slice(alloc, part(SHOP, 0, token.start))?;
+    let mut text = Vec::from_slice(alloc, part(SHOP.as_bytes(), 0, token.start))?;
     text.extend_from_slice(bytes)?;
-    text.extend_from_slice(part(SHOP, token.end, u32::MAX))?;
+    text.extend_from_slice(part(SHOP.as_bytes(), token.end, u32::MAX))?;
     let line = line_of_fault(alloc, text.as_slice())?;
     Ok(line == 0 || token.place.line <= line)
 }
 
 /// The same of the token dropped, doubled and replaced.
 fn is_told_each_way(alloc: Global, token: &Token) -> Result<bool, AllocError> {
-    let own = part(SHOP, token.start, token.end);
+    let own = part(SHOP.as_bytes(), token.start, token.end);
     let mut twice = Vec::from_slice(alloc, own)?;
     twice.push(b' ')?;
     twice.extend_from_slice(own)?;
@@ -116,7 +52,7 @@ fn is_told_each_way(alloc: Global, token: &Token) -> Result<bool, AllocError> {
 
 /// How many tokens stand on these lines of the program, if each is told.
 fn tokens_told(alloc: Global, from: u32, upto: u32) -> Result<Option<u32>, AllocError> {
-    let lines = match lex(alloc, SHOP) {
+    let lines = match lex(alloc, SHOP.as_bytes()) {
         Ok(lines) => lines,
         Err(LexError::Fault(_)) => return Ok(None),
         Err(LexError::NoMemory) => return Err(AllocError),
@@ -137,7 +73,7 @@ fn tokens_told(alloc: Global, from: u32, upto: u32) -> Result<Option<u32>, Alloc
 
 #[test]
 fn the_shop_has_a_tree(rt: HostRuntime) -> Result<(), Fail> {
-    assert_eq!(rt; outcome(rt.alloc(), SHOP)?.as_str(), "tree");
+    assert_eq!(rt; parsed(rt.alloc(), SHOP.as_bytes())?.as_str(), "tree");
     Ok(())
 }
 

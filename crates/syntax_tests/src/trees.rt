@@ -1,7 +1,7 @@
-//! Each public part once.
+//! The parts of trees: names by number, and copies.
 
-use crate::nodes::{attribute, int_of, return_of, self_of};
-use crate::{ExprKind, Name, Names, Place, PlacedName, StmtKind, Ty};
+use py_tree::nodes::{attribute, int_of, return_of, self_of};
+use py_tree::{ExprKind, Name, Names, Place, PlacedName, StmtKind, Ty};
 use sf_list::TryClone;
 use std::test::Fail;
 
@@ -44,9 +44,10 @@ fn a_copied_statement_keeps_its_parts(rt: HostRuntime) -> Result<(), Fail> {
         return Err(Fail::from("no attribute"));
     };
     assert_eq!(rt; *read, name);
-    let ExprKind::Int(n) = int_of(HERE, 4).try_clone(rt.alloc())?.kind else {
+    let number = int_of(HERE, 4).try_clone(rt.alloc())?;
+    let ExprKind::Int(n) = &number.kind else {
         return Err(Fail::from("no number"));
     };
-    assert_eq!(rt; n, 4);
+    assert_eq!(rt; *n, 4);
     Ok(())
 }
