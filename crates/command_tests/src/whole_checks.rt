@@ -1,11 +1,11 @@
-//! Whole checks: programs and faults of them, line ends and comments, devices that fail.
+//! Whole checks: what is counted, line ends and comments, and devices that fail.
 
-use super::checking::{check_beside, check_text};
-use super::shop::SHOP;
-use super::{COUNTER, Faults, NO_FAULTS, call};
+use crate::verdict::check;
+use memory_calls::{Faults, NO_FAULTS, call_beside};
 use sf_outside::{MemSource, Source};
 use std::alloc::{AllocError, Global};
 use std::test::Fail;
+use test_support::{COUNTER, SHOP};
 
 /// A method that returns the name of its loop.
 const LAST: &[u8] = b"from stateflow import entity
@@ -66,7 +66,7 @@ const IS_MENDED: &[u8] = b"ok: 1 classes, 1 methods\n";
 
 #[test]
 fn name_of_a_loop_may_have_no_value_behind_it(rt: HostRuntime) -> Result<(), Fail> {
-    let answer = check_text(rt.alloc(), "last.py", LAST, NO_FAULTS)?;
+    let answer = check(rt.alloc(), "last.py", LAST, NO_FAULTS)?;
     assert_eq!(rt; answer.status, 1);
     assert_eq!(rt; answer.out.bytes(), b"".as_slice());
     assert_eq!(rt;
@@ -81,7 +81,7 @@ fn line_ends_are_no_matter(rt: HostRuntime) -> Result<(), Fail> {
     for end in [b"\n".as_slice(), b"\r\n".as_slice()] {
         let mut text = mended(rt.alloc(), end)?;
         for _ in 0..2 {
-            let answer = check_text(rt.alloc(), "last.py", text.as_slice(), NO_FAULTS)?;
+            let answer = check(rt.alloc(), "last.py", text.as_slice(), NO_FAULTS)?;
             assert_eq!(rt; answer.status, 0);
             assert_eq!(rt; answer.out.bytes(), IS_MENDED);
             assert_eq!(rt; answer.err.bytes(), b"".as_slice());
@@ -95,7 +95,7 @@ fn line_ends_are_no_matter(rt: HostRuntime) -> Result<(), Fail> {
 fn comment_between_two_lines_is_no_matter(rt: HostRuntime) -> Result<(), Fail> {
     for number in 0..MENDED.len() {
         let text = commented(rt.alloc(), number)?;
-        let answer = check_text(rt.alloc(), "last.py", text.as_slice(), NO_FAULTS)?;
+        let answer = check(rt.alloc(), "last.py", text.as_slice(), NO_FAULTS)?;
         assert_eq!(rt; answer.status, 0);
         assert_eq!(rt; answer.out.bytes(), IS_MENDED);
     }
@@ -104,41 +104,47 @@ fn comment_between_two_lines_is_no_matter(rt: HostRuntime) -> Result<(), Fail> {
 
 #[test]
 fn classes_and_methods_are_counted(rt: HostRuntime) -> Result<(), Fail> {
-    let rows: [(&[u8], &[u8]); 3] = [
-        (b"", b"ok: 0 classes, 0 methods\n"),
-        (COUNTER, b"ok: 1 classes, 1 methods\n"),
-        (SHOP, b"ok: 3 classes, 5 methods\n"),
+    let rows: [(&str, &str, &[u8]); 3] = [
+        ("no class", "", b"ok: 0 classes, 0 methods\n"),
+        ("the counter", COUNTER, b"ok: 1 classes, 1 methods\n"),
+        ("the shop", SHOP, b"ok: 3 classes, 5 methods\n"),
     ];
-    for (text, wanted) in &rows {
-        let answer = check_text(rt.alloc(), "shop.py", text, NO_FAULTS)?;
-        assert_eq!(rt; answer.status, 0);
-        assert_eq!(rt; answer.out.bytes(), *wanted);
-        assert_eq!(rt; answer.err.bytes(), b"".as_slice());
+    for (label, text, wanted) in rows {
+        let answer = check(rt.alloc(), "shop.py", text.as_bytes(), NO_FAULTS)?;
+        assert_eq!(rt; answer.status, 0, "{label}");
+        assert_eq!(rt; answer.out.bytes(), wanted, "{label}");
+        assert_eq!(rt; answer.err.bytes(), b"".as_slice(), "{label}");
     }
     Ok(())
 }
 
+/// A method of which a line stands between two columns.
+const BETWEEN_TWO_COLUMNS: &[u8] = b"@entity
+class L:
+    def f(self) -> None:
+        pass
+      pass
+";
+
+/// A method without a result.
+const NO_RESULT: &[u8] = b"@entity
+class A:
+    def f(self): pass
+";
+
 #[test]
 fn lexical_and_syntax_faults_are_told(rt: HostRuntime) -> Result<(), Fail> {
-    let rows: [(&[u8], &[u8]); 3] = [
-        (
-            b"@entity\nclass L:\n    def f(self) -> None:\n        pass\n      pass\n",
-            b"stateflow: bad.py:5:7: BadDedent\n",
-        ),
-        (
-            b"import stateflow;\n",
-            b"stateflow: bad.py:1:17: Unexpected\n",
-        ),
-        (
-            b"@entity\nclass A:\n    def f(self): pass\n",
-            b"stateflow: bad.py:3:9: MissingAnnotation\n",
-        ),
+    let rows: [(&[u8], &str); 3] = [
+        (BETWEEN_TWO_COLUMNS, "5:7: BadDedent"),
+        (b"import stateflow;\n", "1:17: Unexpected"),
+        (NO_RESULT, "3:9: MissingAnnotation"),
     ];
-    for (text, wanted) in &rows {
-        let answer = check_text(rt.alloc(), "bad.py", text, NO_FAULTS)?;
-        assert_eq!(rt; answer.status, 1);
-        assert_eq!(rt; answer.out.bytes(), b"".as_slice());
-        assert_eq!(rt; answer.err.bytes(), *wanted);
+    for (text, fault) in rows {
+        let answer = check(rt.alloc(), "bad.py", text, NO_FAULTS)?;
+        let wanted = format!(in rt.alloc(); "stateflow: bad.py:{fault}\n")?;
+        assert_eq!(rt; answer.status, 1, "{fault}");
+        assert_eq!(rt; answer.out.bytes(), b"".as_slice(), "{fault}");
+        assert_eq!(rt; answer.err.bytes(), wanted.as_bytes(), "{fault}");
     }
     Ok(())
 }
@@ -146,7 +152,14 @@ fn lexical_and_syntax_faults_are_told(rt: HostRuntime) -> Result<(), Fail> {
 #[test]
 fn check_leaves_its_input(rt: HostRuntime) -> Result<(), Fail> {
     let mut input = MemSource::new(rt.alloc(), b"{}", &[])?;
-    let answer = check_beside(rt.alloc(), "counter.py", COUNTER, &mut input, NO_FAULTS)?;
+    let answer = call_beside(
+        rt.alloc(),
+        &["check", "counter.py"],
+        "counter.py",
+        COUNTER.as_bytes(),
+        &mut input,
+        NO_FAULTS,
+    )?;
     assert_eq!(rt; answer.status, 0);
     let mut rest = [0; 3];
     assert_eq!(rt; input.read(&mut rest).unwrap_or(0), 2);
@@ -160,7 +173,7 @@ fn check_tells_a_failed_read_of_its_file(rt: HostRuntime) -> Result<(), Fail> {
             file: &[call],
             ..NO_FAULTS
         };
-        let answer = check_text(rt.alloc(), "counter.py", COUNTER, faults)?;
+        let answer = check(rt.alloc(), "counter.py", COUNTER.as_bytes(), faults)?;
         assert_eq!(rt; answer.status, 3);
         assert_eq!(rt; answer.out.bytes(), b"".as_slice());
         assert_eq!(rt; answer.err.bytes(), b"stateflow: read fault\n".as_slice());
@@ -175,36 +188,11 @@ fn failed_write_of_the_line_leaves_its_front(rt: HostRuntime) -> Result<(), Fail
             out: &[call],
             ..NO_FAULTS
         };
-        let answer = check_text(rt.alloc(), "counter.py", COUNTER, faults)?;
+        let answer = check(rt.alloc(), "counter.py", COUNTER.as_bytes(), faults)?;
         assert_eq!(rt; answer.status, 4);
         assert_eq!(rt; answer.out.bytes().len(), written);
         assert!(rt; IS_MENDED.starts_with(answer.out.bytes()));
         assert_eq!(rt; answer.err.bytes(), b"stateflow: write fault\n".as_slice());
-    }
-    Ok(())
-}
-
-#[test]
-fn check_takes_one_file_and_no_option(rt: HostRuntime) -> Result<(), Fail> {
-    let rows: [&[&str]; 5] = [
-        &["check"],
-        &["check", ""],
-        &["check", "-"],
-        &["check", "counter.py", "counter.py"],
-        &["check", "counter.py", "--batch", "1"],
-    ];
-    for words in rows {
-        let mut input = MemSource::new(rt.alloc(), b"", &[])?;
-        let answer = call(
-            rt.alloc(),
-            words,
-            "counter.py",
-            COUNTER,
-            &mut input,
-            NO_FAULTS,
-        )?;
-        assert_eq!(rt; answer.status, 2);
-        assert_eq!(rt; answer.out.bytes(), b"".as_slice());
     }
     Ok(())
 }

@@ -2,10 +2,14 @@
 
 ghost use Rattle.std.specs.Prelude.{None};
 
-use super::{COUNTER, NO_FAULTS, run_text};
-use sf_outside::{Failed, MemSource, Source};
+use memory_calls::{NO_FAULTS, call, call_beside};
+use sf_outside::{Failed, Source};
 use std::alloc::{AllocError, Global};
 use std::test::Fail;
+use test_support::COUNTER;
+
+/// The words of a run.
+const RUN: [&str; 4] = ["run", "counter.py", "--batch", "1"];
 
 /// The most bytes that a program may have.
 const LONGEST_PROGRAM: usize = 1_048_576;
@@ -15,7 +19,7 @@ const LONGEST_INPUT: u64 = 16_777_216;
 
 /// The counter, filled up to this length with empty lines.
 fn long_counter(alloc: Global, length: usize) -> Result<Vec<u8>, AllocError> {
-    let mut text = Vec::from_slice(alloc, COUNTER)?;
+    let mut text = Vec::from_slice(alloc, COUNTER.as_bytes())?;
     text.resize(length, b'\n')?;
     Ok(text)
 }
@@ -48,15 +52,7 @@ fn longest_program_is_run_and_a_longer_one_refused(rt: HostRuntime) -> Result<()
     ] {
         let text = long_counter(rt.alloc(), length)?;
         assert_eq!(rt; text.len(), length);
-        let mut input = MemSource::new(rt.alloc(), b"", &[])?;
-        let answer = run_text(
-            rt.alloc(),
-            "counter.py",
-            "1",
-            text.as_slice(),
-            &mut input,
-            NO_FAULTS,
-        )?;
+        let answer = call(rt.alloc(), &RUN, "counter.py", &text, b"", NO_FAULTS)?;
         assert_eq!(rt; answer.status, status, "at {length}");
         assert_eq!(rt; answer.out.bytes(), b"".as_slice());
         assert_eq!(rt; answer.err.bytes(), line);
@@ -71,11 +67,11 @@ fn longest_input_is_served_and_a_longer_one_told(rt: HostRuntime) -> Result<(), 
         (LONGEST_INPUT + 1, 9, b"stateflow: input too long\n"),
     ] {
         let mut input = LineEnds { left };
-        let answer = run_text(
+        let answer = call_beside(
             rt.alloc(),
+            &RUN,
             "counter.py",
-            "1",
-            COUNTER,
+            COUNTER.as_bytes(),
             &mut input,
             NO_FAULTS,
         )?;

@@ -1,7 +1,6 @@
 //! Elements and lengths of lists that stand in fields and in locals.
 
-use super::{NO_FAULTS, call};
-use sf_outside::MemSource;
+use memory_calls::{NO_FAULTS, call};
 use std::test::Fail;
 
 const ROWS: &[u8] = b"from stateflow import entity
@@ -78,15 +77,8 @@ const REPLIES: &[u8] = b"{\"id\":\"a\",\"ok\":\"r\",\"seq\":1}
 
 #[test]
 fn list_is_read_before_its_index(rt: HostRuntime) -> Result<(), Fail> {
-    let mut input = MemSource::new(rt.alloc(), REQUESTS, &[])?;
-    let answer = call(
-        rt.alloc(),
-        &["local", "rows.py"],
-        "rows.py",
-        ROWS,
-        &mut input,
-        NO_FAULTS,
-    )?;
+    let words = ["local", "rows.py"];
+    let answer = call(rt.alloc(), &words, "rows.py", ROWS, REQUESTS, NO_FAULTS)?;
     assert_eq!(rt; answer.status, 0);
     assert_eq!(rt; answer.out.bytes(), REPLIES);
     assert_eq!(rt; answer.err.bytes(), b"".as_slice());

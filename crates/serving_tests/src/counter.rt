@@ -1,132 +1,38 @@
-//! The top call over forms in memory: one run, and each call of a device failing in turn.
+//! The counter served by `run` and by `local`: whole, and where each call of a device fails in turn.
 
-mod accepted_texts;
-mod bounds;
-mod check_rows;
-mod checking;
-mod class_rules;
-mod entities;
-mod flow_rules;
-mod lists;
-mod local;
-mod order;
-mod refused_texts;
-mod request_lines;
-mod rule_order;
-mod type_rules;
-
-use crate::stateflow;
-use sf_outside::{MemFiles, MemSink, MemSource, Source};
+use memory_calls::{Answer, Faults, NO_FAULTS, call};
 use std::alloc::{AllocError, Global};
 use std::test::Fail;
+use test_support::COUNTER;
 
-const COUNTER: &[u8] = b"from stateflow import entity
-@entity
-class Counter:
-    def __init__(self, k: str, n: int):
-        self.k: str = k
-        self.n: int = n
-    def __key__(self):
-        return self.k
-    def add(self, d: int) -> int:
-        self.n = self.n + d
-        return self.n
-";
-
-const REQUESTS: &[u8] = b"{\"id\":\"a\",\"class\":\"Counter\",\"new\":[\"x\",3]}
+pub const REQUESTS: &[u8] = b"{\"id\":\"a\",\"class\":\"Counter\",\"new\":[\"x\",3]}
 {\"id\":\"b\",\"class\":\"Counter\",\"key\":\"x\",\"method\":\"add\",\"args\":[4]}
 {\"id\":\"c\",\"class\":\"Counter\",\"key\":\"y\",\"method\":\"add\",\"args\":[1]}
 {
 {\"id\":\"a\",\"class\":\"Counter\",\"key\":\"x\",\"method\":\"add\",\"args\":[1]}
 ";
 
-const REPLIES: &[u8] = b"{\"id\":\"a\",\"ok\":\"x\",\"seq\":1}
+pub const REPLIES: &[u8] = b"{\"id\":\"a\",\"ok\":\"x\",\"seq\":1}
 {\"id\":\"b\",\"ok\":7,\"seq\":2}
 {\"error\":\"NoEntity\",\"id\":\"c\",\"message\":\"\",\"seq\":3}
 {\"bad\":\"unsupported\",\"line\":4}
 {\"bad\":\"unsupported\",\"line\":5}
 ";
 
-/// The numbers of the calls that are to fail, of each device.
-#[derive(Clone, Copy)]
-struct Faults<'a> {
-    file: &'a [u64],
-    input: &'a [u64],
-    out: &'a [u64],
-    err: &'a [u64],
-}
-
-const NO_FAULTS: Faults<'static> = Faults {
-    file: &[],
-    input: &[],
-    out: &[],
-    err: &[],
-};
-
-/// What a call answered and wrote.
-#[derive(Drop)]
-struct Answer {
-    status: u8,
-    out: MemSink,
-    err: MemSink,
-}
-
-/// Words, as a call takes them.
-fn words_of(alloc: Global, words: &[&str]) -> Result<Vec<String>, AllocError> {
-    let mut owned = Vec::new(alloc);
-    for word in words {
-        owned.push(String::from_str(alloc, word)?)?;
-    }
-    Ok(owned)
-}
-
-/// Makes a call with these words, where a file has this text.
-fn call<S: Source>(
-    alloc: Global,
-    words: &[&str],
-    file: &str,
-    text: &[u8],
-    input: &mut S,
-    faults: Faults<'_>,
-) -> Result<Answer, AllocError> {
-    let words = words_of(alloc, words)?;
-    let mut files = MemFiles::new(alloc, &[file], &[text], faults.file)?;
-    let mut out = MemSink::new(alloc, 1000, faults.out)?;
-    let mut err = MemSink::new(alloc, 1000, faults.err)?;
-    let status = stateflow(
-        alloc,
-        words.as_slice(),
-        &mut files,
-        input,
-        &mut out,
-        &mut err,
-    );
-    Ok(Answer { status, out, err })
-}
-
-/// Runs a text as this file on an input, with this word for the size of a batch.
-fn run_text<S: Source>(
-    alloc: Global,
-    file: &str,
-    size: &str,
-    text: &[u8],
-    input: &mut S,
-    faults: Faults<'_>,
-) -> Result<Answer, AllocError> {
-    call(
-        alloc,
-        &["run", file, "--batch", size],
-        file,
-        text,
-        input,
-        faults,
-    )
+/// Calls with these words on the counter and its requests.
+fn serve_counter(alloc: Global, words: &[&str], faults: Faults<'_>) -> Result<Answer, AllocError> {
+    let text = COUNTER.as_bytes();
+    call(alloc, words, "counter.py", text, REQUESTS, faults)
 }
 
 /// Runs the counter on its requests, with this word for the size of a batch.
 fn run_counter(alloc: Global, size: &str, faults: Faults<'_>) -> Result<Answer, AllocError> {
-    let mut input = MemSource::new(alloc, REQUESTS, faults.input)?;
-    run_text(alloc, "counter.py", size, COUNTER, &mut input, faults)
+    serve_counter(alloc, &["run", "counter.py", "--batch", size], faults)
+}
+
+/// Serves the counter and its requests directly.
+fn local_counter(alloc: Global, faults: Faults<'_>) -> Result<Answer, AllocError> {
+    serve_counter(alloc, &["local", "counter.py"], faults)
 }
 
 #[test]
@@ -200,5 +106,42 @@ fn failed_error_stream_is_status_4(rt: HostRuntime) -> Result<(), Fail> {
     let answer = run_counter(rt.alloc(), "2", twice)?;
     assert_eq!(rt; answer.status, 4);
     assert_eq!(rt; answer.err.bytes(), b"".as_slice());
+    Ok(())
+}
+
+#[test]
+fn local_serves_the_counter(rt: HostRuntime) -> Result<(), Fail> {
+    let answer = local_counter(rt.alloc(), NO_FAULTS)?;
+    assert_eq!(rt; answer.status, 0);
+    assert_eq!(rt; answer.out.bytes(), REPLIES);
+    assert_eq!(rt; answer.err.bytes(), b"".as_slice());
+    Ok(())
+}
+
+#[test]
+fn local_tells_a_fault_of_a_device(rt: HostRuntime) -> Result<(), Fail> {
+    let file = Faults {
+        file: &[1],
+        ..NO_FAULTS
+    };
+    let input = Faults {
+        input: &[1],
+        ..NO_FAULTS
+    };
+    let out = Faults {
+        out: &[1],
+        ..NO_FAULTS
+    };
+    let rows = [
+        (file, 3, b"stateflow: read fault\n".as_slice()),
+        (input, 3, b"stateflow: read fault\n"),
+        (out, 4, b"stateflow: write fault\n"),
+    ];
+    for (faults, status, line) in rows {
+        let answer = local_counter(rt.alloc(), faults)?;
+        assert_eq!(rt; answer.status, status);
+        assert_eq!(rt; answer.out.bytes(), b"".as_slice());
+        assert_eq!(rt; answer.err.bytes(), line);
+    }
     Ok(())
 }

@@ -1,7 +1,6 @@
 //! A program of two classes, whose entities make and call one another.
 
-use super::{Answer, NO_FAULTS, call};
-use sf_outside::MemSource;
+use memory_calls::{Answer, NO_FAULTS, call};
 use std::alloc::{AllocError, Global};
 use std::test::Fail;
 
@@ -62,8 +61,7 @@ const REPLIES: &[u8] = b"{\"id\":\"a\",\"ok\":\"ann\",\"seq\":1}
 ";
 
 fn serve_boxes(alloc: Global, words: &[&str]) -> Result<Answer, AllocError> {
-    let mut input = MemSource::new(alloc, REQUESTS, &[])?;
-    call(alloc, words, "boxes.py", BOXES, &mut input, NO_FAULTS)
+    call(alloc, words, "boxes.py", BOXES, REQUESTS, NO_FAULTS)
 }
 
 #[test]

@@ -2,11 +2,13 @@
 
 ghost use Rattle.std.specs.Prelude.{None};
 
-use super::{COUNTER, REPLIES, REQUESTS, words_of};
-use crate::stateflow;
+use crate::counter::{REPLIES, REQUESTS};
+use memory_calls::words_of;
 use sf_outside::{Failed, MemFiles, MemSink, MemSource, Sink, Source};
+use stateflow_cli::stateflow;
 use std::cell::Cell;
 use std::test::Fail;
+use test_support::COUNTER;
 
 /// An output that counts the bytes that it is given, for the input to see. It tells no content.
 #[derive(Drop)]
@@ -62,7 +64,7 @@ impl Source for WatchingSource<'_> {
 fn lines_of_a_piece_are_answered_before_the_next_is_read(rt: HostRuntime) -> Result<(), Fail> {
     let alloc = rt.alloc();
     let written = Cell::new(0);
-    let mut files = MemFiles::new(alloc, &["counter.py"], &[COUNTER], &[])?;
+    let mut files = MemFiles::new(alloc, &["counter.py"], &[COUNTER.as_bytes()], &[])?;
     let mut input = WatchingSource {
         inner: MemSource::new(alloc, REQUESTS, &[])?,
         written: &written,
