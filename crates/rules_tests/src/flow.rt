@@ -1,8 +1,14 @@
 //! Ways that meet, loops, ends of methods and assignments, each as it is kept and as it is broken.
 
-use crate::methods::method_locals;
-use crate::{FlowEnv, Local, Locals, Tables, check_program, loop_head, step};
+ghost use Rattle.std.specs.Prelude.{◌≡◌, [], IfOk};
+ghost use Rattle.std.specs.Option.{IsSome};
+ghost use Rattle.py_tree.specs.PlainProgram.{plain_program};
+ghost use Rattle.flow_types.specs.Views.{method_at};
+
+use crate::lists::{none, one, three, two};
+use crate::names::names_with;
 use entity_tables::{ClassTable, Field, RuleError, Sig, SigParam, tables};
+use flow_types::{FlowEnv, Local, Locals, Tables, check_method, check_program, loop_head, step};
 use py_tree::nodes::{
     arm_of, assert_of, assignment, attribute, augment_of, bool_of, break_of, class_of, continue_of,
     do_of, for_of, if_of, int_of, is_none_of, method_of, nil_of, param_of, pass_of, return_of,
@@ -12,35 +18,12 @@ use py_tree::{
     Arm, BinOp, Expr, Method, Name, Names, Over, Place, PlacedName, Program, Rule, Stmt, Stmts,
     Target, Ty, WrittenTy,
 };
-use sf_list::{Sequence, TryClone};
+use sf_list::TryClone;
 use std::alloc::{AllocError, Global};
 use std::test::Fail;
 
-const TEXTS: [&str; 23] = [
-    "self",
-    "int",
-    "bool",
-    "str",
-    "list",
-    "List",
-    "Optional",
-    "len",
-    "abs",
-    "min",
-    "max",
-    "range",
-    "entity",
-    "transactional",
-    "stateflow",
-    "Exception",
-    "ValueError",
-    "RuntimeError",
-    "Item",
-    "__init__",
-    "__key__",
-    "code",
-    "cost",
-];
+/// The names behind the reserved ones.
+const WORDS: [&str; 5] = ["Item", "__init__", "__key__", "code", "cost"];
 
 const ITEM: Name = Name(18);
 
@@ -88,28 +71,6 @@ fn var(name: Name) -> Expr {
     var_of(at(40), name)
 }
 
-fn none<T>(alloc: Global) -> Sequence<T> {
-    Sequence::new(alloc)
-}
-
-fn one<T: Drop>(alloc: Global, item: T) -> Result<Sequence<T>, AllocError> {
-    let mut items = Sequence::new(alloc);
-    items.push(alloc, item)?;
-    Ok(items)
-}
-
-fn two<T: Drop>(alloc: Global, first: T, second: T) -> Result<Sequence<T>, AllocError> {
-    let mut items = one(alloc, first)?;
-    items.push(alloc, second)?;
-    Ok(items)
-}
-
-fn three<T: Drop>(alloc: Global, first: T, second: T, third: T) -> Result<Sequence<T>, AllocError> {
-    let mut items = two(alloc, first, second)?;
-    items.push(alloc, third)?;
-    Ok(items)
-}
-
 fn param(name: Name, ty: Ty) -> SigParam {
     SigParam { name, ty }
 }
@@ -147,17 +108,40 @@ fn item_tables(alloc: Global) -> Result<Tables, AllocError> {
     one(alloc, item)
 }
 
-/// What is answered of a method with these statements, whose name stands at column 9.
-fn answered(alloc: Global, number: u32, body: Stmts) -> Result<Locals, RuleError> {
-    let method = Method {
+/// A method with these statements, whose name stands at column 9.
+fn method_with(alloc: Global, body: Stmts) -> Method {
+    Method {
         name: X,
         place: at(9),
         params: none(alloc),
         result: None,
         body,
-    };
+    }
+}
+
+/// The program of the class Item, both of whose methods have these statements.
+#[tactic(auto, unfolding(py_tree::specs::ClassRules::methods_of, py_tree::specs::ClassRules::is_called, py_tree::specs::ClassRules::is_init, py_tree::specs::ClassRules::is_key, py_tree::specs::ClassRules::text_of))]
+fn item_with(alloc: Global, body: Stmts) -> Result<Program, AllocError>
+    ensures gives { IfOk result (λ made. IsSome (method_at [] (plain_program made) 0 0)) }
+    ensures ends { IfOk result (λ made. IsSome (method_at [] (plain_program made) 0 1)) }
+{
+    let gives = method_with(alloc, body.try_clone(alloc)?);
+    let ends = method_with(alloc, body);
+    let item = class_of(placed(ITEM, 7), two(alloc, gives, ends)?);
+    Ok(Program {
+        classes: one(alloc, item)?,
+    })
+}
+
+/// What is answered of the method of this number, with these statements.
+fn answered(alloc: Global, number: u32, body: Stmts) -> Result<Locals, RuleError> {
+    let program = item_with(alloc, body)?;
+    let tables = item_tables(alloc)?;
     let names = Names::new(alloc);
-    method_locals(alloc, &item_tables(alloc)?, &names, 0, number, &method)
+    if number == GIVES {
+        return check_method(alloc, &tables, &program, &names, 0, GIVES);
+    }
+    check_method(alloc, &tables, &program, &names, 0, ENDS)
 }
 
 /// How many locals a method has that ends and keeps the rules.
@@ -430,14 +414,8 @@ fn what_is_combined_is_read_first(rt: HostRuntime) -> Result<(), Fail> {
     Ok(())
 }
 
-fn names(alloc: Global) -> Result<Names, AllocError> {
-    let mut names = Names::new(alloc);
-    for text in TEXTS {
-        if names.count() < u32::MAX {
-            names.number(alloc, text)?;
-        }
-    }
-    Ok(names)
+fn names(alloc: Global) -> Result<Names, Fail> {
+    names_with(alloc, &WORDS)
 }
 
 /// `self.code`.

@@ -1,6 +1,8 @@
 //! A program that keeps the rules, each rule broken once, and pairs of which the earlier is told.
 
-use crate::{Rule, RuleError, tables};
+use crate::lists::with;
+use crate::names::names_with;
+use entity_tables::{Rule, RuleError, tables};
 use py_tree::{
     Class, Classes, Expr, ExprKind, Method, Methods, Name, Names, Param, Params, Place, PlacedName,
     Program, Stmt, StmtKind, Stmts, Target, Ty, WrittenKind, WrittenTy,
@@ -9,34 +11,9 @@ use sf_list::{Sequence, TryClone};
 use std::alloc::{AllocError, Global};
 use std::test::Fail;
 
-const TEXTS: [&str; 27] = [
-    "self",
-    "int",
-    "bool",
-    "str",
-    "list",
-    "List",
-    "Optional",
-    "len",
-    "abs",
-    "min",
-    "max",
-    "range",
-    "entity",
-    "transactional",
-    "stateflow",
-    "Exception",
-    "ValueError",
-    "RuntimeError",
-    "Item",
-    "__init__",
-    "__key__",
-    "name",
-    "cost",
-    "price",
-    "amount",
-    "__add__",
-    "Cart",
+/// The names behind the reserved ones.
+const WORDS: [&str; 9] = [
+    "Item", "__init__", "__key__", "name", "cost", "price", "amount", "__add__", "Cart",
 ];
 
 const LEN: Name = Name(7);
@@ -72,21 +49,8 @@ fn at(line: u32, col: u32) -> Place {
     Place { line, col }
 }
 
-fn names(alloc: Global) -> Result<Names, AllocError> {
-    let mut names = Names::new(alloc);
-    for text in TEXTS {
-        if names.count() < u32::MAX {
-            names.number(alloc, text)?;
-        }
-    }
-    Ok(names)
-}
-
-/// A list with one more item.
-fn with<T: Drop>(alloc: Global, items: Sequence<T>, item: T) -> Result<Sequence<T>, AllocError> {
-    let mut items = items;
-    items.push(alloc, item)?;
-    Ok(items)
+fn names(alloc: Global) -> Result<Names, Fail> {
+    names_with(alloc, &WORDS)
 }
 
 fn written(kind: WrittenKind) -> Option<WrittenTy> {

@@ -1,13 +1,14 @@
 //! Each rule on types kept and broken, pairs of which the earlier is told, and what tests show.
 
-use crate::{FlowEnv, Local, Locals, Tables, condition, narrow, narrow_here, type_expr};
+use crate::lists::{none, one, two};
 use entity_tables::{ClassTable, Field, RuleError, Sig, SigParam};
+use entity_types::types::{join, list_of as list_ty};
+use entity_types::{FlowEnv, Local, Locals, Tables, condition, narrow, narrow_here, type_expr};
 use py_tree::nodes::{
     and_of, apply_of, attribute, bool_of, call_of, chain, comparison_of, cond_of, index_of, int_of,
     is_none_of, link_of, list_of, neg_of, nil_of, not_of, or_of, self_of, str_of, var_of,
 };
 use py_tree::{BinOp, Cmp, Expr, Exprs, Name, Names, Place, PlacedName, Rule, Ty};
-use sf_list::Sequence;
 use std::alloc::{AllocError, Global};
 use std::test::Fail;
 
@@ -71,28 +72,8 @@ fn var(name: Name, col: u32) -> Expr {
     var_of(at(col), name)
 }
 
-fn none<T>(alloc: Global) -> Sequence<T> {
-    Sequence::new(alloc)
-}
-
-fn one<T: Drop>(alloc: Global, item: T) -> Result<Sequence<T>, AllocError> {
-    let mut items = Sequence::new(alloc);
-    items.push(alloc, item)?;
-    Ok(items)
-}
-
-fn two<T: Drop>(alloc: Global, first: T, second: T) -> Result<Sequence<T>, AllocError> {
-    let mut items = one(alloc, first)?;
-    items.push(alloc, second)?;
-    Ok(items)
-}
-
-fn list_ty(alloc: Global, element: Ty) -> Result<Ty, AllocError> {
-    crate::types::list_of(alloc, element)
-}
-
 fn optional(alloc: Global, inner: Ty) -> Result<Ty, Fail> {
-    match crate::types::join(alloc, inner, Ty::Nil)? {
+    match join(alloc, inner, Ty::Nil)? {
         None => Err(Fail::from("no Optional")),
         Some(ty) => Ok(ty),
     }
