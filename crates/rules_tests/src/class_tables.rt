@@ -1,13 +1,17 @@
 //! A program that keeps the rules, each rule broken once, and pairs of which the earlier is told.
 
-use crate::lists::with;
+use crate::lists::{none, one, two, with};
 use crate::names::names_with;
 use entity_tables::{Rule, RuleError, tables};
-use py_tree::{
-    Class, Classes, Expr, ExprKind, Method, Methods, Name, Names, Param, Params, Place, PlacedName,
-    Program, Stmt, StmtKind, Stmts, Target, Ty, WrittenKind, WrittenTy,
+use py_tree::nodes::{
+    apply_of, assignment, attribute, class_of, method_of, param_of, pass_of, return_of, self_of,
+    var_of,
 };
-use sf_list::{Sequence, TryClone};
+use py_tree::{
+    Class, Classes, Expr, Method, Methods, Name, Names, Param, Params, Place, PlacedName, Program,
+    Stmt, Stmts, Target, Ty, WrittenKind, WrittenTy,
+};
+use sf_list::TryClone;
 use std::alloc::{AllocError, Global};
 use std::test::Fail;
 
@@ -60,75 +64,46 @@ fn written(kind: WrittenKind) -> Option<WrittenTy> {
     })
 }
 
+fn placed(name: Name, place: Place) -> PlacedName {
+    PlacedName { name, place }
+}
+
 fn param(name: Name, col: u32, ty: Option<WrittenTy>) -> Param {
-    Param {
-        name,
-        ty,
-        place: at(2, col),
-    }
+    param_of(placed(name, at(2, col)), ty)
 }
 
 fn var(name: Name) -> Expr {
-    Expr {
-        place: at(3, 30),
-        kind: ExprKind::Var(name),
-    }
+    var_of(at(3, 30), name)
 }
 
 /// `self.name`.
 fn own(alloc: Global, name: Name) -> Result<Expr, AllocError> {
-    let on = Expr {
-        place: at(3, 30),
-        kind: ExprKind::SelfRef,
-    };
-    let name = PlacedName {
-        name,
-        place: at(3, 35),
-    };
-    Ok(Expr {
-        place: at(3, 30),
-        kind: ExprKind::Attr(Box::new(alloc, on)?, name),
-    })
+    let name = placed(name, at(3, 35));
+    attribute(alloc, at(3, 30), self_of(at(3, 30)), name)
 }
 
 /// `self.name: ty = value` on this line.
 fn declared(line: u32, name: Name, ty: Option<WrittenTy>, value: Expr) -> Stmt {
-    let field = PlacedName {
-        name,
-        place: at(line, 14),
-    };
-    Stmt {
-        place: at(line, 9),
-        kind: StmtKind::Assign {
-            target: Target::Field(field),
-            ty,
-            value,
-        },
-    }
+    let target = Target::Field(placed(name, at(line, 14)));
+    assignment(at(line, 9), target, ty, value)
 }
 
 fn make(name: Name, place: Place, params: Params, body: Stmts) -> Method {
-    Method {
-        name,
-        place,
-        params,
-        result: None,
-        body,
-    }
+    method_of(placed(name, place), params, None, body)
 }
 
 /// `name: str, cost: int`.
 fn good_params(alloc: Global) -> Result<Params, AllocError> {
     let name = param(NAME, 24, written(WrittenKind::Str));
     let cost = param(COST, 35, written(WrittenKind::Int));
-    with(alloc, with(alloc, Sequence::new(alloc), name)?, cost)
+    two(alloc, name, cost)
 }
 
 /// The fields `name` and `cost`, on lines 3 and 4.
 fn good_body(alloc: Global) -> Result<Stmts, AllocError> {
     let name = declared(3, NAME, written(WrittenKind::Str), var(NAME));
     let cost = declared(4, COST, written(WrittenKind::Int), var(COST));
-    with(alloc, with(alloc, Sequence::new(alloc), name)?, cost)
+    two(alloc, name, cost)
 }
 
 fn good_init(alloc: Global) -> Result<Method, AllocError> {
@@ -138,20 +113,13 @@ fn good_init(alloc: Global) -> Result<Method, AllocError> {
 
 /// A `__key__` that returns this field.
 fn key_of(alloc: Global, name: Name) -> Result<Method, AllocError> {
-    let returned = Stmt {
-        place: at(8, 9),
-        kind: StmtKind::Return(Some(own(alloc, name)?)),
-    };
-    let body = with(alloc, Sequence::new(alloc), returned)?;
-    Ok(make(KEY, KEY_NAME, Sequence::new(alloc), body))
+    let returned = return_of(at(8, 9), Some(own(alloc, name)?));
+    let body = one(alloc, returned)?;
+    Ok(make(KEY, KEY_NAME, none(alloc), body))
 }
 
 fn class(name: Name, line: u32, members: Methods) -> Class {
-    Class {
-        name,
-        place: at(line, 7),
-        members,
-    }
+    class_of(placed(name, at(line, 7)), members)
 }
 
 /// The class Item of an `__init__`, a `__key__` and a method.
@@ -161,29 +129,18 @@ fn item_of(
     key: Method,
     method: Method,
 ) -> Result<Classes, AllocError> {
-    let members = with(alloc, Sequence::new(alloc), init)?;
+    let members = one(alloc, init)?;
     let members = with(alloc, with(alloc, members, key)?, method)?;
-    with(alloc, Sequence::new(alloc), class(ITEM, 1, members))
+    one(alloc, class(ITEM, 1, members))
 }
 
 fn method(alloc: Global, name: Name, params: Params, gives: Option<WrittenTy>) -> Method {
-    Method {
-        name,
-        place: METHOD_NAME,
-        params,
-        result: gives,
-        body: Sequence::new(alloc),
-    }
+    method_of(placed(name, METHOD_NAME), params, gives, none(alloc))
 }
 
 /// `price(self) -> int`.
 fn price(alloc: Global) -> Method {
-    method(
-        alloc,
-        PRICE,
-        Sequence::new(alloc),
-        written(WrittenKind::Int),
-    )
+    method(alloc, PRICE, none(alloc), written(WrittenKind::Int))
 }
 
 /// An Item with this method.
@@ -193,7 +150,7 @@ fn with_method(alloc: Global, method: Method) -> Result<Classes, AllocError> {
 
 /// An Item whose method has two parameters.
 fn with_params(alloc: Global, first: Param, second: Param) -> Result<Classes, AllocError> {
-    let params = with(alloc, with(alloc, Sequence::new(alloc), first)?, second)?;
+    let params = two(alloc, first, second)?;
     with_method(alloc, method(alloc, PRICE, params, None))
 }
 
@@ -253,17 +210,13 @@ fn an_item_has_its_table(rt: HostRuntime) -> Result<(), Fail> {
 #[test]
 fn names_of_classes_come_first(rt: HostRuntime) -> Result<(), Fail> {
     let alloc = rt.alloc();
-    let empty = with(
-        alloc,
-        Sequence::new(alloc),
-        class(ITEM, 1, Sequence::new(alloc)),
-    )?;
-    let twice = with(alloc, empty, class(ITEM, 20, Sequence::new(alloc)))?;
+    let empty = one(alloc, class(ITEM, 1, none(alloc)))?;
+    let twice = with(alloc, empty, class(ITEM, 20, none(alloc)))?;
     assert_eq!(rt; broken(alloc, twice)?, (Rule::DuplicateClass, at(20, 7)));
-    let named = class(LEN, 20, Sequence::new(alloc));
+    let named = class(LEN, 20, none(alloc));
     let reserved = with(alloc, with_method(alloc, price(alloc))?, named)?;
     assert_eq!(rt; broken(alloc, reserved)?, (Rule::ReservedName, at(20, 7)));
-    let bare = class(CART, 20, Sequence::new(alloc));
+    let bare = class(CART, 20, none(alloc));
     let second = with(alloc, with_method(alloc, price(alloc))?, bare)?;
     assert_eq!(rt; broken(alloc, second)?, (Rule::InitForm, at(20, 7)));
     Ok(())
@@ -291,11 +244,9 @@ fn parameters_are_told_in_order(rt: HostRuntime) -> Result<(), Fail> {
 #[test]
 fn methods_have_names_and_results(rt: HostRuntime) -> Result<(), Fail> {
     let alloc = rt.alloc();
-    let none = Sequence::new(alloc);
-    let dunder = with_method(alloc, method(alloc, ADD, none, None))?;
+    let dunder = with_method(alloc, method(alloc, ADD, none(alloc), None))?;
     assert_eq!(rt; broken(alloc, dunder)?, (Rule::ReservedName, METHOD_NAME));
-    let none = Sequence::new(alloc);
-    let untyped = with_method(alloc, method(alloc, PRICE, none, None))?;
+    let untyped = with_method(alloc, method(alloc, PRICE, none(alloc), None))?;
     assert_eq!(rt;
         broken(alloc, untyped)?,
         (Rule::MissingAnnotation, METHOD_NAME)
@@ -304,7 +255,7 @@ fn methods_have_names_and_results(rt: HostRuntime) -> Result<(), Fail> {
     second.place = METHOD_NAME;
     let twice = with_method(alloc, second)?;
     assert_eq!(rt; broken(alloc, twice)?, (Rule::DuplicateMember, METHOD_NAME));
-    let params = with(alloc, Sequence::new(alloc), param(AMOUNT, 24, None))?;
+    let params = one(alloc, param(AMOUNT, 24, None))?;
     let earlier = with_method(alloc, method(alloc, PRICE, params, None))?;
     assert_eq!(rt;
         broken(alloc, earlier)?,
@@ -315,8 +266,7 @@ fn methods_have_names_and_results(rt: HostRuntime) -> Result<(), Fail> {
 
 /// An Item whose method has this result type.
 fn giving(alloc: Global, kind: WrittenKind) -> Result<Classes, AllocError> {
-    let none = Sequence::new(alloc);
-    with_method(alloc, method(alloc, PRICE, none, written(kind)))
+    with_method(alloc, method(alloc, PRICE, none(alloc), written(kind)))
 }
 
 /// An Item whose `__init__` has this result type.
@@ -353,11 +303,7 @@ fn types_are_told_at_their_parts(rt: HostRuntime) -> Result<(), Fail> {
 #[test]
 fn an_init_declares_fields(rt: HostRuntime) -> Result<(), Fail> {
     let alloc = rt.alloc();
-    let pass = Stmt {
-        place: at(5, 9),
-        kind: StmtKind::Pass,
-    };
-    let passing = with_stmt(alloc, pass)?;
+    let passing = with_stmt(alloc, pass_of(at(5, 9)))?;
     assert_eq!(rt; broken(alloc, passing)?, (Rule::InitForm, at(5, 9)));
     let int = written(WrittenKind::Int);
     let again = with_stmt(alloc, declared(5, COST, int, var(COST)))?;
@@ -382,10 +328,7 @@ fn an_init_only_computes(rt: HostRuntime) -> Result<(), Fail> {
     let int = written(WrittenKind::Int);
     let early = with_stmt(alloc, declared(5, COST, int, own(alloc, AMOUNT)?))?;
     assert_eq!(rt; broken(alloc, early)?, (Rule::InitForm, at(5, 9)));
-    let made = Expr {
-        place: at(5, 30),
-        kind: ExprKind::Apply(ITEM, Sequence::new(alloc)),
-    };
+    let made = apply_of(at(5, 30), ITEM, none(alloc));
     let making = with_stmt(alloc, declared(5, AMOUNT, None, made))?;
     assert_eq!(rt; broken(alloc, making)?, (Rule::InitForm, at(5, 9)));
     let int = written(WrittenKind::Int);
@@ -397,8 +340,8 @@ fn an_init_only_computes(rt: HostRuntime) -> Result<(), Fail> {
 #[test]
 fn a_key_is_one_field(rt: HostRuntime) -> Result<(), Fail> {
     let alloc = rt.alloc();
-    let members = with(alloc, Sequence::new(alloc), good_init(alloc)?)?;
-    let keyless = with(alloc, Sequence::new(alloc), class(ITEM, 1, members))?;
+    let members = one(alloc, good_init(alloc)?)?;
+    let keyless = one(alloc, class(ITEM, 1, members))?;
     assert_eq!(rt; broken(alloc, keyless)?, (Rule::KeyForm, CLASS));
     let int = with_key(alloc, key_of(alloc, COST)?)?;
     assert_eq!(rt; broken(alloc, int)?, (Rule::KeyForm, KEY_NAME));
@@ -423,8 +366,8 @@ fn a_field_is_not_named_as_what_tells_the_key(rt: HostRuntime) -> Result<(), Fai
     let int = written(WrittenKind::Int);
     let body = with(alloc, good_body(alloc)?, declared(5, KEY, int, var(COST)))?;
     let init = make(INIT, INIT_NAME, good_params(alloc)?, body);
-    let members = with(alloc, Sequence::new(alloc), init)?;
-    let keyless = with(alloc, Sequence::new(alloc), class(ITEM, 1, members))?;
+    let members = one(alloc, init)?;
+    let keyless = one(alloc, class(ITEM, 1, members))?;
     assert_eq!(rt; broken(alloc, keyless)?, (Rule::DuplicateMember, at(5, 14)));
     Ok(())
 }
@@ -437,7 +380,7 @@ fn other(i: u32) -> Name {
 #[test]
 fn there_are_256_of_a_kind(rt: HostRuntime) -> Result<(), Fail> {
     let alloc = rt.alloc();
-    let mut params = Sequence::new(alloc);
+    let mut params = none(alloc);
     for i in 0..257 {
         params.push(alloc, param(other(i), i + 1, written(WrittenKind::Int)))?;
     }
@@ -453,18 +396,18 @@ fn there_are_256_of_a_kind(rt: HostRuntime) -> Result<(), Fail> {
     let init = make(INIT, INIT_NAME, good_params(alloc)?, body);
     let many = item_of(alloc, init, key_of(alloc, NAME)?, price(alloc))?;
     assert_eq!(rt; broken(alloc, many)?, (Rule::TooMany, at(259, 14)));
-    let mut members = Sequence::new(alloc);
+    let mut members = none(alloc);
     for i in 0..257 {
         let mut more = price(alloc);
         more.name = other(i);
         more.place = at(i + 1, 9);
         members.push(alloc, more)?;
     }
-    let many = with(alloc, Sequence::new(alloc), class(ITEM, 1, members))?;
+    let many = one(alloc, class(ITEM, 1, members))?;
     assert_eq!(rt; broken(alloc, many)?, (Rule::TooMany, at(257, 9)));
-    let mut classes = Sequence::new(alloc);
+    let mut classes = none(alloc);
     for i in 0..257 {
-        classes.push(alloc, class(other(i), i + 1, Sequence::new(alloc)))?;
+        classes.push(alloc, class(other(i), i + 1, none(alloc)))?;
     }
     assert_eq!(rt; broken(alloc, classes)?, (Rule::TooMany, at(257, 7)));
     Ok(())

@@ -414,10 +414,6 @@ fn what_is_combined_is_read_first(rt: HostRuntime) -> Result<(), Fail> {
     Ok(())
 }
 
-fn names(alloc: Global) -> Result<Names, Fail> {
-    names_with(alloc, &WORDS)
-}
-
 /// `self.code`.
 fn own_code(alloc: Global) -> Result<Expr, AllocError> {
     attribute(alloc, at(16), self_of(at(16)), placed(CODE, 21))
@@ -446,7 +442,7 @@ fn program(alloc: Global, second: Stmt) -> Result<Program, AllocError> {
 
 /// What is answered of a program that breaks no class rule.
 fn program_answered(alloc: Global, program: &Program) -> Result<Result<(), RuleError>, Fail> {
-    let names = names(alloc)?;
+    let names = names_with(alloc, &WORDS)?;
     match tables(alloc, program, &names) {
         Ok(tables) => Ok(check_program(alloc, &tables, program, &names)),
         Err(_) => Err(Fail::from("no tables")),
