@@ -4,8 +4,6 @@
 mod callable;
 mod laws;
 mod read;
-#[cfg(test)]
-mod tests;
 mod write;
 
 pub use laws::lines_fit;

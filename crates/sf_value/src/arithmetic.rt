@@ -48,27 +48,3 @@ pub fn floor_mod(x: i128, y: i128) -> Option<i128>
         Some(towards_zero)
     }
 }
-
-#[cfg(test)]
-mod tests {
-    use super::{floor_div, floor_mod};
-
-    #[test]
-    fn quotients_are_rounded_down(rt: HostRuntime) {
-        for (x, y, quotient, remainder) in [
-            (7, 2, Some(3), Some(1)),
-            (-7, 2, Some(-4), Some(1)),
-            (7, -2, Some(-4), Some(-1)),
-            (-7, -2, Some(3), Some(-1)),
-            (-6, 2, Some(-3), Some(0)),
-            (1, 0, None, None),
-            (7, 0, None, None),
-            (i128::MIN, -1, None, Some(0)),
-            (i128::MIN, 1, Some(i128::MIN), Some(0)),
-            (i128::MIN, i128::MAX, Some(-2), Some(i128::MAX - 1)),
-        ] {
-            assert_eq!(rt; floor_div(x, y), quotient, "{x} // {y}");
-            assert_eq!(rt; floor_mod(x, y), remainder, "{x} % {y}");
-        }
-    }
-}
