@@ -17,8 +17,6 @@ mod init;
 mod members;
 pub mod names;
 mod table;
-#[cfg(test)]
-mod tests;
 pub mod written;
 
 pub use build::type_of;

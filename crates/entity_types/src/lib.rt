@@ -19,8 +19,6 @@ pub mod lookup;
 mod narrowing;
 pub mod operators;
 mod scope;
-#[cfg(test)]
-mod tests;
 pub mod types;
 mod walk;
 

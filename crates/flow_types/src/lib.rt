@@ -29,8 +29,6 @@ mod loops;
 mod methods;
 mod program;
 mod simple;
-#[cfg(test)]
-mod tests;
 mod values;
 mod walk;
 mod written;

@@ -15,8 +15,6 @@ mod lines;
 mod scan;
 mod signs;
 mod strings;
-#[cfg(test)]
-mod tests;
 mod text;
 mod token;
 mod words;

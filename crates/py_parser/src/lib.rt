@@ -16,8 +16,6 @@ mod simple_statements;
 mod spelling;
 mod statements;
 mod syntax_error;
-#[cfg(test)]
-mod tests;
 mod types;
 
 pub use program::{Parsed, parse};

@@ -243,10 +243,18 @@ unfoldable mutual
 -- P holds of each statement in a tree
 unfoldable mutual
   pub EachStmt : (PlainStmt → Type 0) → PlainStmt → Type 0
+  EachStmt P (PPass at) = P (PPass at)
+  EachStmt P (PBreak at) = P (PBreak at)
+  EachStmt P (PContinue at) = P (PContinue at)
+  EachStmt P (PDo at value) = P (PDo at value)
+  EachStmt P (PReturn at value) = P (PReturn at value)
+  EachStmt P (PRaise at kind message) = P (PRaise at kind message)
+  EachStmt P (PAssert at test message) = P (PAssert at test message)
+  EachStmt P (PAssign at target ty value) = P (PAssign at target ty value)
+  EachStmt P (PAugment at target op op_at value) = P (PAugment at target op op_at value)
   EachStmt P (PIf at arms other) = P (PIf at arms other) × EachOfArms P arms × EachOfStmts P other
   EachStmt P (PWhile at test body) = P (PWhile at test body) × EachOfStmts P body
   EachStmt P (PFor at name name_at over body) = P (PFor at name name_at over body) × EachOfStmts P body
-  EachStmt P x = P x
 
   pub EachOfStmts : (PlainStmt → Type 0) → PlainStmts → Type 0
   EachOfStmts P PNoStmt = Unit {0}

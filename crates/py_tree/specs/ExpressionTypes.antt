@@ -2,7 +2,7 @@
 --
 -- Parts are typed in the order of evaluation, and a part's fault comes before the rules on the whole. A wanted type is known
 -- beforehand for arguments, for elements, and for what is assigned or returned.
-use Rattle.std.specs.Prelude.{ℕ, Bool, true, false, not, ◌||◌, ◌&&◌, ◌==◌, ◌+◌, if◌then◌else◌, List, [], ◌∷◌, length, find, slice_get, Some, None, Result, Ok, Err, is_none, option_and_then, option_map}
+use Rattle.std.specs.Prelude.{ℕ, Bool, true, false, not, ◌||◌, ◌&&◌, ◌==◌, ◌+◌, if◌then◌else◌, List, [], ◌∷◌, length, find, slice_get, Some, None, Result, Ok, Err, is_none, option_and_then, option_map, codes}
 use Rattle.std.specs.declared.option.Option.{Option}
 use Rattle.py_tree.specs.declared.names.Place.{Place}
 use Rattle.py_tree.specs.declared.rule.Rule.{Rule}
@@ -15,6 +15,7 @@ use Rattle.py_tree.specs.declared.expr.Cmp.TheVariants as cmp
 use Rattle.py_tree.specs.PlainTypes.{PlainTy, TInt, TBool, TStr, TNil, TList, TOptional, TEntity}
 use Rattle.py_tree.specs.PlainExpressions.{PlainExpr, PInt, PBool, PStr, PNil, PVar, PSelf, PAttr, PCall, PApply, PIndex, PList, PNeg, PPos, PNot, PChain, PAnd, POr, PCompare, PIsNone, PCond, PlainExprs, PNoExpr, PExpr, PLink, PlainLinks, PNoLink, PMoreLinks}
 use Rattle.py_tree.specs.ClassRules.{PlainField, PlainSigParam, PlainSig, PlainTable, is_self}
+use Rattle.py_tree.specs.ReservedNames.{reserved_number}
 use Rattle.py_tree.specs.FlowEnvironment.{PlainLocal, PlainEnv, local_of, has_none, where_test}
 
 -- Types
@@ -121,14 +122,14 @@ pub data Function : Type 0 where
   Least : Function
   Greatest : Function
 
--- the functions `len`, `str`, `abs`, `min` and `max`, by the numbers that these words have among the reserved names
+-- the functions by their words
 unfoldable pub function_of : ℕ → Option Function
 function_of name =
-    if name == 7 then Some Length
-    else (if name == 3 then Some Text
-    else (if name == 8 then Some Absolute
-    else (if name == 9 then Some Least
-    else (if name == 10 then Some Greatest
+    if name == reserved_number (codes "len") then Some Length
+    else (if name == reserved_number (codes "str") then Some Text
+    else (if name == reserved_number (codes "abs") then Some Absolute
+    else (if name == reserved_number (codes "min") then Some Least
+    else (if name == reserved_number (codes "max") then Some Greatest
     else None))))
 
 -- Faults

@@ -4,7 +4,7 @@ use Rattle.std.specs.Prelude.{ℕ, Bool, true, false, not, ◌||◌, ◌&&◌, i
 use Rattle.py_tree.specs.declared.stmt.Target.{Target}
 use Rattle.py_tree.specs.declared.stmt.Target.TheVariants.{Local, Field}
 use Rattle.py_tree.specs.PlainExpressions.{PlainExpr, PBool}
-use Rattle.py_tree.specs.PlainStatements.{PlainStmt, PBreak, PContinue, PReturn, PRaise, PAssign, PAugment, PIf, PWhile, PFor, PlainStmts, PNoStmt, PStmt, PArm, PlainArms, PNoArm, PMoreArms}
+use Rattle.py_tree.specs.PlainStatements.{PlainStmt, PPass, PBreak, PContinue, PDo, PReturn, PRaise, PAssert, PAssign, PAugment, PIf, PWhile, PFor, PlainStmts, PNoStmt, PStmt, PArm, PlainArms, PNoArm, PMoreArms}
 
 -- the literal True
 abbrev pub is_true : PlainExpr → Bool
@@ -14,13 +14,18 @@ is_true _ = false
 -- the point after a statement can be reached, and a `break` of the loop around it can
 unfoldable mutual
   pub goes_on : PlainStmt → Bool
+  goes_on (PPass at) = true
   goes_on (PBreak at) = false
   goes_on (PContinue at) = false
+  goes_on (PDo at value) = true
   goes_on (PReturn at value) = false
   goes_on (PRaise at kind message) = false
+  goes_on (PAssert at test message) = true
+  goes_on (PAssign at target ty value) = true
+  goes_on (PAugment at target op op_at value) = true
   goes_on (PIf at arms other) = an_arm_goes_on arms || all_go_on other
   goes_on (PWhile at test body) = not (is_true test) || break_in body
-  goes_on _ = true
+  goes_on (PFor at name name_at over body) = true
 
   pub all_go_on : PlainStmts → Bool
   all_go_on PNoStmt = true
@@ -31,9 +36,18 @@ unfoldable mutual
   an_arm_goes_on (PMoreArms (PArm test body) more) = all_go_on body || an_arm_goes_on more
 
   pub breaks : PlainStmt → Bool
+  breaks (PPass at) = false
   breaks (PBreak at) = true
+  breaks (PContinue at) = false
+  breaks (PDo at value) = false
+  breaks (PReturn at value) = false
+  breaks (PRaise at kind message) = false
+  breaks (PAssert at test message) = false
+  breaks (PAssign at target ty value) = false
+  breaks (PAugment at target op op_at value) = false
   breaks (PIf at arms other) = break_in_arm arms || break_in other
-  breaks _ = false
+  breaks (PWhile at test body) = false
+  breaks (PFor at name name_at over body) = false
 
   pub break_in : PlainStmts → Bool
   break_in PNoStmt = false
@@ -50,12 +64,18 @@ local_assigned (Field f) = []
 -- the names that statements assign which can be reached
 unfoldable mutual
   pub assigns : PlainStmt → List ℕ
+  assigns (PPass at) = []
+  assigns (PBreak at) = []
+  assigns (PContinue at) = []
+  assigns (PDo at value) = []
+  assigns (PReturn at value) = []
+  assigns (PRaise at kind message) = []
+  assigns (PAssert at test message) = []
   assigns (PAssign at target ty value) = local_assigned target
   assigns (PAugment at target op op_at value) = local_assigned target
   assigns (PIf at arms other) = assigned_in_arms arms ++ assigned_in other
   assigns (PWhile at test body) = assigned_in body
   assigns (PFor at name name_at over body) = name ∷ assigned_in body
-  assigns _ = []
 
   pub assigned_in : PlainStmts → List ℕ
   assigned_in PNoStmt = []

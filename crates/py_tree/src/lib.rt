@@ -25,8 +25,6 @@ mod rule;
 mod starts;
 mod stmt;
 mod terminal;
-#[cfg(test)]
-mod tests;
 mod ty;
 
 pub use checked::Checked;

@@ -6,7 +6,6 @@ ghost use Rattle.py_tree.specs.PlainTypes.{plain_ty};
 use crate::names::{Name, Place};
 
 /// A type.
-#[derive(Drop)]
 pub enum Ty {
     Int,
     Bool,
@@ -19,6 +18,18 @@ pub enum Ty {
     Entity(Name),
 }
 
+/// Gives the owned part to a call of `drop`, so that a function that lets a type go has one step for it.
+impl Drop for Ty {
+    #[cycle(ty_drop)]
+    fn drop(self) {
+        match self {
+            Ty::Int | Ty::Bool | Ty::Str | Ty::Nil | Ty::Entity(_) => {}
+            Ty::List(element) => drop(element),
+            Ty::Optional(inner) => drop(inner),
+        }
+    }
+}
+
 /// A type as it is written, with the place of its first token.
 #[cycle(written)]
 #[derive(Drop)]
@@ -29,7 +40,6 @@ pub struct WrittenTy {
 
 /// What is written as a type.
 #[cycle(written)]
-#[derive(Drop)]
 pub enum WrittenKind {
     Int,
     Bool,
@@ -39,6 +49,22 @@ pub enum WrittenKind {
     Optional(Box<WrittenTy>),
     /// A name that should be a class's.
     Entity(Name),
+}
+
+/// Gives the owned part to a call of `drop`, as for [`Ty`].
+impl Drop for WrittenKind {
+    #[cycle(written_drop)]
+    fn drop(self) {
+        match self {
+            WrittenKind::Int
+            | WrittenKind::Bool
+            | WrittenKind::Str
+            | WrittenKind::Nil
+            | WrittenKind::Entity(_) => {}
+            WrittenKind::List(element) => drop(element),
+            WrittenKind::Optional(inner) => drop(inner),
+        }
+    }
 }
 
 impl Ty {

@@ -3,12 +3,11 @@ use Rattle.std.proofs.Common.{◌≡◌, inl, inr, ℕ, zero, suc, ◌+◌, ◌<
 use Rattle.std.proofs.lemmas.Bool.{cases_eq}
 use Rattle.sf_outside.specs.DiskModel.{Image, of_file}
 use Rattle.sf_value.specs.declared.Snapshot.{Snapshot}
-use Rattle.request_log.specs.LogFile.{LogFrom}
 use Rattle.snapshot_store.specs.SlotFile.{number_of, slot_file, log_of, IsBadSlot, IsGoodSlot, IsOlder, IsNewest, IsNew, IsFirstBad}
 use Rattle.snapshot_store.proofs.OneNewest.{not_both, one_newest, newest_not_new}
-use Rattle.recovery.specs.StoreImage.{batches_of, BreaksAt}
+use Rattle.recovery.specs.StoreImage.{EndsAt, BreaksAt}
 use Rattle.recovery.specs.OneStore.{NewIsNotOld, NewIsNotBad, OldIsNotBad, OldIsOne, BadIsOne}
-use Rattle.recovery.proofs.OneLog.{one_log, one_break, log_not_broken, one_placing}
+use Rattle.recovery.proofs.OneLog.{one_log, one_break, log_not_broken}
 
 -- ---- slots
 
@@ -58,16 +57,16 @@ old_not_bad image epoch kept batches at file place old (inr bad) =
     let same : bad.epoch ≡ epoch = (one_newest image bad.epoch epoch bad.kept kept bad.newest old.newest).0 in
     let log = of_file (log_of epoch) image in
     let breaks : BreaksAt log place = subst (λ f. BreaksAt (of_file f image) place) (bad.same_file ∙ ap log_of same) bad.breaks in
-    log_not_broken log (batches_of batches) at place old.log breaks
+    log_not_broken log batches at place old.log breaks
 
 -- ---- contents
 
 pub one_old : OldIsOne
 one_old image e f kept other batches others at place a b =
     let newest = one_newest image e f kept other a.newest b.newest in
-    let log : LogFrom (of_file (log_of f) image) 0 (batches_of batches) at = subst (λ epoch. LogFrom (of_file (log_of epoch) image) 0 (batches_of batches) at) newest.0 a.log in
-    let same = one_log (of_file (log_of f) image) (batches_of batches) (batches_of others) at place log b.log in
-    (newest.0, newest.1, one_placing 0 batches others at place same.0 a.places b.places, same.1)
+    let log : EndsAt (of_file (log_of f) image) batches at = subst (λ epoch. EndsAt (of_file (log_of epoch) image) batches at) newest.0 a.log in
+    let same = one_log (of_file (log_of f) image) batches others at place log b.log in
+    (newest.0, newest.1, same.0, same.1)
 
 pub one_bad : BadIsOne
 one_bad image file other at place (inl a) (inl b) =

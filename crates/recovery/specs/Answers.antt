@@ -4,7 +4,6 @@ use Rattle.std.specs.List.{AllByRecursion}
 use Rattle.sf_bytes.specs.Spelt.{IsReadBatch, IsReadSnapshot}
 use Rattle.sf_outside.specs.DiskModel.{Image}
 use Rattle.sf_outside.specs.declared.store_disk.StoreFile.{StoreFile}
-use Rattle.request_log.specs.LogFile.{LogFrom}
 use Rattle.request_log.specs.declared.fault.LogFault.{LogFault}
 use Rattle.request_log.specs.declared.fault.LogFault.TheVariants as of_log
 use Rattle.snapshot_store.specs.SlotFile.{slot_file, IsEpoch, IsNew}
@@ -16,7 +15,7 @@ use Rattle.recovery.specs.declared.log.Log.{Log}
 use Rattle.recovery.specs.declared.opened.Opened.{Opened}
 use Rattle.recovery.specs.declared.opened.Opened.TheVariants.{New, Old}
 use Rattle.recovery.specs.declared.opened.Placed.{Placed}
-use Rattle.recovery.specs.StoreImage.{batches_of, ArePlaced, BreaksAt, IsOld, IsBad}
+use Rattle.recovery.specs.StoreImage.{ArePlaced, EndsAt, BreaksAt, IsOld, IsBad}
 
 -- the store is new, or old with exactly these, or bad at exactly this place
 abbrev pub Answers : Image → Result Opened OpenFault → Type 0
@@ -62,7 +61,7 @@ log_fault log of_log.NoMemory = NoMemory
 
 -- the batches of the log and the place of the closed gate behind them, or the place where it breaks
 abbrev pub AnswersLog : List ℕ → Result Log LogFault → Type 0
-AnswersLog file (Ok log) = LogFrom file 0 (batches_of log.batches) log.at
+AnswersLog file (Ok log) = EndsAt file log.batches log.at
 AnswersLog file (Err (of_log.Bad at)) = BreaksAt file at
 AnswersLog file (Err of_log.Failed) = Unit {0}
 AnswersLog file (Err of_log.NoMemory) = Unit {0}

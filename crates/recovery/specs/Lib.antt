@@ -1,3 +1,4 @@
 pub mod Answers
 pub mod OneStore
 pub mod StoreImage
+pub mod StoreSteps

@@ -1,12 +1,12 @@
--- What the four files of a store are together: new, as the slots say alone; or bad at a place of a file; or old, with a
+-- What the files of a store are together: new, as the slots say alone; or bad at a place of a file; or old, with a
 -- snapshot and the batches of its log.
 use Rattle.std.specs.Prelude.{ℕ, ◌≡◌, ◌⊎◌, List, [], ◌∷◌, length, map}
-use Rattle.sf_bytes.specs.ByteForms.{batch_bytes}
+use Rattle.sf_bytes.specs.Gates.{ClosedAt}
 use Rattle.sf_outside.specs.DiskModel.{Image, of_file}
 use Rattle.sf_outside.specs.declared.store_disk.StoreFile.{StoreFile}
 use Rattle.sf_value.specs.declared.BatchRecord.{BatchRecord}
 use Rattle.sf_value.specs.declared.Snapshot.{Snapshot}
-use Rattle.request_log.specs.LogFile.{gate_behind, RecordAt, LogFrom, IsBadAt}
+use Rattle.request_log.specs.LogFile.{gate_behind, IsBatch, RecordAt, IsBadAt}
 use Rattle.snapshot_store.specs.SlotFile.{slot_file, log_of, IsNewest, IsFirstBad}
 use Rattle.recovery.specs.declared.opened.Placed.{Placed}
 
@@ -15,22 +15,27 @@ use Rattle.recovery.specs.declared.opened.Placed.{Placed}
 abbrev pub batches_of : List Placed → List BatchRecord
 batches_of batches = map (λ placed. placed.batch) batches
 
--- the first is at this place, each other where the gate behind the one before it is, and the gate behind the last is at
--- the last place
+-- the first is at this place, each other where the gate behind a spelling of the one before it is, and the gate behind
+-- the last is at the last place
 abbrev pub ArePlaced : ℕ → List Placed → ℕ → Type 0
 ArePlaced at [] end = at ≡ end
-ArePlaced at (placed ∷ batches) end = (placed.at ≡ at) × ArePlaced (gate_behind at (length (batch_bytes placed.batch))) batches end
+ArePlaced at (placed ∷ batches) end = (body : List ℕ) × (placed.at ≡ at) × IsBatch body placed.batch × ArePlaced (gate_behind at (length body)) batches end
 
--- ---- logs that go bad
+-- ---- logs
 
--- from this place on there are records of these batches, and the gate behind them belongs at the last place
-abbrev pub RecordsTo : List ℕ → ℕ → List BatchRecord → ℕ → Type 0
+-- from this place on there are records of these batches at their places, and the gate behind them belongs at the last place
+abbrev pub RecordsTo : List ℕ → ℕ → List Placed → ℕ → Type 0
 RecordsTo file at [] end = at ≡ end
-RecordsTo file at (batch ∷ batches) end = RecordAt file at batch × RecordsTo file (gate_behind at (length (batch_bytes batch))) batches end
+RecordsTo file at (placed ∷ batches) end = (next : ℕ) × (placed.at ≡ at) × RecordAt file at placed.batch next × RecordsTo file next batches end
+
+-- there are records of these batches at their places, and behind them the first closed gate is at the last place
+pub record EndsAt (file : List ℕ) (batches : List Placed) (at : ℕ) : Type 0 where
+  pub records : RecordsTo file 0 batches at
+  pub closed : ClosedAt file at
 
 -- there are records up to this place, and no gate is there or no record behind an open one
 abbrev pub BreaksAt : List ℕ → ℕ → Type 0
-BreaksAt file at = (batches : List BatchRecord) × RecordsTo file 0 batches at × IsBadAt file at
+BreaksAt file at = (batches : List Placed) × RecordsTo file 0 batches at × IsBadAt file at
 
 -- ---- the whole
 
@@ -38,8 +43,7 @@ BreaksAt file at = (batches : List BatchRecord) × RecordsTo file 0 batches at �
 -- last place
 pub record IsOld (image : Image) (epoch : ℕ) (kept : Snapshot) (batches : List Placed) (at : ℕ) : Type 0 where
   pub newest : IsNewest image epoch kept
-  pub log : LogFrom (of_file (log_of epoch) image) 0 (batches_of batches) at
-  pub places : ArePlaced 0 batches at
+  pub log : EndsAt (of_file (log_of epoch) image) batches at
 
 -- this is the first bad slot, and the place is its start
 pub record HasBadSlot (image : Image) (file : StoreFile) (at : ℕ) : Type 0 where

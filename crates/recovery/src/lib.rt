@@ -5,13 +5,12 @@
 #![tactic(auto)]
 
 mod fault;
+mod laws;
 mod log;
 mod opened;
 mod opening;
 
 pub use fault::OpenFault;
+pub use laws::{checkpoint_begins_anew, holds_batches, is_one_store, record_adds_batch};
 pub use opened::{Batches, Opened, Placed};
-pub use opening::{is_one_store, reopen};
-
-#[cfg(test)]
-mod tests;
+pub use opening::reopen;

@@ -6,7 +6,6 @@ ghost use Rattle.sf_outside.specs.DiskModel.{Stays, IsClean};
 ghost use Rattle.sf_bytes.specs.Spelt.{IsReadSnapshot};
 ghost use Rattle.snapshot_store.specs.SlotFile.{IsEpoch, IsNewest};
 ghost use Rattle.recovery.specs.Answers.{Answers, IsPlaced, UnlessFailed};
-ghost use Rattle.recovery.specs.OneStore.{NewIsNotOld, NewIsNotBad, OldIsNotBad, OldIsOne, BadIsOne};
 
 use crate::fault::{OpenFault, log_fault};
 use crate::log::read_log;
@@ -68,12 +67,3 @@ fn with_log<D: Disk>(alloc: Global, disk: &mut D, newest: Kept) -> Result<Opened
         Err(fault) => Err(log_fault(file, fault)),
     }
 }
-
-/// Four files are a store of one kind at most, with one content.
-pub fn is_one_store()
-    ensures new_or_old { NewIsNotOld }
-    ensures new_or_bad { NewIsNotBad }
-    ensures old_or_bad { OldIsNotBad }
-    ensures one_old { OldIsOne }
-    ensures one_bad { BadIsOne }
-{}

@@ -5,8 +5,6 @@ mod arguments;
 mod fault;
 mod laws;
 mod read;
-#[cfg(test)]
-mod tests;
 mod write;
 
 pub use fault::{LineError, LineFault};

@@ -15,13 +15,13 @@ use Rattle.sf_bytes.proofs.Wide.{IsBytes, IsBytes-rest, wide32}
 use Rattle.sf_outside.specs.Bytes.{CopiedAll}
 use Rattle.sf_outside.specs.DiskModel.{Image, of_file}
 use Rattle.sf_outside.specs.declared.store_disk.StoreFile.{StoreFile}
-use Rattle.sf_outside.proofs.ImageSteps.{if_both}
+use Rattle.sf_outside.proofs.ImageSteps.{if_one, if_both}
 use Rattle.sf_outside.proofs.WrittenBytes.{copied-stands}
 use Rattle.sf_value.specs.declared.BatchRecord.{BatchRecord}
 use Rattle.request_log.specs.LogFile.{gate_behind, RecordAt, IsBadAt, IsBatch}
 use Rattle.request_log.specs.Answers.{SaysFront, SaysBatch}
 use Rattle.request_log.specs.declared.reading.Front.TheVariants.{Broken}
-use Rattle.request_log.proofs.Logs.{number-length}
+use Rattle.request_log.proofs.Logs.{number-length, Record-length}
 
 -- ---- whole batches
 
@@ -46,57 +46,58 @@ module _ (file : List ℕ) (at len : ℕ) (short : len < 2 ^ 32) (claims : Stand
   is_open = Stands-front file at (open_gate ∷ []) (number_bytes len) claims
 
   -- a record there has as many bytes as are claimed
-  claimed : (batch : BatchRecord) → RecordAt file at batch → length (batch_bytes batch) ≡ len
-  claimed batch there =
-      let n = length (batch_bytes batch) in
-      let front : StandsAt file at (open_gate ∷ number_bytes n) = Stands-front file at (open_gate ∷ number_bytes n) (batch_bytes batch) there.stands in
+  claimed : (batch : BatchRecord) (next : ℕ) (there : RecordAt file at batch next) → length there.body ≡ len
+  claimed batch next there =
+      let n = length there.body in
+      let front : StandsAt file at (open_gate ∷ number_bytes n) = Stands-front file at (open_gate ∷ number_bytes n) there.body there.stands in
       let five : length (open_gate ∷ number_bytes n) ≡ length (open_gate ∷ number_bytes len) = omega (arith, number-length n, number-length len) in
       number-same n len there.short short (ap (drop 1) (sym front ∙ ap (λ k. take k (drop at file)) five ∙ claims))
 
-  -- the file ends before the next gate
-  pub too_short : length file - at < len + 6 → IsBadAt file at
-  too_short less = inr (is_open, λ batch there. absurd (omega (arith, less, there.next_gate, claimed batch there)))
+  -- the file ends before the record does
+  pub too_short : length file - at < len + 5 → IsBadAt file at
+  too_short less = inr (is_open, λ batch next there. absurd (omega (arith, less, there.ends, Record-length file at batch next there, claimed batch next there)))
 
   module _ (body : List ℕ) (behind : StandsAt file (at + 5) body) (all : length body ≡ len) where
     -- what is behind is no batch
     pub none_found : SaysBatch body None → IsBadAt file at
     none_found none = inr (
       is_open,
-      λ batch there.
-          let n = length (batch_bytes batch) in
+      λ batch next there.
+          let n = length there.body in
           let place : at + length (open_gate ∷ number_bytes n) ≡ at + 5 = omega (arith, number-length n) in
-          let here : StandsAt file (at + 5) (batch_bytes batch) = subst (λ p. StandsAt file p (batch_bytes batch)) place (Stands-behind file at (open_gate ∷ number_bytes n) (batch_bytes batch) there.stands) in
-          let same : n ≡ length body = claimed batch there ∙ sym all in
-          none batch (there.read, sym here ∙ ap (λ k. take k (drop (at + 5) file)) same ∙ behind),
+          let here : StandsAt file (at + 5) there.body = subst (λ p. StandsAt file p there.body) place (Stands-behind file at (open_gate ∷ number_bytes n) there.body there.stands) in
+          let same : n ≡ length body = claimed batch next there ∙ sym all in
+          none batch (subst (λ bytes. IsBatch bytes batch) (sym here ∙ ap (λ k. take k (drop (at + 5) file)) same ∙ behind) there.spells),
     )
 
-    record_at : (batch : BatchRecord) → gate_behind at len < length file → IsBatch body batch → RecordAt file at batch
-    record_at batch reaches is =
-        let n = length (batch_bytes batch) in
-        let same : len ≡ n = sym all ∙ ap length (sym is.1) in
-        let front : StandsAt file at (open_gate ∷ number_bytes n) = subst (λ k. StandsAt file at (open_gate ∷ number_bytes k)) same claims in
-        let place : at + 5 ≡ at + length (open_gate ∷ number_bytes n) = omega (arith, number-length n) in
-        let here : StandsAt file (at + 5) (batch_bytes batch) = subst (StandsAt file (at + 5)) (sym is.1) behind in
-        record {
-          stands = Stands-both file at (open_gate ∷ number_bytes n) (batch_bytes batch) front (subst (λ p. StandsAt file p (batch_bytes batch)) place here);
-          next_gate = omega (arith, reaches, same);
-          short = omega (arith, short, same);
-          read = is.0;
-        }
-
     -- and here it is one
-    pub record_found : (batch : BatchRecord) → len + 6 ≤ length file - at → IsBatch body batch → RecordAt file at batch
-    record_found batch room is = record_at batch (omega (arith, room)) is
+    pub record_found : (batch : BatchRecord) → IsBatch body batch → RecordAt file at batch (gate_behind at len)
+    record_found batch is =
+        let n = length body in
+        let front : StandsAt file at (open_gate ∷ number_bytes n) = subst (λ k. StandsAt file at (open_gate ∷ number_bytes k)) (sym all) claims in
+        let place : at + 5 ≡ at + length (open_gate ∷ number_bytes n) = omega (arith, number-length n) in
+        record {
+          body = body;
+          spells = is;
+          short = omega (arith, short, all);
+          stands = Stands-both file at (open_gate ∷ number_bytes n) body front (subst (λ p. StandsAt file p body) place behind);
+          ends = ap (gate_behind at) (sym all);
+        }
 
 -- ---- what was copied
 
 -- five bytes were asked for, and they say that no record is there
-pub broken : (file : List ℕ) (at n : ℕ) (buf : List ℕ) → length buf ≡ 5 → CopiedAll file at n buf → SaysFront (take n buf) Broken → IsBadAt file at
+broken : (file : List ℕ) (at n : ℕ) (buf : List ℕ) → length buf ≡ 5 → CopiedAll file at n buf → SaysFront (take n buf) Broken → IsBadAt file at
 broken file at n buf five copied (inl none) = inl (omega (arith, five, copied.count, ap length none, length-take n buf))
 broken file at n buf five copied (inr says) =
     let some : 1 ≤ n = omega (arith, ap length says.0, length-take 1 (take n buf), length-take n buf) in
     let open_there : OpenAt file at = sym (take-take 1 n (drop at file) some) ∙ ap (take 1) (sym copied.bytes) ∙ says.0 in
-    inr (open_there, λ batch there. absurd (omega (arith, five, copied.count, says.1, length-take n buf, there.next_gate)))
+    inr (open_there, λ batch next there. absurd (omega (arith, five, copied.count, says.1, length-take n buf, there.ends, Record-length file at batch next there)))
+
+pub seen_broken : (file : StoreFile) (seen : Option Image) (at n : ℕ) (buf : List ℕ) → length buf ≡ 5 → IfSome seen (λ now. CopiedAll (of_file file now) at n buf) → SaysFront (take n buf) Broken
+    → IfSome seen (λ now. IsBadAt (of_file file now) at)
+seen_broken file seen at n buf five copied says =
+    if_one seen (λ now. CopiedAll (of_file file now) at n buf) (λ now. IsBadAt (of_file file now) at) (λ now copy. broken (of_file file now) at n buf five copy says) copied
 
 -- ---- what the bytes that a read gives say
 
@@ -110,24 +111,21 @@ claims_front (first ∷ rest) len five are_bytes gate is =
     let number : to_be_bytes w32 len ≡ rest = ap (to_be_bytes w32) is ∙ back in
     λ i. gate i ∷ sym number i
 
-module _ (file : StoreFile) (seen : Option Image) (at len end count : ℕ) (buf : List ℕ) (short : len < 2 ^ 32) (claims : IfSome seen (λ now. StandsAt (of_file file now) at (open_gate ∷ number_bytes len)))
-    (ends : IfSome seen (λ now. end ≡ length (of_file file now))) (copied : IfSome seen (λ now. CopiedAll (of_file file now) (at + 5) count buf)) (long : length buf ≡ len) (all : len ≤ count) (room : len + 6 ≤ end - at) where
-  -- a gate that claims so many bytes, the end of the file, and the bytes that were copied
-  abbrev Told : Image → Type 0
-  Told now = (StandsAt (of_file file now) at (open_gate ∷ number_bytes len) × (end ≡ length (of_file file now))) × CopiedAll (of_file file now) (at + 5) count buf
+module _ (file : StoreFile) (seen : Option Image) (at len count : ℕ) (buf : List ℕ) (short : len < 2 ^ 32) (claims : IfSome seen (λ now. StandsAt (of_file file now) at (open_gate ∷ number_bytes len)))
+    (copied : IfSome seen (λ now. CopiedAll (of_file file now) (at + 5) count buf)) (long : length buf ≡ len) (all : len ≤ count) where
+  abbrev Claims : Image → Type 0
+  Claims now = StandsAt (of_file file now) at (open_gate ∷ number_bytes len)
 
-  told : IfSome seen Told
-  told = if_both seen (λ now. StandsAt (of_file file now) at (open_gate ∷ number_bytes len) × (end ≡ length (of_file file now))) (λ now. CopiedAll (of_file file now) (at + 5) count buf) Told (λ now a b. (a, b))
-      (if_both seen (λ now. StandsAt (of_file file now) at (open_gate ∷ number_bytes len)) (λ now. end ≡ length (of_file file now)) (λ now. StandsAt (of_file file now) at (open_gate ∷ number_bytes len) × (end ≡ length (of_file file now))) (λ now a b. (a, b)) claims ends)
-      copied
+  abbrev Copies : Image → Type 0
+  Copies now = CopiedAll (of_file file now) (at + 5) count buf
 
-  stands_there : (now : Image) → Told now → StandsAt (of_file file now) (at + 5) buf
-  stands_there now is = copied-stands (of_file file now) (at + 5) count buf is.1 (omega (arith, long, all))
+  stands_there : (now : Image) → Copies now → StandsAt (of_file file now) (at + 5) buf
+  stands_there now copy = copied-stands (of_file file now) (at + 5) count buf copy (omega (arith, long, all))
 
-  pub seen_record : (batch : BatchRecord) → IsBatch buf batch → IfSome seen (λ now. RecordAt (of_file file now) at batch)
-  seen_record batch whole = if_both seen Told Told (λ now. RecordAt (of_file file now) at batch)
-      (λ now is same. record_found (of_file file now) at len short is.0.0 buf (stands_there now is) long batch (omega (arith, room, is.0.1)) whole) told told
+  pub seen_record : (batch : BatchRecord) → IsBatch buf batch → IfSome seen (λ now. RecordAt (of_file file now) at batch (gate_behind at len))
+  seen_record batch whole = if_both seen Claims Copies (λ now. RecordAt (of_file file now) at batch (gate_behind at len))
+      (λ now claim copy. record_found (of_file file now) at len short claim buf (stands_there now copy) long batch whole) claims copied
 
   pub seen_bad : SaysBatch buf None → IfSome seen (λ now. IsBadAt (of_file file now) at)
-  seen_bad none = if_both seen Told Told (λ now. IsBadAt (of_file file now) at)
-      (λ now is same. none_found (of_file file now) at len short is.0.0 buf (stands_there now is) long none) told told
+  seen_bad none = if_both seen Claims Copies (λ now. IsBadAt (of_file file now) at)
+      (λ now claim copy. none_found (of_file file now) at len short claim buf (stands_there now copy) long none) claims copied

@@ -15,6 +15,3 @@ pub use reading::{Found, next};
 
 /// The byte of an open gate. Any other byte is a closed one.
 const OPEN: u8 = 0xA5;
-
-#[cfg(test)]
-mod tests;

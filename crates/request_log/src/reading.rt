@@ -87,7 +87,7 @@ fn record_of<D: Disk>(
     ensures mounts { D.mounts disk.new ≡ D.mounts disk.old }
 {
     let end = disk.len(file)?;
-    if end.saturating_sub(at) < len as u64 + 6 {
+    if end.saturating_sub(at) < len as u64 + 5 {
         return Err(LogFault::Bad { at });
     }
     let mut body = vec![in alloc; 0; len as usize]?;
@@ -105,7 +105,7 @@ fn record_of<D: Disk>(
 }
 
 /// The batch whose bytes these are, with none left over.
-pub(crate) fn whole_batch(alloc: Global, bytes: &[u8]) -> Result<Option<BatchRecord>, AllocError>
+fn whole_batch(alloc: Global, bytes: &[u8]) -> Result<Option<BatchRecord>, AllocError>
     ensures { IfOk result (λ found. SaysBatch bytes.now found) }
 {
     let Some((batch, count)) = read_batch(alloc, bytes)? else {

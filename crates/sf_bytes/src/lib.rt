@@ -124,6 +124,3 @@ pub fn spellings_stand_apart()
     ensures batches { NoneBeginsAnother batch_bytes IsReadBatch }
     ensures snapshots { NoneBeginsAnother snapshot_bytes IsReadSnapshot }
 {}
-
-#[cfg(test)]
-mod tests;

@@ -101,6 +101,20 @@ Stays-refl facts = record {
   time = record { later = omega arith; nothing_else = λ since image le left. inl left; keeps = λ since image le left. left };
 }
 
+-- calls that change nothing, and more of them
+pub Stays-then : (old between new : DiskFacts) → Stays old between → Stays between new → Stays old new
+Stays-then old between new first rest = record {
+  seen = rest.seen ∙ first.seen;
+  images = λ image left. first.images image (rest.images image left);
+  time = record {
+    later = omega (arith, first.time.later, rest.time.later);
+    nothing_else = λ since image le left. ⊎_elim
+        (λ was. ⊎_elim (λ earlier. inl earlier) (λ meanwhile. inl (old.counts_now since image le (first.images image meanwhile))) (first.time.nothing_else since image le was))
+        (λ last. inr last) (rest.time.nothing_else since image (omega (arith, le, first.time.later)) left);
+    keeps = λ since image le left. rest.time.keeps since image (omega (arith, le, first.time.later)) (first.time.keeps since image le left);
+  };
+}
+
 -- an image is one of itself with a file torn
 pub TornFile-none : (file : StoreFile) (at n : ℕ) (image : Image) → TornFile file at n image image
 TornFile-none file at n image = record {

@@ -5,6 +5,7 @@ use Rattle.std.proofs.KnownBytes.{Appends-trans, Appends-nil}
 use Rattle.std.specs.declared.option.Option.{Option}
 use Rattle.std.specs.declared.result.Result.{Result}
 use Rattle.std.specs.Io.KnownBytes.{Appends}
+use Rattle.sf_outside.specs.Bytes.{AppendsPrefix}
 use Rattle.sf_outside.specs.declared.gains.WriteStop.{WriteStop}
 use Rattle.sf_outside.specs.declared.gains.WriteStop.TheVariants.{NoMemory, WriteFault}
 use Rattle.sf_outside.specs.Gains.{joined, Wrote}
@@ -38,6 +39,14 @@ text_first first rest n = ap (take (min n (length (joined first)))) (joined-appe
 -- no line was to be written
 pub Wrote-none : {U : Type 0} (value : U) (held : Option (List ℕ)) → Wrote (Ok value) held held []
 Wrote-none value held = subst (Appends held held) (sym joined-nil) (Appends-nil held)
+
+-- one line was written whole
+pub Wrote-line : {U : Type 0} (value : U) (start end : Option (List ℕ)) (line : List ℕ) → Appends start end line → Wrote (Ok value) start end (line ∷ [])
+Wrote-line value start end line whole = subst (Appends start end) (sym (joined_one line)) whole
+
+-- or in part
+pub Wrote-part : {T : Type 0} (result : Result T WriteStop) (start end : Option (List ℕ)) (line : List ℕ) → result ≡ Err WriteFault → AppendsPrefix start end line → Wrote result start end (line ∷ [])
+Wrote-part result start end line is part = rw is (subst (AppendsPrefix start end) (sym (joined_one line)) part)
 
 -- the first lines were all written, and this is the result of the rest
 pub Wrote-after : {T U : Type 0} (value : U) (result : Result T WriteStop) (start between end : Option (List ℕ)) (first rest : List (List ℕ))

@@ -16,6 +16,11 @@ pub on_ok_both : {T E : Type 0} (result : Result T E) (P Q R : Type 0) → (P �
 on_ok_both (Ok x) P Q R follows p q = follows p q
 on_ok_both (Err e) P Q R follows p q = tt
 
+-- what follows from a fact of a value, where there is one
+pub if_one : {A : Type 0} (some : Option A) (P Q : A → Type 0) → ((x : A) → P x → Q x) → IfSome some P → IfSome some Q
+if_one None P Q follows p = tt
+if_one (Some x) P Q follows p = follows x p
+
 -- what follows from two facts of a value, where there is one
 pub if_both : {A : Type 0} (some : Option A) (P Q R : A → Type 0) → ((x : A) → P x → Q x → R x) → IfSome some P → IfSome some Q → IfSome some R
 if_both None P Q R follows p q = tt

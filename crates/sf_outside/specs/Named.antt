@@ -28,6 +28,9 @@ content_of files name = value_named (λ file. file.name) (λ file. Some file.byt
 abbrev pub faults_of : ℕ → List FileState → List ℕ → ℕ
 faults_of others files name = value_named (λ file. file.name) (λ file. file.faults) others files name
 
+abbrev pub faults_at : FilesState → List ℕ → ℕ
+faults_at files name = faults_of files.other_faults files.files name
+
 -- files as they are listed, each name beside its bytes
 abbrev pub listed : List (List ℕ) → List (List ℕ) → List FileState
 listed [] contents = []

@@ -1,7 +1,9 @@
 //! Writing lines to a sink, and what it gained where the writing stops early.
 
-ghost use Rattle.std.specs.Prelude.{[], ◌∷◌};
-ghost use Rattle.sf_outside.specs.Gains.{Wrote, Counts};
+ghost use Rattle.std.specs.Prelude.{OnOk, OnErr};
+ghost use Rattle.std.specs.Io.KnownBytes.{Appends};
+ghost use Rattle.sf_outside.specs.Bytes.{AppendsPrefix};
+ghost use Rattle.sf_outside.specs.Causes.{HasCause};
 
 use crate::devices::{Failed, Sink};
 use std::alloc::{AllocError, AllocFailed};
@@ -46,14 +48,11 @@ impl From<Failed> for WriteStop {
     }
 }
 
-/// Writes one line, or a part of it.
-#[tactic(auto, using(crate::proofs::GainLaws::joined_one))]
-pub fn write_line<K: Sink>(out: &mut K, line: &[u8]) -> Result<(), WriteStop>
-    ensures wrote { Wrote result (K.held out.old) (K.held out.new) (line.now ∷ []) }
-    ensures counts { Counts (K.faults out.old) (K.faults out.new) result }
+/// Writes one line, or a part of it. It takes no memory, so its one fault is the sink's.
+pub fn write_line<K: Sink>(out: &mut K, line: &[u8]) -> Result<(), Failed>
+    ensures whole { OnOk result (Appends (K.held out.old) (K.held out.new) line.now) }
+    ensures part { OnErr result (AppendsPrefix (K.held out.old) (K.held out.new) line.now) }
+    ensures cause { HasCause (K.faults out.old) (K.faults out.new) result }
 {
-    match out.write(line) {
-        Ok(()) => Ok(()),
-        Err(Failed) => Err(WriteStop::WriteFault),
-    }
+    out.write(line)
 }

@@ -28,6 +28,3 @@ pub use memory_source::MemSource;
 pub use mount_book::MountBook;
 pub use store_disk::{Disk, MountFault, StoreFile};
 pub use synced::put_synced;
-
-#[cfg(test)]
-mod tests;

@@ -1,12 +1,12 @@
 //! Files in memory.
 
-ghost use Rattle.std.specs.Prelude.{◌≡◌, ◌≢◌, ◌≤◌, ◌||◌, ℕ, List, map, length, bytes_eq, is_err, is_none, IfOk, OnOk, IsSome};
+ghost use Rattle.std.specs.Prelude.{◌≡◌, ◌≢◌, ◌≤◌, ◌||◌, ℕ, List, map, length, bytes_eq, is_err, is_none, IfOk, OnOk, IsSome, if◌then◌else◌};
 ghost use Rattle.std.specs.List.{position};
 ghost use Rattle.std.specs.Io.{ReadsAtMost};
 ghost use Rattle.sf_outside.specs.Bytes.{Copied, ReadsAt};
 ghost use Rattle.sf_outside.specs.Calls.{is_due};
 ghost use Rattle.sf_outside.specs.Causes.{HasCause, next_count};
-ghost use Rattle.sf_outside.specs.Named.{content_of, faults_of, listed};
+ghost use Rattle.sf_outside.specs.Named.{content_of, faults_at, listed};
 
 use crate::calls::Calls;
 use crate::copies::copy_at;
@@ -116,16 +116,17 @@ impl MemFiles {
 impl Files for MemFiles {
     ghost content = { λ files name. content_of files.files name };
 
-    ghost faults = { λ files name. faults_of files.other_faults files.files name };
+    ghost faults = { faults_at };
 
     fn read_at(&mut self, name: &str, at: u64, buf: &mut [u8]) -> Result<usize, Failed>
         ensures bound { ReadsAtMost result buf.new }
         ensures bytes { ReadsAt (content_of self.old.files name.now) at result buf.new }
         ensures kept { (q : List ℕ) → content_of self.new.files q ≡ content_of self.old.files q }
-        ensures cause { HasCause (faults_of self.old.other_faults self.old.files name.now) (faults_of self.new.other_faults self.new.files name.now) result }
-        ensures later { (q : List ℕ) → faults_of self.old.other_faults self.old.files q ≤ faults_of self.new.other_faults self.new.files q }
+        ensures cause { HasCause (faults_at self.old name.now) (faults_at self.new name.now) result }
+        ensures later { (q : List ℕ) → faults_at self.old q ≤ faults_at self.new q }
+        ensures counted { faults_at self.new name.now ≡ (if is_err result then next_count (faults_at self.old name.now) else faults_at self.old name.now) }
         ensures quiet { OnOk result ((self.new.files ≡ self.old.files) × (self.new.other_faults ≡ self.old.other_faults)) }
-        ensures others { (q : List ℕ) → q ≢ name.now → IsSome (content_of self.old.files q) → faults_of self.new.other_faults self.new.files q ≡ faults_of self.old.other_faults self.old.files q }
+        ensures others { (q : List ℕ) → q ≢ name.now → IsSome (content_of self.old.files q) → faults_at self.new q ≡ faults_at self.old q }
         ensures other_faults { IsSome (content_of self.old.files name.now) → self.new.other_faults ≡ self.old.other_faults }
         ensures fails { is_err result ≡ (is_due self.old.fail_at self.new.calls || is_none (content_of self.old.files name.now)) }
         ensures calls { self.new.calls ≡ next_count self.old.calls }

@@ -1,11 +1,16 @@
 //! Floor division and modulo of whole numbers.
 
 ghost use Rattle.std.specs.Prelude.{◌≡◌, ◌≢◌, ◌↔◌, ℤ, pos, IfSome, IsNone, IsTrue};
-ghost use Rattle.sf_value.specs.Arithmetic.{HaveOppositeSigns, FloorDivides, HasOneQuotient, HasNoQuotient};
+ghost use Rattle.sf_value.specs.Arithmetic.{HaveOppositeSigns, FloorDivides, HasOneQuotient, HasNoQuotient, floor_quotient, floor_rest};
 
 /// A divisor other than 0 gives one quotient and one remainder.
 pub fn has_one_quotient()
     ensures { (x y : ℤ) → y ≢ pos 0 → HasOneQuotient x y }
+{}
+
+/// What divides by the rules is what `floor_quotient` and `floor_rest` compute.
+pub fn has_computed_quotient()
+    ensures { (x y q r : ℤ) → y ≢ pos 0 → FloorDivides x y q r → (q ≡ floor_quotient x y) × (r ≡ floor_rest x y) }
 {}
 
 /// Whether a division towards zero that left this remainder rounded up.
@@ -41,29 +46,5 @@ pub fn floor_mod(x: i128, y: i128) -> Option<i128>
         Some(towards_zero + y)
     } else {
         Some(towards_zero)
-    }
-}
-
-#[cfg(test)]
-mod tests {
-    use super::{floor_div, floor_mod};
-
-    #[test]
-    fn quotients_are_rounded_down(rt: HostRuntime) {
-        for (x, y, quotient, remainder) in [
-            (7, 2, Some(3), Some(1)),
-            (-7, 2, Some(-4), Some(1)),
-            (7, -2, Some(-4), Some(-1)),
-            (-7, -2, Some(3), Some(-1)),
-            (-6, 2, Some(-3), Some(0)),
-            (1, 0, None, None),
-            (7, 0, None, None),
-            (i128::MIN, -1, None, Some(0)),
-            (i128::MIN, 1, Some(i128::MIN), Some(0)),
-            (i128::MIN, i128::MAX, Some(-2), Some(i128::MAX - 1)),
-        ] {
-            assert_eq!(rt; floor_div(x, y), quotient, "{x} // {y}");
-            assert_eq!(rt; floor_mod(x, y), remainder, "{x} % {y}");
-        }
     }
 }

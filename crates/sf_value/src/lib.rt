@@ -12,7 +12,7 @@ mod text;
 mod value;
 mod weighing;
 
-pub use arithmetic::{floor_div, floor_mod, has_one_quotient};
+pub use arithmetic::{floor_div, floor_mod, has_computed_quotient, has_one_quotient};
 use sf_list::{Sequence, TryClone};
 use std::alloc::{AllocError, Global};
 pub use text::Text;
@@ -270,54 +270,5 @@ impl TryClone for Snapshot {
             records: self.records.try_clone(alloc)?,
             pending: self.pending.try_clone(alloc)?,
         })
-    }
-}
-
-#[cfg(test)]
-mod tests {
-    use super::*;
-    use std::test::Fail;
-
-    fn pair(alloc: Global, text: &str) -> Result<Value, AllocError> {
-        let mut items = Sequence::new(alloc);
-        items.push(alloc, Value::Str(Text::of(alloc, text)?))?;
-        items.push(alloc, Value::Int(1))?;
-        Ok(Value::List(items))
-    }
-
-    #[test]
-    fn a_list_weighs_one_and_its_elements(rt: HostRuntime) -> Result<(), Fail> {
-        assert_eq!(rt; weight(&pair(rt.alloc(), "ab")?), 5);
-        assert_eq!(rt; text_weight("ab"), 3);
-        Ok(())
-    }
-
-    #[test]
-    fn lists_with_equal_elements_are_the_same(rt: HostRuntime) -> Result<(), Fail> {
-        let one = pair(rt.alloc(), "ab")?;
-        assert!(rt; one.same(&pair(rt.alloc(), "ab")?));
-        assert!(rt; !one.same(&pair(rt.alloc(), "ba")?));
-        assert!(rt; one.same(&one.try_clone(rt.alloc())?));
-        Ok(())
-    }
-
-    #[test]
-    fn a_request_differs_from_one_of_another_method(rt: HostRuntime) -> Result<(), Fail> {
-        let alloc = rt.alloc();
-        let ask = |method: u32| -> Result<Request, AllocError> {
-            Ok(Request {
-                id: Text::of(alloc, "r1")?,
-                act: Act::Call {
-                    class: 0,
-                    key: Text::of(alloc, "apple")?,
-                    method,
-                    args: Sequence::new(alloc),
-                },
-            })
-        };
-        let first = ask(0)?;
-        assert!(rt; first.same(&first.try_clone(alloc)?));
-        assert!(rt; !first.same(&ask(1)?));
-        Ok(())
     }
 }

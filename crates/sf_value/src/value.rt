@@ -7,7 +7,6 @@ use sf_list::{Sequence, TryClone};
 use std::alloc::{AllocError, Global};
 
 /// A value of the language.
-#[derive(Drop)]
 pub enum Value {
     /// A whole number from -2^127 to 2^127-1.
     Int(i128),
@@ -18,6 +17,19 @@ pub enum Value {
     List(Values),
     /// An entity, which need not exist.
     Entity(Ref),
+}
+
+/// Gives each owned part to a call of `drop`, so that a function that lets a value go has one step for it.
+impl Drop for Value {
+    #[cycle(value_drop)]
+    fn drop(self) {
+        match self {
+            Value::Int(_) | Value::Bool(_) | Value::Nil => {}
+            Value::Str(text) => drop(text),
+            Value::List(items) => drop(items),
+            Value::Entity(at) => drop(at),
+        }
+    }
 }
 
 pub type Values = Sequence<Value>;

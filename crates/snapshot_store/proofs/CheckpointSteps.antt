@@ -1,15 +1,18 @@
 -- A checkpoint, one call after another.
-use Rattle.std.proofs.Common.{◌≡◌, ◌⊎◌, inl, inr, ℕ, zero, suc, ◌+◌, ◌<◌, ◌^◌, List, [], ◌∷◌, length, take, refl, sym, ap, ◌∙◌, subst, arith}
+use Rattle.std.proofs.Common.{◌≡◌, ◌≢◌, ◌⊎◌, inl, inr, ℕ, zero, suc, ◌+◌, ◌<◌, ◌^◌, List, [], ◌∷◌, length, take, refl, sym, ap, ◌∙◌, subst, arith}
 use Rattle.sf_bytes.specs.Gates.{open_gate, StandsAt, ClosedAt, OpenAt}
 use Rattle.sf_bytes.proofs.Stands.{Stands-both, Closed-length}
 use Rattle.sf_outside.specs.DiskModel.{Image, DiskFacts, of_file, LeavesOnly}
 use Rattle.sf_outside.specs.ImageSteps.{ComesBy}
 use Rattle.sf_outside.proofs.DiskLaws.{LeavesOnly-then, LeavesOnly-weaker}
 use Rattle.sf_outside.proofs.ImageSteps.{comes_other}
-use Rattle.snapshot_store.specs.SlotFile.{IsEpoch, number_of, slot_file, log_file, slot_of, log_of, IsClosedSlot, behind_gate, slot_bytes, HoldsAt, IsOlder, IsNew, IsNext}
+use Rattle.sf_outside.specs.declared.store_disk.StoreFile.{StoreFile}
+use Rattle.sf_value.specs.declared.Snapshot.{Snapshot}
+use Rattle.snapshot_store.specs.SlotFile.{IsEpoch, number_of, slot_file, log_file, slot_of, log_of, IsClosedSlot, behind_gate, slot_bytes, HoldsAt, IsOlder, IsNewest, IsNew, IsNext}
 use Rattle.snapshot_store.specs.SlotSteps.{GateChanges, StaysOrCloses, Closes, Opens, KeepsGate, Fills, IsCheckpoint, CheckpointStep, CheckpointDone, ComesBeside, KeepsNewest, IsKept, KeepsOrIsKept}
 use Rattle.snapshot_store.proofs.Epochs.{slot_differs, log_differs, other_slot-slot, other_slot-log, other_log-slot, other_log-log}
 use Rattle.snapshot_store.proofs.Gates.{gate_cases}
+use Rattle.snapshot_store.proofs.OneNewest.{one_newest, newest_not_new}
 
 -- ---- the other slot
 
@@ -55,8 +58,7 @@ module _ (epoch : ℕ) where
             follows (of_file (slot_of epoch) came.before) (of_file (slot_of epoch) image) from.step.0 came.step,
             subst Log (sym (comes_other (slot_of epoch) (log_of epoch) Step mid image came (log_differs epoch))) from.step.1,
           );
-          other_slot = comes_other (slot_of epoch) (slot_of (epoch + 1)) Step mid image came (other_slot-slot epoch) ∙ from.other_slot;
-          other_log = comes_other (slot_of epoch) (log_of (epoch + 1)) Step mid image came (other_log-slot epoch) ∙ from.other_log;
+          others = λ file slot log. comes_other (slot_of epoch) file Step mid image came slot ∙ from.others file slot log;
         }
 
     pub log_then : ((before now : List ℕ) → Log before → Step before now → Then now) → ComesBy (log_of epoch) Step mid image → Staged Slot Then old image
@@ -69,12 +71,11 @@ module _ (epoch : ℕ) where
             subst Slot (sym (comes_other (log_of epoch) (slot_of epoch) Step mid image came (slot_differs epoch))) from.step.0,
             follows (of_file (log_of epoch) came.before) (of_file (log_of epoch) image) from.step.1 came.step,
           );
-          other_slot = comes_other (log_of epoch) (slot_of (epoch + 1)) Step mid image came (other_slot-log epoch) ∙ from.other_slot;
-          other_log = comes_other (log_of epoch) (log_of (epoch + 1)) Step mid image came (other_log-log epoch) ∙ from.other_log;
+          others = λ file slot log. comes_other (log_of epoch) file Step mid image came log ∙ from.others file slot log;
         }
 
   no_step : (old : DiskFacts) (image : Image) → old.may_leave image → Staged Any Any old image
-  no_step old image left = record { before = image; left = left; step = (tt, tt); other_slot = refl; other_log = refl }
+  no_step old image left = record { before = image; left = left; step = (tt, tt); others = λ file slot log. refl }
 
   -- ---- what each call leaves once it is done
 
@@ -125,12 +126,11 @@ module _ (epoch : ℕ) where
         | inl same ↦ inl (record { slot = same; log = comes_other (slot_of epoch) (log_of epoch) StaysOrCloses old image came (log_differs epoch) })
         | inr closed ↦ inr (inl closed)
       ];
-      other_slot = comes_other (slot_of epoch) (slot_of (epoch + 1)) StaysOrCloses old image came (other_slot-slot epoch);
-      other_log = comes_other (slot_of epoch) (log_of (epoch + 1)) StaysOrCloses old image came (other_log-slot epoch);
+      others = λ file slot log. comes_other (slot_of epoch) file StaysOrCloses old image came slot;
     }
 
     shut_step : (Log : List ℕ → Type 0) (old : DiskFacts) (image : Image) → Staged Shut Log old image → Meanwhile old image
-    shut_step Log old image staged = record { before = staged.before; left = staged.left; step = inr (inl (inr staged.step.0)); other_slot = staged.other_slot; other_log = staged.other_log }
+    shut_step Log old image staged = record { before = staged.before; left = staged.left; step = inr (inl (inr staged.step.0)); others = staged.others }
 
     pub closing : (old new : DiskFacts) → LeavesOnly old new (ComesBy (slot_of epoch) StaysOrCloses old) → LeavesOnly old new (Meanwhile old)
     closing old new moments = LeavesOnly-weaker old new (ComesBy (slot_of epoch) StaysOrCloses old) (Meanwhile old) moments (closing_step old)
@@ -150,18 +150,19 @@ module _ (epoch : ℕ) where
       is_checkpoint image stands closed = record {
         slot = stands;
         holds = λ kept is. record {
-          stands = subst (λ bytes. StandsAt (of_file (slot_of epoch) image) 0 (slot_bytes epoch bytes)) (sym is.1) stands;
+          body = body;
+          spells = is;
+          stands = stands;
           in_range = in_range;
           own = refl;
-          countable = subst (λ bytes. length bytes < 2 ^ 64) (sym is.1) small;
-          read = is.0;
+          countable = small;
         };
         log = closed;
       }
 
       -- the checkpoint is done
       pub is_done : (old : DiskFacts) (image : Image) → Staged Whole Shut old image → ComesBeside epoch (CheckpointDone epoch body) old image
-      is_done old image staged = record { before = staged.before; left = staged.left; step = is_checkpoint image staged.step.0 staged.step.1; other_slot = staged.other_slot; other_log = staged.other_log }
+      is_done old image staged = record { before = staged.before; left = staged.left; step = is_checkpoint image staged.step.0 staged.step.1; others = staged.others }
 
       -- the gate is opened, or torn
       abbrev AfterGate : List ℕ → Type 0
@@ -181,8 +182,7 @@ module _ (epoch : ℕ) where
           | inl stands ↦ inr (inr (is_checkpoint image stands staged.step.1))
           | inr closed ↦ inr (inl (inr closed))
         ];
-        other_slot = staged.other_slot;
-        other_log = staged.other_log;
+        others = staged.others;
       }
 
       pub opening : (old mid new : DiskFacts) → LeavesOnly old mid (Meanwhile old) → ((image : Image) → mid.may_leave image → Staged Filled Shut old image) → LeavesOnly mid new (ComesBy (slot_of epoch) GateChanges mid) → LeavesOnly old new (Meanwhile old)
@@ -193,17 +193,28 @@ module _ (epoch : ℕ) where
 -- ---- what that makes of the newest snapshot
 
 module _ (epoch : ℕ) (body : List ℕ) (old : DiskFacts) (next : (image : Image) → old.may_leave image → IsNext epoch image) where
-  kept_there : (before image : Image) → old.may_leave before → of_file (slot_of (epoch + 1)) image ≡ of_file (slot_of (epoch + 1)) before → IsCheckpoint epoch body image → IsKept epoch body image
-  kept_there before image left same done = record {
+  -- each file but the slot and the log of the epoch is the same
+  abbrev Beside : Image → Image → Type 0
+  Beside before image = (file : StoreFile) → file ≢ slot_of epoch → file ≢ log_of epoch → of_file file image ≡ of_file file before
+
+  -- so are the slot and the log of the epoch after it
+  same_slot : (before image : Image) → Beside before image → of_file (slot_of (epoch + 1)) image ≡ of_file (slot_of (epoch + 1)) before
+  same_slot before image others = others (slot_of (epoch + 1)) (other_slot-slot epoch) (other_slot-log epoch)
+
+  same_log : (before image : Image) → Beside before image → of_file (log_of (epoch + 1)) image ≡ of_file (log_of (epoch + 1)) before
+  same_log before image others = others (log_of (epoch + 1)) (other_log-slot epoch) (other_log-log epoch)
+
+  kept_there : (before image : Image) → old.may_leave before → Beside before image → IsCheckpoint epoch body image → IsKept epoch body image
+  kept_there before image left others done = record {
     newest = λ kept is. record {
       here = done.holds kept is;
-      other = subst (IsOlder epoch (number_of (epoch + 1))) (sym same) (other_older epoch before (next before left));
+      other = subst (IsOlder epoch (number_of (epoch + 1))) (sym (same_slot before image others)) (other_older epoch before (next before left));
     };
     log = done.log;
   }
 
   pub is_kept : (image : Image) → ComesBeside epoch (CheckpointDone epoch body) old image → IsKept epoch body image
-  is_kept image came = kept_there came.before image came.left came.other_slot came.step
+  is_kept image came = kept_there came.before image came.left came.others came.step
 
   -- the slot of the epoch is as it was, or closed
   abbrev Quiet : Image → Image → Type 0
@@ -218,40 +229,51 @@ module _ (epoch : ℕ) (body : List ℕ) (old : DiskFacts) (next : (image : Imag
   older_still newest before image (inl same) was = subst (IsOlder newest (number_of epoch)) (sym same) was
   older_still newest before image (inr closed) was = inl closed
 
-  -- both slots of a new image
-  new_still : (image : Image) → IsClosedSlot (of_file (slot_of epoch) image) → IsClosedSlot (of_file (slot_of (epoch + 1)) image) → IsNew image
-  new_still image here other = both_closed image (number_of epoch) (number_of (epoch + 1)) (omega arith) here other
+  module _ (before image : Image) (quiet : Quiet before image) (others : Beside before image) where
+    -- both slots of a new image
+    new_still : IsNew before → IsNew image
+    new_still is_new =
+        both_closed image (number_of epoch) (number_of (epoch + 1)) (omega arith)
+        (closed_still before image quiet (new_slot before is_new (number_of epoch)))
+        (subst IsClosedSlot (sym (same_slot before image others)) (new_slot before is_new (number_of (epoch + 1))))
 
-  keeps : (before image : Image) → old.may_leave before → Quiet before image → of_file (slot_of (epoch + 1)) image ≡ of_file (slot_of (epoch + 1)) before → of_file (log_of (epoch + 1)) image ≡ of_file (log_of (epoch + 1)) before
-      → IsNext epoch before → KeepsNewest before image
-  keeps before image left quiet same_slot same_log (inl first) = inl (
-    first.0,
-    new_still image (closed_still before image quiet (new_slot before first.0 (number_of epoch))) (subst IsClosedSlot (sym same_slot) (new_slot before first.0 (number_of (epoch + 1)))),
-  )
-  keeps before image left quiet same_slot same_log (inr after) =
-      let newest = after.0 in
-      let number : number_of (epoch + 1) ≡ number_of newest = omega (arith, after.3) in
-      let behind : number_of (newest + 1) ≡ number_of epoch = omega (arith, after.3) in
-      let was : HoldsAt (number_of newest) (of_file (slot_of newest) before) newest after.1 = after.2.here in
-      let slots = subst (λ n. of_file (slot_file n) image ≡ of_file (slot_file n) before) number same_slot in
-      let logs = subst (λ n. of_file (log_file n) image ≡ of_file (log_file n) before) number same_log in
-      let older = subst (λ n. IsOlder newest n (of_file (slot_file n) before)) behind after.2.other in
-      let older_now = older_still newest before image quiet older in
-      inr (
-        newest,
-        after.1,
-        after.2,
+    module _ (newest : ℕ) (kept : Snapshot) (is : epoch ≡ newest + 1) where
+      number : number_of (epoch + 1) ≡ number_of newest
+      number = omega (arith, is)
+
+      behind : number_of (newest + 1) ≡ number_of epoch
+      behind = omega (arith, is)
+
+      newest_still : IsNewest before newest kept → IsNewest image newest kept
+      newest_still was =
+          let slots = subst (λ n. of_file (slot_file n) image ≡ of_file (slot_file n) before) number (same_slot before image others) in
+          let older = subst (λ n. IsOlder newest n (of_file (slot_file n) before)) behind was.other in
+          record {
+            here = subst (λ file. HoldsAt (number_of newest) file newest kept) (sym slots) was.here;
+            other = subst (λ n. IsOlder newest n (of_file (slot_file n) image)) (sym behind) (older_still newest before image quiet older);
+          }
+
+      log_still : of_file (log_of newest) image ≡ of_file (log_of newest) before
+      log_still = subst (λ n. of_file (log_file n) image ≡ of_file (log_file n) before) number (same_log before image others)
+
+    keeps : IsNext epoch before → KeepsNewest before image
+    keeps (inl first) = record {
+      is_new = new_still;
+      newest = λ newest kept was. absurd (newest_not_new before newest kept was first.0);
+      log = λ newest kept was. absurd (newest_not_new before newest kept was first.0);
+    }
+    keeps (inr after) =
+        let one_before = λ (newest : ℕ) (kept : Snapshot) (was : IsNewest before newest kept). after.3 ∙ ap (λ n. n + 1) (one_newest before after.0 newest after.1 kept after.2 was).0 in
         record {
-          here = subst (λ file. HoldsAt (number_of newest) file newest after.1) (sym slots) was;
-          other = subst (λ n. IsOlder newest n (of_file (slot_file n) image)) (sym behind) older_now;
-        },
-        logs,
-      )
+          is_new = λ was. absurd (newest_not_new before after.0 after.1 after.2 was);
+          newest = λ newest kept was. newest_still newest kept (one_before newest kept was) was;
+          log = λ newest kept was. log_still newest kept (one_before newest kept was);
+        }
 
   stands_at : (image : Image) → (came : ComesBeside epoch (CheckpointStep epoch body) old image) → CheckpointStep epoch body came.before image → KeepsOrIsKept epoch body old image
-  stands_at image came (inl stays) = (came.before, came.left, inl (keeps came.before image came.left (inl stays.slot) came.other_slot came.other_log (next came.before came.left)))
-  stands_at image came (inr (inl closed)) = (came.before, came.left, inl (keeps came.before image came.left (inr closed) came.other_slot came.other_log (next came.before came.left)))
-  stands_at image came (inr (inr done)) = (came.before, came.left, inr (kept_there came.before image came.left came.other_slot done))
+  stands_at image came (inl stays) = (came.before, came.left, inl (keeps came.before image (inl stays.slot) came.others (next came.before came.left)))
+  stands_at image came (inr (inl closed)) = (came.before, came.left, inl (keeps came.before image (inr closed) came.others (next came.before came.left)))
+  stands_at image came (inr (inr done)) = (came.before, came.left, inr (kept_there came.before image came.left came.others done))
 
   pub stands : (new : DiskFacts) → LeavesOnly old new (ComesBeside epoch (CheckpointStep epoch body) old) → LeavesOnly old new (KeepsOrIsKept epoch body old)
   stands new moments = LeavesOnly-weaker old new (ComesBeside epoch (CheckpointStep epoch body) old) (KeepsOrIsKept epoch body old) moments (λ image came. stands_at image came came.step)

@@ -16,7 +16,7 @@ use Rattle.snapshot_store.proofs.Slots.{held_epoch, held_length, held_body, held
 
 -- what keeps a snapshot is open, and no open slot is closed
 pub holds_open : (number : ℕ) (file : List ℕ) (epoch : ℕ) (kept : Snapshot) → HoldsAt number file epoch kept → IsOpenSlot file
-holds_open number file epoch kept holds = (omega (arith, held_reach number file epoch kept holds), Stands-front file 0 (open_gate ∷ []) (behind_gate epoch (snapshot_bytes kept)) holds.stands)
+holds_open number file epoch kept holds = (omega (arith, held_reach number file epoch kept holds), Stands-front file 0 (open_gate ∷ []) (behind_gate epoch holds.body) holds.stands)
 
 pub not_both : (file : List ℕ) → IsOpenSlot file → IsClosedSlot file → ⊥
 not_both file is_open (inl alone) = absurd (omega (arith, alone, is_open.0))
@@ -26,10 +26,10 @@ not_both file is_open (inr closed) = closed.1 (ap (λ bytes. get_or bytes 0 0) (
 pub one_held : (number : ℕ) (file : List ℕ) (e f : ℕ) (kept other : Snapshot) → HoldsAt number file e kept → HoldsAt number file f other → (e ≡ f) × (kept ≡ other)
 one_held number file e f kept other a b =
     let epochs : e ≡ f = same_epoch number file f other b e (omega (arith, a.in_range.1)) (held_epoch number file e kept a) in
-    let lengths = same_length number file f other b (length (snapshot_bytes kept)) a.countable (held_length number file e kept a) in
-    let bodies : snapshot_bytes kept ≡ snapshot_bytes other = sym (held_body number file e kept a) ∙ ap (λ n. take n (drop 17 file)) lengths ∙ held_body number file f other b in
+    let lengths = same_length number file f other b (length a.body) a.countable (held_length number file e kept a) in
+    let bodies : a.body ≡ b.body = sym (held_body number file e kept a) ∙ ap (λ n. take n (drop 17 file)) lengths ∙ held_body number file f other b in
     let apart : NoneBeginsAnother snapshot_bytes IsReadSnapshot = stands_apart snapshot_at snapshot_bytes IsReadSnapshot snapshot_spells in
-    (epochs, apart kept other [] [] a.read b.read (ap (λ bytes. bytes ++ []) bodies))
+    (epochs, apart kept other [] [] a.spells.0 b.spells.0 (ap (λ bytes. bytes ++ []) (a.spells.1 ∙ bodies ∙ sym b.spells.1)))
 
 -- and an image has one newest
 older_less : (number : ℕ) (file : List ℕ) (e f : ℕ) (kept : Snapshot) → IsOlder e number file → HoldsAt number file f kept → f < e

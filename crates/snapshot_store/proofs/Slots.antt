@@ -17,18 +17,13 @@ use Rattle.sf_bytes.proofs.Wide.{wide64}
 use Rattle.sf_outside.specs.Bytes.{CopiedAll}
 use Rattle.sf_outside.specs.DiskModel.{Image, of_file}
 use Rattle.sf_outside.specs.declared.store_disk.StoreFile.{StoreFile}
-use Rattle.sf_outside.proofs.ImageSteps.{if_both}
+use Rattle.sf_outside.proofs.ImageSteps.{if_one, if_both}
 use Rattle.sf_outside.proofs.WrittenBytes.{copied-stands}
 use Rattle.sf_value.specs.declared.Snapshot.{Snapshot}
 use Rattle.snapshot_store.specs.declared.reading.Kept.{Kept}
 use Rattle.snapshot_store.specs.Answers.{Answers, AnswersSlot, SaysNumber, SaysSnapshot, newer_of}
 use Rattle.snapshot_store.specs.SlotFile.{IsEpoch, number_of, slot_file, IsOpenSlot, IsSnapshot, behind_gate, slot_bytes, HoldsAt, IsBadSlot, IsOlder, IsNewest}
 use Rattle.snapshot_store.proofs.Fillings.{long-length}
-
--- what follows from a fact of a value, where there is one
-pub if_one : {A : Type 0} (some : Option A) (P Q : A → Type 0) → ((x : A) → P x → Q x) → IfSome some P → IfSome some Q
-if_one None P Q follows p = tt
-if_one (Some x) P Q follows p = follows x p
 
 -- ---- whole snapshots
 
@@ -55,31 +50,31 @@ long-same m n short-m short-n same = sym (wide64.again m short-m) ∙ ap (from_b
 
 -- what stands in a slot that keeps a snapshot, part by part
 module _ (number : ℕ) (file : List ℕ) (epoch : ℕ) (kept : Snapshot) (holds : HoldsAt number file epoch kept) where
-  behind : StandsAt file 1 (behind_gate epoch (snapshot_bytes kept))
-  behind = Stands-behind file 0 (open_gate ∷ []) (behind_gate epoch (snapshot_bytes kept)) holds.stands
+  behind : StandsAt file 1 (behind_gate epoch holds.body)
+  behind = Stands-behind file 0 (open_gate ∷ []) (behind_gate epoch holds.body) holds.stands
 
   pub held_epoch : StandsAt file 1 (long_bytes epoch)
-  held_epoch = Stands-front file 1 (long_bytes epoch) (long_bytes (length (snapshot_bytes kept))) (Stands-front file 1 (long_bytes epoch ++ long_bytes (length (snapshot_bytes kept))) (snapshot_bytes kept) behind)
+  held_epoch = Stands-front file 1 (long_bytes epoch) (long_bytes (length holds.body)) (Stands-front file 1 (long_bytes epoch ++ long_bytes (length holds.body)) holds.body behind)
 
-  pub held_length : StandsAt file 9 (long_bytes (length (snapshot_bytes kept)))
+  pub held_length : StandsAt file 9 (long_bytes (length holds.body))
   held_length =
       let nine : 1 + length (long_bytes epoch) ≡ 9 = omega (arith, long-length epoch) in
-      subst (λ at. StandsAt file at (long_bytes (length (snapshot_bytes kept)))) nine
-      (Stands-behind file 1 (long_bytes epoch) (long_bytes (length (snapshot_bytes kept))) (Stands-front file 1 (long_bytes epoch ++ long_bytes (length (snapshot_bytes kept))) (snapshot_bytes kept) behind))
+      subst (λ at. StandsAt file at (long_bytes (length holds.body))) nine
+      (Stands-behind file 1 (long_bytes epoch) (long_bytes (length holds.body)) (Stands-front file 1 (long_bytes epoch ++ long_bytes (length holds.body)) holds.body behind))
 
-  pub held_body : StandsAt file 17 (snapshot_bytes kept)
+  pub held_body : StandsAt file 17 holds.body
   held_body =
-      let two = long_bytes epoch ++ long_bytes (length (snapshot_bytes kept)) in
-      let place : 1 + length two ≡ 17 = omega (arith, long-length epoch, long-length (length (snapshot_bytes kept)), length-append (long_bytes epoch) (long_bytes (length (snapshot_bytes kept)))) in
-      subst (λ at. StandsAt file at (snapshot_bytes kept)) place (Stands-behind file 1 two (snapshot_bytes kept) behind)
+      let two = long_bytes epoch ++ long_bytes (length holds.body) in
+      let place : 1 + length two ≡ 17 = omega (arith, long-length epoch, long-length (length holds.body), length-append (long_bytes epoch) (long_bytes (length holds.body))) in
+      subst (λ at. StandsAt file at holds.body) place (Stands-behind file 1 two holds.body behind)
 
   -- the file reaches to its end
-  pub held_reach : 17 + length (snapshot_bytes kept) ≤ length file
+  pub held_reach : 17 + length holds.body ≤ length file
   held_reach =
       let one = long_bytes epoch in
-      let two = long_bytes (length (snapshot_bytes kept)) in
-      let all = slot_bytes epoch (snapshot_bytes kept) in
-      omega (arith, Stands-length file 0 all holds.stands (omega arith), long-length epoch, long-length (length (snapshot_bytes kept)), length-append one two, length-append (one ++ two) (snapshot_bytes kept))
+      let two = long_bytes (length holds.body) in
+      let all = slot_bytes epoch holds.body in
+      omega (arith, Stands-length file 0 all holds.stands (omega arith), long-length epoch, long-length (length holds.body), length-append one two, length-append (one ++ two) holds.body)
 
   short : epoch < 2 ^ 64
   short = omega (arith, holds.in_range.1)
@@ -90,9 +85,9 @@ module _ (number : ℕ) (file : List ℕ) (epoch : ℕ) (kept : Snapshot) (holds
       let eight : length (long_bytes claimed) ≡ length (long_bytes epoch) = long-length claimed ∙ sym (long-length epoch) in
       long-same claimed epoch small short (sym stands ∙ ap (λ k. take k (drop 1 file)) eight ∙ held_epoch)
 
-  pub same_length : (claimed : ℕ) → claimed < 2 ^ 64 → StandsAt file 9 (long_bytes claimed) → claimed ≡ length (snapshot_bytes kept)
+  pub same_length : (claimed : ℕ) → claimed < 2 ^ 64 → StandsAt file 9 (long_bytes claimed) → claimed ≡ length holds.body
   same_length claimed small stands =
-      let n = length (snapshot_bytes kept) in
+      let n = length holds.body in
       let eight : length (long_bytes claimed) ≡ length (long_bytes n) = long-length claimed ∙ sym (long-length n) in
       long-same claimed n small holds.countable (sym stands ∙ ap (λ k. take k (drop 9 file)) eight ∙ held_length)
 
@@ -126,26 +121,24 @@ module _ (number : ℕ) (file : List ℕ) (epoch len : ℕ) (small : len < 2 ^ 6
       is_open,
       λ e kept holds.
           let same = same_length number file e kept holds len small length_stands in
-          let count : length (snapshot_bytes kept) ≡ length buf = sym same ∙ sym all in
-          none kept (holds.read, sym (held_body number file e kept holds) ∙ ap (λ k. take k (drop 17 file)) count ∙ behind_it),
+          let count : length holds.body ≡ length buf = sym same ∙ sym all in
+          none kept (subst (λ bytes. IsSnapshot bytes kept) (sym (held_body number file e kept holds) ∙ ap (λ k. take k (drop 17 file)) count ∙ behind_it) holds.spells),
     )
 
     -- else it keeps that snapshot
     pub body_found : IsEpoch epoch → number_of epoch ≡ number → (kept : Snapshot) → IsSnapshot buf kept → HoldsAt number file epoch kept
     body_found in_range own kept is =
-        let body = snapshot_bytes kept in
-        let same : len ≡ length body = sym all ∙ ap length (sym is.1) in
         let two = long_bytes epoch ++ long_bytes len in
         let place : 17 ≡ 1 + length two = omega (arith, long-length epoch, long-length len, length-append (long_bytes epoch) (long_bytes len)) in
-        let there : StandsAt file (1 + length two) body = subst (λ at. StandsAt file at body) place (subst (StandsAt file 17) (sym is.1) behind_it) in
-        let behind_gate_there : StandsAt file 1 (two ++ body) = Stands-both file 1 two body claims there in
-        let whole : StandsAt file 0 (open_gate ∷ two ++ body) = Stands-both file 0 (open_gate ∷ []) (two ++ body) is_open.1 behind_gate_there in
+        let behind_gate_there : StandsAt file 1 (two ++ buf) = Stands-both file 1 two buf claims (subst (λ at. StandsAt file at buf) place behind_it) in
+        let whole : StandsAt file 0 (open_gate ∷ two ++ buf) = Stands-both file 0 (open_gate ∷ []) (two ++ buf) is_open.1 behind_gate_there in
         record {
-          stands = subst (λ n. StandsAt file 0 (open_gate ∷ (long_bytes epoch ++ long_bytes n) ++ body)) same whole;
+          body = buf;
+          spells = is;
+          stands = subst (λ n. StandsAt file 0 (open_gate ∷ (long_bytes epoch ++ long_bytes n) ++ buf)) (sym all) whole;
           in_range = in_range;
           own = own;
-          countable = subst (λ n. n < 2 ^ 64) same small;
-          read = is.0;
+          countable = subst (λ n. n < 2 ^ 64) (sym all) small;
         }
 
 -- ---- what the bytes that a read gives say

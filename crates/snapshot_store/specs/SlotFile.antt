@@ -49,7 +49,7 @@ IsOpenSlot file = (1 < length file) × OpenAt file 0
 abbrev pub IsShutSlot : List ℕ → Type 0
 IsShutSlot file = (1 < length file) × ClosedAt file 0
 
--- these are the bytes of the snapshot and nothing else
+-- these bytes are a spelling of the snapshot, and nothing else
 abbrev pub IsSnapshot : List ℕ → Snapshot → Type 0
 IsSnapshot body kept = IsReadSnapshot kept × (snapshot_bytes kept ≡ body)
 
@@ -61,13 +61,14 @@ behind_gate epoch body = long_bytes epoch ++ long_bytes (length body) ++ body
 abbrev pub slot_bytes : ℕ → List ℕ → List ℕ
 slot_bytes epoch body = open_gate ∷ behind_gate epoch body
 
--- the slot of this number is open with an epoch of its own and a snapshot; what is behind the snapshot doesn't count
+-- the slot of this number is open with an epoch of its own and a spelling of a snapshot; what is behind that doesn't count
 pub record HoldsAt (number : ℕ) (file : List ℕ) (epoch : ℕ) (kept : Snapshot) : Type 0 where
-  pub stands : StandsAt file 0 (slot_bytes epoch (snapshot_bytes kept))
+  pub body : List ℕ
+  pub spells : IsSnapshot body kept
+  pub stands : StandsAt file 0 (slot_bytes epoch body)
   pub in_range : IsEpoch epoch
   pub own : number_of epoch ≡ number
-  pub countable : length (snapshot_bytes kept) < 2 ^ 64
-  pub read : IsReadSnapshot kept
+  pub countable : length body < 2 ^ 64
 
 -- open, and with nothing of that form
 abbrev pub IsBadSlot : ℕ → List ℕ → Type 0

@@ -1,7 +1,8 @@
 -- What each call makes of a slot and of a log, and what a crash meanwhile leaves.
-use Rattle.std.specs.Prelude.{ℕ, ◌≡◌, ◌⊎◌, ◌+◌, ◌≤◌, List, [], ◌∷◌, length, drop}
+use Rattle.std.specs.Prelude.{ℕ, ◌≡◌, ◌≢◌, ◌⊎◌, ◌+◌, ◌≤◌, List, [], ◌∷◌, length, drop}
 use Rattle.sf_bytes.specs.Gates.{StandsAt, ClosedAt, OpenAt}
 use Rattle.sf_outside.specs.DiskModel.{Image, DiskFacts, of_file}
+use Rattle.sf_outside.specs.declared.store_disk.StoreFile.{StoreFile}
 use Rattle.sf_value.specs.declared.Snapshot.{Snapshot}
 use Rattle.snapshot_store.specs.SlotFile.{slot_of, log_of, number_of, IsClosedSlot, IsSnapshot, behind_gate, slot_bytes, HoldsAt, IsNewest, IsNew}
 
@@ -57,17 +58,18 @@ CheckpointStep epoch body before now = StaysAt epoch before now ⊎ (IsClosedSlo
 abbrev pub CheckpointDone : ℕ → List ℕ → Image → Image → Type 0
 CheckpointDone epoch body before now = IsCheckpoint epoch body now
 
--- an image that comes from an earlier one by such a step, the other slot and the other log being the same
+-- an image that comes from an earlier one by such a step, each file but the slot and the log of the epoch being the same
 pub record ComesBeside (epoch : ℕ) (Step : Image → Image → Type 0) (old : DiskFacts) (image : Image) : Type 0 where
   pub before : Image
   pub left : old.may_leave before
   pub step : Step before image
-  pub other_slot : of_file (slot_of (epoch + 1)) image ≡ of_file (slot_of (epoch + 1)) before
-  pub other_log : of_file (log_of (epoch + 1)) image ≡ of_file (log_of (epoch + 1)) before
+  pub others : (file : StoreFile) → file ≢ slot_of epoch → file ≢ log_of epoch → of_file file image ≡ of_file file before
 
--- the image is new as it was, or its newest snapshot is the one that it was, with the same log
-abbrev pub KeepsNewest : Image → Image → Type 0
-KeepsNewest before now = (IsNew before × IsNew now) ⊎ ((epoch : ℕ) × (kept : Snapshot) × IsNewest before epoch kept × IsNewest now epoch kept × (of_file (log_of epoch) now ≡ of_file (log_of epoch) before))
+-- what was new is new still, and what was the newest snapshot is so still, with the same log
+pub record KeepsNewest (before now : Image) : Type 0 where
+  pub is_new : IsNew before → IsNew now
+  pub newest : (epoch : ℕ) (kept : Snapshot) → IsNewest before epoch kept → IsNewest now epoch kept
+  pub log : (epoch : ℕ) (kept : Snapshot) → IsNewest before epoch kept → of_file (log_of epoch) now ≡ of_file (log_of epoch) before
 
 -- the snapshot of this body is the newest, and its log begins with a closed gate
 pub record IsKept (epoch : ℕ) (body : List ℕ) (image : Image) : Type 0 where

@@ -18,6 +18,3 @@ pub use reading::{Kept, newest};
 
 /// The byte of an open gate. Any other byte is a closed one.
 const OPEN: u8 = 0xA5;
-
-#[cfg(test)]
-mod tests;

@@ -143,7 +143,7 @@ fn kept_behind<D: Disk>(
 }
 
 /// The snapshot whose bytes these are, with none left over.
-pub(crate) fn whole_snapshot(alloc: Global, bytes: &[u8]) -> Result<Option<Snapshot>, AllocError>
+fn whole_snapshot(alloc: Global, bytes: &[u8]) -> Result<Option<Snapshot>, AllocError>
     ensures { IfOk result (λ found. SaysSnapshot bytes.now found) }
 {
     let Some((kept, count)) = read_snapshot(alloc, bytes)? else {

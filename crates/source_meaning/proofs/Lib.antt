@@ -41,4 +41,3 @@ pub mod Soundness
 mod FitsExamples
 pub mod HereLaws
 pub mod PurityLaws
-pub mod TestLaws

@@ -13,8 +13,6 @@ mod operations;
 mod purity;
 mod site;
 mod tables;
-#[cfg(test)]
-mod tests;
 mod transaction;
 mod vars;
 mod walk;

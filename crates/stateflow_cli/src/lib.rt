@@ -11,8 +11,6 @@ mod printing;
 mod real_devices;
 mod running;
 mod telling;
-#[cfg(test)]
-mod tests;
 mod top_call;
 mod words;
 

@@ -1,4 +1,4 @@
-use Rattle.std.proofs.Common.{◌≡◌, ◌+◌, ◌∷◌, length, drop, subst, ◌∙◌, IfSome, arith}
+use Rattle.std.proofs.Common.{◌≡◌, ◌+◌, ◌∷◌, length, drop, subst, ◌∙◌, IfSome, ap, sym, arith}
 use Rattle.std.proofs.lemmas.List.{take_at}
 use Rattle.sf_bytes.specs.ByteForms.{number_bytes}
 use Rattle.sf_outside.specs.Bytes.{CopiedAll}
@@ -6,7 +6,7 @@ use Rattle.sf_outside.specs.DiskModel.{of_file}
 use Rattle.sf_outside.proofs.ImageSteps.{if_both}
 use Rattle.request_log.specs.Answers.{SaysBatch}
 use Rattle.sf_bytes.specs.Gates.{open_gate, StandsAt}
-use Rattle.request_log.specs.LogFile.{IsBadAt}
+use Rattle.request_log.specs.LogFile.{gate_behind, IsBadAt}
 use Rattle.request_log.proofs.Records.{too_short, seen_record, seen_bad}
 use Rattle.request_log.proofs.reading.record_of.Goals as goal
 
@@ -28,8 +28,14 @@ returns-in-Some-clause-answer g c =
     let same : c.deref.result.now ≡ buf = c.deref.ensures.value ∙ take_at buf (drop (length buf) c.in_ok-body.body.items) c.in_ok-body.body.len long in
     let whole : SaysBatch buf c.in_ok-batch.field-0 = subst (λ bytes. SaysBatch bytes c.in_ok-batch.field-0) same c.in_ok-batch.ensures in
     let copied = subst (λ seen. IfSome seen (λ now. CopiedAll (of_file file now) (c.args.at + 5) c.in_ok-count.count buf)) c.len.ensures.stays.seen c.in_ok-count.ensures.bytes in
-    seen_record file old.seen c.args.at c.args.len c.in_ok-end.end c.in_ok-count.count buf (omega (arith, c.ranges.len.fits)) c.requires c.in_ok-end.ensures.value copied (omega (arith, long, all))
-    (omega (arith, all, c.if-count-len.false, c.len-2.ensures)) (omega (arith, c.if-saturating_sub-len.false, c.saturating_sub.ensures)) c.in-Some.batch (subst (SaysBatch buf) c.in-Some.is whole)
+    seen_record file old.seen c.args.at c.args.len c.in_ok-count.count buf (omega (arith, c.ranges.len.fits)) c.requires copied (omega (arith, long, all))
+    (omega (arith, all, c.if-count-len.false, c.len-2.ensures)) c.in-Some.batch (subst (SaysBatch buf) c.in-Some.is whole)
+
+pub returns-in-Some-clause-placed : goal.returns-in-Some-clause-placed
+returns-in-Some-clause-placed g c =
+    let body = c.deref.result.now in
+    let long : length body ≡ c.args.len = omega (arith, c.in_ok-body.ensures.len, c.read_at.auto.buf, c.deref_mut.ensures.len, ap length c.deref.ensures.value) in
+    (body, subst (SaysBatch body) c.in-Some.is c.in_ok-batch.ensures, ap (gate_behind c.args.at) (sym long))
 
 pub returns-clause-answer : goal.returns-clause-answer
 returns-clause-answer g c =
@@ -41,5 +47,5 @@ returns-clause-answer g c =
     let same : c.deref.result.now ≡ buf = c.deref.ensures.value ∙ take_at buf (drop (length buf) c.in_ok-body.body.items) c.in_ok-body.body.len long in
     let whole : SaysBatch buf c.in_ok-batch.field-0 = subst (λ bytes. SaysBatch bytes c.in_ok-batch.field-0) same c.in_ok-batch.ensures in
     let copied = subst (λ seen. IfSome seen (λ now. CopiedAll (of_file file now) (c.args.at + 5) c.in_ok-count.count buf)) c.len.ensures.stays.seen c.in_ok-count.ensures.bytes in
-    seen_bad file old.seen c.args.at c.args.len c.in_ok-end.end c.in_ok-count.count buf (omega (arith, c.ranges.len.fits)) c.requires c.in_ok-end.ensures.value copied (omega (arith, long, all))
-    (omega (arith, all, c.if-count-len.false, c.len-2.ensures)) (omega (arith, c.if-saturating_sub-len.false, c.saturating_sub.ensures)) (subst (SaysBatch buf) c.in-None.is whole)
+    seen_bad file old.seen c.args.at c.args.len c.in_ok-count.count buf (omega (arith, c.ranges.len.fits)) c.requires copied (omega (arith, long, all))
+    (omega (arith, all, c.if-count-len.false, c.len-2.ensures)) (subst (SaysBatch buf) c.in-None.is whole)

@@ -3,12 +3,11 @@ use Rattle.std.specs.Result.{OnOk}
 use Rattle.sf_outside.specs.DiskModel.{Image, of_file, LeavesOnly, SeenWritten, IsDurable}
 use Rattle.sf_outside.specs.ImageSteps.{ComesBy}
 use Rattle.sf_outside.specs.declared.store_disk.StoreFile.{StoreFile}
-use Rattle.sf_outside.proofs.ImageSteps.{on_ok}
+use Rattle.sf_outside.proofs.ImageSteps.{on_ok, if_one}
 use Rattle.snapshot_store.specs.Answers.{SaysGate}
 use Rattle.snapshot_store.specs.SlotFile.{slot_of, IsShutSlot}
 use Rattle.snapshot_store.specs.SlotSteps.{StaysOrCloses, Closes}
 use Rattle.snapshot_store.proofs.Gates.{then_moments, then_now}
-use Rattle.snapshot_store.proofs.Slots.{if_one}
 use Rattle.snapshot_store.proofs.checkpoints.close_slot.Goals as goal
 
 pub returns-in-Alone-clause-now : goal.returns-in-Alone-clause-now

@@ -1,12 +1,11 @@
-use Rattle.std.proofs.Common.{◌≡◌, [], ◌∷◌, ◌∙◌, ap, sym, subst, Err}
+use Rattle.std.proofs.Common.{◌≡◌, [], ◌∷◌, ◌∙◌, ap, sym, subst, Ok, Err}
 use Rattle.std.proofs.lemmas.Result.{err_from_is_err_and}
-use Rattle.std.specs.Io.KnownBytes.{Appends}
-use Rattle.sf_outside.specs.Gains.{Wrote, joined}
+use Rattle.sf_outside.specs.Gains.{Wrote}
 use Rattle.source_meaning.specs.Sources.{source_of}
 use Rattle.session.specs.OutputText.{replies, reply, step}
 use Rattle.session.specs.Standings.{standing_of, line_of}
 use Rattle.session.proofs.LineLaws.{replies-one, after-one}
-use Rattle.sf_outside.proofs.GainLaws.{Wrote-passed}
+use Rattle.sf_outside.proofs.GainLaws.{Wrote-line, Wrote-part}
 use Rattle.session.proofs.AnswerLaws.{stopped_before}
 use Rattle.session.proofs.feeding.Session.answer.Goals as goal
 
@@ -24,7 +23,10 @@ returns-in_err-write_line-clause-wrote g c =
     ap (λ l. l ∷ []) (c.as_slice-2.ensures ∙ c.in_ok-line.ensures.text ∙ ap (λ k. reply src st (line_of c.args.ended k)) c.as_slice.ensures.value)
     ∙ sym (replies-one src st (line_of c.args.ended c.args.self.now.kept.items)) in
     subst (Wrote c.from_residual-in_err-write_line.result (g.K.Sink.held c.args.out.now) (g.K.Sink.held c.write_line.new.out)) line_is
-    (Wrote-passed (Unit {0}) _ _ _ _ _ (p.1 ∙ ap Err p.2) c.in_err-write_line.ensures.wrote)
+    (Wrote-part _ _ _ c.as_slice-2.result.now (p.1 ∙ ap Err p.2) c.in_err-write_line.ensures.part)
+
+pub returns-in_err-write_line-clause-counts : goal.returns-in_err-write_line-clause-counts
+returns-in_err-write_line-clause-counts g c = record { later = c.write_line.ensures.cause.later; rose = λ is. c.in_err-write_line.ensures.cause.failed }
 
 pub returns-clause-wrote : goal.returns-clause-wrote
 returns-clause-wrote g c =
@@ -33,7 +35,8 @@ returns-clause-wrote g c =
     let line_is : c.as_slice-2.result.now ∷ [] ≡ replies src st (line_of c.args.ended c.args.self.now.kept.items ∷ []) =
     ap (λ l. l ∷ []) (c.as_slice-2.ensures ∙ c.in_ok-line.ensures.text ∙ ap (λ k. reply src st (line_of c.args.ended k)) c.as_slice.ensures.value)
     ∙ sym (replies-one src st (line_of c.args.ended c.args.self.now.kept.items)) in
-    subst (λ ls. Appends (g.K.Sink.held c.args.out.now) (g.K.Sink.held c.write_line.new.out) (joined ls)) line_is c.in_ok-write_line.ensures.wrote
+    subst (Wrote {T = Unit {0}} (Ok tt) (g.K.Sink.held c.args.out.now) (g.K.Sink.held c.write_line.new.out)) line_is
+    (Wrote-line {U = Unit {0}} tt _ _ c.as_slice-2.result.now c.in_ok-write_line.ensures.whole)
 
 pub returns-clause-standing : goal.returns-clause-standing
 returns-clause-standing g c =

@@ -1,6 +1,7 @@
-use Rattle.std.proofs.Common.{ℕ, List, None, IsSome, ap, ◌∙◌, sym, subst, arith}
+use Rattle.std.proofs.Common.{◌≡◌, ℕ, List, None, IsSome, ap, ◌∙◌, sym, subst, arith}
 use Rattle.sf_outside.proofs.NamedFiles.{content_at, fault_at, missing_at, others_later, fails_missing, fails_held, faults_held}
 use Rattle.sf_outside.specs.Calls.{is_due}
+use Rattle.sf_outside.specs.Causes.{next_count}
 use Rattle.sf_outside.specs.Named.{content_of, faults_of}
 use Rattle.sf_outside.proofs.memory_files.MemFilesFiles.read_at.Goals as goal
 
@@ -11,6 +12,17 @@ returns-in_default-clause-cause c =
 
 pub returns-in_default-clause-later : goal.returns-in_default-clause-later
 returns-in_default-clause-later c q = rw (← c.self.view_is) (others_later c.self.inside.files.items _ _ q (omega arith))
+
+pub returns-in_default-clause-counted : goal.returns-in_default-clause-counted
+returns-in_default-clause-counted c =
+    let gone = missing_at c.self.inside.files.items c.args.name.now c.in_default.ensures in
+    let counted : c.saturating_add-self-inside.result ≡ next_count c.self.inside.other_faults = omega (arith, c.saturating_add-self-inside.ensures) in
+    rw (← c.self.view_is) (gone.faults c.saturating_add-self-inside.result ∙ counted ∙ ap next_count (sym (gone.faults c.self.inside.other_faults)))
+
+pub returns-then-is_due-clause-counted : goal.returns-then-is_due-clause-counted
+returns-then-is_due-clause-counted c =
+    let changed = fault_at c.self.inside.other_faults c.self.inside.files.items c.args.name.now c.in-Some.place c.index_mut-file.result.now c.fault.new.self c.in-Some.ensures c.index_mut-file.ensures.value c.fault.ensures.counted c.fault.ensures.later in
+    rw (← c.self.view_is) changed.counted
 
 pub returns-in_default-clause-fails : goal.returns-in_default-clause-fails
 returns-in_default-clause-fails c =

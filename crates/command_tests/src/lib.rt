@@ -1,0 +1,17 @@
+//! Tests of what the program says of a text: the line that `check` prints, and the faults that it tells.
+#![tactic(auto)]
+
+#[cfg(test)]
+mod broken_rules;
+#[cfg(test)]
+mod kept_rules;
+#[cfg(test)]
+mod rule_order;
+#[cfg(test)]
+mod told_faults;
+#[cfg(test)]
+mod verdict;
+#[cfg(test)]
+mod whole_checks;
+#[cfg(test)]
+mod words;

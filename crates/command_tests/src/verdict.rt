@@ -1,0 +1,117 @@
+//! What `check` says of a text.
+
+use memory_calls::{Answer, Faults, NO_FAULTS, call};
+use std::alloc::{AllocError, Global};
+use test_support::rows;
+
+/// Checks a text as this file. The input fails wherever it is read.
+pub fn check(
+    alloc: Global,
+    file: &str,
+    text: &[u8],
+    faults: Faults<'_>,
+) -> Result<Answer, AllocError> {
+    let faults = Faults {
+        input: &[1],
+        ..faults
+    };
+    call(alloc, &["check", file], file, text, b"", faults)
+}
+
+/// The front of a program, and how deep the lines of a row stand behind it.
+#[derive(Clone, Copy)]
+pub struct Front {
+    text: &'static str,
+    indent: &'static str,
+}
+
+/// A row is a whole program.
+pub const PROGRAM: Front = Front {
+    text: "",
+    indent: "",
+};
+
+/// A row has the members of the class A, from line 3 on.
+pub const CLASS: Front = Front {
+    text: "@entity\nclass A:\n",
+    indent: "    ",
+};
+
+const KEYED: &str = "@entity
+class A:
+    def __init__(self, k: str):
+        self.k: str = k
+    def __key__(self):
+        return self.k
+";
+
+/// A row has more members of the class A with the key k, from line 7 on.
+pub const MEMBERS: Front = Front {
+    text: KEYED,
+    indent: "    ",
+};
+
+/// A row has what stands behind the members of the class A with the key k, from line 7 on.
+pub const BEHIND_A_CLASS: Front = Front {
+    text: KEYED,
+    indent: "",
+};
+
+/// A row has the statements of a method f of the class A, from line 17 on.
+pub const STATEMENTS: Front = Front {
+    text: "@entity
+class A:
+    def __init__(self, k: str, n: int):
+        self.k: str = k
+        self.n: int = n
+        self.o: Optional[int] = None
+        self.xs: List[int] = []
+    def __key__(self):
+        return self.k
+    def get(self) -> int:
+        return self.n
+    def put(self, v: int) -> None:
+        self.n = v
+    def opt(self, v: Optional[int]) -> Optional[int]:
+        return v
+    def f(self, x: int, o: Optional[int], xs: List[int], s: str, b: bool, a: 'A', oa: Optional['A']) -> None:
+",
+    indent: "        ",
+};
+
+/// A front with these lines behind it.
+fn text_of(alloc: Global, front: Front, lines: &str) -> Result<Vec<u8>, AllocError> {
+    let mut text = Vec::from_slice(alloc, front.text.as_bytes())?;
+    for line in lines.lines() {
+        text.extend_from_slice(front.indent.as_bytes())?;
+        text.extend_from_slice(line.as_bytes())?;
+        text.push(b'\n')?;
+    }
+    Ok(text)
+}
+
+/// What a check says of a text: the line that it prints, or the place and kind that it tells,
+/// without the line's end.
+fn verdict(alloc: Global, text: &[u8]) -> Result<Vec<u8>, AllocError> {
+    let answer = check(alloc, "a.py", text, NO_FAULTS)?;
+    let printed = answer.out.bytes();
+    let told = answer.err.bytes();
+    let line = told.strip_prefix(b"stateflow: a.py:").unwrap_or(printed);
+    Vec::from_slice(alloc, line.strip_suffix(b"\n").unwrap_or(line))
+}
+
+/// The label of the first row of which something else is said, or nothing where a table of so many
+/// rows has none.
+pub fn other(alloc: Global, front: Front, table: &str, count: usize) -> Result<String, AllocError> {
+    let rows = rows(alloc, table)?;
+    for row in &rows {
+        let text = text_of(alloc, front, row.text.as_str())?;
+        if verdict(alloc, &text)?.as_slice() != row.wanted.as_bytes() {
+            return String::from_str(alloc, row.label);
+        }
+    }
+    if rows.len() != count {
+        return format!(in alloc; "there are {} rows", rows.len());
+    }
+    Ok(String::new(alloc))
+}

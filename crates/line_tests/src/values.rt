@@ -1,0 +1,72 @@
+//! Weights of values, values and requests that are the same, and division that rounds down.
+
+use sf_list::{Sequence, TryClone};
+use sf_value::{Act, Request, Text, Value, floor_div, floor_mod, text_weight, weight};
+use std::alloc::{AllocError, Global};
+use std::test::Fail;
+
+/// The list of a text and 1.
+fn pair(alloc: Global, text: &str) -> Result<Value, AllocError> {
+    let mut items = Sequence::new(alloc);
+    items.push(alloc, Value::Str(Text::of(alloc, text)?))?;
+    items.push(alloc, Value::Int(1))?;
+    Ok(Value::List(items))
+}
+
+#[test]
+fn a_list_weighs_one_and_its_elements(rt: HostRuntime) -> Result<(), Fail> {
+    assert_eq!(rt; weight(&pair(rt.alloc(), "ab")?), 5);
+    assert_eq!(rt; text_weight("ab"), 3);
+    Ok(())
+}
+
+#[test]
+fn lists_with_equal_elements_are_the_same(rt: HostRuntime) -> Result<(), Fail> {
+    let one = pair(rt.alloc(), "ab")?;
+    assert!(rt; one.same(&pair(rt.alloc(), "ab")?));
+    assert!(rt; !one.same(&pair(rt.alloc(), "ba")?));
+    assert!(rt; one.same(&one.try_clone(rt.alloc())?));
+    Ok(())
+}
+
+/// A call of the method of this number, without arguments.
+fn call_of(alloc: Global, method: u32) -> Result<Request, AllocError> {
+    Ok(Request {
+        id: Text::of(alloc, "r1")?,
+        act: Act::Call {
+            class: 0,
+            key: Text::of(alloc, "apple")?,
+            method,
+            args: Sequence::new(alloc),
+        },
+    })
+}
+
+#[test]
+fn a_request_differs_from_one_of_another_method(rt: HostRuntime) -> Result<(), Fail> {
+    let first = call_of(rt.alloc(), 0)?;
+    assert!(rt; first.same(&first.try_clone(rt.alloc())?));
+    assert!(rt; !first.same(&call_of(rt.alloc(), 1)?));
+    Ok(())
+}
+
+#[test]
+fn quotients_are_rounded_down(rt: HostRuntime) {
+    const LEAST: i128 = i128::MIN;
+    const MOST: i128 = i128::MAX;
+    for (label, x, y, quotient, remainder) in [
+        ("both above 0", 7, 2, Some(3), Some(1)),
+        ("below 0 by above 0", -7, 2, Some(-4), Some(1)),
+        ("above 0 by below 0", 7, -2, Some(-4), Some(-1)),
+        ("both below 0", -7, -2, Some(3), Some(-1)),
+        ("nothing is left", -6, 2, Some(-3), Some(0)),
+        ("1 by 0", 1, 0, None, None),
+        ("7 by 0", 7, 0, None, None),
+        ("least by -1", LEAST, -1, None, Some(0)),
+        ("least by 1", LEAST, 1, Some(LEAST), Some(0)),
+        ("least by most", LEAST, MOST, Some(-2), Some(MOST - 1)),
+    ] {
+        assert_eq!(rt; floor_div(x, y), quotient, "{label}");
+        assert_eq!(rt; floor_mod(x, y), remainder, "{label}");
+    }
+}

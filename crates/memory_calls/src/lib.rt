@@ -1,0 +1,76 @@
+//! Calls of the program over devices in memory, for the crates of tests.
+#![tactic(auto)]
+
+use sf_outside::{MemFiles, MemSink, MemSource, Source};
+use stateflow_cli::stateflow;
+use std::alloc::{AllocError, Global};
+
+/// The numbers of the calls that are to fail, of each device.
+#[derive(Clone, Copy)]
+pub struct Faults<'a> {
+    pub file: &'a [u64],
+    pub input: &'a [u64],
+    pub out: &'a [u64],
+    pub err: &'a [u64],
+}
+
+pub const NO_FAULTS: Faults<'static> = Faults {
+    file: &[],
+    input: &[],
+    out: &[],
+    err: &[],
+};
+
+/// What a call answered and wrote.
+#[derive(Drop)]
+pub struct Answer {
+    pub status: u8,
+    pub out: MemSink,
+    pub err: MemSink,
+}
+
+/// Words, as a call takes them.
+pub fn words_of(alloc: Global, words: &[&str]) -> Result<Vec<String>, AllocError> {
+    let mut owned = Vec::new(alloc);
+    for word in words {
+        owned.push(String::from_str(alloc, word)?)?;
+    }
+    Ok(owned)
+}
+
+/// Makes a call with these words, where a file has this text, beside an input of any kind.
+pub fn call_beside<S: Source>(
+    alloc: Global,
+    words: &[&str],
+    file: &str,
+    text: &[u8],
+    input: &mut S,
+    faults: Faults<'_>,
+) -> Result<Answer, AllocError> {
+    let words = words_of(alloc, words)?;
+    let mut files = MemFiles::new(alloc, &[file], &[text], faults.file)?;
+    let mut out = MemSink::new(alloc, 1000, faults.out)?;
+    let mut err = MemSink::new(alloc, 1000, faults.err)?;
+    let status = stateflow(
+        alloc,
+        words.as_slice(),
+        &mut files,
+        input,
+        &mut out,
+        &mut err,
+    );
+    Ok(Answer { status, out, err })
+}
+
+/// Makes a call with these words, where a file has this text, on this input.
+pub fn call(
+    alloc: Global,
+    words: &[&str],
+    file: &str,
+    text: &[u8],
+    input: &[u8],
+    faults: Faults<'_>,
+) -> Result<Answer, AllocError> {
+    let mut input = MemSource::new(alloc, input, faults.input)?;
+    call_beside(alloc, words, file, text, &mut input, faults)
+}

@@ -1,0 +1,15 @@
+//! Tests of `run` and `local`: what is answered to request lines, and what happens where a device fails.
+#![tactic(auto)]
+
+#[cfg(test)]
+mod bounds;
+#[cfg(test)]
+mod counter;
+#[cfg(test)]
+mod entities;
+#[cfg(test)]
+mod lists;
+#[cfg(test)]
+mod order;
+#[cfg(test)]
+mod request_lines;

@@ -1,0 +1,8 @@
+//! What several crates of tests share: tables of rows, and sample programs.
+#![tactic(auto)]
+
+mod programs;
+mod tables;
+
+pub use programs::{COUNTER, SHOP};
+pub use tables::{Row, rows};
