@@ -15,8 +15,8 @@ pub const REQUESTS: &[u8] = b"{\"id\":\"a\",\"class\":\"Counter\",\"new\":[\"x\"
 pub const REPLIES: &[u8] = b"{\"id\":\"a\",\"ok\":\"x\",\"seq\":1}
 {\"id\":\"b\",\"ok\":7,\"seq\":2}
 {\"error\":\"NoEntity\",\"id\":\"c\",\"message\":\"\",\"seq\":3}
-{\"bad\":\"unsupported\",\"line\":4}
-{\"bad\":\"unsupported\",\"line\":5}
+{\"bad\":\"not json\",\"line\":4}
+{\"bad\":\"id reused\",\"line\":5}
 ";
 
 /// Calls with these words on the counter and its requests.
@@ -76,7 +76,7 @@ fn failed_read_of_the_input_leaves_whole_lines(rt: HostRuntime) -> Result<(), Fa
 
 #[test]
 fn failed_write_leaves_the_lines_before(rt: HostRuntime) -> Result<(), Fail> {
-    for (call, written) in [(1, 0), (2, 28), (3, 54), (4, 105), (5, 136), (6, 167)] {
+    for (call, written) in [(1, 0), (2, 28), (3, 54), (4, 105), (5, 133), (6, 162)] {
         let faults = Faults {
             out: &[call],
             ..NO_FAULTS

@@ -2,9 +2,13 @@
 #![tactic(auto)]
 
 #[cfg(test)]
+mod arguments;
+#[cfg(test)]
 mod bounds;
 #[cfg(test)]
 mod counter;
+#[cfg(test)]
+mod echo;
 #[cfg(test)]
 mod entities;
 #[cfg(test)]
@@ -12,4 +16,8 @@ mod lists;
 #[cfg(test)]
 mod order;
 #[cfg(test)]
+mod repeats;
+#[cfg(test)]
 mod request_lines;
+#[cfg(test)]
+mod shop;
