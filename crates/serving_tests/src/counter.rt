@@ -76,7 +76,7 @@ fn failed_read_of_the_input_leaves_whole_lines(rt: HostRuntime) -> Result<(), Fa
 
 #[test]
 fn failed_write_leaves_the_lines_before(rt: HostRuntime) -> Result<(), Fail> {
-    for (call, written) in [(1, 0), (2, 28), (3, 54), (4, 105), (5, 136), (6, 167)] {
+    for (call, written) in [(1, 0), (2, 28), (3, 54), (4, 105), (5, 133), (6, 162)] {
         let faults = Faults {
             out: &[call],
             ..NO_FAULTS

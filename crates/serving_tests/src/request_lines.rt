@@ -89,7 +89,6 @@ fn lines_that_are_requests(rt: HostRuntime) -> Result<(), Fail> {
 const NO_REQUESTS: &str = r#"
     an open brace           | {                                                                   | not json
     a second object         | {"id":"a","class":"Counter","new":["x",3]}{}                        | not json
-    a blank                 |                                                                    | not json
     a list                  | []                                                                  | not a request
     another member          | {"id":"a","class":"Counter","new":["x",3],"more":0}                 | not a request
     arguments by name       | {"id":"a","class":"Counter","new":{"x":3}}                          | not a request
