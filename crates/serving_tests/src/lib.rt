@@ -16,6 +16,8 @@ mod lists;
 #[cfg(test)]
 mod order;
 #[cfg(test)]
+mod refusals;
+#[cfg(test)]
 mod repeats;
 #[cfg(test)]
 mod request_lines;

@@ -1,64 +1,42 @@
-//! Requests whose ids were used before.
+//! Lines with an id that was used before.
 
-use crate::echo::answers;
+use memory_calls::{NO_FAULTS, call};
 use std::test::Fail;
+use test_support::COUNTER;
 
-/// Requests whose ids come twice, and what is wanted of each line.
-const REPEATS: [(&str, &str); 10] = [
-    (
-        r#"{"id":"a","class":"Thing","new":["x"]}"#,
-        r#"{"id":"a","ok":"x","seq":1}"#,
-    ),
-    (
-        r#"{"new":["x"],"class":"Thing","id":"a"}"#,
-        r#"{"id":"a","ok":"x","seq":1}"#,
-    ),
-    (
-        r#"{"id":"a","class":"Thing","new":["y"]}"#,
-        r#"{"bad":"id reused","line":3}"#,
-    ),
-    (
-        r#"{"id":"b","class":"Thing","key":"x","method":"number","args":[1]}"#,
-        r#"{"id":"b","ok":1,"seq":2}"#,
-    ),
-    (
-        r#"{"id":"b","class":"Thing","key":"x","method":"number","args":["01"]}"#,
-        r#"{"id":"b","ok":1,"seq":2}"#,
-    ),
-    (
-        r#"{"id":"b","class":"Thing","key":"y","method":"number","args":[1]}"#,
-        r#"{"bad":"id reused","line":6}"#,
-    ),
-    (
-        r#"{"id":"b","class":"Thing","key":"x","method":"number","args":[true]}"#,
-        r#"{"bad":"argument type","line":7}"#,
-    ),
-    (
-        r#"{"id":"c","class":"Thing","key":"y","method":"number","args":[1]}"#,
-        r#"{"error":"NoEntity","id":"c","message":"","seq":3}"#,
-    ),
-    (
-        r#"{"id":"c","class":"Thing","key":"y","method":"number","args":[1]}"#,
-        r#"{"error":"NoEntity","id":"c","message":"","seq":3}"#,
-    ),
-    (
-        r#"{"id":"d","class":"Thing","key":"x","method":"truth","args":[true]}"#,
-        r#"{"id":"d","ok":true,"seq":4}"#,
-    ),
-];
+/// Each request twice, the second time with its ints in other forms or its keys in another order; then with other content.
+const REPEATED: &str = r#"{"id":"a","class":"Counter","new":["x",1]}
+{"id":"a","class":"Counter","new":["x","01"]}
+{"id":"a","class":"Counter","new":["x",2]}
+{"id":"b","class":"Counter","key":"x","method":"add","args":[2]}
+{"args":["2"],"method":"add","key":"x","class":"Counter","id":"b"}
+{"id":"b","class":"Counter","key":"y","method":"add","args":[2]}
+{"id":"c","class":"Counter","key":"y","method":"add","args":[2]}
+{"id":"c","class":"Counter","key":"y","method":"add","args":[2]}
+{"id":"a","class":"Counter","new":["x"]}
+{"id":"d","class":"Counter","key":"x","method":"add","args":[0]}
+"#;
+
+/// A repeat has the line of its entry again, whatever came of it, and takes no place. A line that is no request is told as such
+/// before its id is looked up.
+const ANSWERED: &str = r#"{"id":"a","ok":"x","seq":1}
+{"id":"a","ok":"x","seq":1}
+{"bad":"id reused","line":3}
+{"id":"b","ok":3,"seq":2}
+{"id":"b","ok":3,"seq":2}
+{"bad":"id reused","line":6}
+{"error":"NoEntity","id":"c","message":"","seq":3}
+{"error":"NoEntity","id":"c","message":"","seq":3}
+{"bad":"argument count","line":9}
+{"id":"d","ok":3,"seq":4}
+"#;
 
 #[test]
-fn the_same_request_again_gets_its_kept_line(rt: HostRuntime) -> Result<(), Fail> {
-    let alloc = rt.alloc();
-    let mut lines = String::new(alloc);
-    let mut wanted = String::new(alloc);
-    for (line, answer) in REPEATS {
-        lines.push_str(line)?;
-        lines.push('\n')?;
-        wanted.push_str(answer)?;
-        wanted.push('\n')?;
-    }
-    let found = answers(alloc, lines.as_bytes())?;
-    assert_eq!(rt; found.as_slice(), wanted.as_bytes());
+fn a_repeat_is_answered_by_its_line_again(rt: HostRuntime) -> Result<(), Fail> {
+    let words = ["run", "a.py", "--batch", "1"];
+    let (text, input) = (COUNTER.as_bytes(), REPEATED.as_bytes());
+    let answer = call(rt.alloc(), &words, "a.py", text, input, NO_FAULTS)?;
+    assert_eq!(rt; answer.status, 0);
+    assert_eq!(rt; answer.out.bytes(), ANSWERED.as_bytes());
     Ok(())
 }

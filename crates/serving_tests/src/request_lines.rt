@@ -1,19 +1,65 @@
-//! Lines that are no requests, by the words in which they are refused.
+//! Lines that are requests and lines that are none, by what is answered to them.
 
-use crate::echo::answers;
+use memory_calls::{NO_FAULTS, call};
 use std::alloc::{AllocError, Global};
 use std::test::Fail;
-use test_support::rows;
+use test_support::{COUNTER, rows};
 
-/// The first row of a table whose line is answered otherwise than in these words.
-fn other_words(alloc: Global, table: &str, count: usize) -> Result<String, AllocError> {
+/// What is answered to a line, where this text is run.
+fn answer_to(alloc: Global, text: &str, line: &[u8]) -> Result<Vec<u8>, AllocError> {
+    let words = ["run", "a.py", "--batch", "1"];
+    let answer = call(alloc, &words, "a.py", text.as_bytes(), line, NO_FAULTS)?;
+    Vec::from_slice(alloc, answer.out.bytes())
+}
+
+/// What a table calls an answer that refuses the one line of the input.
+const REFUSALS: [&str; 7] = [
+    "line too long",
+    "not json",
+    "not a request",
+    "unknown class",
+    "unknown method",
+    "argument count",
+    "argument type",
+];
+
+/// The answer to the creation `a` of the entity `x`.
+const MADE: &[u8] = b"{\"id\":\"a\",\"ok\":\"x\",\"seq\":1}\n";
+
+/// The answer to the call `b` of an entity that isn't there.
+const NO_ENTITY: &[u8] = b"{\"error\":\"NoEntity\",\"id\":\"b\",\"message\":\"\",\"seq\":1}\n";
+
+/// The refusal that an answer is, where it is one.
+fn refusal_of(alloc: Global, answer: &[u8]) -> Result<Option<&'static str>, AllocError> {
+    for refusal in REFUSALS {
+        let line = format!(in alloc; "{{\"bad\":\"{refusal}\",\"line\":1}}\n")?;
+        if answer == line.as_bytes() {
+            return Ok(Some(refusal));
+        }
+    }
+    Ok(None)
+}
+
+/// What a table calls an answer.
+fn name_of(alloc: Global, answer: &[u8]) -> Result<&'static str, AllocError> {
+    if answer == MADE {
+        return Ok("made");
+    }
+    if answer == NO_ENTITY {
+        return Ok("no entity");
+    }
+    Ok(refusal_of(alloc, answer)?.unwrap_or("another"))
+}
+
+/// The first row of a table whose line is answered otherwise, where this text is run, or nothing
+/// where a table of so many rows has none.
+fn other(alloc: Global, text: &str, table: &str, count: usize) -> Result<String, AllocError> {
     let rows = rows(alloc, table)?;
     for row in &rows {
-        let found = answers(alloc, row.text.as_bytes())?;
-        let refused = format!(in alloc; "{{\"bad\":\"{}\",\"line\":1}}\n", row.wanted)?;
-        let given = format!(in alloc; "{{\"id\":\"a\",\"ok\":\"{}\",\"seq\":1}}\n", row.wanted)?;
-        if found.as_slice() != refused.as_bytes() && found.as_slice() != given.as_bytes() {
-            return String::from_str(alloc, row.label);
+        let answer = answer_to(alloc, text, row.text.as_bytes())?;
+        let found = name_of(alloc, &answer)?;
+        if found != row.wanted {
+            return format!(in alloc; "{} is answered by {found}", row.label);
         }
     }
     if rows.len() != count {
@@ -22,96 +68,125 @@ fn other_words(alloc: Global, table: &str, count: usize) -> Result<String, Alloc
     Ok(String::new(alloc))
 }
 
-const REFUSED: &str = r#"
-    an open brace             | {                                                                             | not json
-    two values                | {"id":"a","class":"Thing","new":["x"]}{}                                      | not json
-    a number without a value  | {"id":"a","class":"Thing","new":[1e999]}                                      | not json
-    half of a pair            | {"id":"a","class":"Thing","new":["\ud800"]}                                   | not json
-    a list                    | []                                                                            | not a request
-    a text                    | "a"                                                                           | not a request
-    no key                    | {}                                                                            | not a request
-    one key more              | {"id":"a","class":"Thing","new":["x"],"more":0}                               | not a request
-    one key less              | {"id":"a","class":"Thing"}                                                    | not a request
-    keys of both              | {"id":"a","class":"Thing","key":"x","method":"two","new":[]}                  | not a request
-    an empty id               | {"id":"","class":"Thing","new":["x"]}                                         | not a request
-    a number as id            | {"id":7,"class":"Thing","new":["x"]}                                          | not a request
-    a number as class         | {"id":"a","class":7,"new":["x"]}                                              | not a request
-    a number as key           | {"id":"a","class":"Thing","key":7,"method":"truth","args":[true]}             | not a request
-    a number as method        | {"id":"a","class":"Thing","key":"x","method":7,"args":[true]}                 | not a request
-    an object as arguments    | {"id":"a","class":"Thing","key":"x","method":"truth","args":{}}               | not a request
-    an object as new          | {"id":"a","class":"Thing","new":{}}                                           | not a request
-    arguments before class    | {"id":"a","class":"Other","key":"x","method":"truth","args":null}             | not a request
-    id before class           | {"id":"","class":"Other","new":[]}                                            | not a request
-    another class             | {"id":"a","class":"Other","new":["x"]}                                        | unknown class
-    a reserved name as class  | {"id":"a","class":"len","new":["x"]}                                          | unknown class
-    class before method       | {"id":"a","class":"Other","key":"x","method":"other","args":[]}               | unknown class
-    class before count        | {"id":"a","class":"Other","new":[]}                                           | unknown class
-    another method            | {"id":"a","class":"Thing","key":"x","method":"swap","args":[]}                | unknown method
-    making is no method       | {"id":"a","class":"Thing","key":"x","method":"__init__","args":["x"]}         | unknown method
-    the key is no method      | {"id":"a","class":"Thing","key":"x","method":"__key__","args":[]}             | unknown method
-    method before count       | {"id":"a","class":"Thing","key":"x","method":"swap","args":[1]}               | unknown method
-    no argument               | {"id":"a","class":"Thing","new":[]}                                           | argument count
-    count before type         | {"id":"a","class":"Thing","new":[1,2]}                                        | argument count
-    another type              | {"id":"a","class":"Thing","new":[1]}                                          | argument type
-    blanks and an escape      | {"new" : ["\u0078"],  "class":"Thing","id":"a"}                              | x
-    of equal keys the last    | {"id":"b","id":"a","class":"Other","class":"Thing","new":["y"],"new":["x"]}   | x
+const REQUESTS: &str = r#"
+    a creation       | {"id":"a","class":"Counter","new":["x",3]}                                          | made
+    the greatest int | {"id":"b","class":"Counter","key":"x","method":"add","args":[9223372036854775807]}  | no entity
+    the least int    | {"args":[-9223372036854775808],"class":"Counter","id":"b","key":"x","method":"add"} | no entity
+    an int as a text | {"id":"a","class":"Counter","new":["x","3"]}                                        | made
+    one above 64 bits with a sign | {"id":"a","class":"Counter","new":["x",9223372036854775808]}           | made
 "#;
 
 #[test]
-fn the_first_refusal_in_order_is_told(rt: HostRuntime) -> Result<(), Fail> {
-    let other = other_words(rt.alloc(), REFUSED, 32)?;
+fn lines_that_are_requests(rt: HostRuntime) -> Result<(), Fail> {
+    let other = other(rt.alloc(), COUNTER, REQUESTS, 5)?;
     assert_eq!(rt; other.as_str(), "");
+    let spaced = r#" {"new" : ["\u0078",-3], "class":"Counter","id":"a"} "#;
+    let answer = answer_to(rt.alloc(), COUNTER, spaced.as_bytes())?;
+    assert_eq!(rt; answer.as_slice(), MADE);
     Ok(())
 }
 
-/// What is answered to bytes that no row can hold.
+const NO_REQUESTS: &str = r#"
+    an open brace           | {                                                                   | not json
+    a second object         | {"id":"a","class":"Counter","new":["x",3]}{}                        | not json
+    a list                  | []                                                                  | not a request
+    another member          | {"id":"a","class":"Counter","new":["x",3],"more":0}                 | not a request
+    arguments by name       | {"id":"a","class":"Counter","new":{"x":3}}                          | not a request
+    a number as the id      | {"id":7,"class":"Counter","new":["x",3]}                            | not a request
+    an empty id             | {"id":"","class":"Counter","new":["x",3]}                           | not a request
+    no method               | {"id":"b","class":"Counter","key":"x","args":[4]}                   | not a request
+    a number as the key     | {"id":"b","class":"Counter","key":7,"method":"add","args":[4]}      | not a request
+    another class           | {"id":"a","class":"Other","new":["x",3]}                            | unknown class
+    another method          | {"id":"b","class":"Counter","key":"x","method":"sub","args":[4]}    | unknown method
+    __key__                 | {"id":"b","class":"Counter","key":"x","method":"__key__","args":[]} | unknown method
+    an argument too few     | {"id":"a","class":"Counter","new":["x"]}                            | argument count
+    an argument too many    | {"id":"a","class":"Counter","new":["x",3,4]}                        | argument count
+    arguments swapped       | {"id":"a","class":"Counter","new":[3,"x"]}                          | argument type
+    a number with a point   | {"id":"a","class":"Counter","new":["x",3.0]}                        | argument type
+    one above 64 bits       | {"id":"a","class":"Counter","new":["x",18446744073709551616]}       | argument type
+    no class and no id      | {"id":"","class":"Other","new":["x",3]}                             | not a request
+    no class and no method  | {"id":"b","class":"Other","key":"x","method":"sub","args":[4]}      | unknown class
+    no method, none to pass | {"id":"b","class":"Counter","key":"x","method":"sub","args":[]}     | unknown method
+    too many of a wrong type | {"id":"a","class":"Counter","new":[3,"x",4]}                        | argument count
+"#;
+
 #[test]
-fn bytes_that_are_no_json_are_refused(rt: HostRuntime) -> Result<(), Fail> {
-    let not_json = "{\"bad\":\"not json\",\"line\":1}\n".as_bytes();
-    let lines: [&[u8]; 5] = [
-        b"\xef\xbb\xbf{\"id\":\"a\",\"class\":\"Thing\",\"new\":[\"x\"]}",
-        b"{\"id\":\"\xff\",\"class\":\"Thing\",\"new\":[\"x\"]}",
-        b"{\"id\":\"a\x01\",\"class\":\"Thing\",\"new\":[\"x\"]}",
-        b"   ",
-        b"\r",
-    ];
-    for line in lines {
-        let found = answers(rt.alloc(), line)?;
-        assert_eq!(rt; found.as_slice(), not_json, "{line:?}");
-    }
+fn lines_that_are_none(rt: HostRuntime) -> Result<(), Fail> {
+    let other = other(rt.alloc(), COUNTER, NO_REQUESTS, 21)?;
+    assert_eq!(rt; other.as_str(), "");
+    let no_text = b"{\"id\":\"\xff\",\"class\":\"Counter\",\"new\":[\"x\",3]}";
+    let answer = answer_to(rt.alloc(), COUNTER, no_text)?;
+    assert_eq!(rt; name_of(rt.alloc(), &answer)?, "not json");
     Ok(())
 }
 
 #[test]
-fn json_nests_127_deep(rt: HostRuntime) -> Result<(), Fail> {
-    for (depth, words) in [(127, "not a request"), (128, "not json")] {
-        let mut line = String::new(rt.alloc());
-        for _ in 0..depth {
-            line.push('[')?;
-        }
-        for _ in 0..depth {
-            line.push(']')?;
-        }
-        let found = answers(rt.alloc(), line.as_bytes())?;
-        let wanted = format!(in rt.alloc(); "{{\"bad\":\"{words}\",\"line\":1}}\n")?;
-        assert_eq!(rt; found.as_slice(), wanted.as_bytes(), "{depth}");
-    }
-    Ok(())
-}
-
-#[test]
-fn an_id_has_1_to_64_bytes(rt: HostRuntime) -> Result<(), Fail> {
+fn an_id_has_at_most_64_bytes(rt: HostRuntime) -> Result<(), Fail> {
     let alloc = rt.alloc();
-    let most = "0123456789abcdef0123456789abcdef0123456789abcdef0123456789abcde";
-    for (end, is_id) in [("f", true), ("ff", false), ("é", false)] {
+    let id = "0123456789abcdef0123456789abcdef0123456789abcdef0123456789abcde";
+    for (end, wanted) in [("f", "another"), ("é", "not a request")] {
         let line = format!(in alloc;
-            "{{\"id\":\"{most}{end}\",\"class\":\"Thing\",\"new\":[\"x\"]}}"
+            "{{\"id\":\"{id}{end}\",\"class\":\"Counter\",\"new\":[\"x\",3]}}"
         )?;
-        let found = answers(alloc, line.as_bytes())?;
-        let given = format!(in alloc; "{{\"id\":\"{most}{end}\",\"ok\":\"x\",\"seq\":1}}\n")?;
-        let refused = "{\"bad\":\"not a request\",\"line\":1}\n";
-        let wanted = if is_id { given.as_str() } else { refused };
-        assert_eq!(rt; found.as_slice(), wanted.as_bytes(), "{end}");
+        let answer = answer_to(alloc, COUNTER, line.as_bytes())?;
+        assert_eq!(rt; name_of(alloc, &answer)?, wanted, "{end}");
     }
+    Ok(())
+}
+
+/// Methods and creations that take values of each type.
+const TYPED: &str = "from typing import List, Optional
+@entity
+class Thing:
+    def __init__(self, n: int, k: str, m: int):
+        self.k: str = k
+    def __key__(self): return self.k
+    def ints(self, n: int, m: int) -> int: return n
+    def text(self, s: str) -> int: return 1
+    def maybe(self, n: Optional[int]) -> int: return 1
+    def listed(self, xs: List[int]) -> int: return 1
+    def other(self, a: 'Thing') -> int: return 1
+    def last(self, n: int, b: bool) -> int: return n
+    def test(self, n: int) -> bool: return True
+    def word(self) -> str: return self.k
+    def nothing(self) -> None: pass
+@entity
+class Twice:
+    def __init__(self, k: str, s: str):
+        self.k: str = k
+    def __key__(self): return self.k
+@entity
+class Flag:
+    def __init__(self, k: str, b: bool):
+        self.k: str = k
+    def __key__(self): return self.k
+";
+
+const TYPED_LINES: &str = r#"
+    ints                      | {"id":"b","class":"Thing","key":"x","method":"ints","args":[1,2]}    | no entity
+    a creation of a key, ints | {"id":"a","class":"Thing","new":[1,"x",2]}                           | made
+    a text                    | {"id":"b","class":"Thing","key":"x","method":"text","args":["s"]}    | no entity
+    a number for a text       | {"id":"b","class":"Thing","key":"x","method":"text","args":[1]}      | argument type
+    an Optional               | {"id":"b","class":"Thing","key":"x","method":"maybe","args":[1]}     | no entity
+    an Optional of None       | {"id":"b","class":"Thing","key":"x","method":"maybe","args":[null]}  | no entity
+    a bool for an Optional    | {"id":"b","class":"Thing","key":"x","method":"maybe","args":[true]}  | argument type
+    a list                    | {"id":"b","class":"Thing","key":"x","method":"listed","args":[[1]]}  | no entity
+    an empty list             | {"id":"b","class":"Thing","key":"x","method":"listed","args":[[]]}   | no entity
+    a list of None            | {"id":"b","class":"Thing","key":"x","method":"listed","args":[[null]]} | argument type
+    an entity                 | {"id":"b","class":"Thing","key":"x","method":"other","args":["y"]}   | no entity
+    a number for an entity    | {"id":"b","class":"Thing","key":"x","method":"other","args":[1]}     | argument type
+    a bool at the end         | {"id":"b","class":"Thing","key":"x","method":"last","args":[1,true]} | no entity
+    a number for a bool       | {"id":"b","class":"Thing","key":"x","method":"last","args":[1,1]}    | argument type
+    a bool as the result      | {"id":"b","class":"Thing","key":"x","method":"test","args":[1]}      | no entity
+    a text as the result      | {"id":"b","class":"Thing","key":"x","method":"word","args":[]}       | no entity
+    None as the result        | {"id":"b","class":"Thing","key":"x","method":"nothing","args":[]}    | no entity
+    a creation of two texts   | {"id":"a","class":"Twice","new":["x","y"]}                           | made
+    a creation of a bool      | {"id":"a","class":"Flag","new":["x",true]}                           | made
+"#;
+
+#[test]
+fn declared_types_decide_what_can_be_asked_for(rt: HostRuntime) -> Result<(), Fail> {
+    let other = other(rt.alloc(), TYPED, TYPED_LINES, 19)?;
+    assert_eq!(rt; other.as_str(), "");
     Ok(())
 }
