@@ -1,8 +1,8 @@
 -- What a line asks fits its program: its arguments are of the types that the parameters declare.
-use Rattle.std.proofs.Common.{◌≡◌, ◌∙◌, ◌≤◌, ℕ, zero, suc, ◌+◌, Bool, true, false, cond, List, [], ◌∷◌, length, Option, Some, None, Ok, Err, if◌then◌else◌, refl, sym, ap, subst, arith}
+use Rattle.std.proofs.Common.{◌≡◌, ◌∙◌, ℕ, suc, Bool, true, false, cond, List, [], ◌∷◌, length, Option, Some, None, Ok, Err, if◌then◌else◌, refl, sym, ap, subst, arith}
 use Rattle.std.specs.Prelude.{position, slice_get, codes, nat_eq, ◌==◌, is_some}
 use Rattle.std.specs.declared.result.Result.{Result}
-use Rattle.std.specs.Str.{chars, encode_utf8_all}
+use Rattle.std.specs.Str.{chars}
 use Rattle.std.specs.Option.{option_map, ok_or}
 use Rattle.std.specs.List.{position_from}
 use Rattle.std.proofs.lemmas.Bool.Decides.{Decides-eqb}
@@ -17,18 +17,16 @@ use Rattle.py_tree.specs.PlainProgram.{PlainParam, PlainMethod, PlainClass, Plai
 use Rattle.py_tree.specs.ClassRules.{PlainTable, methods_of as methods_among, init_of as init_among, params_of, written_or_none, sig_params, sig_of, table_of, tables_of}
 use Rattle.sf_value.specs.declared.value.Value.{Value}
 use Rattle.sf_value.specs.declared.value.Value.TheVariants as value
-use Rattle.sf_value.specs.declared.Act.{Act}
-use Rattle.sf_value.specs.declared.Act.TheVariants as act
 use Rattle.sf_value.specs.declared.Request.{Request}
 use Rattle.source_meaning.specs.ClassTables.{Source, members_of, methods_of, init_of}
-use Rattle.source_meaning.specs.Fits.{HasTable, Fits, int, bool, str, nil, list, none, some, entity, AllFit, empty, more, EachFits, no_value, one_more, param_types, CallFits, NewFits, ActFits}
+use Rattle.source_meaning.specs.Fits.{HasTable, Fits, int, bool, str, nil, list, none, some, entity, AllFit, empty, more, EachFits, no_value, one_more, param_types, CallFits, NewFits}
 use Rattle.source_meaning.proofs.TableFacts.{map_found, then_found}
 use Rattle.source_meaning.proofs.Places.{position_is, position_of_more}
 use Rattle.request_json.specs.declared.fault.LineFault.{LineFault}
 use Rattle.request_json.specs.declared.fault.LineFault.TheVariants.{NotJson, NotRequest, UnknownClass, UnknownMethod, ArgumentCount, ArgumentType}
 use Rattle.request_json.specs.Arguments.{◌>>?◌, int_of, each_of, class_named, value_of, arg_of, args_of}
 use Rattle.request_json.specs.RequestLines.{◌>>=◌, length_of, is_id, id_of, text_at, id_in, text_in, array_in, class_of, method_of as method_in, arguments_of, call_of, creation_of, has_keys, call_keys, creation_keys, of_data, data_of, reading_of}
-use Rattle.request_json.specs.LinesFit.{IdFits, RequestFits, LinesFit}
+use Rattle.request_json.specs.LinesFit.{IdFits, RequestFits}
 
 -- what goes on had something to go on with
 then_some : {A B : Type 0} (o : Option A) (f : A → Option B) (y : B) → (o >>? f) ≡ Some y → (x : A) × (o ≡ Some x) × (f x ≡ Some y)

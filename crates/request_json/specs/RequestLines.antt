@@ -14,7 +14,6 @@ use Rattle.py_tree.specs.PlainProgram.{PlainParam}
 use Rattle.py_tree.specs.ClassRules.{params_of}
 use Rattle.py_tree.specs.Acceptance.{class_number, method_number}
 use Rattle.sf_value.specs.declared.value.Value.{Value}
-use Rattle.sf_value.specs.declared.Act.{Act}
 use Rattle.sf_value.specs.declared.Act.TheVariants as act
 use Rattle.sf_value.specs.declared.Request.{Request}
 use Rattle.source_meaning.specs.ClassTables.{Source, methods_of, init_of}

@@ -1,6 +1,6 @@
 //! Why a line is no request.
 
-ghost use Rattle.std.specs.Prelude.{◌≡◌};
+ghost use Rattle.std.specs.Prelude.{◌≡◌, Some};
 ghost use Rattle.request_json.specs.declared.fault.LineError.TheVariants.{Fault as Met, NoMemory as WantsMemory};
 ghost use Rattle.request_json.specs.RequestLines.{text_of};
 
@@ -43,6 +43,8 @@ impl LineFault {
 }
 
 impl fmt::Display for LineFault {
+    ghost output = { λ fault. Some (text_of fault) };
+
     fn fmt<W: fmt::Write>(&self, f: &mut fmt::Formatter<W>) -> fmt::Result {
         f.write_str(self.text())
     }

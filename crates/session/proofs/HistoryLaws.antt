@@ -1,5 +1,5 @@
 -- The table of the history, seen as its entries.
-use Rattle.std.proofs.Common.{◌≡◌, ℕ, zero, suc, ◌+◌, Bool, true, false, cond, List, [], ◌∷◌, ◌++◌, Option, None, Some, refl, sym, ap, ◌∙◌, arith}
+use Rattle.std.proofs.Common.{◌≡◌, ℕ, suc, ◌+◌, Bool, true, false, cond, List, [], ◌∷◌, ◌++◌, Option, None, Some, refl, sym, ap, ◌∙◌, arith}
 use Rattle.std.specs.Prelude.{bytes_eq, position, slice_get}
 use Rattle.std.specs.Map.{keys_of}
 use Rattle.std.specs.Option.{option_map}
@@ -10,7 +10,7 @@ use Rattle.source_meaning.proofs.Places.{position_of_more}
 use Rattle.source_meaning.proofs.TableFacts.{map_found}
 use Rattle.session.specs.declared.history.Committed.{Committed}
 use Rattle.session.specs.HistoryView.{kept_entry, entries_of}
-use Rattle.session.specs.Repeats.{Kept, kept_from, kept_of}
+use Rattle.session.specs.Repeats.{kept_from, kept_of}
 
 -- the entry whose id is found at an index of the table
 found_from : (first : ℕ) (es : List (Text × Committed)) (id : List ℕ) (i : ℕ) (e : Text × Committed) → position (bytes_eq id) (keys_of es) ≡ Some i → slice_get es i ≡ Some e
