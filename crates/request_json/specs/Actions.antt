@@ -1,9 +1,10 @@
 -- How an input is cut into lines, and what each line is.
-use Rattle.std.specs.Prelude.{ℕ, ◌-◌, ◌==◌, nat_le, List, [], ◌∷◌, ◌++◌, length, take, slice_index, None, Some, if◌then◌else◌}
-use Rattle.std.specs.declared.option.Option.{Option}
+use Rattle.std.specs.Prelude.{ℕ, ◌-◌, ◌==◌, nat_le, List, [], ◌∷◌, ◌++◌, length, take, slice_index, Ok, Err, codes, if◌then◌else◌}
+use Rattle.std.specs.declared.result.Result.{Result}
 use Rattle.sf_value.specs.declared.Request.{Request}
 use Rattle.source_meaning.specs.ClassTables.{Source}
-use Rattle.request_json.specs.RequestLines.{longest, request_of}
+use Rattle.request_json.specs.declared.fault.LineFault.{LineFault}
+use Rattle.request_json.specs.RequestLines.{longest, reading_of, text_of}
 
 -- a line that ends with LF, which isn't part of it, or the last one without LF
 pub data Line : Type 0 where
@@ -36,19 +37,29 @@ all_lines bytes = whole_lines bytes ++ last_line (rest_from [] bytes)
 abbrev pub without_cr : List ℕ → List ℕ
 without_cr line = if slice_index line (length line - 1) == 13 then take (length line - 1) line else line
 
--- a line is empty, asks something, or can't be used
+-- why a line can't be used: it has more bytes than a line may have, or reading it is refused
+pub data Cause : Type 0 where
+  LineTooLong : Cause
+  Unread : (fault : LineFault) → Cause
+
+-- what each cause is printed as
+abbrev pub cause_text : Cause → List ℕ
+cause_text LineTooLong = codes "line too long"
+cause_text (Unread fault) = text_of fault
+
+-- a line is empty, can't be used, or asks something
 pub data Action : Type 0 where
   Skip : Action
-  Refuse : Action
+  Refuse : (cause : Cause) → Action
   Ask : (request : Request) → Action
 
-abbrev pub asking : Option Request → Action
-asking None = Refuse
-asking (Some r) = Ask r
+abbrev pub asking : Result Request LineFault → Action
+asking (Ok r) = Ask r
+asking (Err fault) = Refuse (Unread fault)
 
 abbrev pub used : Source → List ℕ → Action
 used src [] = Skip
-used src (b ∷ bs) = asking (request_of src (b ∷ bs))
+used src (b ∷ bs) = asking (reading_of src (b ∷ bs))
 
 -- the content of a line
 abbrev pub bytes_of : Line → List ℕ
@@ -61,4 +72,4 @@ content_of (Left line) = line
 
 -- what a line is; its length is counted with its CR
 unfoldable pub action_of : Source → Line → Action
-action_of src line = if nat_le (length (bytes_of line)) longest then used src (content_of line) else Refuse
+action_of src line = if nat_le (length (bytes_of line)) longest then used src (content_of line) else Refuse LineTooLong

@@ -1,4 +1,6 @@
+pub mod Arguments
 pub mod RequestLines
 pub mod ReplyLines
+pub mod Answers
 pub mod Actions
 pub mod LinesFit

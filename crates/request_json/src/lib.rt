@@ -1,11 +1,13 @@
 //! Lines of JSON: a request that is read, a reply that is written.
 #![tactic(auto)]
 
-mod callable;
+mod arguments;
+mod fault;
 mod laws;
 mod read;
 mod write;
 
+pub use fault::{LineError, LineFault};
 pub use laws::lines_fit;
-pub use read::read_request;
-pub use write::{write_bad, write_reply};
+pub use read::read_line;
+pub use write::{write_bad, write_entry, write_reply};

@@ -1,10 +1,11 @@
 //! Reply lines, written as JSON.
 
-ghost use Rattle.std.specs.Prelude.{◌≡◌, ◌++◌, ◌∷◌, [], codes, false, string_bytes, IfOk};
+ghost use Rattle.std.specs.Prelude.{◌≡◌, ◌++◌, ◌∷◌, [], codes, false, map, string_bytes, IfOk};
 ghost use Rattle.serde_json.specs.View.{view};
 ghost use Rattle.serde_json.specs.Written.{compact_text, has_float};
 ghost use Rattle.request_json.specs.ReplyLines.{int_data, value_data, kind_name, value_reply, failure_reply, reply_data, reply_line, bad_data, bad_line};
 
+use py_tree::Checked;
 use serde_json::{Value as Json, json};
 use sf_list::Sequence;
 use sf_value::{Bytes, Failure, Outcome, Reply, Text, Value};
@@ -26,7 +27,20 @@ fn text_json(alloc: Global, text: &Text) -> Result<Json, AllocError>
     Ok(Json::String(String::from_str(alloc, text.as_str())?))
 }
 
-/// A result, in the form in which an argument is given.
+/// The elements of a list, one after another.
+#[cycle(values_json)]
+fn items_json(alloc: Global, items: &[Value]) -> Result<Vec<Json>, AllocError>
+    ensures { IfOk result (λ made. map view made.items ≡ map value_data items.now) }
+{
+    let mut made = Vec::new(alloc);
+    for item in items {
+        made.push(value_json(alloc, item)?)?;
+    }
+    Ok(made)
+}
+
+/// A result, in the form in which an argument is passed.
+#[cycle(values_json)]
 fn value_json(alloc: Global, value: &Value) -> Result<Json, AllocError>
     ensures { IfOk result (λ v. view v ≡ value_data value.now) }
 {
@@ -34,8 +48,9 @@ fn value_json(alloc: Global, value: &Value) -> Result<Json, AllocError>
         Value::Int(n) => int_json(alloc, *n),
         Value::Bool(b) => Ok(Json::Bool(*b)),
         Value::Str(text) => text_json(alloc, text),
+        Value::Nil => Ok(Json::Null),
+        Value::List(items) => Ok(Json::Array(items_json(alloc, items.as_slice())?)),
         Value::Entity(at) => text_json(alloc, &at.key),
-        Value::Nil | Value::List(_) => Ok(Json::Null),
     }
 }
 
@@ -77,12 +92,12 @@ fn error_json(alloc: Global, id: &Text, failure: &Failure, seq: u32) -> Result<J
     json!(in alloc; {"error": error, "id": id, "message": message, "seq": seq})
 }
 
-fn reply_json(alloc: Global, id: &Text, reply: &Reply) -> Result<Json, AllocError>
-    ensures { IfOk result (λ v. view v ≡ reply_data id.now reply.now.outcome reply.now.seq) }
+fn reply_json(alloc: Global, id: &Text, outcome: &Outcome, seq: u32) -> Result<Json, AllocError>
+    ensures { IfOk result (λ v. view v ≡ reply_data id.now outcome.now seq) }
 {
-    match &reply.outcome {
-        Outcome::Value(value) => ok_json(alloc, id, value, reply.seq),
-        Outcome::Failed(failure) => error_json(alloc, id, failure, reply.seq),
+    match outcome {
+        Outcome::Value(value) => ok_json(alloc, id, value, seq),
+        Outcome::Failed(failure) => error_json(alloc, id, failure, seq),
     }
 }
 
@@ -103,13 +118,30 @@ fn line_of(alloc: Global, value: &Json) -> Result<Bytes, AllocError>
     Ok(line)
 }
 
-/// The line of a reply.
+/// The line of what a request with this id came to, at its place in the history.
 #[tactic(auto, using(crate::proofs::FloatLaws::no_float), unfolding(crate::specs::ReplyLines::reply_line))]
-pub fn write_reply(alloc: Global, id: &Text, reply: &Reply) -> Result<Bytes, AllocError>
+pub fn write_entry(
+    alloc: Global,
+    id: &Text,
+    outcome: &Outcome,
+    seq: u32,
+) -> Result<Bytes, AllocError>
+    ensures { IfOk result (λ line. line ≡ reply_line id.now outcome.now seq) }
+{
+    let value = reply_json(alloc, id, outcome, seq)?;
+    line_of(alloc, &value)
+}
+
+/// The line of a reply. It names no class and no method, so the program isn't read.
+pub fn write_reply(
+    alloc: Global,
+    _program: &Checked,
+    id: &Text,
+    reply: &Reply,
+) -> Result<Bytes, AllocError>
     ensures { IfOk result (λ line. line ≡ reply_line id.now reply.now.outcome reply.now.seq) }
 {
-    let value = reply_json(alloc, id, reply)?;
-    line_of(alloc, &value)
+    write_entry(alloc, id, &reply.outcome, reply.seq)
 }
 
 /// The line that refuses a line of the input.

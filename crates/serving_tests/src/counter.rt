@@ -15,8 +15,8 @@ pub const REQUESTS: &[u8] = b"{\"id\":\"a\",\"class\":\"Counter\",\"new\":[\"x\"
 pub const REPLIES: &[u8] = b"{\"id\":\"a\",\"ok\":\"x\",\"seq\":1}
 {\"id\":\"b\",\"ok\":7,\"seq\":2}
 {\"error\":\"NoEntity\",\"id\":\"c\",\"message\":\"\",\"seq\":3}
-{\"bad\":\"unsupported\",\"line\":4}
-{\"bad\":\"unsupported\",\"line\":5}
+{\"bad\":\"not json\",\"line\":4}
+{\"bad\":\"id reused\",\"line\":5}
 ";
 
 /// Calls with these words on the counter and its requests.

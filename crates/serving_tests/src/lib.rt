@@ -12,4 +12,8 @@ mod lists;
 #[cfg(test)]
 mod order;
 #[cfg(test)]
+mod repeats;
+#[cfg(test)]
 mod request_lines;
+#[cfg(test)]
+mod shop;

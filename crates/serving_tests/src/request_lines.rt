@@ -12,7 +12,16 @@ fn answer_to(alloc: Global, text: &str, line: &[u8]) -> Result<Vec<u8>, AllocErr
     Vec::from_slice(alloc, answer.out.bytes())
 }
 
-const UNSUPPORTED: &[u8] = b"{\"bad\":\"unsupported\",\"line\":1}\n";
+/// What a table calls an answer that refuses the one line of the input.
+const REFUSALS: [&str; 7] = [
+    "line too long",
+    "not json",
+    "not a request",
+    "unknown class",
+    "unknown method",
+    "argument count",
+    "argument type",
+];
 
 /// The answer to the creation `a` of the entity `x`.
 const MADE: &[u8] = b"{\"id\":\"a\",\"ok\":\"x\",\"seq\":1}\n";
@@ -20,17 +29,26 @@ const MADE: &[u8] = b"{\"id\":\"a\",\"ok\":\"x\",\"seq\":1}\n";
 /// The answer to the call `b` of an entity that isn't there.
 const NO_ENTITY: &[u8] = b"{\"error\":\"NoEntity\",\"id\":\"b\",\"message\":\"\",\"seq\":1}\n";
 
-/// What a table calls an answer.
-fn name_of(answer: &[u8]) -> &str {
-    if answer == UNSUPPORTED {
-        "unsupported"
-    } else if answer == MADE {
-        "made"
-    } else if answer == NO_ENTITY {
-        "no entity"
-    } else {
-        "another"
+/// The refusal that an answer is, where it is one.
+fn refusal_of(alloc: Global, answer: &[u8]) -> Result<Option<&'static str>, AllocError> {
+    for refusal in REFUSALS {
+        let line = format!(in alloc; "{{\"bad\":\"{refusal}\",\"line\":1}}\n")?;
+        if answer == line.as_bytes() {
+            return Ok(Some(refusal));
+        }
     }
+    Ok(None)
+}
+
+/// What a table calls an answer.
+fn name_of(alloc: Global, answer: &[u8]) -> Result<&'static str, AllocError> {
+    if answer == MADE {
+        return Ok("made");
+    }
+    if answer == NO_ENTITY {
+        return Ok("no entity");
+    }
+    Ok(refusal_of(alloc, answer)?.unwrap_or("another"))
 }
 
 /// The first row of a table whose line is answered otherwise, where this text is run, or nothing
@@ -39,7 +57,7 @@ fn other(alloc: Global, text: &str, table: &str, count: usize) -> Result<String,
     let rows = rows(alloc, table)?;
     for row in &rows {
         let answer = answer_to(alloc, text, row.text.as_bytes())?;
-        let found = name_of(&answer);
+        let found = name_of(alloc, &answer)?;
         if found != row.wanted {
             return format!(in alloc; "{} is answered by {found}", row.label);
         }
@@ -54,11 +72,13 @@ const REQUESTS: &str = r#"
     a creation       | {"id":"a","class":"Counter","new":["x",3]}                                          | made
     the greatest int | {"id":"b","class":"Counter","key":"x","method":"add","args":[9223372036854775807]}  | no entity
     the least int    | {"args":[-9223372036854775808],"class":"Counter","id":"b","key":"x","method":"add"} | no entity
+    an int as a text | {"id":"a","class":"Counter","new":["x","3"]}                                        | made
+    one above 64 bits with a sign | {"id":"a","class":"Counter","new":["x",9223372036854775808]}           | made
 "#;
 
 #[test]
 fn lines_that_are_requests(rt: HostRuntime) -> Result<(), Fail> {
-    let other = other(rt.alloc(), COUNTER, REQUESTS, 3)?;
+    let other = other(rt.alloc(), COUNTER, REQUESTS, 5)?;
     assert_eq!(rt; other.as_str(), "");
     let spaced = r#" {"new" : ["\u0078",-3], "class":"Counter","id":"a"} "#;
     let answer = answer_to(rt.alloc(), COUNTER, spaced.as_bytes())?;
@@ -67,33 +87,37 @@ fn lines_that_are_requests(rt: HostRuntime) -> Result<(), Fail> {
 }
 
 const NO_REQUESTS: &str = r#"
-    an open brace         | {                                                                   | unsupported
-    a list                | []                                                                  | unsupported
-    a second object       | {"id":"a","class":"Counter","new":["x",3]}{}                        | unsupported
-    another member        | {"id":"a","class":"Counter","new":["x",3],"more":0}                 | unsupported
-    another class         | {"id":"a","class":"Other","new":["x",3]}                            | unsupported
-    an argument too few   | {"id":"a","class":"Counter","new":["x"]}                            | unsupported
-    an argument too many  | {"id":"a","class":"Counter","new":["x",3,4]}                        | unsupported
-    arguments swapped     | {"id":"a","class":"Counter","new":[3,"x"]}                          | unsupported
-    an int as a text      | {"id":"a","class":"Counter","new":["x","3"]}                        | unsupported
-    a number with a point | {"id":"a","class":"Counter","new":["x",3.0]}                        | unsupported
-    one above 64 bits     | {"id":"a","class":"Counter","new":["x",9223372036854775808]}        | unsupported
-    arguments by name     | {"id":"a","class":"Counter","new":{"x":3}}                          | unsupported
-    a number as the id    | {"id":7,"class":"Counter","new":["x",3]}                            | unsupported
-    an empty id           | {"id":"","class":"Counter","new":["x",3]}                           | unsupported
-    another method        | {"id":"b","class":"Counter","key":"x","method":"sub","args":[4]}    | unsupported
-    __key__               | {"id":"b","class":"Counter","key":"x","method":"__key__","args":[]} | unsupported
-    no method             | {"id":"b","class":"Counter","key":"x","args":[4]}                   | unsupported
-    a number as the key   | {"id":"b","class":"Counter","key":7,"method":"add","args":[4]}      | unsupported
+    an open brace           | {                                                                   | not json
+    a second object         | {"id":"a","class":"Counter","new":["x",3]}{}                        | not json
+    a blank                 |                                                                    | not json
+    a list                  | []                                                                  | not a request
+    another member          | {"id":"a","class":"Counter","new":["x",3],"more":0}                 | not a request
+    arguments by name       | {"id":"a","class":"Counter","new":{"x":3}}                          | not a request
+    a number as the id      | {"id":7,"class":"Counter","new":["x",3]}                            | not a request
+    an empty id             | {"id":"","class":"Counter","new":["x",3]}                           | not a request
+    no method               | {"id":"b","class":"Counter","key":"x","args":[4]}                   | not a request
+    a number as the key     | {"id":"b","class":"Counter","key":7,"method":"add","args":[4]}      | not a request
+    another class           | {"id":"a","class":"Other","new":["x",3]}                            | unknown class
+    another method          | {"id":"b","class":"Counter","key":"x","method":"sub","args":[4]}    | unknown method
+    __key__                 | {"id":"b","class":"Counter","key":"x","method":"__key__","args":[]} | unknown method
+    an argument too few     | {"id":"a","class":"Counter","new":["x"]}                            | argument count
+    an argument too many    | {"id":"a","class":"Counter","new":["x",3,4]}                        | argument count
+    arguments swapped       | {"id":"a","class":"Counter","new":[3,"x"]}                          | argument type
+    a number with a point   | {"id":"a","class":"Counter","new":["x",3.0]}                        | argument type
+    one above 64 bits       | {"id":"a","class":"Counter","new":["x",18446744073709551616]}       | argument type
+    no class and no id      | {"id":"","class":"Other","new":["x",3]}                             | not a request
+    no class and no method  | {"id":"b","class":"Other","key":"x","method":"sub","args":[4]}      | unknown class
+    no method, none to pass | {"id":"b","class":"Counter","key":"x","method":"sub","args":[]}     | unknown method
+    too many of a wrong type | {"id":"a","class":"Counter","new":[3,"x",4]}                        | argument count
 "#;
 
 #[test]
 fn lines_that_are_none(rt: HostRuntime) -> Result<(), Fail> {
-    let other = other(rt.alloc(), COUNTER, NO_REQUESTS, 18)?;
+    let other = other(rt.alloc(), COUNTER, NO_REQUESTS, 21)?;
     assert_eq!(rt; other.as_str(), "");
     let no_text = b"{\"id\":\"\xff\",\"class\":\"Counter\",\"new\":[\"x\",3]}";
     let answer = answer_to(rt.alloc(), COUNTER, no_text)?;
-    assert_eq!(rt; answer.as_slice(), UNSUPPORTED);
+    assert_eq!(rt; name_of(rt.alloc(), &answer)?, "not json");
     Ok(())
 }
 
@@ -101,17 +125,17 @@ fn lines_that_are_none(rt: HostRuntime) -> Result<(), Fail> {
 fn an_id_has_at_most_64_bytes(rt: HostRuntime) -> Result<(), Fail> {
     let alloc = rt.alloc();
     let id = "0123456789abcdef0123456789abcdef0123456789abcdef0123456789abcde";
-    for (end, is_request) in [("f", true), ("é", false)] {
+    for (end, wanted) in [("f", "another"), ("é", "not a request")] {
         let line = format!(in alloc;
             "{{\"id\":\"{id}{end}\",\"class\":\"Counter\",\"new\":[\"x\",3]}}"
         )?;
         let answer = answer_to(alloc, COUNTER, line.as_bytes())?;
-        assert_eq!(rt; answer.as_slice() != UNSUPPORTED, is_request, "{end}");
+        assert_eq!(rt; name_of(alloc, &answer)?, wanted, "{end}");
     }
     Ok(())
 }
 
-/// Methods and creations that take and give ints, and others.
+/// Methods and creations that take values of each type.
 const TYPED: &str = "from typing import List, Optional
 @entity
 class Thing:
@@ -142,21 +166,28 @@ class Flag:
 const TYPED_LINES: &str = r#"
     ints                      | {"id":"b","class":"Thing","key":"x","method":"ints","args":[1,2]}    | no entity
     a creation of a key, ints | {"id":"a","class":"Thing","new":[1,"x",2]}                           | made
-    a text                    | {"id":"b","class":"Thing","key":"x","method":"text","args":["s"]}    | unsupported
-    an Optional               | {"id":"b","class":"Thing","key":"x","method":"maybe","args":[1]}     | unsupported
-    a list                    | {"id":"b","class":"Thing","key":"x","method":"listed","args":[[1]]}  | unsupported
-    an entity                 | {"id":"b","class":"Thing","key":"x","method":"other","args":["y"]}   | unsupported
-    a bool at the end         | {"id":"b","class":"Thing","key":"x","method":"last","args":[1,true]} | unsupported
-    a bool as the result      | {"id":"b","class":"Thing","key":"x","method":"test","args":[1]}      | unsupported
-    a text as the result      | {"id":"b","class":"Thing","key":"x","method":"word","args":[]}       | unsupported
-    None as the result        | {"id":"b","class":"Thing","key":"x","method":"nothing","args":[]}    | unsupported
-    a creation of two texts   | {"id":"b","class":"Twice","new":["x","y"]}                           | unsupported
-    a creation of a bool      | {"id":"b","class":"Flag","new":["x",true]}                           | unsupported
+    a text                    | {"id":"b","class":"Thing","key":"x","method":"text","args":["s"]}    | no entity
+    a number for a text       | {"id":"b","class":"Thing","key":"x","method":"text","args":[1]}      | argument type
+    an Optional               | {"id":"b","class":"Thing","key":"x","method":"maybe","args":[1]}     | no entity
+    an Optional of None       | {"id":"b","class":"Thing","key":"x","method":"maybe","args":[null]}  | no entity
+    a bool for an Optional    | {"id":"b","class":"Thing","key":"x","method":"maybe","args":[true]}  | argument type
+    a list                    | {"id":"b","class":"Thing","key":"x","method":"listed","args":[[1]]}  | no entity
+    an empty list             | {"id":"b","class":"Thing","key":"x","method":"listed","args":[[]]}   | no entity
+    a list of None            | {"id":"b","class":"Thing","key":"x","method":"listed","args":[[null]]} | argument type
+    an entity                 | {"id":"b","class":"Thing","key":"x","method":"other","args":["y"]}   | no entity
+    a number for an entity    | {"id":"b","class":"Thing","key":"x","method":"other","args":[1]}     | argument type
+    a bool at the end         | {"id":"b","class":"Thing","key":"x","method":"last","args":[1,true]} | no entity
+    a number for a bool       | {"id":"b","class":"Thing","key":"x","method":"last","args":[1,1]}    | argument type
+    a bool as the result      | {"id":"b","class":"Thing","key":"x","method":"test","args":[1]}      | no entity
+    a text as the result      | {"id":"b","class":"Thing","key":"x","method":"word","args":[]}       | no entity
+    None as the result        | {"id":"b","class":"Thing","key":"x","method":"nothing","args":[]}    | no entity
+    a creation of two texts   | {"id":"a","class":"Twice","new":["x","y"]}                           | made
+    a creation of a bool      | {"id":"a","class":"Flag","new":["x",true]}                           | made
 "#;
 
 #[test]
 fn declared_types_decide_what_can_be_asked_for(rt: HostRuntime) -> Result<(), Fail> {
-    let other = other(rt.alloc(), TYPED, TYPED_LINES, 12)?;
+    let other = other(rt.alloc(), TYPED, TYPED_LINES, 19)?;
     assert_eq!(rt; other.as_str(), "");
     Ok(())
 }

@@ -4,7 +4,7 @@ use Rattle.std.proofs.lemmas.List.{take_all, length-take, length-append, take-ap
 use Rattle.std.proofs.lemmas.Bool.Decides.{nat_tests}
 use Rattle.source_meaning.specs.ClassTables.{Source}
 use Rattle.request_json.specs.RequestLines.{longest}
-use Rattle.request_json.specs.Actions.{Line, Ended, Left, Action, Refuse, whole_from, rest_from, action_of, used, content_of}
+use Rattle.request_json.specs.Actions.{Line, Ended, Left, Action, Refuse, LineTooLong, whole_from, rest_from, action_of, used, content_of}
 use Rattle.session.specs.OutputText.{Standing, replies, after, reply, step}
 
 -- one byte
@@ -52,18 +52,18 @@ rest-append (x ∷ xs) ys part = elim (nat_eq x 10) as (λ v. cond v (rest_from 
 ]
 
 -- whether a list has at most m elements, and then the whole list, is told by its first m + 1
-enough : (m : ℕ) (part : List ℕ) (f : List ℕ → Action) → cond (nat_le (length (take (m + 1) part)) m) (f (take (m + 1) part)) Refuse ≡ cond (nat_le (length part) m) (f part) Refuse
-enough m part f = by (nat_le (length part) m) refl
+enough : (m : ℕ) (part : List ℕ) (f : List ℕ → Action) (over : Action) → cond (nat_le (length (take (m + 1) part)) m) (f (take (m + 1) part)) over ≡ cond (nat_le (length part) m) (f part) over
+enough m part f over = by (nat_le (length part) m) refl
   where
-    by : (b : Bool) → nat_le (length part) m ≡ b → cond (nat_le (length (take (m + 1) part)) m) (f (take (m + 1) part)) Refuse ≡ cond (nat_le (length part) m) (f part) Refuse
+    by : (b : Bool) → nat_le (length part) m ≡ b → cond (nat_le (length (take (m + 1) part)) m) (f (take (m + 1) part)) over ≡ cond (nat_le (length part) m) (f part) over
     by true h =
         let short : length part ≤ m = grind (arith, nat_tests) in
-        ap (λ l. cond (nat_le (length l) m) (f l) Refuse) (take_all (m + 1) part (omega arith))
+        ap (λ l. cond (nat_le (length l) m) (f l) over) (take_all (m + 1) part (omega arith))
     by false h =
         let long : m < length part = grind (arith, nat_tests) in
         let cut : length (take (m + 1) part) ≡ m + 1 = omega (arith, length-take (m + 1) part) in
-        let over : nat_le (length (take (m + 1) part)) m ≡ false = grind (arith, nat_tests) in
-        ap (λ b. cond b (f (take (m + 1) part)) Refuse) over ∙ sym (ap (λ b. cond b (f part) Refuse) h)
+        let past : nat_le (length (take (m + 1) part)) m ≡ false = grind (arith, nat_tests) in
+        ap (λ b. cond b (f (take (m + 1) part)) over) past ∙ sym (ap (λ b. cond b (f part) over) h)
 
 -- what is kept of a part, with one byte more
 
@@ -111,8 +111,8 @@ module _ (src : Source) where
 
   pub ended-start : (part : List ℕ) → action_of src (Ended (take (longest + 1) part)) ≡ action_of src (Ended part)
   unfolding action_of
-  ended-start part = enough longest part (λ l. used src (content_of (Ended l)))
+  ended-start part = enough longest part (λ l. used src (content_of (Ended l))) (Refuse LineTooLong)
 
   pub left-start : (part : List ℕ) → action_of src (Left (take (longest + 1) part)) ≡ action_of src (Left part)
   unfolding action_of
-  left-start part = enough longest part (λ l. used src (content_of (Left l)))
+  left-start part = enough longest part (λ l. used src (content_of (Left l))) (Refuse LineTooLong)

@@ -1,6 +1,7 @@
 -- What a session prints is what one serial run prints.
-use Rattle.std.proofs.Common.{◌≡◌, ℕ, suc, ◌+◌, Bool, true, false, cond, List, [], ◌∷◌, ◌++◌, length, take, drop, Some, Ok, Err, refl, sym, ap, ◌∙◌, subst, append_assoc, append-nil, arith}
+use Rattle.std.proofs.Common.{◌≡◌, ℕ, suc, ◌+◌, Bool, true, false, true≢false, cond, List, [], ◌∷◌, ◌++◌, length, take, drop, None, Some, Ok, Err, refl, sym, ap, ◌∙◌, subst, append_assoc, append-nil, arith}
 use Rattle.std.proofs.lemmas.List.{take_at, take-append-drop, length-append}
+use Rattle.std.specs.Bool.{Decides}
 use Rattle.std.specs.List.{slice_get, range_with_len}
 use Rattle.std.specs.declared.option.Option.{Option}
 use Rattle.std.specs.declared.result.Result.{Result}
@@ -13,15 +14,17 @@ use Rattle.sf_outside.specs.declared.gains.WriteStop.{WriteStop}
 use Rattle.sf_outside.specs.declared.gains.WriteStop.TheVariants.{NoMemory, WriteFault}
 use Rattle.sf_outside.proofs.GainLaws.{joined-append}
 use Rattle.source_meaning.specs.ClassTables.{Source}
-use Rattle.source_meaning.specs.Serial.{Core, IsSound, is_committed}
+use Rattle.source_meaning.specs.Serial.{Core, IsSound}
 use Rattle.source_meaning.proofs.SerialLaws.{IsSound-empty, IsSound-more}
-use Rattle.request_json.specs.Actions.{Line, Action, Skip, Refuse, Ask, action_of}
-use Rattle.request_json.specs.ReplyLines.{reply_line}
+use Rattle.request_json.specs.Actions.{Line, Action, Skip, Refuse, Ask, cause_text, action_of}
+use Rattle.request_json.specs.ReplyLines.{reply_line, bad_line}
 use Rattle.session.specs.declared.feeding.InputEnd.{InputEnd}
 use Rattle.session.specs.declared.feeding.InputEnd.TheVariants.{End, ReadFault, TooLong}
-use Rattle.session.specs.OutputText.{Standing, replies, after, step, start, commit, entry_of, refusal, after_action, reply_to}
+use Rattle.session.specs.OutputText.{Standing, replies, after, step, start, commit, entry_of, reused, after_ask, answer_to, after_action, reply_to}
+use Rattle.session.specs.Repeats.{Kept, kept_of, same_act, line_of_kept}
 use Rattle.session.specs.Served.{Served}
-use Rattle.session.specs.SerialOutput.{Printed, Nothing, Refused, Reply, entry_at, text_of_entry, printed_text, printed_texts, places, IsNumbered, IsRefused, Fits, SerialLines, SerialRun}
+use Rattle.session.specs.SerialOutput.{Printed, Nothing, Refused, Reply, Again, entry_at, text_of_entry, printed_text, printed_texts, places, IsNumbered, IsRefused, Fits, SerialLines, SerialRun}
+use Rattle.session.proofs.RepeatLaws.{Stands, stands, still_at, not_committed, same_act-Decides}
 use Rattle.session.proofs.ServeLaws.{whole_prefix}
 
 -- the look-up of the entry that stands behind these
@@ -62,17 +65,32 @@ module _ (src : Source) (core new : Core) (number : ℕ) (line : Line) (lines : 
     printed_are = ap (λ ts. [] ∷ ts) g.printed_are;
   }
 
-  Goes-refused : IsRefused core.history (action_of src line) → Goes src core new (number + 1) lines texts → Goes src core new number (line ∷ lines) (refusal number ∷ texts)
-  Goes-refused is g = record {
+  Goes-refused : (what : List ℕ) → IsRefused core.history (action_of src line) what → Goes src core new (number + 1) lines texts → Goes src core new number (line ∷ lines) (bad_line what number ∷ texts)
+  Goes-refused what is g = record {
     sound = g.sound;
     added = g.added;
     history = g.history;
-    printed = Refused number ∷ g.printed;
+    printed = Refused number what ∷ g.printed;
     counted = g.counted;
     numbered = (refl, g.numbered);
     fits = (is, g.fits);
-    printed_are = ap (λ ts. refusal number ∷ ts) g.printed_are;
+    printed_are = ap (λ ts. bad_line what number ∷ ts) g.printed_are;
   }
+
+  Goes-again : (kept : Kept) → entry_at core.history kept.place ≡ Some kept.entry → action_of src line ≡ Ask kept.entry.request → Goes src core new (number + 1) lines texts
+      → Goes src core new number (line ∷ lines) (line_of_kept kept ∷ texts)
+  Goes-again kept at is g =
+      let still : entry_at new.history kept.place ≡ Some kept.entry = ap (λ h. entry_at h kept.place) g.history ∙ still_at core.history g.added kept.place kept.entry at in
+      record {
+        sound = g.sound;
+        added = g.added;
+        history = g.history;
+        printed = Again kept.place ∷ g.printed;
+        counted = g.counted;
+        numbered = g.numbered;
+        fits = (record { entry = kept.entry; stands = at; asks = is }, g.fits);
+        printed_are = (λ i. text_of_entry (sym still i) kept.place ∷ g.printed_are i);
+      }
 
   Goes-reply : (r : Request) → action_of src line ≡ Ask r → Goes src (commit src core r) new (number + 1) lines texts
       → Goes src core new number (line ∷ lines) (reply_line r.id (entry_of src core r).outcome (length core.history + 1) ∷ texts)
@@ -91,20 +109,32 @@ module _ (src : Source) (core new : Core) (number : ℕ) (line : Line) (lines : 
         printed_are = (λ i. sym (ap (λ h. printed_text h (Reply (length core.history + 1))) grown ∙ reply_there core.history e g.added) i ∷ g.printed_are i);
       }
 
-  -- what a request does, by whether its id is committed
-  asked : (b : Bool) (r : Request) → action_of src line ≡ Ask r → is_committed core.history r.id ≡ b → IsSound src core
-      → (IsSound src (cond b core (commit src core r)) → Goes src (cond b core (commit src core r)) new (number + 1) lines texts)
-      → Goes src core new number (line ∷ lines) (cond b (refusal number) (reply_line r.id (entry_of src core r).outcome (length core.history + 1)) ∷ texts)
-  asked true r asks is s go = Goes-refused (subst (IsRefused core.history) (sym asks) is) (go s)
-  asked false r asks is s go = Goes-reply r asks (go (IsSound-more src core (entry_of src core r) s is refl))
+  -- what a request of a kept id does, by whether it asks for the same
+  repeated : (same : Bool) (r : Request) (kept : Kept) → action_of src line ≡ Ask r → Stands core.history r.id kept → Decides same (kept.entry.request.act ≡ r.act) → Goes src core new (number + 1) lines texts
+      → Goes src core new number (line ∷ lines) (cond same (line_of_kept kept) (bad_line reused number) ∷ texts)
+  repeated true r kept asks at same g =
+      let act : kept.entry.request.act ≡ r.act = same.0 refl in
+      let request : r ≡ kept.entry.request = λ i. record { id = sym at.id_is i; act = sym act i } in
+      Goes-again kept at.at (asks ∙ ap Ask request) g
+  repeated false r kept asks at same g =
+      let other = λ (is : kept.entry.request ≡ r). true≢false (sym (same.1 (ap (λ (q : Request). q.act) is))) in
+      let refused : IsRefused core.history (Ask r) reused = (refl, record { place = kept.place; entry = kept.entry; stands = at.at; id = at.id_is; other = other }) in
+      Goes-refused reused (subst (λ a. IsRefused core.history a reused) (sym asks) refused) g
+
+  -- what a request does, by whether its id has an entry
+  asked : (o : Option Kept) (r : Request) → action_of src line ≡ Ask r → kept_of core.history r.id ≡ o → IsSound src core
+      → (IsSound src (after_ask src core r o) → Goes src (after_ask src core r o) new (number + 1) lines texts)
+      → Goes src core new number (line ∷ lines) (answer_to src core number r o ∷ texts)
+  asked (Some kept) r asks is s go = repeated (same_act kept.entry.request.act r.act) r kept asks (stands core.history r.id kept is) (same_act-Decides kept.entry.request.act r.act) (go s)
+  asked None r asks is s go = Goes-reply r asks (go (IsSound-more src core (entry_of src core r) s (not_committed core.history r.id is) refl))
 
   acted : (action : Action) → action_of src line ≡ action → IsSound src core
       → (IsSound src (after_action src core action) → Goes src (after_action src core action) new (number + 1) lines texts)
       → Goes src core new number (line ∷ lines) (reply_to src core number action ∷ texts)
   unfolding after_action reply_to
   acted Skip asks s go = Goes-nothing asks (go s)
-  acted Refuse asks s go = Goes-refused (subst (IsRefused core.history) (sym asks) tt) (go s)
-  acted (Ask r) asks s go = asked (is_committed core.history r.id) r asks refl s go
+  acted (Refuse cause) asks s go = Goes-refused (cause_text cause) (subst (λ a. IsRefused core.history a (cause_text cause)) (sym asks) refl) (go s)
+  acted (Ask r) asks s go = asked (kept_of core.history r.id) r asks refl s go
 
 module _ (src : Source) where
   goes : (lines : List Line) (s : Standing) → IsSound src s.core → Goes src s.core (after src s lines).core (s.lines + 1) lines (replies src s lines)

@@ -4,14 +4,15 @@ use Rattle.py_tree.specs.PlainProgram.{PlainProgram}
 use Rattle.py_tree.specs.ClassRules.{PlainTable, tables_of}
 use Rattle.py_tree.specs.Acceptance.{IsAccepted}
 use Rattle.sf_value.specs.declared.Entry.{Entry}
-use Rattle.source_meaning.specs.Fits.{StateFits, ActFits, OutcomeFits}
+use Rattle.source_meaning.specs.Fits.{StateFits, OutcomeFits}
 use Rattle.request_json.specs.Actions.{Line}
+use Rattle.request_json.specs.LinesFit.{RequestFits}
 use Rattle.session.specs.SerialOutput.{SerialLines}
 
 -- each request fits the program, and what it came to fits the request
 abbrev pub EntriesFit : List PlainTable → List Entry → Type 0
 EntriesFit tables [] = ⊤
-EntriesFit tables (e ∷ es) = ActFits tables e.request.act × OutcomeFits tables e.request.act e.outcome × EntriesFit tables es
+EntriesFit tables (e ∷ es) = RequestFits tables e.request × OutcomeFits tables e.request.act e.outcome × EntriesFit tables es
 
 -- the entries of the run that answers these lines fit, and so does the state behind them
 abbrev pub AnswersFit : Type 0

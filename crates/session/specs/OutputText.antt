@@ -1,13 +1,15 @@
 -- The output text of a session: what each line of its input is answered, and the history and the state that follow.
-use Rattle.std.specs.Prelude.{ℕ, ◌+◌, List, [], ◌∷◌, ◌++◌, length, codes, if◌then◌else◌}
+use Rattle.std.specs.Prelude.{ℕ, ◌+◌, List, [], ◌∷◌, ◌++◌, length, codes, None, Some, if◌then◌else◌}
+use Rattle.std.specs.declared.option.Option.{Option}
 use Rattle.sf_value.specs.declared.Entry.{Entry}
 use Rattle.sf_value.specs.declared.Request.{Request}
 use Rattle.source_meaning.specs.ClassTables.{Source}
 use Rattle.source_meaning.specs.RequestRun.{run}
-use Rattle.source_meaning.specs.Serial.{Core, no_state, is_committed}
+use Rattle.source_meaning.specs.Serial.{Core, no_state}
 use Rattle.sf_outside.specs.Gains.{joined}
-use Rattle.request_json.specs.Actions.{Line, Action, Skip, Refuse, Ask, action_of, all_lines}
+use Rattle.request_json.specs.Actions.{Line, Action, Skip, Refuse, Ask, cause_text, action_of, all_lines}
 use Rattle.request_json.specs.ReplyLines.{reply_line, bad_line}
+use Rattle.session.specs.Repeats.{Kept, kept_of, same_act, line_of_kept}
 
 -- a request with what it comes to in this state
 abbrev pub entry_of : Source → Core → Request → Entry
@@ -17,19 +19,30 @@ entry_of src core r = record { request = r; outcome = (run src core.state r.act)
 abbrev pub commit : Source → Core → Request → Core
 commit src core r = record { history = core.history ++ entry_of src core r ∷ []; state = (run src core.state r.act).state }
 
+-- a new request is committed, one whose id is committed changes nothing
+abbrev pub after_ask : Source → Core → Request → Option Kept → Core
+after_ask src core r None = commit src core r
+after_ask src core r (Some kept) = core
+
 unfoldable pub after_action : Source → Core → Action → Core
 after_action src core Skip = core
-after_action src core Refuse = core
-after_action src core (Ask r) = if is_committed core.history r.id then core else commit src core r
+after_action src core (Refuse cause) = core
+after_action src core (Ask r) = after_ask src core r (kept_of core.history r.id)
 
-abbrev pub refusal : ℕ → List ℕ
-refusal number = bad_line (codes "unsupported") number
+abbrev pub reused : List ℕ
+reused = codes "id reused"
 
--- an empty line is answered nothing, a line that can't be used its refusal, a new request the line of its entry
+-- a new request is answered the line of its entry; one whose id is committed the kept line again where it asks for the same,
+-- and else that the id was reused
+abbrev pub answer_to : Source → Core → ℕ → Request → Option Kept → List ℕ
+answer_to src core number r None = reply_line r.id (entry_of src core r).outcome (length core.history + 1)
+answer_to src core number r (Some kept) = if same_act kept.entry.request.act r.act then line_of_kept kept else bad_line reused number
+
+-- an empty line is answered nothing, a line that can't be used its refusal
 unfoldable pub reply_to : Source → Core → ℕ → Action → List ℕ
 reply_to src core number Skip = []
-reply_to src core number Refuse = refusal number
-reply_to src core number (Ask r) = if is_committed core.history r.id then refusal number else reply_line r.id (entry_of src core r).outcome (length core.history + 1)
+reply_to src core number (Refuse cause) = bad_line (cause_text cause) number
+reply_to src core number (Ask r) = answer_to src core number r (kept_of core.history r.id)
 
 -- a session between two lines: its history and state, and how many lines came
 pub record Standing : Type 0 where

@@ -1,22 +1,24 @@
 -- What a session prints, as the replies of one serial run.
-use Rattle.std.specs.Prelude.{◌≡◌, ℕ, zero, suc, ◌+◌, true, List, [], ◌∷◌, ◌++◌, map, length, ⊤, None, Some}
+use Rattle.std.specs.Prelude.{◌≡◌, ℕ, zero, suc, ◌+◌, List, [], ◌∷◌, ◌++◌, map, length, ⊤, None, Some}
 use Rattle.std.specs.List.{slice_get, range_with_len}
 use Rattle.std.specs.declared.option.Option.{Option}
 use Rattle.sf_value.specs.declared.Entry.{Entry}
+use Rattle.sf_value.specs.declared.Request.{Request}
 use Rattle.sf_outside.specs.Bytes.{AppendsPrefix}
 use Rattle.sf_outside.specs.Gains.{joined}
 use Rattle.source_meaning.specs.ClassTables.{Source}
-use Rattle.source_meaning.specs.Serial.{Core, IsSound, is_committed}
-use Rattle.request_json.specs.Actions.{Line, Action, Skip, Refuse, Ask, action_of}
-use Rattle.request_json.specs.ReplyLines.{reply_line}
-use Rattle.session.specs.OutputText.{refusal, replies, start}
+use Rattle.source_meaning.specs.Serial.{Core, IsSound}
+use Rattle.request_json.specs.Actions.{Line, Action, Skip, Refuse, Ask, cause_text, action_of}
+use Rattle.request_json.specs.ReplyLines.{reply_line, bad_line}
+use Rattle.session.specs.OutputText.{reused, replies, start}
 
--- what is printed for one line: nothing, the refusal of the line with this number, or the reply to the request at this
--- place of the history; lines and places are counted from 1
+-- what is printed for one line: nothing, the refusal of the line with this number in these words, the reply to the request
+-- that stands at this place of the history, or that reply once more; lines and places are counted from 1
 pub data Printed : Type 0 where
   Nothing : Printed
-  Refused : (number : ℕ) → Printed
+  Refused : (number : ℕ) → (what : List ℕ) → Printed
   Reply : (place : ℕ) → Printed
+  Again : (place : ℕ) → Printed
 
 -- the entry at this place, if there is one
 abbrev pub entry_at : List Entry → ℕ → Option Entry
@@ -31,45 +33,64 @@ text_of_entry (Some entry) place = reply_line entry.request.id entry.outcome pla
 -- what is printed, where these entries are the history: a place outside of it has no text
 abbrev pub printed_text : List Entry → Printed → List ℕ
 printed_text history Nothing = []
-printed_text history (Refused number) = refusal number
+printed_text history (Refused number what) = bad_line what number
 printed_text history (Reply place) = text_of_entry (entry_at history place) place
+printed_text history (Again place) = text_of_entry (entry_at history place) place
 
 -- and for these lines, one text for each
 abbrev pub printed_texts : List Entry → List Printed → List (List ℕ)
 printed_texts history = map (printed_text history)
 
--- the places of the replies, in the order in which they are printed
+-- the places of the first replies, in the order in which they are printed
 abbrev pub places : List Printed → List ℕ
 places [] = []
 places (Nothing ∷ printed) = places printed
-places (Refused number ∷ printed) = places printed
+places (Refused number what ∷ printed) = places printed
 places (Reply place ∷ printed) = place ∷ places printed
+places (Again place ∷ printed) = places printed
 
 -- each refusal has the number of its line, where the first line has this one
 abbrev pub IsNumbered : ℕ → List Printed → Type 0
 IsNumbered first [] = ⊤
 IsNumbered first (Nothing ∷ printed) = IsNumbered (first + 1) printed
-IsNumbered first (Refused number ∷ printed) = (number ≡ first) × IsNumbered (first + 1) printed
+IsNumbered first (Refused number what ∷ printed) = (number ≡ first) × IsNumbered (first + 1) printed
 IsNumbered first (Reply place ∷ printed) = IsNumbered (first + 1) printed
+IsNumbered first (Again place ∷ printed) = IsNumbered (first + 1) printed
 
--- each request of the history has one reply, in the order of the history, and each refusal names its line
+-- each request of the history has one first reply, in the order of the history, and each refusal names its line
 pub record IsReport (history : List Entry) (printed : List Printed) : Type 0 where
   pub counted : places printed ≡ range_with_len 1 (length history)
   pub numbered : IsNumbered 1 printed
 
--- a line that asks this is refused after these entries: it can't be used, or its id is committed
-abbrev pub IsRefused : List Entry → Action → Type 0
-IsRefused before Skip = ⊥
-IsRefused before Refuse = ⊤
-IsRefused before (Ask request) = is_committed before request.id ≡ true
+-- the entry at this place has the id of this request, and asks for something else
+pub record IsReused (before : List Entry) (request : Request) : Type 0 where
+  pub place : ℕ
+  pub entry : Entry
+  pub stands : entry_at before place ≡ Some entry
+  pub id : entry.request.id ≡ request.id
+  pub other : entry.request ≡ request → ⊥
+
+-- a line that asks this is refused in these words after these entries: it can't be used, or its id was used for something else
+abbrev pub IsRefused : List Entry → Action → List ℕ → Type 0
+IsRefused before Skip what = ⊥
+IsRefused before (Refuse cause) what = what ≡ cause_text cause
+IsRefused before (Ask request) what = (what ≡ reused) × IsReused before request
+
+-- the request stands at this place already
+pub record IsRepeated (before : List Entry) (action : Action) (place : ℕ) : Type 0 where
+  pub entry : Entry
+  pub stands : entry_at before place ≡ Some entry
+  pub asks : action ≡ Ask entry.request
 
 -- what is printed for these lines fits what they ask, where these entries stand before and the lines add those: nothing
--- for an empty line, a refusal as above, and the reply to the entry that the line's request adds
+-- for an empty line, a refusal as above, the reply to the entry that the line's request adds, or the reply to the entry that it
+-- repeats
 abbrev pub Fits : Source → List Entry → List Line → List Printed → List Entry → Type 0
 Fits src before [] [] [] = ⊤
 Fits src before (line ∷ lines) (Nothing ∷ printed) added = (action_of src line ≡ Skip) × Fits src before lines printed added
-Fits src before (line ∷ lines) (Refused number ∷ printed) added = IsRefused before (action_of src line) × Fits src before lines printed added
+Fits src before (line ∷ lines) (Refused number what ∷ printed) added = IsRefused before (action_of src line) what × Fits src before lines printed added
 Fits src before (line ∷ lines) (Reply place ∷ printed) (entry ∷ added) = (action_of src line ≡ Ask entry.request) × Fits src (before ++ entry ∷ []) lines printed added
+Fits src before (line ∷ lines) (Again place ∷ printed) added = IsRepeated before (action_of src line) place × Fits src before lines printed added
 Fits src before lines printed added = ⊥
 
 -- what these lines are answered is what a serial run prints: the replies to the requests of a sound history, which

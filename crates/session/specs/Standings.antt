@@ -1,8 +1,6 @@
 -- What a session holds between two lines, as the definitions see it.
 use Rattle.std.specs.Prelude.{ℕ, Bool, true, false, List}
-use Rattle.request_json.specs.Actions.{Line, Ended, Left, Action, asking as asking_of}
-use Rattle.sf_value.specs.declared.Request.{Request}
-use Rattle.std.specs.declared.option.Option.{Option}
+use Rattle.request_json.specs.Actions.{Line, Ended, Left}
 use Rattle.source_meaning.specs.Serial.{Core}
 use Rattle.session.specs.declared.answering.Standing.{Standing}
 use Rattle.session.specs.OutputText as text
@@ -17,6 +15,3 @@ standing_of s = record { core = core_of s; lines = s.lines }
 abbrev pub line_of : Bool → List ℕ → Line
 line_of true bytes = Ended bytes
 line_of false bytes = Left bytes
-
-abbrev pub asking : Option Request → Action
-asking = asking_of

@@ -1,18 +1,19 @@
 //! One line at a time: what it asks, what it comes to, and its reply line.
 
-ghost use Rattle.std.specs.Prelude.{◌≡◌, ◌+◌, ◌<◌, ◌≤◌, ◌^◌, [], ◌∷◌, ◌++◌, length, false, take, IfOk, OnOk};
+ghost use Rattle.std.specs.Prelude.{◌≡◌, ◌+◌, ◌<◌, ◌≤◌, ◌^◌, [], ◌∷◌, ◌++◌, length, None, take, IfOk, OnOk, if◌then◌else◌};
 ghost use Rattle.source_meaning.specs.Sources.{source_of};
-ghost use Rattle.source_meaning.specs.Serial.{is_committed};
-ghost use Rattle.request_json.specs.ReplyLines.{reply_line};
-ghost use Rattle.request_json.specs.Actions.{without_cr, used};
-ghost use Rattle.session.specs.OutputText.{after_action, reply_to, refusal, reply, step, entry_of, commit};
-ghost use Rattle.session.specs.Standings.{core_of, standing_of, line_of, asking};
+ghost use Rattle.request_json.specs.ReplyLines.{reply_line, bad_line};
+ghost use Rattle.request_json.specs.Actions.{Ask, without_cr, used};
+ghost use Rattle.session.specs.Repeats.{kept_of, same_act, line_of_kept};
+ghost use Rattle.session.specs.HistoryView.{kept_at};
+ghost use Rattle.session.specs.OutputText.{reused, after_action, reply_to, reply, step, entry_of, commit};
+ghost use Rattle.session.specs.Standings.{core_of, standing_of, line_of};
 
-use crate::history::History;
+use crate::history::{Found, History};
 use py_tree::Checked;
-use request_json::{read_request, write_bad, write_reply};
-use sf_list::{Sequence, TryClone};
-use sf_value::{Bytes, Reply, Request};
+use request_json::{LineError, read_line, write_bad, write_entry};
+use sf_list::Sequence;
+use sf_value::{Act, Bytes, Request};
 use source_meaning::Local;
 use std::alloc::{AllocError, Global};
 
@@ -38,11 +39,15 @@ fn trimmed(line: &[u8]) -> &[u8]
     }
 }
 
-/// The line that says that a line can't be used.
-fn refuse(alloc: Global, number: u64) -> Result<Bytes, AllocError>
-    ensures { IfOk result (λ line. line ≡ refusal number) }
+/// The kept line of an entry, where the same is asked, and else that the id was reused.
+fn repeat(alloc: Global, found: Found<'_>, asked: &Act, number: u64) -> Result<Bytes, AllocError>
+    ensures { IfOk result (λ line. line ≡ (if same_act (kept_at found.entry).entry.request.act asked.now then line_of_kept (kept_at found.entry) else bad_line reused number)) }
 {
-    write_bad(alloc, "unsupported", number)
+    if found.committed.act.same(asked) {
+        write_entry(alloc, found.id, &found.committed.outcome, found.seq)
+    } else {
+        write_bad(alloc, "id reused", number)
+    }
 }
 
 impl Standing {
@@ -53,7 +58,7 @@ impl Standing {
         program: &Checked,
         request: Request,
     ) -> Result<Bytes, AllocError>
-        requires fresh { is_committed self.old.history request.id ≡ false }
+        requires fresh { kept_of self.old.history request.id ≡ None }
         requires room { length self.old.history + 1 < 2 ^ 32 }
         ensures lines { self.new.lines ≡ self.old.lines }
         ensures length { length self.new.history ≤ length self.old.history + 1 }
@@ -61,38 +66,30 @@ impl Standing {
         ensures core { OnOk result (core_of self.new ≡ commit (source_of program.now) (core_of self.old) request) }
     {
         let outcome = self.local.run(alloc, program, &request)?;
-        let reply = Reply {
-            seq: (self.history.len() + 1) as u32,
-            outcome: outcome.try_clone(alloc)?,
-        };
-        let line = write_reply(alloc, &request.id, &reply)?;
+        let seq = (self.history.len() + 1) as u32;
+        let line = write_entry(alloc, &request.id, &outcome, seq)?;
         self.history.commit(request, outcome)?;
         Ok(line)
     }
 
-    /// Answers what a line asks, or refuses it.
+    /// Answers what a line asks.
     #[tactic(auto, unfolding(crate::specs::OutputText::reply_to, crate::specs::OutputText::after_action))]
     fn ask(
         &mut self,
         alloc: Global,
         program: &Checked,
-        asked: Option<Request>,
+        request: Request,
         number: u64,
     ) -> Result<Bytes, AllocError>
         requires { length self.old.history + 1 < 2 ^ 32 }
         ensures lines { self.new.lines ≡ self.old.lines }
         ensures length { length self.new.history ≤ length self.old.history + 1 }
-        ensures text { IfOk result (λ line. line ≡ reply_to (source_of program.now) (core_of self.old) number (asking asked)) }
-        ensures core { OnOk result (core_of self.new ≡ after_action (source_of program.now) (core_of self.old) (asking asked)) }
+        ensures text { IfOk result (λ line. line ≡ reply_to (source_of program.now) (core_of self.old) number (Ask request)) }
+        ensures core { OnOk result (core_of self.new ≡ after_action (source_of program.now) (core_of self.old) (Ask request)) }
     {
-        match asked {
-            Some(request) => {
-                if self.history.contains(&request.id) {
-                    return refuse(alloc, number);
-                }
-                self.commit(alloc, program, request)
-            }
-            None => refuse(alloc, number),
+        match self.history.find(&request.id) {
+            Some(found) => repeat(alloc, found, &request.act, number),
+            None => self.commit(alloc, program, request),
         }
     }
 
@@ -114,8 +111,11 @@ impl Standing {
         if content.is_empty() {
             return Ok(Sequence::new(alloc));
         }
-        let asked = read_request(alloc, program, content)?;
-        self.ask(alloc, program, asked, number)
+        match read_line(alloc, program, content) {
+            Ok(request) => self.ask(alloc, program, request, number),
+            Err(LineError::Fault(fault)) => write_bad(alloc, fault.text(), number),
+            Err(LineError::NoMemory) => Err(AllocError),
+        }
     }
 
     /// Answers a line, given without its LF. Of a line that is too long, its first bytes up to one
@@ -137,7 +137,7 @@ impl Standing {
     {
         let number = self.lines + 1;
         let made = if line.len() > LONGEST {
-            refuse(alloc, number)?
+            write_bad(alloc, "line too long", number)?
         } else {
             let content = if ended { trimmed(line) } else { line };
             self.answer_content(alloc, program, content, number)?

@@ -1,7 +1,8 @@
 //! The requests that were committed, by their ids, in the order in which they were.
 
-ghost use Rattle.std.specs.Prelude.{◌≡◌, ◌++◌, ◌∷◌, [], false, length, OnOk, OnErr};
-ghost use Rattle.source_meaning.specs.Serial.{is_committed};
+ghost use Rattle.std.specs.Prelude.{◌≡◌, ◌<◌, ◌^◌, ◌++◌, ◌∷◌, [], length, OnOk, OnErr};
+ghost use Rattle.std.specs.Option.{option_map};
+ghost use Rattle.session.specs.Repeats.{kept_of};
 
 use indexmap::IndexMap;
 use sf_value::{Act, Outcome, Request, Text};
@@ -13,6 +14,14 @@ use std::marker::Model;
 pub struct Committed {
     pub act: Act,
     pub outcome: Outcome,
+}
+
+/// An entry of the history, with its place from 1.
+#[derive(Clone, Copy)]
+pub struct Found<'a> {
+    pub seq: u32,
+    pub id: &'a Text,
+    pub committed: &'a Committed,
 }
 
 /// The history of a session.
@@ -35,6 +44,8 @@ impl Model for History {
 }
 
 impl History {
+    ghost use Rattle.session.specs.HistoryView.{kept_at};
+
     pub fn new(alloc: Global) -> History
         ensures { result ≡ [] }
     {
@@ -50,16 +61,22 @@ impl History {
         self.entries.len()
     }
 
-    /// Whether a request with this id was committed.
-    pub fn contains(&self, id: &Text) -> bool
-        ensures { result ≡ is_committed self.now id.now }
+    /// The entry with this id, where a request with it was committed.
+    pub fn find(&self, id: &Text) -> Option<Found<'_>>
+        requires { length self.now < 2 ^ 32 }
+        ensures { option_map kept_at result ≡ kept_of self.now id.now }
     {
-        self.entries.get(id).is_some()
+        let (at, id, committed) = self.entries.get_full(id)?;
+        Some(Found {
+            seq: (at + 1) as u32,
+            id,
+            committed,
+        })
     }
 
     /// Commits a request whose id is new. Without memory nothing changes.
     pub fn commit(&mut self, request: Request, outcome: Outcome) -> Result<(), AllocError>
-        requires { is_committed self.old request.id ≡ false }
+        requires { kept_of self.old request.id ≡ None }
         ensures ok { OnOk result (self.new ≡ self.old ++ record { request = request; outcome = outcome } ∷ []) }
         ensures err { OnErr result (self.new ≡ self.old) }
     {

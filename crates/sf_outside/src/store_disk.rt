@@ -88,7 +88,7 @@ pub trait Disk {
         ensures cause { HasCause (faults self.old) (faults self.new) result }
         ensures mounts { mounts self.new ≡ mounts self.old };
 
-    /// After it a crash leaves the file as a read gives it. One that fails promises nothing of the kind.
+    /// After it a crash leaves the file as a read gives it. One that fails leaves reads as they were, and no more.
     fn sync(&mut self, file: StoreFile) -> Result<(), Failed>
         ensures durable { OnOk result (IsDurable file (facts self.new)) }
         ensures stays { Stays (facts self.old) (facts self.new) }

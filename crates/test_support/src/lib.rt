@@ -4,5 +4,5 @@
 mod programs;
 mod tables;
 
-pub use programs::{COUNTER, SHOP};
+pub use programs::{COUNTER, NUM, SHOP};
 pub use tables::{Row, rows};

@@ -79,3 +79,47 @@ class Cart:
                 break
         return found
 ";
+
+/// A class of numbers, whose methods meet the bounds of the language.
+pub const NUM: &str = "from stateflow import entity
+
+
+@entity
+class Num:
+    def __init__(self, k: str, n: int):
+        self.k: str = k
+        self.n: int = n
+
+    def __key__(self): return self.k
+
+    def get(self) -> int: return self.n
+
+    def put(self, v: int) -> None: self.n = v
+
+    def div(self, a: int, b: int) -> int: return a // b
+
+    def mod(self, a: int, b: int) -> int: return a % b
+
+    def big(self) -> int: return 170141183460469231731687303715884105727
+
+    def over(self) -> int: return self.big() + 1
+
+    def both(self, other: 'Num') -> int:
+        self.n = 7
+        other.put(8)
+        return 1 // 0
+
+    def spin(self) -> None:
+        while True: pass
+
+    def down(self, n: int) -> int:
+        if n == 1: return 1
+        return self.down(n - 1) + 1
+
+    def at(self, xs: list[int], i: int) -> int: return xs[i]
+
+    def twice(self, s: str) -> str: return s + s
+
+    def check_it(self, n: int) -> None:
+        assert n > 0, \"not positive\"
+";

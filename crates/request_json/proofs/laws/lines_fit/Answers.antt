@@ -1,5 +1,5 @@
-use Rattle.request_json.proofs.RequestFits.{line_fits}
+use Rattle.request_json.proofs.RequestFits.{reading_fits}
 use Rattle.request_json.proofs.laws.lines_fit.Goals as goal
 
 pub returns : goal.returns
-returns c = line_fits
+returns c = reading_fits

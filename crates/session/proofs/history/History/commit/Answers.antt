@@ -1,11 +1,11 @@
 use Rattle.std.proofs.Common.{ap, ◌∙◌, ◌++◌, ◌∷◌, []}
 use Rattle.session.specs.HistoryView.{entries_of}
-use Rattle.source_meaning.specs.Serial.{is_committed}
+use Rattle.session.specs.Repeats.{kept_of}
 use Rattle.session.proofs.HistoryLaws.{insert_new}
 use Rattle.session.proofs.history.History.commit.Goals as goal
 
 pub returns-clause-ok : goal.returns-clause-ok
 returns-clause-ok c =
     ap entries_of c.in_ok-insert.ensures.entries
-    ∙ insert_new c.self.inside.entries.entries c.args.request.id (record { act = c.args.request.act; outcome = c.args.outcome }) (ap (λ h. is_committed h c.args.request.id) c.self.view_is ∙ c.requires)
+    ∙ insert_new c.self.inside.entries.entries c.args.request.id (record { act = c.args.request.act; outcome = c.args.outcome }) (ap (λ h. kept_of h c.args.request.id) c.self.view_is ∙ c.requires)
     ∙ ap (λ h. h ++ record { request = c.args.request; outcome = c.args.outcome } ∷ []) c.self.view_is
