@@ -1,13 +1,17 @@
 //! The exact text of replies.
 
+use crate::accepted::accepted;
 use request_json::{write_bad, write_reply};
+use sf_list::Sequence;
 use sf_value::{Bytes, Failure, Outcome, Ref, Reply, Text, Value};
 use std::alloc::{AllocError, Global};
 use std::test::Fail;
 
 /// The line of a reply to `r1` at the place 7.
-fn reply_line(alloc: Global, outcome: Outcome) -> Result<Bytes, AllocError> {
-    write_reply(alloc, &Text::of(alloc, "r1")?, &Reply { seq: 7, outcome })
+fn reply_line(alloc: Global, outcome: Outcome) -> Result<Bytes, Fail> {
+    let program = accepted(alloc, "")?;
+    let id = Text::of(alloc, "r1")?;
+    Ok(write_reply(alloc, &program, &id, &Reply { seq: 7, outcome })?)
 }
 
 fn failed(alloc: Global, kind: u8, message: &str) -> Result<Outcome, AllocError> {
@@ -22,6 +26,14 @@ fn apple(alloc: Global) -> Result<Value, AllocError> {
         class: 0,
         key: Text::of(alloc, "apple")?,
     }))
+}
+
+/// A list of an entity and a list without elements.
+fn nested(alloc: Global) -> Result<Value, AllocError> {
+    let mut items = Sequence::new(alloc);
+    items.push(alloc, apple(alloc)?)?;
+    items.push(alloc, Value::List(Sequence::new(alloc)))?;
+    Ok(Value::List(items))
 }
 
 #[test]
@@ -40,7 +52,14 @@ fn lines_of_values(rt: HostRuntime) -> Result<(), Fail> {
             r#""9223372036854775808""#,
         ),
         ("None", Value::Nil, "null"),
+        ("a bool", Value::Bool(true), "true"),
+        (
+            "a text",
+            Value::Str(Text::of(alloc, "a\"é\n")?),
+            r#""a\"é\n""#,
+        ),
         ("an entity", apple(alloc)?, r#""apple""#),
+        ("lists", nested(alloc)?, r#"["apple",[]]"#),
     ];
     for (label, value, written) in rows {
         let line = reply_line(alloc, Outcome::Value(value))?;

@@ -90,6 +90,10 @@ value_of src (TList element) d = list_value (value_of src element) d
 value_of src (TOptional inner) d = optional_value (value_of src inner) d
 value_of src (TEntity class) d = entity_value src class d
 
+-- the values of this type that the items of an array are
+abbrev pub values_of : Source → PlainTy → Items → Option (List Value)
+values_of src ty ds = each_of (value_of src ty) ds
+
 -- of the type that a parameter declares
 abbrev pub arg_of : Source → Option PlainWritten → Data → Option Value
 arg_of src None d = None

@@ -131,7 +131,7 @@ fn values_of(
     element: &WrittenTy,
     items: &[Json],
 ) -> Result<Option<Values>, AllocError>
-    ensures { IfOk result (λ made. made ≡ spec.each_of (spec.value_of (source_of program.now) (type_of (plain_written element.now))) (items_view items.now)) }
+    ensures { IfOk result (λ made. made ≡ spec.values_of (source_of program.now) (type_of (plain_written element.now)) (items_view items.now)) }
 {
     let mut made = Sequence::new(alloc);
     for item in items {

@@ -5,6 +5,9 @@ ghost use Rattle.request_json.specs.declared.fault.LineError.TheVariants.{Fault 
 ghost use Rattle.request_json.specs.RequestLines.{text_of};
 
 use std::alloc::AllocError;
+use std::error::Error as StdError;
+use std::fmt;
+use thiserror::Error;
 
 /// A refusal. Of several that hold, the earliest of these is answered.
 #[derive(Clone, Copy, PartialEq, Eq, Debug)]
@@ -39,10 +42,20 @@ impl LineFault {
     }
 }
 
+impl fmt::Display for LineFault {
+    fn fmt<W: fmt::Write>(&self, f: &mut fmt::Formatter<W>) -> fmt::Result {
+        f.write_str(self.text())
+    }
+}
+
+impl StdError for LineFault {}
+
 /// Why a line gives no request here.
-#[derive(Clone, Copy, PartialEq, Eq, Debug)]
+#[derive(Clone, Copy, PartialEq, Eq, Debug, Error)]
 pub enum LineError {
+    #[error("{0}")]
     Fault(LineFault),
+    #[error("out of memory")]
     NoMemory,
 }
 

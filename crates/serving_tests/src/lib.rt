@@ -2,15 +2,21 @@
 #![tactic(auto)]
 
 #[cfg(test)]
+mod arguments;
+#[cfg(test)]
 mod bounds;
 #[cfg(test)]
 mod counter;
+#[cfg(test)]
+mod echo;
 #[cfg(test)]
 mod entities;
 #[cfg(test)]
 mod lists;
 #[cfg(test)]
 mod order;
+#[cfg(test)]
+mod refusals;
 #[cfg(test)]
 mod repeats;
 #[cfg(test)]

@@ -1,6 +1,7 @@
 -- The output text of a session: what each line of its input is answered, and the history and the state that follow.
 use Rattle.std.specs.Prelude.{ℕ, ◌+◌, List, [], ◌∷◌, ◌++◌, length, codes, None, Some, if◌then◌else◌}
 use Rattle.std.specs.declared.option.Option.{Option}
+use Rattle.sf_value.specs.declared.Act.{Act}
 use Rattle.sf_value.specs.declared.Entry.{Entry}
 use Rattle.sf_value.specs.declared.Request.{Request}
 use Rattle.source_meaning.specs.ClassTables.{Source}
@@ -32,11 +33,17 @@ after_action src core (Ask r) = after_ask src core r (kept_of core.history r.id)
 abbrev pub reused : List ℕ
 reused = codes "id reused"
 
--- a new request is answered the line of its entry; one whose id is committed the kept line again where it asks for the same,
--- and else that the id was reused
+-- a request whose id is committed is answered the kept line again where it asks for the same, and else that the id was reused
+abbrev pub answer_again : ℕ → Act → Kept → List ℕ
+answer_again number asked kept = if same_act kept.entry.request.act asked then line_of_kept kept else bad_line reused number
+
+-- and a new one the line of its entry, which takes the next place
+abbrev pub new_line : Source → Core → Request → List ℕ
+new_line src core r = reply_line r.id (entry_of src core r).outcome (length core.history + 1)
+
 abbrev pub answer_to : Source → Core → ℕ → Request → Option Kept → List ℕ
-answer_to src core number r None = reply_line r.id (entry_of src core r).outcome (length core.history + 1)
-answer_to src core number r (Some kept) = if same_act kept.entry.request.act r.act then line_of_kept kept else bad_line reused number
+answer_to src core number r None = new_line src core r
+answer_to src core number r (Some kept) = answer_again number r.act kept
 
 -- an empty line is answered nothing, a line that can't be used its refusal
 unfoldable pub reply_to : Source → Core → ℕ → Action → List ℕ

@@ -1,12 +1,11 @@
 //! One line at a time: what it asks, what it comes to, and its reply line.
 
-ghost use Rattle.std.specs.Prelude.{◌≡◌, ◌+◌, ◌<◌, ◌≤◌, ◌^◌, [], ◌∷◌, ◌++◌, length, None, take, IfOk, OnOk, if◌then◌else◌};
+ghost use Rattle.std.specs.Prelude.{◌≡◌, ◌+◌, ◌<◌, ◌≤◌, ◌^◌, [], ◌∷◌, ◌++◌, length, None, take, IfOk, OnOk};
 ghost use Rattle.source_meaning.specs.Sources.{source_of};
-ghost use Rattle.request_json.specs.ReplyLines.{reply_line, bad_line};
 ghost use Rattle.request_json.specs.Actions.{Ask, without_cr, used};
-ghost use Rattle.session.specs.Repeats.{kept_of, same_act, line_of_kept};
+ghost use Rattle.session.specs.Repeats.{kept_of};
 ghost use Rattle.session.specs.HistoryView.{kept_at};
-ghost use Rattle.session.specs.OutputText.{reused, after_action, reply_to, reply, step, entry_of, commit};
+ghost use Rattle.session.specs.OutputText.{answer_again, new_line, after_action, reply_to, reply, step, commit};
 ghost use Rattle.session.specs.Standings.{core_of, standing_of, line_of};
 
 use crate::history::{Found, History};
@@ -41,7 +40,7 @@ fn trimmed(line: &[u8]) -> &[u8]
 
 /// The kept line of an entry, where the same is asked, and else that the id was reused.
 fn repeat(alloc: Global, found: Found<'_>, asked: &Act, number: u64) -> Result<Bytes, AllocError>
-    ensures { IfOk result (λ line. line ≡ (if same_act (kept_at found.entry).entry.request.act asked.now then line_of_kept (kept_at found.entry) else bad_line reused number)) }
+    ensures { IfOk result (λ line. line ≡ answer_again number asked.now (kept_at found.entry)) }
 {
     if found.committed.act.same(asked) {
         write_entry(alloc, found.id, &found.committed.outcome, found.seq)
@@ -62,7 +61,7 @@ impl Standing {
         requires room { length self.old.history + 1 < 2 ^ 32 }
         ensures lines { self.new.lines ≡ self.old.lines }
         ensures length { length self.new.history ≤ length self.old.history + 1 }
-        ensures text { IfOk result (λ line. line ≡ reply_line request.id (entry_of (source_of program.now) (core_of self.old) request).outcome (length self.old.history + 1)) }
+        ensures text { IfOk result (λ line. line ≡ new_line (source_of program.now) (core_of self.old) request) }
         ensures core { OnOk result (core_of self.new ≡ commit (source_of program.now) (core_of self.old) request) }
     {
         let outcome = self.local.run(alloc, program, &request)?;
