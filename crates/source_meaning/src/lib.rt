@@ -4,6 +4,7 @@
 //! exactly what they say.
 #![tactic(auto)]
 
+mod direct;
 mod failures;
 mod here;
 mod in_place;
@@ -11,10 +12,12 @@ mod laws;
 mod local;
 mod operations;
 mod purity;
+mod run;
 mod site;
 mod tables;
 #[cfg(test)]
 mod tests;
+mod trailers;
 mod transaction;
 mod vars;
 mod walk;
