@@ -12,7 +12,8 @@ ghost use Rattle.session.specs.Served.{Served};
 ghost use Rattle.session.specs.SerialOutput.{SerialLines, SerialRun};
 ghost use Rattle.session.specs.AnswersFit.{AnswersFit};
 
-/// The replies to all lines are those of one serial run.
+/// The replies to all lines are those of one serial run: each that names a place is the line of the
+/// entry there, also where it is given again.
 pub fn replies_are_serial()
     ensures { (src : Source) (lines : List Line) → SerialLines src lines }
 {}
