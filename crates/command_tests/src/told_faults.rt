@@ -6,8 +6,14 @@ use std::test::Fail;
 
 /// The status of a run of a file with this text, on no input, and what is told.
 fn told(alloc: Global, file: &str, text: &[u8]) -> Result<(u8, Vec<u8>), AllocError> {
-    let words = ["run", file, "--batch", "1"];
-    let answer = call(alloc, &words, file, text, b"", NO_FAULTS)?;
+    let answer = call(
+        alloc,
+        &["run", file, "--batch", "1"],
+        file,
+        text,
+        b"",
+        NO_FAULTS,
+    )?;
     Ok((answer.status, Vec::from_slice(alloc, answer.err.bytes())?))
 }
 

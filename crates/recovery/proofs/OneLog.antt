@@ -9,7 +9,7 @@ use Rattle.sf_bytes.proofs.Fronts.{stands_apart}
 use Rattle.sf_bytes.proofs.RecordLaws.{batch_spells}
 use Rattle.sf_bytes.proofs.Stands.{Stands-front, Stands-behind, Closed-length}
 use Rattle.sf_value.specs.declared.BatchRecord.{BatchRecord}
-use Rattle.request_log.specs.LogFile.{gate_behind, IsBatch, RecordAt, IsBadAt}
+use Rattle.request_log.specs.LogFile.{gate_behind, RecordAt, IsBadAt}
 use Rattle.request_log.proofs.Logs.{number-length, Record-length}
 use Rattle.recovery.specs.declared.opened.Placed.{Placed}
 use Rattle.recovery.specs.StoreImage.{RecordsTo, EndsAt, BreaksAt}

@@ -1,5 +1,5 @@
 -- What the files of a store come to by a step of the log, and by a checkpoint.
-use Rattle.std.proofs.Common.{◌≡◌, ◌≢◌, ℕ, ◌+◌, List, [], refl, sym, ap, ◌∙◌, subst}
+use Rattle.std.proofs.Common.{◌≢◌, ℕ, ◌+◌, List, refl, sym, ap, ◌∙◌, subst}
 use Rattle.sf_outside.specs.DiskModel.{Image, of_file}
 use Rattle.sf_outside.specs.declared.store_disk.StoreFile.{StoreFile}
 use Rattle.sf_outside.proofs.DiskLaws.{of_file-other}

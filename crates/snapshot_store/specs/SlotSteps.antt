@@ -1,5 +1,5 @@
 -- What each call makes of a slot and of a log, and what a crash meanwhile leaves.
-use Rattle.std.specs.Prelude.{ℕ, ◌≡◌, ◌≢◌, ◌⊎◌, ◌+◌, ◌≤◌, List, [], ◌∷◌, length, drop}
+use Rattle.std.specs.Prelude.{ℕ, ◌≡◌, ◌≢◌, ◌⊎◌, ◌≤◌, List, [], ◌∷◌, length, drop}
 use Rattle.sf_bytes.specs.Gates.{StandsAt, ClosedAt, OpenAt}
 use Rattle.sf_outside.specs.DiskModel.{Image, DiskFacts, of_file}
 use Rattle.sf_outside.specs.declared.store_disk.StoreFile.{StoreFile}

@@ -52,54 +52,55 @@ module _ {W : Type 0} (s : Site W) (vars : List Var) (w : W) where
   pub act_none : (x : PlainStmt) (n : ℕ) → n ≡ 0 → act s x vars w n ≡ Fails step_limit vars w n
   act_none x n h = subst (λ k. act s x vars w k ≡ Fails step_limit vars w k) (sym h) (act_zero x)
 
-module _ {W : Type 0} (s : Site W) (at : Place) (vars : List Var) (w : W) (n m : ℕ) (more : n ≡ m + 1) where
-  pub act-Pass : act s (plain_stmt_kind kind.Pass at) vars w n ≡ Goes vars w m
+-- what each does with a step more than are left behind it
+module _ {W : Type 0} (s : Site W) (at : Place) (vars : List Var) (w : W) (n : ℕ) where
+  pub act-Pass : act s (plain_stmt_kind kind.Pass at) vars w (n + 1) ≡ Goes vars w n
   unfolding act
-  act-Pass = ap (λ t. act s t vars w n) (stmt-Pass at) ∙ step_more n m _ _ more
+  act-Pass = ap (λ t. act s t vars w (n + 1)) (stmt-Pass at) ∙ step_more (n + 1) n _ _ refl
 
-  pub act-Break : act s (plain_stmt_kind kind.Break at) vars w n ≡ Breaks vars w m
+  pub act-Break : act s (plain_stmt_kind kind.Break at) vars w (n + 1) ≡ Breaks vars w n
   unfolding act
-  act-Break = ap (λ t. act s t vars w n) (stmt-Break at) ∙ step_more n m _ _ more
+  act-Break = ap (λ t. act s t vars w (n + 1)) (stmt-Break at) ∙ step_more (n + 1) n _ _ refl
 
-  pub act-Continue : act s (plain_stmt_kind kind.Continue at) vars w n ≡ Continues vars w m
+  pub act-Continue : act s (plain_stmt_kind kind.Continue at) vars w (n + 1) ≡ Continues vars w n
   unfolding act
-  act-Continue = ap (λ t. act s t vars w n) (stmt-Continue at) ∙ step_more n m _ _ more
+  act-Continue = ap (λ t. act s t vars w (n + 1)) (stmt-Continue at) ∙ step_more (n + 1) n _ _ refl
 
-  pub act-Expr : (x : Expr) → act s (plain_stmt_kind (kind.Expr x) at) vars w n ≡ with_given vars (eval s (plain_expr x) vars w m) (λ v w n. Goes vars w n)
+  pub act-Expr : (x : Expr) → act s (plain_stmt_kind (kind.Expr x) at) vars w (n + 1) ≡ with_given vars (eval s (plain_expr x) vars w n) (λ v w n. Goes vars w n)
   unfolding act
-  act-Expr x = ap (λ t. act s t vars w n) (stmt-Expr at x) ∙ step_more n m _ _ more
+  act-Expr x = ap (λ t. act s t vars w (n + 1)) (stmt-Expr at x) ∙ step_more (n + 1) n _ _ refl
 
-  pub act-Return : (x : Option Expr) → act s (plain_stmt_kind (kind.Return x) at) vars w n ≡ with_given vars (value_or_none s (plain_option plain_expr x) vars w m) (λ v w n. Returns v w n)
+  pub act-Return : (x : Option Expr) → act s (plain_stmt_kind (kind.Return x) at) vars w (n + 1) ≡ with_given vars (value_or_none s (plain_option plain_expr x) vars w n) (λ v w n. Returns v w n)
   unfolding act
-  act-Return x = ap (λ t. act s t vars w n) (stmt-Return at x) ∙ step_more n m _ _ more
+  act-Return x = ap (λ t. act s t vars w (n + 1)) (stmt-Return at x) ∙ step_more (n + 1) n _ _ refl
 
-  pub act-Raise : (number : ℕ) (x : Option Expr) → act s (plain_stmt_kind (kind.Raise number x) at) vars w n ≡ with_given vars (message s (plain_option plain_expr x) vars w m) (λ text w n. Fails (record { kind = number; message = text }) vars w n)
+  pub act-Raise : (number : ℕ) (x : Option Expr) → act s (plain_stmt_kind (kind.Raise number x) at) vars w (n + 1) ≡ with_given vars (message s (plain_option plain_expr x) vars w n) (λ text w n. Fails (record { kind = number; message = text }) vars w n)
   unfolding act
-  act-Raise number x = ap (λ t. act s t vars w n) (stmt-Raise at number x) ∙ step_more n m _ _ more
+  act-Raise number x = ap (λ t. act s t vars w (n + 1)) (stmt-Raise at number x) ∙ step_more (n + 1) n _ _ refl
 
-  pub act-Assert : (test : Expr) (x : Option Expr) → act s (plain_stmt_kind (kind.Assert test x) at) vars w n ≡ with_given vars (eval s (plain_expr test) vars w m) (checked s (plain_option plain_expr x) vars)
+  pub act-Assert : (test : Expr) (x : Option Expr) → act s (plain_stmt_kind (kind.Assert test x) at) vars w (n + 1) ≡ with_given vars (eval s (plain_expr test) vars w n) (checked s (plain_option plain_expr x) vars)
   unfolding act
-  act-Assert test x = ap (λ t. act s t vars w n) (stmt-Assert at test x) ∙ step_more n m _ _ more
+  act-Assert test x = ap (λ t. act s t vars w (n + 1)) (stmt-Assert at test x) ∙ step_more (n + 1) n _ _ refl
 
-  pub act-Assign : (target : Target) (ty : Option WrittenTy) (x : Expr) → act s (plain_stmt_kind (kind.Assign target ty x) at) vars w n ≡ with_given vars (eval s (plain_expr x) vars w m) (λ v w n. store s target v vars w n)
+  pub act-Assign : (target : Target) (ty : Option WrittenTy) (x : Expr) → act s (plain_stmt_kind (kind.Assign target ty x) at) vars w (n + 1) ≡ with_given vars (eval s (plain_expr x) vars w n) (λ v w n. store s target v vars w n)
   unfolding act
-  act-Assign target ty x = ap (λ t. act s t vars w n) (stmt-Assign at target ty x) ∙ step_more n m _ _ more
+  act-Assign target ty x = ap (λ t. act s t vars w (n + 1)) (stmt-Assign at target ty x) ∙ step_more (n + 1) n _ _ refl
 
-  pub act-Augment : (target : Target) (op : BinOp) (op_at : Place) (x : Expr) → act s (plain_stmt_kind (kind.Augment target op op_at x) at) vars w n ≡ with_given vars (augmented s target op (plain_expr x) vars w m) (λ v w n. store s target v vars w n)
+  pub act-Augment : (target : Target) (op : BinOp) (op_at : Place) (x : Expr) → act s (plain_stmt_kind (kind.Augment target op op_at x) at) vars w (n + 1) ≡ with_given vars (augmented s target op (plain_expr x) vars w n) (λ v w n. store s target v vars w n)
   unfolding act
-  act-Augment target op op_at x = ap (λ t. act s t vars w n) (stmt-Augment at target op op_at x) ∙ step_more n m _ _ more
+  act-Augment target op op_at x = ap (λ t. act s t vars w (n + 1)) (stmt-Augment at target op op_at x) ∙ step_more (n + 1) n _ _ refl
 
-  pub act-If : (arms : List Arm) (other : List Stmt) → act s (plain_stmt_kind (kind.If arms other) at) vars w n ≡ act_arms s (arms_of (plain_arms arms)) (all_of s (stmts_of (plain_stmts other))) vars w m
+  pub act-If : (arms : List Arm) (other : List Stmt) → act s (plain_stmt_kind (kind.If arms other) at) vars w (n + 1) ≡ act_arms s (arms_of (plain_arms arms)) (all_of s (stmts_of (plain_stmts other))) vars w n
   unfolding act
-  act-If arms other = ap (λ t. act s t vars w n) (stmt-If at arms other) ∙ step_more n m _ _ more
+  act-If arms other = ap (λ t. act s t vars w (n + 1)) (stmt-If at arms other) ∙ step_more (n + 1) n _ _ refl
 
-  pub act-While : (test : Expr) (body : List Stmt) → act s (plain_stmt_kind (kind.While test body) at) vars w n ≡ while_turns (suc m) (λ vars w n. eval s (plain_expr test) vars w n) (all_of s (stmts_of (plain_stmts body))) vars w m
+  pub act-While : (test : Expr) (body : List Stmt) → act s (plain_stmt_kind (kind.While test body) at) vars w (n + 1) ≡ while_turns (suc n) (λ vars w n. eval s (plain_expr test) vars w n) (all_of s (stmts_of (plain_stmts body))) vars w n
   unfolding act
-  act-While test body = ap (λ t. act s t vars w n) (stmt-While at test body) ∙ step_more n m _ _ more
+  act-While test body = ap (λ t. act s t vars w (n + 1)) (stmt-While at test body) ∙ step_more (n + 1) n _ _ refl
 
-  pub act-For : (x : PlacedName) (over : Over) (body : List Stmt) → act s (plain_stmt_kind (kind.For x over body) at) vars w n ≡ with_given vars (turns_of s (plain_over over) vars w m) (λ turns w n. over_turns x.name.0 (all_of s (stmts_of (plain_stmts body))) turns vars w n)
+  pub act-For : (x : PlacedName) (over : Over) (body : List Stmt) → act s (plain_stmt_kind (kind.For x over body) at) vars w (n + 1) ≡ with_given vars (turns_of s (plain_over over) vars w n) (λ turns w n. over_turns x.name.0 (all_of s (stmts_of (plain_stmts body))) turns vars w n)
   unfolding act
-  act-For x over body = ap (λ t. act s t vars w n) (stmt-For at x over body) ∙ step_more n m _ _ more
+  act-For x over body = ap (λ t. act s t vars w (n + 1)) (stmt-For at x over body) ∙ step_more (n + 1) n _ _ refl
 
 pub ruleset act_is = (act-Pass, act-Break, act-Continue, act-Expr, act-Return, act-Raise, act-Assert, act-Assign, act-Augment, act-If, act-While, act-For, act_none)
 

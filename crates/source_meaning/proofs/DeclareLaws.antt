@@ -17,7 +17,7 @@ use Rattle.py_tree.specs.declared.stmt.StmtKind as kind
 use Rattle.py_tree.specs.PlainExpressions.{PlainExpr, plain_expr}
 use Rattle.py_tree.specs.PlainStatements.{plain_option, plain_stmt_kind, plain_stmt, plain_stmts, PlainStmt, PPass, PBreak, PContinue, PDo, PReturn, PRaise, PAssert, PAssign, PAugment, PIf, PWhile, PFor}
 use Rattle.py_tree.proofs.Views.{stmt-Assign, stmt-Assert, stmt-Pass, stmt-Break, stmt-Continue, stmt-Expr, stmt-Return, stmt-Raise, stmt-Augment, stmt-If, stmt-While, stmt-For}
-use Rattle.sf_value.specs.Keys.{Key}
+use Rattle.sf_value.specs.Keys.{Key, key_cmp, key_of}
 use Rattle.sf_value.proofs.Maps.{key_total}
 use Rattle.sf_value.specs.declared.value.Value.{Value}
 use Rattle.sf_value.specs.declared.value.Value.TheVariants as value
@@ -25,7 +25,14 @@ use Rattle.source_meaning.specs.declared.vars.Var.{Var}
 use Rattle.source_meaning.specs.ClassTables.{Source}
 use Rattle.source_meaning.specs.World.{World, Got, Fell, ◌>>=◌, step_limit, assertion_error, record_at, writing}
 use Rattle.source_meaning.specs.Operations.{is_true}
-use Rattle.source_meaning.specs.Evaluation.{Site, eval}
+use Rattle.source_meaning.specs.declared.site.Room.TheVariants as room
+use Rattle.source_meaning.specs.declared.site.Site.{Site}
+use Rattle.source_meaning.specs.Evaluation.{eval}
+use Rattle.source_meaning.specs.Evaluation as meaning
+use Rattle.source_meaning.specs.RequestRun.{at_first}
+use Rattle.source_meaning.specs.Serial.{no_state}
+use Rattle.source_meaning.specs.Sites.{site_of, calls_of}
+use Rattle.source_meaning.specs.Walks.{program_of}
 use Rattle.source_meaning.specs.Execution.{message}
 use Rattle.source_meaning.specs.Calls.{declare, declare_all, making, no_calls, own_at, record_so_far}
 use Rattle.source_meaning.proofs.ViewLaws.{viewed, eval_viewed, message_viewed}
@@ -37,7 +44,7 @@ record_written w me fields =
     ap (λ o. unwrap_or o []) (map.get-insert key_total w.state me fields me ∙ ap (λ b. cond b (Some fields) (map.get w.state me)) ((eq_by_cmp_equiv key_total).refl me))
 
 -- where the record made so far stands in a world, and no call may be open
-abbrev pub apart : Source → Key → Site World
+abbrev pub apart : Source → Key → meaning.Site World
 apart src me = record { src = src; own = own_at me; calls = no_calls; me = me }
 
 module _ (src : Source) (me : Key) where
@@ -66,30 +73,13 @@ module _ (src : Source) (me : Key) where
   declare_none x vars fields n none = subst (λ k. declare src me x vars fields k ≡ Fell step_limit fields k) (sym none) (declare_zero x vars fields)
 
   module _ (at : Place) (vars : List Var) (w : World) (n m : ℕ) (more : n ≡ m + 1) where
-    pub declare-Assign : (target : Target) (ty : Option WrittenTy) (x : Expr) → declare src me (plain_stmt_kind (kind.Assign target ty x) at) vars (record_at w me) n ≡ (viewed (λ w. record_at w me) (eval (apart src me) (plain_expr x) vars w m) >>= λ v fields n. Got value.Nil (fields ++ v ∷ []) n)
+    pub declare-Assign : (target : Target) (ty : Option WrittenTy) (x : Expr) → declare src me (plain_stmt_kind (kind.Assign target ty x) at) vars (record_at w me) n ≡ (eval (making src me) (plain_expr x) vars (record_at w me) m >>= λ v fields n. Got value.Nil (fields ++ v ∷ []) n)
     unfolding declare
-    declare-Assign target ty x =
-        ap (λ t. declare src me t vars (record_at w me) n) (stmt-Assign at target ty x) ∙ step_more n m _ _ more
-        ∙ ap (λ g. g >>= λ v fields n. Got value.Nil (fields ++ v ∷ []) n) (making_eval (plain_expr x) vars w m)
+    declare-Assign target ty x = ap (λ t. declare src me t vars (record_at w me) n) (stmt-Assign at target ty x) ∙ step_more n m _ _ more
 
-    pub declare-Assert : (test : Expr) (x : Option Expr) → declare src me (plain_stmt_kind (kind.Assert test x) at) vars (record_at w me) n ≡ (viewed (λ w. record_at w me) (eval (apart src me) (plain_expr test) vars w m) >>= λ v fields n. if is_true v then Got value.Nil fields n else (message (making src me) (plain_option plain_expr x) vars fields n >>= λ text fields n. Fell (assertion_error text) fields n))
+    pub declare-Assert : (test : Expr) (x : Option Expr) → declare src me (plain_stmt_kind (kind.Assert test x) at) vars (record_at w me) n ≡ (eval (making src me) (plain_expr test) vars (record_at w me) m >>= λ v fields n. if is_true v then Got value.Nil fields n else (message (making src me) (plain_option plain_expr x) vars fields n >>= λ text fields n. Fell (assertion_error text) fields n))
     unfolding declare
-    declare-Assert test x =
-        ap (λ t. declare src me t vars (record_at w me) n) (stmt-Assert at test x) ∙ step_more n m _ _ more
-        ∙ ap (λ g. g >>= λ v fields n. if is_true v then Got value.Nil fields n else (message (making src me) (plain_option plain_expr x) vars fields n >>= λ text fields n. Fell (assertion_error text) fields n)) (making_eval (plain_expr test) vars w m)
-
-    pub declare_asserted : (test : Expr) (x : Option Expr) (v : Value) (y : World) (k : ℕ) → eval (apart src me) (plain_expr test) vars w m ≡ Got v y k → is_true v ≡ true → declare src me (plain_stmt_kind (kind.Assert test x) at) vars (record_at w me) n ≡ Got value.Nil (record_at y me) k
-    declare_asserted test x v y k given on =
-        declare-Assert test x
-        ∙ ap (λ g. viewed (λ w. record_at w me) g >>= λ v fields n. if is_true v then Got value.Nil fields n else (message (making src me) (plain_option plain_expr x) vars fields n >>= λ text fields n. Fell (assertion_error text) fields n)) given
-        ∙ ap (λ b. if b then Got value.Nil (record_at y me) k else (message (making src me) (plain_option plain_expr x) vars (record_at y me) k >>= λ text fields n. Fell (assertion_error text) fields n)) on
-
-    pub declare_refused : (test : Expr) (x : Option Expr) (v : Value) (y : World) (k : ℕ) → eval (apart src me) (plain_expr test) vars w m ≡ Got v y k → is_true v ≡ false → declare src me (plain_stmt_kind (kind.Assert test x) at) vars (record_at w me) n ≡ (viewed (λ w. record_at w me) (message (apart src me) (plain_option plain_expr x) vars y k) >>= λ text fields n. Fell (assertion_error text) fields n)
-    declare_refused test x v y k given off =
-        declare-Assert test x
-        ∙ ap (λ g. viewed (λ w. record_at w me) g >>= λ v fields n. if is_true v then Got value.Nil fields n else (message (making src me) (plain_option plain_expr x) vars fields n >>= λ text fields n. Fell (assertion_error text) fields n)) given
-        ∙ ap (λ b. if b then Got value.Nil (record_at y me) k else (message (making src me) (plain_option plain_expr x) vars (record_at y me) k >>= λ text fields n. Fell (assertion_error text) fields n)) off
-        ∙ ap (λ g. g >>= λ text fields n. Fell (assertion_error text) fields n) (making_message (plain_option plain_expr x) vars y k)
+    declare-Assert test x = ap (λ t. declare src me t vars (record_at w me) n) (stmt-Assert at test x) ∙ step_more n m _ _ more
 
     pub declare-Pass : declare src me (plain_stmt_kind kind.Pass at) vars (record_at w me) n ≡ Got value.Nil (record_at w me) m
     unfolding declare
@@ -145,3 +135,18 @@ module _ (src : Source) (me : Key) where
   declares_end ss i vars fields n le = let cut : drop i ss ≡ [] = drop_all i ss le in ap (λ l. declare_all src me (plain_stmts l) vars fields n) cut
 
 pub ruleset declare_is = (declare-Pass, declare-Break, declare-Continue, declare-Expr, declare-Return, declare-Raise, declare-Augment, declare-If, declare-While, declare-For)
+
+-- where no call may be open, the interpreter's site is that of a record that is made
+module _ (site : Site) (closed : site.room ≡ room.Closed) (vars : List Var) (w : World) (n : ℕ) where
+  site_apart : apart (program_of site) (key_of site.me.now) ≡ site_of site
+  site_apart = ap (λ r. record { src = program_of site; own = own_at (key_of site.me.now); calls = calls_of (program_of site) (key_of site.me.now) r; me = key_of site.me.now }) (sym closed)
+
+  pub made_eval : (e : PlainExpr) → eval (making (program_of site) (key_of site.me.now)) e vars (record_at w (key_of site.me.now)) n ≡ viewed (λ w. record_at w (key_of site.me.now)) (eval (site_of site) e vars w n)
+  made_eval e = making_eval (program_of site) (key_of site.me.now) e vars w n ∙ ap (λ s. viewed (λ w. record_at w (key_of site.me.now)) (eval s e vars w n)) site_apart
+
+  pub made_message : (e : Option PlainExpr) → message (making (program_of site) (key_of site.me.now)) e vars (record_at w (key_of site.me.now)) n ≡ viewed (λ w. record_at w (key_of site.me.now)) (message (site_of site) e vars w n)
+  made_message e = making_message (program_of site) (key_of site.me.now) e vars w n ∙ ap (λ s. viewed (λ w. record_at w (key_of site.me.now)) (message s e vars w n)) site_apart
+
+-- no record stands in the state without an entity
+pub no_record : (w : World) (me : Key) → w ≡ at_first no_state → record_at w me ≡ []
+no_record w me first = ap (λ w. record_at w me) first ∙ ap (λ o. unwrap_or o []) (map.get-empty key_cmp me)

@@ -23,7 +23,7 @@ use Rattle.source_meaning.specs.Execution.{act_all}
 use Rattle.source_meaning.specs.Calls.{Held, own_held, own_at, calls_within, on_record}
 use Rattle.source_meaning.specs.RequestRun.{at_first}
 use Rattle.source_meaning.specs.Serial.{no_state}
-use Rattle.source_meaning.specs.Agrees.{Agrees, EndsAs}
+use Rattle.source_meaning.specs.Agrees.{AgreesIn, EndsIn}
 use Rattle.source_meaning.specs.Here.{at_end, EndsHere, GivesHere, EndedAs, ComesTo}
 use Rattle.source_meaning.proofs.ViewLaws.{viewed, viewed_end, eval_within, acts_within}
 use Rattle.source_meaning.proofs.DeclareLaws.{record_written}
@@ -141,7 +141,7 @@ mapped_ok (Err e) P Q f h = tt
 
 -- How code ends on the record, where its statements end so in the world
 
-ends_by : (r : Result Flow Stop) (x : Ended) (vars : List Var) (w : World) (n : ℕ) (e : Ends World) (f : World → Held) (h : Held) → EndedAs r x → EndsAs r vars w n e → (w ≡ end_world e → f w ≡ h) → EndsHere x vars h n (viewed_end f e)
+ends_by : (r : Result Flow Stop) (x : Ended) (vars : List Var) (w : World) (n : ℕ) (e : Ends World) (f : World → Held) (h : Held) → EndedAs r x → EndsIn r vars w n e → (w ≡ end_world e → f w ≡ h) → EndsHere x vars h n (viewed_end f e)
 ends_by (Ok flow.On) x vars w n e f h so ends taken = subst (λ y. EndsHere y vars h n (viewed_end f e)) (sym so) (ap (λ l. at_end (viewed_end f l)) ends ∙ ap (λ y. Goes vars y n) (taken (sym (ap end_world ends))))
 ends_by (Ok (flow.Gave v)) x vars w n e f h so ends taken = subst (λ y. EndsHere y vars h n (viewed_end f e)) (sym so) (ap (viewed_end f) ends ∙ ap (λ y. Returns v y n) (taken (sym (ap end_world ends))))
 ends_by (Ok flow.Broke) x vars w n e f h so ends taken = subst (λ y. EndsHere y vars h n (viewed_end f e)) (sym so) (ap (λ l. at_end (viewed_end f l)) ends ∙ ap (λ y. Goes vars y n) (taken (sym (ap end_world ends))))
@@ -149,7 +149,7 @@ ends_by (Ok flow.Continued) x vars w n e f h so ends taken = subst (λ y. EndsHe
 ends_by (Err stop.NoMemory) x vars w n e f h so ends taken = absurd so
 ends_by (Err (stop.Failed c)) x vars w n e f h so ends taken = subst (λ y. EndsHere y vars h n (viewed_end f e)) (sym so) (ap (viewed_end f) ends ∙ ap (λ y. Fails c vars y n) (taken (sym (ap end_world ends))))
 
-gives_by : (r : Result Value Stop) (x : Outcome) (w : World) (n : ℕ) (g : Gives World Value) (f : World → Held) (h : Held) → ComesTo r x → Agrees r w n g → (w ≡ world_in g → f w ≡ h) → GivesHere x h n (viewed f g)
+gives_by : (r : Result Value Stop) (x : Outcome) (w : World) (n : ℕ) (g : Gives World Value) (f : World → Held) (h : Held) → ComesTo r x → AgreesIn r w n g → (w ≡ world_in g → f w ≡ h) → GivesHere x h n (viewed f g)
 gives_by (Ok v) x w n g f h so gives taken = subst (λ y. GivesHere y h n (viewed f g)) (sym so) (ap (viewed f) gives ∙ ap (λ y. Got v y n) (taken (sym (ap world_in gives))))
 gives_by (Err stop.NoMemory) x w n g f h so gives taken = absurd so
 gives_by (Err (stop.Failed c)) x w n g f h so gives taken = subst (λ y. GivesHere y h n (viewed f g)) (sym so) (ap (viewed f) gives ∙ ap (λ y. Fell c y n) (taken (sym (ap world_in gives))))
@@ -161,16 +161,16 @@ module _ (src : Source) (me : Key) (d k : ℕ) (room : k ≡ d) (before : Bool) 
     (among : is_some written ≡ set.contains w.writes me)
     (is : IfSome written (λ new. map.get w.state me ≡ Some new))
     (back : h ≡ record { fields = unwrap_or written (unwrap_or (map.get (map.insert no_state me fields) me) left); wrote = before || is_some written }) where
-  pub acts_here : (xs : PlainStmts) (vars after : List Var) (n m : ℕ) (r : Result Flow Stop) → EndsAs r after w m (act_all (within src me k) xs vars start n) → (x : Ended) → EndedAs r x → EndsHere x after h m (act_all (on_record src me d) xs vars (record { fields = fields; wrote = before }) n)
+  pub acts_here : (xs : PlainStmts) (vars after : List Var) (n m : ℕ) (r : Result Flow Stop) → EndsIn r after w m (act_all (within src me k) xs vars start n) → (x : Ended) → EndedAs r x → EndsHere x after h m (act_all (on_record src me d) xs vars (record { fields = fields; wrote = before }) n)
   acts_here xs vars after n m r ends x so =
       subst (EndsHere x after h m) (sym (acts_held src me d before fields xs vars n))
       (ends_by r x after w m (act_all (within src me d) xs vars (alone me fields) n) (held_in me before) h so
-      (subst (λ s. EndsAs r after w m (act_all (within src me d) xs vars s n)) began (subst (λ y. EndsAs r after w m (act_all (within src me y) xs vars start n)) room ends))
+      (subst (λ s. EndsIn r after w m (act_all (within src me d) xs vars s n)) began (subst (λ y. EndsIn r after w m (act_all (within src me y) xs vars start n)) room ends))
       (λ last. taken_back me before fields left w written among is (acts_keep src me d fields xs vars n w last) ∙ sym back))
 
-  pub gives_here : (e : PlainExpr) (vars : List Var) (n m : ℕ) (r : Result Value Stop) → Agrees r w m (eval (within src me k) e vars start n) → (x : Outcome) → ComesTo r x → GivesHere x h m (eval (on_record src me d) e vars (record { fields = fields; wrote = before }) n)
+  pub gives_here : (e : PlainExpr) (vars : List Var) (n m : ℕ) (r : Result Value Stop) → AgreesIn r w m (eval (within src me k) e vars start n) → (x : Outcome) → ComesTo r x → GivesHere x h m (eval (on_record src me d) e vars (record { fields = fields; wrote = before }) n)
   gives_here e vars n m r gives x so =
       subst (GivesHere x h m) (sym (eval_held src me d before fields e vars n))
       (gives_by r x w m (eval (within src me d) e vars (alone me fields) n) (held_in me before) h so
-      (subst (λ s. Agrees r w m (eval (within src me d) e vars s n)) began (subst (λ y. Agrees r w m (eval (within src me y) e vars start n)) room gives))
+      (subst (λ s. AgreesIn r w m (eval (within src me d) e vars s n)) began (subst (λ y. AgreesIn r w m (eval (within src me y) e vars start n)) room gives))
       (λ last. taken_back me before fields left w written among is (eval_keeps src me d fields e vars n w last) ∙ sym back))

@@ -11,7 +11,7 @@ use Rattle.source_meaning.specs.World.{World, Got, ◌>>=◌, told}
 use Rattle.source_meaning.specs.Operations.{weighed, int_of, items_of, element, given_by}
 use Rattle.source_meaning.specs.Evaluation.{Site, eval, eval_all, applied, own_field}
 use Rattle.source_meaning.specs.Purity.{is_pure}
-use Rattle.source_meaning.specs.Agrees.{Agrees, Tells}
+use Rattle.source_meaning.specs.Agrees.{AgreesIn, Tells}
 use Rattle.source_meaning.specs.InPlace.{element_in, length_in, applied_to}
 use Rattle.source_meaning.proofs.AgreeLaws.{agrees_by}
 use Rattle.source_meaning.proofs.EvalLaws.{all_next, all_end}
@@ -20,7 +20,7 @@ use Rattle.source_meaning.proofs.PurityLaws.{pure_stays}
 -- an element of an own field, at a place that changes nothing
 pub element_told : (s : Site World) (x : ℕ) (index : PlainExpr) (vars : List Var) (w v : World) (n m : ℕ) (at : Value) (r : Result Value Stop)
     → is_pure index ≡ true → weighed (own_field s x w) ≡ Ok (own_field s x w) → eval s index vars w n ≡ Got at v m → Tells r (element (items_of (own_field s x v)) (int_of at))
-    → Agrees r v m (element_in (told (weighed (own_field s x w)) w n) (eval s index vars))
+    → AgreesIn r v m (element_in (told (weighed (own_field s x w)) w n) (eval s index vars))
 element_told s x index vars w v n m at r pure light gives tells =
     let same = (pure_stays s index vars w v n m at pure gives).0 in
     agrees_by r v m _ (told (element (items_of (own_field s x v)) (int_of at)) v m)
@@ -37,8 +37,8 @@ length_given s w n name (Ok v) is = ap (λ f. applied s f name (v ∷ []) w n) i
 -- the length of the one argument
 pub length_told : (s : Site World) (vars : List Var) (w : World) (n : ℕ) (name : ℕ) (es : List Expr) (x : Expr) (v : Value) (r : Result Value Stop)
     → function_of name ≡ Some Length → 1 ≤ length es → length es ≤ 1 → x ≡ get_or es 0 x
-    → eval s (plain_expr x) vars w n ≡ told (weighed v) w n → Agrees r w n (length_in (told (weighed v) w n))
-    → Agrees r w n (applied_to s name (eval_all s (exprs_of (plain_exprs es)) [] vars w n))
+    → eval s (plain_expr x) vars w n ≡ told (weighed v) w n → AgreesIn r w n (length_in (told (weighed v) w n))
+    → AgreesIn r w n (applied_to s name (eval_all s (exprs_of (plain_exprs es)) [] vars w n))
 length_told s vars w n name es x v r is one most first gives agrees =
     let one_value : eval_all s (exprs_of (plain_exprs es)) [] vars w n ≡ (eval s (plain_expr x) vars w n >>= λ v w n. Got (v ∷ []) w n) =
     all_next s vars w n es 0 x [] one first ∙ (λ i. eval s (plain_expr x) vars w n >>= λ v w n. all_end s vars w n es 1 (v ∷ []) most i) in

@@ -6,6 +6,7 @@ pub mod TableLaws
 pub mod OperationLaws
 pub mod TransactionLaws
 pub mod EvalLaws
+pub mod TrailerLaws
 pub mod InPlaceLaws
 pub mod ActLaws
 pub mod SizeLaws

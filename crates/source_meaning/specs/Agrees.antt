@@ -16,36 +16,36 @@ abbrev pub FailsAs : Stop → Failure → Type 0
 FailsAs stop.NoMemory f = Unit {0}
 FailsAs (stop.Failed e) f = e ≡ f
 
-abbrev pub FallsAs : {W A : Type 0} → Stop → W → ℕ → Gives W A → Type 0
-FallsAs stop.NoMemory w n g = Unit {0}
-FallsAs (stop.Failed f) w n g = g ≡ Fell f w n
+abbrev pub FallsIn : {W A : Type 0} → Stop → W → ℕ → Gives W A → Type 0
+FallsIn stop.NoMemory w n g = Unit {0}
+FallsIn (stop.Failed f) w n g = g ≡ Fell f w n
 
 -- what an expression or a call gives, in the world that it leaves and with the steps that are left
-abbrev pub Agrees : {W A : Type 0} → Result A Stop → W → ℕ → Gives W A → Type 0
-Agrees (Ok x) w n g = g ≡ Got x w n
-Agrees (Err e) w n g = FallsAs e w n g
+abbrev pub AgreesIn : {W A : Type 0} → Result A Stop → W → ℕ → Gives W A → Type 0
+AgreesIn (Ok x) w n g = g ≡ Got x w n
+AgreesIn (Err e) w n g = FallsIn e w n g
 
 -- a result that needs no world
 abbrev pub Tells : Result Value Stop → Result Value Failure → Type 0
-Tells r x = (w : World) (n : ℕ) → Agrees r w n (told x w n)
+Tells r x = (w : World) (n : ℕ) → AgreesIn r w n (told x w n)
 
 -- it stops for this failure with the locals of that moment, or for want of memory
-abbrev pub FailsAt : Stop → List Var → World → ℕ → Ends World → Type 0
-FailsAt stop.NoMemory vars w n e = Unit {0}
-FailsAt (stop.Failed f) vars w n e = e ≡ Fails f vars w n
+abbrev pub FailsIn : Stop → List Var → World → ℕ → Ends World → Type 0
+FailsIn stop.NoMemory vars w n e = Unit {0}
+FailsIn (stop.Failed f) vars w n e = e ≡ Fails f vars w n
 
 -- how statements end, with the locals and the world that they leave, and the steps that are left
-abbrev pub EndsAs : Result Flow Stop → List Var → World → ℕ → Ends World → Type 0
-EndsAs (Ok flow.On) vars w n e = e ≡ Goes vars w n
-EndsAs (Ok (flow.Gave v)) vars w n e = e ≡ Returns v w n
-EndsAs (Ok flow.Broke) vars w n e = e ≡ Breaks vars w n
-EndsAs (Ok flow.Continued) vars w n e = e ≡ Continues vars w n
-EndsAs (Err stopped) vars w n e = FailsAt stopped vars w n e
+abbrev pub EndsIn : Result Flow Stop → List Var → World → ℕ → Ends World → Type 0
+EndsIn (Ok flow.On) vars w n e = e ≡ Goes vars w n
+EndsIn (Ok (flow.Gave v)) vars w n e = e ≡ Returns v w n
+EndsIn (Ok flow.Broke) vars w n e = e ≡ Breaks vars w n
+EndsIn (Ok flow.Continued) vars w n e = e ≡ Continues vars w n
+EndsIn (Err stopped) vars w n e = FailsIn stopped vars w n e
 
 -- a record is made, or its making fails
-abbrev pub MakesAs : {T : Type 0} → Result T Stop → List Value → ℕ → Gives (List Value) Value → Type 0
-MakesAs (Ok x) fields n g = g ≡ Got value.Nil fields n
-MakesAs (Err stopped) fields n g = FallsAs stopped fields n g
+abbrev pub MakesIn : {T : Type 0} → Result T Stop → List Value → ℕ → Gives (List Value) Value → Type 0
+MakesIn (Ok x) fields n g = g ≡ Got value.Nil fields n
+MakesIn (Err stopped) fields n g = FallsIn stopped fields n g
 
 abbrev pub FallsWith : Stop → ℕ → Gives (List Value) Value → Type 0
 FallsWith stop.NoMemory n g = Unit {0}

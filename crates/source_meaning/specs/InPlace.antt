@@ -8,12 +8,12 @@ use Rattle.source_meaning.specs.declared.Stop.{Stop}
 use Rattle.source_meaning.specs.World.{World, Gives, Got, ◌>>=◌, told}
 use Rattle.source_meaning.specs.Operations.{weighed, int_of, items_of, element, size_in}
 use Rattle.source_meaning.specs.Evaluation.{Site, applied}
-use Rattle.source_meaning.specs.Agrees.{FallsAs}
+use Rattle.source_meaning.specs.Agrees.{FallsIn}
 
 -- a value weighs no more than it may, or its weight stops the code
 abbrev pub Passes : Result ⊤ Stop → Value → Type 0
 Passes (Ok _) v = weighed v ≡ Ok v
-Passes (Err e) v = (w : World) (n : ℕ) → FallsAs e w n (told (weighed v) w n)
+Passes (Err e) v = (w : World) (n : ℕ) → FallsIn e w n (told (weighed v) w n)
 
 -- the element of a list that an expression gives, at the place that the next one gives
 abbrev pub element_in : {W : Type 0} → Gives W Value → (W → ℕ → Gives W Value) → Gives W Value

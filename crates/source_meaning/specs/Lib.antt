@@ -10,6 +10,8 @@ pub mod StateView
 pub mod Sources
 pub mod Sites
 pub mod Agrees
+pub mod Trailers
+pub mod Walks
 pub mod InPlace
 pub mod Purity
 pub mod Transactions

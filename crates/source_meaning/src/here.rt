@@ -2,11 +2,10 @@
 //!
 //! Calls reach methods of that entity alone, and nothing is created.
 
-ghost use Rattle.std.specs.Prelude.{◌≡◌, ◌≤◌, ◌-◌, ◌||◌, IfOk, is_some, unwrap_or};
+ghost use Rattle.std.specs.Prelude.{◌≡◌, ◌-◌, ◌||◌, IfOk, is_some, unwrap_or};
 ghost use Rattle.std.specs.FinMap as finite;
 ghost use Rattle.py_tree.specs.PlainExpressions.{plain_expr};
 ghost use Rattle.py_tree.specs.PlainStatements.{plain_stmts, stmts_of};
-ghost use Rattle.py_tree.specs.Bounded.{most_nodes, expr_size, stmts_size};
 ghost use Rattle.sf_value.specs.Keys.{key_of};
 ghost use Rattle.source_meaning.specs.Evaluation.{eval};
 ghost use Rattle.source_meaning.specs.Execution.{act_all};
@@ -18,6 +17,7 @@ ghost use Rattle.source_meaning.specs.Here.{held as the_held, EndsHere, GivesHer
 
 use crate::Stop;
 use crate::local::Local;
+use crate::run::Run;
 use crate::site::{DEPTH_LIMIT, Room, Site};
 use crate::tables::class_fields;
 use crate::transaction::begin;
@@ -58,7 +58,6 @@ pub fn run_here(
     steps: &mut u32,
     depth: u32,
 ) -> Result<Ended, AllocError>
-    requires { stmts_size (stmts_of (plain_stmts code.now)) ≤ most_nodes }
     ensures { IfOk result (λ ended. EndsHere ended vars.new (the_held held.new wrote.new) steps.new (act_all (on_record (source_of program.now) (key_of me.now) (depth_limit - depth)) (stmts_of (plain_stmts code.now)) vars.old (the_held held.old wrote.old) steps.old)) }
 {
     let fields = class_fields(alloc, program, me.class)?;
@@ -71,9 +70,14 @@ pub fn run_here(
         fields: fields.as_slice(),
         room: Room::Within(DEPTH_LIMIT.saturating_sub(depth)),
     };
-    let mut tx = begin(alloc);
-    let ended = execute_all(&site, code.as_slice(), vars, &mut tx, steps);
-    let written = tx.into_written(me);
+    let mut run = Run {
+        tx: begin(alloc),
+        steps: *steps,
+        nesting: 0,
+    };
+    let ended = execute_all(&site, code.as_slice(), vars, &mut run);
+    *steps = run.steps;
+    let written = run.tx.into_written(me);
     put_back(held, wrote, me, written, state);
     ended_here(ended)
 }
@@ -97,7 +101,6 @@ pub fn eval_here(
     steps: &mut u32,
     depth: u32,
 ) -> Result<Outcome, AllocError>
-    requires { expr_size (plain_expr expr.now) ≤ most_nodes }
     ensures { IfOk result (λ outcome. GivesHere outcome (the_held held.new wrote.new) steps.new (eval (on_record (source_of program.now) (key_of me.now) (depth_limit - depth)) (plain_expr expr.now) vars.now (the_held held.old wrote.old) steps.old)) }
 {
     let fields = class_fields(alloc, program, me.class)?;
@@ -110,9 +113,14 @@ pub fn eval_here(
         fields: fields.as_slice(),
         room: Room::Within(DEPTH_LIMIT.saturating_sub(depth)),
     };
-    let mut tx = begin(alloc);
-    let given = evaluate(&site, expr, vars, &mut tx, steps);
-    let written = tx.into_written(me);
+    let mut run = Run {
+        tx: begin(alloc),
+        steps: *steps,
+        nesting: 0,
+    };
+    let given = evaluate(&site, expr, vars, &mut run);
+    *steps = run.steps;
+    let written = run.tx.into_written(me);
     put_back(held, wrote, me, written, state);
     outcome_here(given)
 }

@@ -8,7 +8,7 @@ ghost use Rattle.source_meaning.specs.declared.vars.Var.{Var};
 ghost use Rattle.source_meaning.specs.World.{World, told};
 ghost use Rattle.source_meaning.specs.Operations.{weighed, int_of, items_of, element};
 ghost use Rattle.source_meaning.specs.Evaluation.{Site as CodeSite, eval, eval_all, own_field};
-ghost use Rattle.source_meaning.specs.Agrees.{Agrees, Tells};
+ghost use Rattle.source_meaning.specs.Agrees.{AgreesIn, Tells};
 ghost use Rattle.source_meaning.specs.InPlace.{Passes, length_in, applied_to};
 ghost use Rattle.source_meaning.specs.Sites.{site_of};
 ghost use Rattle.source_meaning.specs.Transactions.{world_of};
@@ -98,7 +98,7 @@ fn value_in_place<'a>(
 
 /// The length of a text or a list.
 fn weighed_length(alloc: Global, value: &Value) -> Result<Value, Stop>
-    ensures { (w : World) (n : ℕ) → Agrees result w n (length_in (told (weighed value.now) w n)) }
+    ensures { (w : World) (n : ℕ) → AgreesIn result w n (length_in (told (weighed value.now) w n)) }
 {
     check_weight(alloc, value)?;
     Ok(Value::Int(size(value)))
@@ -112,7 +112,7 @@ pub(crate) fn own_length(
     vars: &Vars,
     tx: &Transaction,
 ) -> Option<Result<Value, Stop>>
-    ensures { (n : ℕ) → IfSome result (λ given. Agrees given (world_of site.now.state.now tx.now) n (applied_to (site_of site.now) name.0 (eval_all (site_of site.now) (exprs_of (plain_exprs args.now)) [] vars.now (world_of site.now.state.now tx.now) n))) }
+    ensures { (n : ℕ) → IfSome result (λ given. AgreesIn given (world_of site.now.state.now tx.now) n (applied_to (site_of site.now) name.0 (eval_all (site_of site.now) (exprs_of (plain_exprs args.now)) [] vars.now (world_of site.now.state.now tx.now) n))) }
 {
     let Some(Function::Length) = function_of(name) else {
         return None;

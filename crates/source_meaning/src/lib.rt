@@ -4,6 +4,7 @@
 //! exactly what they say.
 #![tactic(auto)]
 
+mod direct;
 mod failures;
 mod here;
 mod in_place;
@@ -11,8 +12,10 @@ mod laws;
 mod local;
 mod operations;
 mod purity;
+mod run;
 mod site;
 mod tables;
+mod trailers;
 mod transaction;
 mod vars;
 mod walk;

@@ -5,19 +5,21 @@ ghost use Rattle.std.specs.FinMap as finite;
 ghost use Rattle.std.specs.List.{list_any};
 ghost use Rattle.std.specs.Option.{option_copied};
 ghost use Rattle.sf_value.specs.Keys.{key_of};
-ghost use Rattle.source_meaning.specs.Agrees.{Agrees};
+ghost use Rattle.source_meaning.specs.Agrees.{AgreesIn};
 ghost use Rattle.source_meaning.specs.Attempts.{ran_of};
 ghost use Rattle.source_meaning.specs.RequestRun.{at_first, steps_at_first, run as run_of, begin as the_begin, refused, is_too_heavy, is_heavy as is_heavy_value};
 ghost use Rattle.source_meaning.specs.World.{State};
 ghost use Rattle.source_meaning.specs.Serial.{no_state};
 ghost use Rattle.source_meaning.specs.Sources.{source_of};
 ghost use Rattle.source_meaning.specs.Transactions.{world_of, with_records};
+ghost use Rattle.source_meaning.specs.Walks.{seen, program_of, Agrees};
 
 use crate::Stop;
 use crate::failures::{SIZE_LIMIT, empty_text};
+use crate::run::Run;
 use crate::site::{DEPTH_LIMIT, Room, Site};
 use crate::tables::class_fields;
-use crate::transaction::{Transaction, begin};
+use crate::transaction::begin;
 use crate::walk::{call_entity, make_entity};
 use indexmap::{IndexMap, IndexSet};
 use py_tree::Checked;
@@ -110,9 +112,14 @@ impl Local {
         if is_heavy(asked) {
             return too_heavy(alloc);
         }
-        let mut tx = begin(alloc);
-        let mut steps = STEPS;
-        match self.first_call(alloc, program, asked, &mut tx, &mut steps) {
+        let mut run = Run {
+            tx: begin(alloc),
+            steps: STEPS,
+            nesting: 0,
+        };
+        let given = self.first_call(alloc, program, asked, &mut run);
+        let Run { tx, steps, .. } = run;
+        match given {
             Ok(value) => Ok(Attempt {
                 outcome: Outcome::Value(value),
                 changed: tx.changed,
@@ -129,19 +136,17 @@ impl Local {
         }
     }
 
-    /// The call or the creation that a request asks for.
-    #[tactic(auto, unfolding(crate::specs::RequestRun::begin))]
+    /// The call or the creation that a request asks for, from outside of all entities.
     fn first_call(
         &self,
         alloc: Global,
         program: &Checked,
         asked: &Act,
-        tx: &mut Transaction,
-        steps: &mut u32,
+        run: &mut Run,
     ) -> Result<Value, Stop>
-        requires fresh { world_of self.now tx.now ≡ at_first self.now }
-        requires all { steps.now ≡ steps_at_first }
-        ensures { Agrees result (world_of self.now tx.new) steps.new (the_begin (source_of program.now) asked.now self.now) }
+        requires fresh { world_of self.now run.now.tx ≡ at_first self.now }
+        requires all { run.now.steps ≡ steps_at_first }
+        ensures { AgreesIn result (world_of self.now run.new.tx) run.new.steps (the_begin (source_of program.now) asked.now self.now) }
     {
         let outside = Ref {
             class: OUTSIDE,
@@ -156,21 +161,10 @@ impl Local {
             fields: fields.as_slice(),
             room: Room::Open(DEPTH_LIMIT),
         };
-        match asked {
-            Act::Call {
-                class,
-                key,
-                method,
-                args,
-            } => {
-                let at = Ref {
-                    class: *class,
-                    key: key.try_clone(alloc)?,
-                };
-                call_entity(&site, DEPTH_LIMIT, at, *method, args, tx, steps)
-            }
-            Act::New { class, args } => make_entity(&site, DEPTH_LIMIT, *class, args, tx, steps),
-        }
+        let given = ask(&site, asked, run);
+        drop(fields);
+        drop(outside);
+        given
     }
 
     /// Gives entities the records of a transaction, all of them or none.
@@ -196,6 +190,32 @@ impl Local {
         let made = self.attempt(alloc, program, &request.act)?;
         self.commit(made.changed)?;
         Ok(made.outcome)
+    }
+}
+
+/// The call or the creation that a request asks for.
+#[tactic(auto, unfolding(crate::specs::RequestRun::begin))]
+fn ask(site: &Site<'_>, asked: &Act, run: &mut Run) -> Result<Value, Stop>
+    requires fresh { seen site.now run.now ≡ at_first site.now.state.now }
+    requires all { run.now.steps ≡ steps_at_first }
+    ensures { Agrees result site.now run.new (the_begin (program_of site.now) asked.now site.now.state.now) }
+{
+    match asked {
+        Act::Call {
+            class,
+            key,
+            method,
+            args,
+        } => {
+            let at = Ref {
+                class: *class,
+                key: key.try_clone(site.alloc)?,
+            };
+            let given = call_entity(site, DEPTH_LIMIT, &at, *method, args, run);
+            drop(at);
+            given
+        }
+        Act::New { class, args } => make_entity(site, DEPTH_LIMIT, *class, args, run),
     }
 }
 

@@ -89,6 +89,42 @@ pub(crate) fn text(alloc: Global, value: &Value) -> Result<Text, AllocError>
     }
 }
 
+/// Whether a value is True, which is given up.
+pub(crate) fn take_truth(value: Value) -> bool
+    ensures { result ≡ true_value value }
+{
+    let truth = is_true(&value);
+    drop(value);
+    truth
+}
+
+/// Whether a value is None, which is given up.
+pub(crate) fn take_nil(value: Value) -> bool
+    ensures { result ≡ nil_value value }
+{
+    let nil = is_nil(&value);
+    drop(value);
+    nil
+}
+
+/// The number that a value is, which is given up.
+pub(crate) fn take_number(value: Value) -> i128
+    ensures { result ≡ int_of value }
+{
+    let n = number(&value);
+    drop(value);
+    n
+}
+
+/// The text that a value is, which is given up.
+pub(crate) fn take_text(alloc: Global, value: Value) -> Result<Text, AllocError>
+    ensures { IfOk result (λ text. text ≡ text_of value) }
+{
+    let made = text(alloc, &value);
+    drop(value);
+    made
+}
+
 /// The elements of the list that a value is.
 pub(crate) fn items(value: &Value) -> &[Value]
     ensures { result.now ≡ items_of value.now }
@@ -120,6 +156,16 @@ pub(crate) fn element_copy(alloc: Global, list: &Value, index: &Value) -> Result
         Some(value) => Ok(value.try_clone(alloc)?),
         None => Err(fail(alloc, INDEX_ERROR)),
     }
+}
+
+/// A copy of the element of a list at a place, which are given up.
+pub(crate) fn take_element(alloc: Global, list: Value, index: Value) -> Result<Value, Stop>
+    ensures { Tells result (element (items_of list) (int_of index)) }
+{
+    let item = element_copy(alloc, &list, &index);
+    drop(list);
+    drop(index);
+    item
 }
 
 /// The sum of two numbers.
@@ -180,10 +226,10 @@ fn rest(alloc: Global, x: i128, y: i128) -> Result<Value, Stop>
 
 /// The number with its sign turned.
 #[tactic(auto, unfolding(crate::specs::Operations::in_range))]
-pub(crate) fn negate(alloc: Global, value: &Value) -> Result<Value, Stop>
-    ensures { Tells result (in_range (pos 0 -ℤ int_of value.now)) }
+pub(crate) fn negate(alloc: Global, value: Value) -> Result<Value, Stop>
+    ensures { Tells result (in_range (pos 0 -ℤ int_of value)) }
 {
-    match number(value).checked_neg() {
+    match take_number(value).checked_neg() {
         Some(n) => Ok(Value::Int(n)),
         None => Err(fail(alloc, OVERFLOW_ERROR)),
     }
@@ -233,6 +279,16 @@ pub(crate) fn combine(alloc: Global, op: BinOp, left: &Value, right: &Value) -> 
     }
 }
 
+/// `left op right`, which are given up.
+pub(crate) fn take_both(alloc: Global, op: BinOp, left: Value, right: Value) -> Result<Value, Stop>
+    ensures { Tells result (combined op left right) }
+{
+    let both = combine(alloc, op, &left, &right);
+    drop(left);
+    drop(right);
+    both
+}
+
 /// The order of two texts by their code points.
 fn order_of_texts(left: &str, right: &str) -> Ordering
     ensures { result ≡ slice_cmp nat_cmp (chars left.now) (chars right.now) }
@@ -276,6 +332,16 @@ pub(crate) fn holds(op: Cmp, left: &Value, right: &Value) -> bool
         Cmp::Le => order(left, right).is_le(),
         Cmp::Ge => order(left, right).is_ge(),
     }
+}
+
+/// Whether a comparison holds of values that are given up.
+pub(crate) fn take_comparison(op: Cmp, left: Value, right: Value) -> bool
+    ensures { result ≡ the_holds op left right }
+{
+    let holds = holds(op, &left, &right);
+    drop(left);
+    drop(right);
+    holds
 }
 
 fn is_same(left: &Value, right: &Value) -> bool

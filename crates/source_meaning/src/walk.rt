@@ -1,54 +1,61 @@
 //! The direct interpreter: expressions, statements, calls and creations, which lead to one another.
 //!
-//! Each function is the definition of the same part of the meaning, on the records that the
-//! transaction sees. What a call may do, and how many more may be open, stands in the site.
+//! Each function is the definition of the same part of the meaning, on the records that the run
+//! sees. What a call may do, and how many more may be open, stands in the site.
+//!
+//! The stack is spared. A chain of receivers and a run of operators are gone along in a loop, so that
+//! code nests no deeper than its levels and its calls. A level takes few and small frames: each form
+//! is a function of its own, never put in line, and owns no large value while it runs other code.
 
-ghost use Rattle.std.specs.Prelude.{◌≡◌, ◌≤◌, ◌+◌, ℕ, true, [], suc, map, option_map, IfErr, IfOk, OnOk, OnErr};
-ghost use Rattle.py_tree.specs.PlainExpressions.{plain_expr, plain_exprs, exprs_of, plain_links, links_of};
-ghost use Rattle.py_tree.specs.PlainStatements.{plain_option, plain_over, plain_stmt, plain_stmts, stmts_of, plain_arms, arms_of};
+ghost use Rattle.std.specs.Prelude.{◌≡◌, ◌≤◌, ◌+◌, true, Some, [], suc, option_map};
+ghost use Rattle.py_tree.specs.PlainExpressions.{plain_expr, plain_exprs, exprs_of};
+ghost use Rattle.py_tree.specs.PlainStatements.{PItems, PRange, plain_option, plain_over, plain_stmt, plain_stmts, stmts_of, plain_arms, arms_of};
 ghost use Rattle.py_tree.specs.PlainProgram.{plain_method};
 ghost use Rattle.py_tree.specs.ClassRules.{body_of, params_of};
 ghost use Rattle.py_tree.specs.ExpressionTypes.{function_of as the_function_of};
-ghost use Rattle.py_tree.specs.Bounded.{most_nodes, of_option, expr_size, exprs_size, links_size, stmt_size, stmts_size, arms_size, over_size};
+ghost use Rattle.py_tree.specs.Bounded.{most_nodes, stmt_size, stmts_size};
 ghost use Rattle.sf_value.specs.Keys.{Key, key_of};
-ghost use Rattle.sf_value.specs.declared.value.Value.TheVariants as value;
 ghost use Rattle.source_meaning.specs.ClassTables.{init_of};
-ghost use Rattle.source_meaning.specs.World.{Goes, step_limit, with_given, record_at, told};
-ghost use Rattle.source_meaning.specs.Operations.{weighed};
+ghost use Rattle.source_meaning.specs.World.{with_given};
 ghost use Rattle.source_meaning.specs.Purity.{is_pure as the_is_pure};
-ghost use Rattle.source_meaning.specs.Evaluation.{eval, eval_all, linked, each_is as the_each_is, applied as the_applied, entity, key_in, method_of, literal as the_literal, own_field as the_own_field};
-ghost use Rattle.source_meaning.specs.Execution.{act, act_all, act_arms, all_of, checked, store as the_store, target_value, augmented as the_augmented, value_or_none as the_value_or_none, message as the_message, start_of as the_start_of, turns_of, over_turns, over_items as the_over_items, over_numbers as the_over_numbers, while_turns as the_while_turns};
-ghost use Rattle.source_meaning.specs.Calls.{run_body as the_run_body, enter as the_enter, create as the_create, declare as the_declare, declare_all as the_declare_all, calls_at, calls_within, own_at, bound};
-ghost use Rattle.source_meaning.specs.Sources.{source_of};
+ghost use Rattle.source_meaning.specs.Evaluation.{each_is as the_each_is, applied as the_applied};
+ghost use Rattle.source_meaning.specs.Execution.{act_arms, checked, augmented as the_augmented, value_or_none as the_value_or_none, message as the_message, start_of as the_start_of, turns_of, over_items as the_over_items, over_numbers as the_over_numbers, while_turns as the_while_turns};
+ghost use Rattle.source_meaning.specs.Calls.{run_body as the_run_body, enter as the_enter, create as the_create, declare as the_declare, declare_all as the_declare_all, bound};
 ghost use Rattle.source_meaning.specs.Sites.{site_of};
-ghost use Rattle.source_meaning.specs.Transactions.{world_of};
 ghost use Rattle.source_meaning.specs.InPlace.{element_in, applied_to};
-ghost use Rattle.source_meaning.specs.Agrees.{Agrees, FailsAs, EndsAs, MakesAs, GivesRecord};
+ghost use Rattle.source_meaning.specs.Trailers.{last_trailer as the_last_trailer, plain_trailer, followed};
+ghost use Rattle.source_meaning.specs.Agrees.{GivesRecord};
+ghost use Rattle.source_meaning.specs.Walks.{seen, record_seen, Agrees, EndsAs, MakesAs, program_of, value_of, values_of, linked_by, does, runs, called, called_with, open_calls, own_calls, own_read, element_from, listed, negated, numbered, inverted, compared_to_none, compared, linked_to, chosen, done, returned, raised, stored, turned, field_declared, check_declared};
 
 use crate::Stop;
+use crate::direct::{
+    read_field, read_literal, read_self, read_target, read_variable, store, take_step,
+    target_class, target_entity,
+};
 use crate::failures::{
     ALREADY_EXISTS, ASSERTION_ERROR, NO_ENTITY, RECURSION_ERROR, STEP_LIMIT, empty_text, fail,
 };
-use crate::in_place::{check_own_weight, local_in_place, own_element_copy, own_length, own_value};
+use crate::in_place::{check_own_weight, local_in_place, own_element_copy, own_length};
 use crate::local::Local;
 use crate::operations::{
-    check_weight, combine, element_copy, give, holds, is_nil, is_true, items, negate, number, text,
-    weigh,
+    check_weight, element_copy, give, items, negate, number, take_both, take_comparison,
+    take_element, take_nil, take_number, take_text, take_truth, weigh,
 };
 use crate::purity::is_pure;
+use crate::run::{NESTING_LIMIT, Run};
 use crate::site::{Room, Site};
 use crate::tables::{
     body, class_fields, class_number, init, method_at, method_number, new_entity, params,
 };
-use crate::transaction::{Transaction, begin};
-use crate::vars::{Vars, assign_local, bind, read_local};
+use crate::trailers::{Chain, Trailer, chain_of, last_trailer};
+use crate::transaction::begin;
+use crate::vars::{Vars, assign_local, bind};
 use py_tree::{
-    Arm, BinOp, Expr, ExprKind, Link, Method, Name, Over, Stmt, StmtKind, Target, function_of,
-    name_text,
+    Arm, BinOp, Cmp, Expr, ExprKind, Link, Method, Name, Over, Stmt, StmtKind, Target, function_of,
 };
 use sf_list::{Sequence, TryClone};
 use sf_value::{Failure, Ref, Text, Value, Values};
-use std::alloc::{AllocError, Global};
+use std::alloc::AllocError;
 
 /// How a statement ends that doesn't fail.
 #[derive(Drop)]
@@ -63,241 +70,342 @@ pub(crate) enum Flow {
     Continued,
 }
 
-/// Takes a step, where there is one left.
-fn take_step(alloc: Global, steps: &mut u32) -> Result<(), Stop>
-    ensures taken { OnOk result (steps.old ≡ steps.new + 1) }
-    ensures none_left { OnErr result (steps.old ≡ 0) }
-    ensures kept { OnErr result (steps.new ≡ steps.old) }
-    ensures failure { IfErr result (λ stop. FailsAs stop step_limit) }
-{
-    if *steps == 0 {
-        return Err(fail(alloc, STEP_LIMIT));
-    }
-    *steps -= 1;
-    Ok(())
+/// What each turn of a `for` binds and runs.
+#[derive(Drop)]
+pub(crate) struct Turn<'a> {
+    name: Name,
+    body: &'a [Stmt],
 }
 
-/// The text that a literal's name stands for.
-#[tactic(auto, unfolding(crate::specs::Evaluation::literal))]
-fn literal(site: &Site<'_>, name: Name) -> Result<Value, AllocError>
-    ensures { IfOk result (λ v. v ≡ value.Str (the_literal (source_of site.now.program.now) name.0)) }
-{
-    let text = Text::of(site.alloc, name_text(site.program.names(), name))?;
-    Ok(Value::Str(text))
-}
-
-/// The own entity as a value.
-fn own_entity(site: &Site<'_>) -> Result<Value, AllocError>
-    ensures { IfOk result (λ v. v ≡ entity (key_of site.now.me.now)) }
-{
-    Ok(Value::Entity(site.me.try_clone(site.alloc)?))
-}
-
-/// A copy of an own field.
-fn own_field(site: &Site<'_>, name: Name, tx: &Transaction) -> Result<Value, AllocError>
-    ensures { IfOk result (λ v. v ≡ the_own_field (site_of site.now) name.0 (world_of site.now.state.now tx.now)) }
-{
-    match own_value(site, name, tx) {
-        Some(value) => value.try_clone(site.alloc),
-        None => Ok(Value::Nil),
-    }
-}
-
-/// A target as it is read.
-fn read_target(
-    site: &Site<'_>,
-    target: Target,
-    vars: &Vars,
-    tx: &Transaction,
-) -> Result<Value, AllocError>
-    ensures { IfOk result (λ v. v ≡ target_value (site_of site.now) target vars.now (world_of site.now.state.now tx.now)) }
-{
-    match target {
-        Target::Local(x) => read_local(site.alloc, vars, x.name),
-        Target::Field(x) => own_field(site, x.name, tx),
-    }
-}
-
-/// Stores a value in a local, or in an own field.
-fn store(
-    site: &Site<'_>,
-    target: Target,
-    value: Value,
-    vars: &mut Vars,
-    tx: &mut Transaction,
-) -> Result<(), AllocError>
-    ensures { (n : ℕ) → OnOk result (the_store (site_of site.now) target value vars.old (world_of site.now.state.now tx.old) n ≡ Goes vars.new (world_of site.now.state.now tx.new) n) }
-{
-    match target {
-        Target::Local(x) => assign_local(site.alloc, vars, x.name, value),
-        Target::Field(x) => tx.set_field(site, x.name, value),
-    }
-}
-
-/// The entity that a value is.
-fn target_entity(alloc: Global, on: &Value) -> Result<Ref, AllocError>
-    ensures { IfOk result (λ at. key_of at ≡ key_in on.now) }
-{
-    match on {
-        Value::Entity(at) => at.try_clone(alloc),
-        Value::Int(_) | Value::Bool(_) | Value::Str(_) | Value::Nil | Value::List(_) => Ok(Ref {
-            class: 0,
-            key: empty_text(alloc)?,
-        }),
-    }
-}
-
-/// The number of the class of the entity that a value is.
-fn target_class(on: &Value) -> u32
-    ensures { result ≡ (key_in on.now).0 }
-{
-    match on {
-        Value::Entity(at) => at.class,
-        Value::Int(_) | Value::Bool(_) | Value::Str(_) | Value::Nil | Value::List(_) => 0,
-    }
-}
-
-/// The value of an expression.
+/// The value of an expression, where the stack has room for it.
 #[cycle(walk)]
-#[tactic(auto, using(crate::proofs::EvalLaws::eval_is, crate::proofs::SizeLaws::expr_sizes))]
+#[inline(never)]
 pub(crate) fn evaluate(
     site: &Site<'_>,
     expr: &Expr,
     vars: &Vars,
-    tx: &mut Transaction,
-    steps: &mut u32,
+    run: &mut Run,
 ) -> Result<Value, Stop>
-    requires { expr_size (plain_expr expr.now) ≤ most_nodes }
-    ensures { Agrees result (world_of site.now.state.now tx.new) steps.new (eval (site_of site.now) (plain_expr expr.now) vars.now (world_of site.now.state.now tx.old) steps.old) }
+    ensures { Agrees result site.now run.new (value_of site.now expr.now vars.now (seen site.now run.old) run.old.steps) }
+{
+    let nesting = run.nesting;
+    if nesting >= NESTING_LIMIT {
+        return Err(Stop::NoMemory);
+    }
+    run.nesting = nesting + 1;
+    let given = evaluate_form(site, expr, vars, run);
+    run.nesting = nesting;
+    given
+}
+
+/// The value of an expression by its form.
+#[cycle(walk)]
+#[tactic(auto, using(crate::proofs::EvalLaws::eval_is, crate::proofs::SizeLaws::expr_sizes))]
+fn evaluate_form(site: &Site<'_>, expr: &Expr, vars: &Vars, run: &mut Run) -> Result<Value, Stop>
+    ensures { Agrees result site.now run.new (value_of site.now expr.now vars.now (seen site.now run.old) run.old.steps) }
 {
     match &expr.kind {
         ExprKind::Int(n) => Ok(Value::Int(*n)),
         ExprKind::Bool(truth) => Ok(Value::Bool(*truth)),
-        ExprKind::Str(name) => weigh(site.alloc, literal(site, *name)?),
+        ExprKind::Str(name) => read_literal(site, *name),
         ExprKind::Nil => Ok(Value::Nil),
-        ExprKind::Var(name) => weigh(site.alloc, read_local(site.alloc, vars, *name)?),
-        ExprKind::SelfRef => weigh(site.alloc, own_entity(site)?),
-        ExprKind::Attr(_, name) => weigh(site.alloc, own_field(site, name.name, tx)?),
+        ExprKind::Var(name) => read_variable(site, vars, *name),
+        ExprKind::SelfRef => read_self(site),
+        ExprKind::Attr(_, name) => read_field(site, name.name, &run.tx),
         ExprKind::Call(on, name, args) => {
-            let on = evaluate(site, on, vars, tx, steps)?;
-            let args = evaluate_all(site, args.as_slice(), vars, tx, steps)?;
-            call(site, &on, name.name, &args, tx, steps)
+            let last = Trailer::Call(name.name, args.as_slice());
+            chain(site, expr, on, last, vars, run)
         }
-        ExprKind::Apply(name, args) => applied(site, *name, args.as_slice(), vars, tx, steps),
-        ExprKind::Index(on, index) => indexed(site, on, index, vars, tx, steps),
-        ExprKind::List(items) => {
-            let items = evaluate_all(site, items.as_slice(), vars, tx, steps)?;
-            weigh(site.alloc, Value::List(items))
+        ExprKind::Apply(name, args) => application(site, *name, args.as_slice(), vars, run),
+        ExprKind::Index(on, index) => match last_trailer(expr) {
+            Some((on, last)) => chain(site, expr, on, last, vars, run),
+            None => element(site, on, index, vars, run),
+        },
+        ExprKind::List(items) => list(site, items.as_slice(), vars, run),
+        ExprKind::Neg(a) => negation(site, a, vars, run),
+        ExprKind::Pos(a) => plus_sign(site, a, vars, run),
+        ExprKind::Not(a) => inversion(site, a, vars, run),
+        ExprKind::Chain(first, links) => operators(site, first, links.as_slice(), vars, run),
+        ExprKind::And(items) => each_is(site, true, items.as_slice(), vars, run),
+        ExprKind::Or(items) => each_is(site, false, items.as_slice(), vars, run),
+        ExprKind::Compare(op, _, left, right) => comparison(site, *op, left, right, vars, run),
+        ExprKind::IsNone(a, positive) => none_test(site, a, *positive, vars, run),
+        ExprKind::Cond { test, yes, no } => conditional(site, test, yes, no, vars, run),
+    }
+}
+
+/// A chain of receivers: the value of the innermost, and then trailer after trailer.
+#[cycle(walk)]
+#[inline(never)]
+fn chain(
+    site: &Site<'_>,
+    expr: &Expr,
+    on: &Expr,
+    last: Trailer<'_>,
+    vars: &Vars,
+    run: &mut Run,
+) -> Result<Value, Stop>
+    requires { the_last_trailer (plain_expr expr.now) ≡ Some (plain_expr on.now, plain_trailer last) }
+    ensures { Agrees result site.now run.new (value_of site.now expr.now vars.now (seen site.now run.old) run.old.steps) }
+{
+    let whole = chain_of(site.alloc, expr, on, last)?;
+    let Chain {
+        innermost,
+        mut trailers,
+    } = whole;
+    let mut value = evaluate(site, innermost, vars, run)?;
+    while let Some(trailer) = trailers.pop() {
+        value = follow(site, value, trailer, vars, run)?;
+    }
+    Ok(value)
+}
+
+/// What a trailer makes of the value of its receiver.
+#[cycle(walk)]
+#[tactic(auto, unfolding(crate::specs::Trailers::followed))]
+fn follow(
+    site: &Site<'_>,
+    on: Value,
+    trailer: Trailer<'_>,
+    vars: &Vars,
+    run: &mut Run,
+) -> Result<Value, Stop>
+    ensures { Agrees result site.now run.new (followed (site_of site.now) (plain_trailer trailer.entry) vars.now on (seen site.now run.old) run.old.steps) }
+{
+    match trailer {
+        Trailer::Call(name, args) => {
+            let given = call_with(site, &on, name, args, vars, run);
+            drop(on);
+            given
         }
-        ExprKind::Neg(a) => {
-            let value = evaluate(site, a, vars, tx, steps)?;
-            negate(site.alloc, &value)
-        }
-        ExprKind::Pos(a) => {
-            let value = evaluate(site, a, vars, tx, steps)?;
-            Ok(Value::Int(number(&value)))
-        }
-        ExprKind::Not(a) => {
-            let value = evaluate(site, a, vars, tx, steps)?;
-            Ok(Value::Bool(!is_true(&value)))
-        }
-        ExprKind::Chain(first, links) => {
-            let value = evaluate(site, first, vars, tx, steps)?;
-            link(site, value, links.as_slice(), vars, tx, steps)
-        }
-        ExprKind::And(items) => each_is(site, true, items.as_slice(), vars, tx, steps),
-        ExprKind::Or(items) => each_is(site, false, items.as_slice(), vars, tx, steps),
-        ExprKind::Compare(op, _, left, right) => {
-            let x = evaluate(site, left, vars, tx, steps)?;
-            let y = evaluate(site, right, vars, tx, steps)?;
-            Ok(Value::Bool(holds(*op, &x, &y)))
-        }
-        ExprKind::IsNone(a, positive) => {
-            let value = evaluate(site, a, vars, tx, steps)?;
-            Ok(Value::Bool(if *positive {
-                is_nil(&value)
-            } else {
-                !is_nil(&value)
-            }))
-        }
-        ExprKind::Cond { test, yes, no } => {
-            let truth = evaluate(site, test, vars, tx, steps)?;
-            if is_true(&truth) {
-                evaluate(site, yes, vars, tx, steps)
-            } else {
-                evaluate(site, no, vars, tx, steps)
-            }
+        Trailer::Index(index) => {
+            let given = element_of(site, &on, index, vars, run);
+            drop(on);
+            given
         }
     }
 }
 
-/// `on[index]`. Of a list that stands in a local, or in an own field while the index calls no
-/// method and creates nothing, the element alone is copied.
+/// Calls a method of the entity that a value is with what these expressions give.
+#[cycle(walk)]
+#[inline(never)]
+fn call_with(
+    site: &Site<'_>,
+    on: &Value,
+    name: Name,
+    args: &[Expr],
+    vars: &Vars,
+    run: &mut Run,
+) -> Result<Value, Stop>
+    ensures { Agrees result site.now run.new (called_with site.now on.now name.0 (values_of site.now args.now [] vars.now (seen site.now run.old) run.old.steps)) }
+{
+    let args = evaluate_all(site, args, vars, run)?;
+    let given = call(site, on, name, &args, run);
+    drop(args);
+    given
+}
+
+/// The element of a list at the place that an expression gives.
+#[cycle(walk)]
+#[inline(never)]
+fn element_of(
+    site: &Site<'_>,
+    list: &Value,
+    index: &Expr,
+    vars: &Vars,
+    run: &mut Run,
+) -> Result<Value, Stop>
+    ensures { Agrees result site.now run.new (element_from list.now (value_of site.now index.now vars.now (seen site.now run.old) run.old.steps)) }
+{
+    let at = evaluate(site, index, vars, run)?;
+    let item = element_copy(site.alloc, list, &at);
+    drop(at);
+    item
+}
+
+/// `on[index]`, where the list is a local or an own field. Of a local, and of a field while the index
+/// calls no method and creates nothing, the element alone is copied.
 #[cycle(walk)]
 #[tactic(auto, using(crate::proofs::EvalLaws::eval_is))]
-fn indexed(
+#[inline(never)]
+fn element(
     site: &Site<'_>,
     on: &Expr,
     index: &Expr,
     vars: &Vars,
-    tx: &mut Transaction,
-    steps: &mut u32,
+    run: &mut Run,
 ) -> Result<Value, Stop>
-    requires { expr_size (plain_expr on.now) + expr_size (plain_expr index.now) ≤ most_nodes }
-    ensures { Agrees result (world_of site.now.state.now tx.new) steps.new (element_in (eval (site_of site.now) (plain_expr on.now) vars.now (world_of site.now.state.now tx.old) steps.old) (eval (site_of site.now) (plain_expr index.now) vars.now)) }
+    ensures { Agrees result site.now run.new (element_in (value_of site.now on.now vars.now (seen site.now run.old) run.old.steps) (value_of site.now index.now vars.now)) }
 {
     if let Some(list) = local_in_place(on, vars) {
         check_weight(site.alloc, list)?;
-        let at = evaluate(site, index, vars, tx, steps)?;
-        return element_copy(site.alloc, list, &at);
+        return element_of(site, list, index, vars, run);
     }
     if let ExprKind::Attr(_, field) = &on.kind {
         if is_pure(index) {
-            return own_element(site, field.name, index, vars, tx, steps);
+            return own_element(site, field.name, index, vars, run);
         }
     }
-    let list = evaluate(site, on, vars, tx, steps)?;
-    let at = evaluate(site, index, vars, tx, steps)?;
-    element_copy(site.alloc, &list, &at)
+    element_of_copy(site, on, index, vars, run)
+}
+
+/// `on[index]`, where the list is copied first.
+#[cycle(walk)]
+#[inline(never)]
+fn element_of_copy(
+    site: &Site<'_>,
+    on: &Expr,
+    index: &Expr,
+    vars: &Vars,
+    run: &mut Run,
+) -> Result<Value, Stop>
+    ensures { Agrees result site.now run.new (element_in (value_of site.now on.now vars.now (seen site.now run.old) run.old.steps) (value_of site.now index.now vars.now)) }
+{
+    let list = evaluate(site, on, vars, run)?;
+    let item = element_of(site, &list, index, vars, run);
+    drop(list);
+    item
 }
 
 /// `self.name[index]`, where the index changes nothing.
 #[cycle(walk)]
+#[inline(never)]
 fn own_element(
     site: &Site<'_>,
     name: Name,
     index: &Expr,
     vars: &Vars,
-    tx: &mut Transaction,
-    steps: &mut u32,
+    run: &mut Run,
 ) -> Result<Value, Stop>
-    requires small { expr_size (plain_expr index.now) ≤ most_nodes }
-    requires pure { the_is_pure (plain_expr index.now) ≡ true }
-    ensures { Agrees result (world_of site.now.state.now tx.new) steps.new (element_in (told (weighed (the_own_field (site_of site.now) name.0 (world_of site.now.state.now tx.old))) (world_of site.now.state.now tx.old) steps.old) (eval (site_of site.now) (plain_expr index.now) vars.now)) }
+    requires { the_is_pure (plain_expr index.now) ≡ true }
+    ensures { Agrees result site.now run.new (element_in (own_read site.now name.0 (seen site.now run.old) run.old.steps) (value_of site.now index.now vars.now)) }
 {
-    check_own_weight(site, name, tx)?;
-    let at = evaluate(site, index, vars, tx, steps)?;
-    own_element_copy(site, name, &at, tx)
+    check_own_weight(site, name, &run.tx)?;
+    let at = evaluate(site, index, vars, run)?;
+    let item = own_element_copy(site, name, &at, &run.tx);
+    drop(at);
+    item
 }
 
 /// The values of expressions in their order.
 #[cycle(walk)]
-fn evaluate_all(
-    site: &Site<'_>,
-    exprs: &[Expr],
-    vars: &Vars,
-    tx: &mut Transaction,
-    steps: &mut u32,
-) -> Result<Values, Stop>
-    requires { exprs_size (exprs_of (plain_exprs exprs.now)) ≤ most_nodes }
-    ensures { Agrees result (world_of site.now.state.now tx.new) steps.new (eval_all (site_of site.now) (exprs_of (plain_exprs exprs.now)) [] vars.now (world_of site.now.state.now tx.old) steps.old) }
+#[inline(never)]
+fn evaluate_all(site: &Site<'_>, exprs: &[Expr], vars: &Vars, run: &mut Run) -> Result<Values, Stop>
+    ensures { Agrees result site.now run.new (values_of site.now exprs.now [] vars.now (seen site.now run.old) run.old.steps) }
 {
     let mut values = Sequence::new(site.alloc);
     for expr in exprs {
-        let value = evaluate(site, expr, vars, tx, steps)?;
+        let value = evaluate(site, expr, vars, run)?;
         values.push(site.alloc, value)?;
     }
     Ok(values)
+}
+
+/// A list of what expressions give.
+#[cycle(walk)]
+#[inline(never)]
+fn list(site: &Site<'_>, items: &[Expr], vars: &Vars, run: &mut Run) -> Result<Value, Stop>
+    ensures { Agrees result site.now run.new (listed (values_of site.now items.now [] vars.now (seen site.now run.old) run.old.steps)) }
+{
+    let items = evaluate_all(site, items, vars, run)?;
+    weigh(site.alloc, Value::List(items))
+}
+
+/// `-a`.
+#[cycle(walk)]
+#[inline(never)]
+fn negation(site: &Site<'_>, a: &Expr, vars: &Vars, run: &mut Run) -> Result<Value, Stop>
+    ensures { Agrees result site.now run.new (negated (value_of site.now a.now vars.now (seen site.now run.old) run.old.steps)) }
+{
+    negate(site.alloc, evaluate(site, a, vars, run)?)
+}
+
+/// `+a`.
+#[cycle(walk)]
+#[inline(never)]
+fn plus_sign(site: &Site<'_>, a: &Expr, vars: &Vars, run: &mut Run) -> Result<Value, Stop>
+    ensures { Agrees result site.now run.new (numbered (value_of site.now a.now vars.now (seen site.now run.old) run.old.steps)) }
+{
+    Ok(Value::Int(take_number(evaluate(site, a, vars, run)?)))
+}
+
+/// `not a`.
+#[cycle(walk)]
+#[inline(never)]
+fn inversion(site: &Site<'_>, a: &Expr, vars: &Vars, run: &mut Run) -> Result<Value, Stop>
+    ensures { Agrees result site.now run.new (inverted (value_of site.now a.now vars.now (seen site.now run.old) run.old.steps)) }
+{
+    Ok(Value::Bool(!take_truth(evaluate(site, a, vars, run)?)))
+}
+
+/// `a is None`, or `a is not None`.
+#[cycle(walk)]
+#[inline(never)]
+fn none_test(
+    site: &Site<'_>,
+    a: &Expr,
+    positive: bool,
+    vars: &Vars,
+    run: &mut Run,
+) -> Result<Value, Stop>
+    ensures { Agrees result site.now run.new (compared_to_none positive (value_of site.now a.now vars.now (seen site.now run.old) run.old.steps)) }
+{
+    let nil = take_nil(evaluate(site, a, vars, run)?);
+    Ok(Value::Bool(if positive { nil } else { !nil }))
+}
+
+/// `left op right`, a comparison.
+#[cycle(walk)]
+#[inline(never)]
+fn comparison(
+    site: &Site<'_>,
+    op: Cmp,
+    left: &Expr,
+    right: &Expr,
+    vars: &Vars,
+    run: &mut Run,
+) -> Result<Value, Stop>
+    ensures { Agrees result site.now run.new (compared op (value_of site.now left.now vars.now (seen site.now run.old) run.old.steps) (value_of site.now right.now vars.now)) }
+{
+    let x = evaluate(site, left, vars, run)?;
+    let y = evaluate(site, right, vars, run)?;
+    Ok(Value::Bool(take_comparison(op, x, y)))
+}
+
+/// `yes if test else no`.
+#[cycle(walk)]
+#[inline(never)]
+fn conditional(
+    site: &Site<'_>,
+    test: &Expr,
+    yes: &Expr,
+    no: &Expr,
+    vars: &Vars,
+    run: &mut Run,
+) -> Result<Value, Stop>
+    ensures { Agrees result site.now run.new (chosen (value_of site.now test.now vars.now (seen site.now run.old) run.old.steps) (value_of site.now yes.now vars.now) (value_of site.now no.now vars.now)) }
+{
+    if take_truth(evaluate(site, test, vars, run)?) {
+        evaluate(site, yes, vars, run)
+    } else {
+        evaluate(site, no, vars, run)
+    }
+}
+
+/// A run of operators of one rank, from its first operand on.
+#[cycle(walk)]
+#[inline(never)]
+fn operators(
+    site: &Site<'_>,
+    first: &Expr,
+    links: &[Link],
+    vars: &Vars,
+    run: &mut Run,
+) -> Result<Value, Stop>
+    ensures { Agrees result site.now run.new (linked_to (value_of site.now first.now vars.now (seen site.now run.old) run.old.steps) (λ v. linked_by site.now links.now v vars.now)) }
+{
+    let value = evaluate(site, first, vars, run)?;
+    link(site, value, links, vars, run)
 }
 
 /// Combines a value with each link in turn.
@@ -307,36 +415,32 @@ fn link(
     first: Value,
     links: &[Link],
     vars: &Vars,
-    tx: &mut Transaction,
-    steps: &mut u32,
+    run: &mut Run,
 ) -> Result<Value, Stop>
-    requires { links_size (links_of (plain_links links.now)) ≤ most_nodes }
-    ensures { Agrees result (world_of site.now.state.now tx.new) steps.new (linked (site_of site.now) (links_of (plain_links links.now)) first vars.now (world_of site.now.state.now tx.old) steps.old) }
+    ensures { Agrees result site.now run.new (linked_by site.now links.now first vars.now (seen site.now run.old) run.old.steps) }
 {
     let mut value = first;
     for link in links {
-        let right = evaluate(site, &link.right, vars, tx, steps)?;
-        value = combine(site.alloc, link.op, &value, &right)?;
+        let right = evaluate(site, &link.right, vars, run)?;
+        value = take_both(site.alloc, link.op, value, right)?;
     }
     Ok(value)
 }
 
 /// Whether each operand is True, or each is False: the first other one decides.
 #[cycle(walk)]
+#[inline(never)]
 fn each_is(
     site: &Site<'_>,
     truth: bool,
     operands: &[Expr],
     vars: &Vars,
-    tx: &mut Transaction,
-    steps: &mut u32,
+    run: &mut Run,
 ) -> Result<Value, Stop>
-    requires { exprs_size (exprs_of (plain_exprs operands.now)) ≤ most_nodes }
-    ensures { Agrees result (world_of site.now.state.now tx.new) steps.new (the_each_is (site_of site.now) truth (exprs_of (plain_exprs operands.now)) vars.now (world_of site.now.state.now tx.old) steps.old) }
+    ensures { Agrees result site.now run.new (the_each_is (site_of site.now) truth (exprs_of (plain_exprs operands.now)) vars.now (seen site.now run.old) run.old.steps) }
 {
     for operand in operands {
-        let value = evaluate(site, operand, vars, tx, steps)?;
-        if is_true(&value) != truth {
+        if take_truth(evaluate(site, operand, vars, run)?) != truth {
             return Ok(Value::Bool(!truth));
         }
     }
@@ -345,40 +449,42 @@ fn each_is(
 
 /// Calls a method of the entity that a value is.
 #[cycle(walk)]
+#[inline(never)]
 fn call(
     site: &Site<'_>,
     on: &Value,
     name: Name,
     args: &Values,
-    tx: &mut Transaction,
-    steps: &mut u32,
+    run: &mut Run,
 ) -> Result<Value, Stop>
-    ensures { Agrees result (world_of site.now.state.now tx.new) steps.new ((site_of site.now).calls.call (key_in on.now) (method_of (source_of site.now.program.now) (key_in on.now).0 name.0) args.now (world_of site.now.state.now tx.old) steps.old) }
+    ensures { Agrees result site.now run.new (called site.now on.now name.0 args.now (seen site.now run.old) run.old.steps) }
 {
     let number = method_number(site.program, target_class(on), name);
     match site.room {
         Room::Closed => Err(fail(site.alloc, RECURSION_ERROR)),
-        Room::Within(left) => call_own(site, left, number, args, tx, steps),
+        Room::Within(left) => call_own(site, left, number, args, run),
         Room::Open(left) => {
             let at = target_entity(site.alloc, on)?;
-            call_entity(site, left, at, number, args, tx, steps)
+            let given = call_entity(site, left, &at, number, args, run);
+            drop(at);
+            given
         }
     }
 }
 
 /// Calls a method of the own entity, where so many more calls may be open.
 #[cycle(walk)]
+#[inline(never)]
 fn call_own(
     site: &Site<'_>,
     left: u32,
     number: u32,
     args: &Values,
-    tx: &mut Transaction,
-    steps: &mut u32,
+    run: &mut Run,
 ) -> Result<Value, Stop>
-    ensures { (at : Key) → Agrees result (world_of site.now.state.now tx.new) steps.new ((calls_within (own_at (key_of site.now.me.now)) (source_of site.now.program.now) (key_of site.now.me.now) left).call at number args.now (world_of site.now.state.now tx.old) steps.old) }
+    ensures { (at : Key) → Agrees result site.now run.new ((own_calls site.now left).call at number args.now (seen site.now run.old) run.old.steps) }
 {
-    take_step(site.alloc, steps)?;
+    take_step(site.alloc, &mut run.steps)?;
     let Some(left) = left.checked_sub(1) else {
         return Err(fail(site.alloc, RECURSION_ERROR));
     };
@@ -391,44 +497,44 @@ fn call_own(
         room: Room::Within(left),
     };
     let method = method_at(site.program, site.me.class, number);
-    run_body(&within, method, args, tx, steps)
+    run_body(&within, method, args, run)
 }
 
 /// Calls a method of an entity, where so many more calls may be open.
 #[cycle(walk)]
+#[inline(never)]
 pub(crate) fn call_entity(
     site: &Site<'_>,
     left: u32,
-    at: Ref,
+    at: &Ref,
     number: u32,
     args: &Values,
-    tx: &mut Transaction,
-    steps: &mut u32,
+    run: &mut Run,
 ) -> Result<Value, Stop>
-    ensures { Agrees result (world_of site.now.state.now tx.new) steps.new ((calls_at (source_of site.now.program.now) left).call (key_of at) number args.now (world_of site.now.state.now tx.old) steps.old) }
+    ensures { Agrees result site.now run.new ((open_calls site.now left).call (key_of at.now) number args.now (seen site.now run.old) run.old.steps) }
 {
-    take_step(site.alloc, steps)?;
+    take_step(site.alloc, &mut run.steps)?;
     let Some(left) = left.checked_sub(1) else {
         return Err(fail(site.alloc, RECURSION_ERROR));
     };
-    enter(site, left, at, number, args, tx, steps)
+    enter(site, left, at, number, args, run)
 }
 
 /// Reads the entity, and runs the method on it.
 #[cycle(walk)]
+#[inline(never)]
 fn enter(
     site: &Site<'_>,
     left: u32,
-    at: Ref,
+    at: &Ref,
     number: u32,
     args: &Values,
-    tx: &mut Transaction,
-    steps: &mut u32,
+    run: &mut Run,
 ) -> Result<Value, Stop>
-    ensures { Agrees result (world_of site.now.state.now tx.new) steps.new (the_enter (source_of site.now.program.now) (calls_at (source_of site.now.program.now) left) (key_of at) number args.now (world_of site.now.state.now tx.old) steps.old) }
+    ensures { Agrees result site.now run.new (the_enter (program_of site.now) (open_calls site.now left) (key_of at.now) number args.now (seen site.now run.old) run.old.steps) }
 {
-    tx.mark_read(at.try_clone(site.alloc)?)?;
-    if !tx.contains(site.state, &at) {
+    run.tx.mark_read(at.try_clone(site.alloc)?)?;
+    if !run.tx.contains(site.state, at) {
         return Err(fail(site.alloc, NO_ENTITY));
     }
     let fields = class_fields(site.alloc, site.program, at.class)?;
@@ -436,28 +542,32 @@ fn enter(
         alloc: site.alloc,
         program: site.program,
         state: site.state,
-        me: &at,
+        me: at,
         fields: fields.as_slice(),
         room: Room::Open(left),
     };
     let method = method_at(site.program, at.class, number);
-    run_body(&inside, method, args, tx, steps)
+    let given = run_body(&inside, method, args, run);
+    drop(fields);
+    given
 }
 
 /// Runs the body of a method. One that falls off its end gives None.
 #[cycle(walk)]
+#[inline(never)]
 fn run_body(
     site: &Site<'_>,
     method: Option<&Method>,
     args: &Values,
-    tx: &mut Transaction,
-    steps: &mut u32,
+    run: &mut Run,
 ) -> Result<Value, Stop>
     requires { stmts_size (stmts_of (body_of (option_map (λ m. plain_method m.now) method))) ≤ most_nodes }
-    ensures { Agrees result (world_of site.now.state.now tx.new) steps.new (the_run_body (site_of site.now) (option_map (λ m. plain_method m.now) method.entry) args.now (world_of site.now.state.now tx.old) steps.old) }
+    ensures { Agrees result site.now run.new (the_run_body (site_of site.now) (option_map (λ m. plain_method m.now) method.entry) args.now (seen site.now run.old) run.old.steps) }
 {
     let mut vars = bind(site.alloc, params(method), args)?;
-    match execute_all(site, body(method), &mut vars, tx, steps)? {
+    let ended = execute_all(site, body(method), &mut vars, run);
+    drop(vars);
+    match ended? {
         Flow::Gave(value) => Ok(value),
         Flow::On | Flow::Broke | Flow::Continued => Ok(Value::Nil),
     }
@@ -465,110 +575,121 @@ fn run_body(
 
 /// `f(args)`. The length of what stands in a local or in an own field is told without a copy.
 #[cycle(walk)]
-fn applied(
+#[inline(never)]
+fn application(
     site: &Site<'_>,
     name: Name,
     args: &[Expr],
     vars: &Vars,
-    tx: &mut Transaction,
-    steps: &mut u32,
+    run: &mut Run,
 ) -> Result<Value, Stop>
-    requires { exprs_size (exprs_of (plain_exprs args.now)) ≤ most_nodes }
-    ensures { Agrees result (world_of site.now.state.now tx.new) steps.new (applied_to (site_of site.now) name.0 (eval_all (site_of site.now) (exprs_of (plain_exprs args.now)) [] vars.now (world_of site.now.state.now tx.old) steps.old)) }
+    ensures { Agrees result site.now run.new (applied_to (site_of site.now) name.0 (values_of site.now args.now [] vars.now (seen site.now run.old) run.old.steps)) }
 {
-    if let Some(length) = own_length(site, name, args, vars, tx) {
+    if let Some(length) = own_length(site, name, args, vars, &run.tx) {
         return length;
     }
-    let args = evaluate_all(site, args, vars, tx, steps)?;
-    apply(site, name, &args, tx, steps)
+    let args = evaluate_all(site, args, vars, run)?;
+    let given = apply(site, name, &args, run);
+    drop(args);
+    given
 }
 
 /// What a function or a creation makes of its arguments, a creation where the name is no function's.
 #[cycle(walk)]
-fn apply(
-    site: &Site<'_>,
-    name: Name,
-    args: &Values,
-    tx: &mut Transaction,
-    steps: &mut u32,
-) -> Result<Value, Stop>
-    ensures { Agrees result (world_of site.now.state.now tx.new) steps.new (the_applied (site_of site.now) (the_function_of name.0) name.0 args.now (world_of site.now.state.now tx.old) steps.old) }
+#[inline(never)]
+fn apply(site: &Site<'_>, name: Name, args: &Values, run: &mut Run) -> Result<Value, Stop>
+    ensures { Agrees result site.now run.new (the_applied (site_of site.now) (the_function_of name.0) name.0 args.now (seen site.now run.old) run.old.steps) }
 {
     match function_of(name) {
         Some(function) => give(site.alloc, function, args),
-        None => make(site, class_number(site.program, name), args, tx, steps),
+        None => make(site, class_number(site.program, name), args, run),
     }
 }
 
 /// Makes an entity of a class.
 #[cycle(walk)]
-fn make(
-    site: &Site<'_>,
-    class: u32,
-    args: &Values,
-    tx: &mut Transaction,
-    steps: &mut u32,
-) -> Result<Value, Stop>
-    ensures { Agrees result (world_of site.now.state.now tx.new) steps.new ((site_of site.now).calls.make class args.now (world_of site.now.state.now tx.old) steps.old) }
+#[inline(never)]
+fn make(site: &Site<'_>, class: u32, args: &Values, run: &mut Run) -> Result<Value, Stop>
+    ensures { Agrees result site.now run.new ((site_of site.now).calls.make class args.now (seen site.now run.old) run.old.steps) }
 {
     match site.room {
         Room::Closed | Room::Within(_) => Err(fail(site.alloc, RECURSION_ERROR)),
-        Room::Open(left) => make_entity(site, left, class, args, tx, steps),
+        Room::Open(left) => make_entity(site, left, class, args, run),
     }
 }
 
 /// Makes an entity of a class, where so many more calls may be open.
 #[cycle(walk)]
+#[inline(never)]
 pub(crate) fn make_entity(
     site: &Site<'_>,
     left: u32,
     class: u32,
     args: &Values,
-    tx: &mut Transaction,
-    steps: &mut u32,
+    run: &mut Run,
 ) -> Result<Value, Stop>
-    ensures { Agrees result (world_of site.now.state.now tx.new) steps.new ((calls_at (source_of site.now.program.now) left).make class args.now (world_of site.now.state.now tx.old) steps.old) }
+    ensures { Agrees result site.now run.new ((open_calls site.now left).make class args.now (seen site.now run.old) run.old.steps) }
 {
-    take_step(site.alloc, steps)?;
+    take_step(site.alloc, &mut run.steps)?;
     if left == 0 {
         return Err(fail(site.alloc, RECURSION_ERROR));
     }
     let at = new_entity(site.alloc, site.program, class, args)?;
-    create(site, at, args, tx, steps)
+    let given = create(site, &at, args, run);
+    drop(at);
+    given
 }
 
 /// Reads the entity, which must not be there, and makes its record.
 #[cycle(walk)]
-fn create(
-    site: &Site<'_>,
-    at: Ref,
-    args: &Values,
-    tx: &mut Transaction,
-    steps: &mut u32,
-) -> Result<Value, Stop>
-    ensures { Agrees result (world_of site.now.state.now tx.new) steps.new (the_create (source_of site.now.program.now) (key_of at) args.now (world_of site.now.state.now tx.old) steps.old) }
+#[inline(never)]
+fn create(site: &Site<'_>, at: &Ref, args: &Values, run: &mut Run) -> Result<Value, Stop>
+    ensures { Agrees result site.now run.new (the_create (program_of site.now) (key_of at.now) args.now (seen site.now run.old) run.old.steps) }
 {
-    tx.mark_read(at.try_clone(site.alloc)?)?;
-    if tx.contains(site.state, &at) {
+    run.tx.mark_read(at.try_clone(site.alloc)?)?;
+    if run.tx.contains(site.state, at) {
         return Err(fail(site.alloc, ALREADY_EXISTS));
     }
-    let fields = make_record(site, &at, args, steps)?;
-    let made = at.try_clone(site.alloc)?;
-    tx.put(at, fields)?;
-    Ok(Value::Entity(made))
+    let fields = make_record(site, at, args, run)?;
+    run.tx.put(at.try_clone(site.alloc)?, fields)?;
+    Ok(Value::Entity(at.try_clone(site.alloc)?))
 }
 
-/// Runs `__init__` on a record of its own, in a transaction that sees nothing else.
+/// Makes the record of a creation, in a run of its own that sees nothing else.
 #[cycle(walk)]
-fn make_record(site: &Site<'_>, at: &Ref, args: &Values, steps: &mut u32) -> Result<Values, Stop>
-    ensures { GivesRecord result steps.new (the_declare_all (source_of site.now.program.now) (key_of at.now) (body_of (init_of (source_of site.now.program.now) at.now.class)) (bound (params_of (init_of (source_of site.now.program.now) at.now.class)) args.now) [] steps.old) }
+#[inline(never)]
+fn make_record(site: &Site<'_>, at: &Ref, args: &Values, run: &mut Run) -> Result<Values, Stop>
+    ensures record { GivesRecord result run.new.steps (the_declare_all (program_of site.now) (key_of at.now) (body_of (init_of (program_of site.now) at.now.class)) (bound (params_of (init_of (program_of site.now) at.now.class)) args.now) [] run.old.steps) }
+    ensures kept { run.new.tx ≡ run.old.tx }
 {
     let init = init(site.program, at.class);
     let vars = bind(site.alloc, params(init), args)?;
+    let made = init_record(site, at, init, &vars, run);
+    drop(vars);
+    made
+}
+
+/// Makes the record of a creation, where the parameters are bound.
+#[cycle(walk)]
+#[inline(never)]
+fn init_record(
+    site: &Site<'_>,
+    at: &Ref,
+    init: Option<&Method>,
+    vars: &Vars,
+    run: &mut Run,
+) -> Result<Values, Stop>
+    requires { stmts_size (stmts_of (body_of (option_map (λ m. plain_method m.now) init))) ≤ most_nodes }
+    ensures record { GivesRecord result run.new.steps (the_declare_all (program_of site.now) (key_of at.now) (body_of (option_map (λ m. plain_method m.now) init.entry)) vars.now [] run.old.steps) }
+    ensures kept { run.new.tx ≡ run.old.tx }
+{
     let fields = class_fields(site.alloc, site.program, at.class)?;
     let empty = Local::new(site.alloc);
-    let mut scratch = begin(site.alloc);
-    scratch.put(at.try_clone(site.alloc)?, Sequence::new(site.alloc))?;
+    let mut apart = Run {
+        tx: begin(site.alloc),
+        steps: run.steps,
+        nesting: run.nesting,
+    };
     let inside = Site {
         alloc: site.alloc,
         program: site.program,
@@ -577,62 +698,57 @@ fn make_record(site: &Site<'_>, at: &Ref, args: &Values, steps: &mut u32) -> Res
         fields: fields.as_slice(),
         room: Room::Closed,
     };
-    declare_all(&inside, body(init), &vars, &mut scratch, steps)?;
-    let fields = scratch.copied_fields(site.alloc, &empty, at)?;
-    Ok(fields)
+    let made = declared_record(&inside, body(init), vars, &mut apart);
+    run.steps = apart.steps;
+    drop(apart);
+    drop(empty);
+    drop(fields);
+    made
+}
+
+/// The record that the statements of `__init__` make.
+#[cycle(walk)]
+#[inline(never)]
+fn declared_record(
+    site: &Site<'_>,
+    body: &[Stmt],
+    vars: &Vars,
+    run: &mut Run,
+) -> Result<Values, Stop>
+    requires closed { site.now.room ≡ Room.Closed }
+    requires small { stmts_size (stmts_of (plain_stmts body.now)) ≤ most_nodes }
+    ensures { GivesRecord result run.new.steps (the_declare_all (program_of site.now) (key_of site.now.me.now) (plain_stmts body.now) vars.now (record_seen site.now run.old) run.old.steps) }
+{
+    declare_all(site, body, vars, run)?;
+    Ok(run.tx.copied_fields(site.alloc, site.state, site.me)?)
 }
 
 /// Runs the statements of `__init__`.
 #[cycle(walk)]
-fn declare_all(
-    site: &Site<'_>,
-    body: &[Stmt],
-    vars: &Vars,
-    tx: &mut Transaction,
-    steps: &mut u32,
-) -> Result<(), Stop>
+#[inline(never)]
+fn declare_all(site: &Site<'_>, body: &[Stmt], vars: &Vars, run: &mut Run) -> Result<(), Stop>
     requires closed { site.now.room ≡ Room.Closed }
     requires small { stmts_size (stmts_of (plain_stmts body.now)) ≤ most_nodes }
-    ensures { MakesAs result (record_at (world_of site.now.state.now tx.new) (key_of site.now.me.now)) steps.new (the_declare_all (source_of site.now.program.now) (key_of site.now.me.now) (plain_stmts body.now) vars.now (record_at (world_of site.now.state.now tx.old) (key_of site.now.me.now)) steps.old) }
+    ensures { MakesAs result site.now run.new (the_declare_all (program_of site.now) (key_of site.now.me.now) (plain_stmts body.now) vars.now (record_seen site.now run.old) run.old.steps) }
 {
     for stmt in body {
-        declare(site, stmt, vars, tx, steps)?;
+        declare(site, stmt, vars, run)?;
     }
     Ok(())
 }
 
-/// A statement of `__init__`: the value of a declaration stands behind the fields that there are.
+/// A statement of `__init__`: a step, and what stands behind it.
 #[cycle(walk)]
-#[tactic(auto, using(crate::proofs::DeclareLaws::declare_is, crate::proofs::SizeLaws::stmt_sizes))]
-fn declare(
-    site: &Site<'_>,
-    stmt: &Stmt,
-    vars: &Vars,
-    tx: &mut Transaction,
-    steps: &mut u32,
-) -> Result<(), Stop>
+#[inline(never)]
+fn declare(site: &Site<'_>, stmt: &Stmt, vars: &Vars, run: &mut Run) -> Result<(), Stop>
     requires closed { site.now.room ≡ Room.Closed }
     requires small { stmt_size (plain_stmt stmt.now) ≤ most_nodes }
-    ensures { MakesAs result (record_at (world_of site.now.state.now tx.new) (key_of site.now.me.now)) steps.new (the_declare (source_of site.now.program.now) (key_of site.now.me.now) (plain_stmt stmt.now) vars.now (record_at (world_of site.now.state.now tx.old) (key_of site.now.me.now)) steps.old) }
+    ensures { MakesAs result site.now run.new (the_declare (program_of site.now) (key_of site.now.me.now) (plain_stmt stmt.now) vars.now (record_seen site.now run.old) run.old.steps) }
 {
-    take_step(site.alloc, steps)?;
+    take_step(site.alloc, &mut run.steps)?;
     match &stmt.kind {
-        StmtKind::Assign { value, .. } => {
-            let value = evaluate(site, value, vars, tx, steps)?;
-            tx.push_field(site, value)?;
-            Ok(())
-        }
-        StmtKind::Assert(test, note) => {
-            let truth = evaluate(site, test, vars, tx, steps)?;
-            if is_true(&truth) {
-                return Ok(());
-            }
-            let message = message(site, note, vars, tx, steps)?;
-            Err(Stop::Failed(Failure {
-                kind: ASSERTION_ERROR,
-                message,
-            }))
-        }
+        StmtKind::Assign { value, .. } => declare_field(site, value, vars, run),
+        StmtKind::Assert(test, note) => declare_check(site, test, note, vars, run),
         StmtKind::Pass
         | StmtKind::Break
         | StmtKind::Continue
@@ -646,42 +762,51 @@ fn declare(
     }
 }
 
-/// The value of what may stand there, None where nothing does.
+/// The value of a declaration stands behind the fields that there are.
 #[cycle(walk)]
-#[tactic(auto, unfolding(crate::specs::Execution::value_or_none))]
-fn value_or_none(
-    site: &Site<'_>,
-    given: &Option<Expr>,
-    vars: &Vars,
-    tx: &mut Transaction,
-    steps: &mut u32,
-) -> Result<Value, Stop>
-    requires { of_option expr_size (plain_option plain_expr given.now) ≤ most_nodes }
-    ensures { Agrees result (world_of site.now.state.now tx.new) steps.new (the_value_or_none (site_of site.now) (plain_option plain_expr given.now) vars.now (world_of site.now.state.now tx.old) steps.old) }
+#[inline(never)]
+fn declare_field(site: &Site<'_>, expr: &Expr, vars: &Vars, run: &mut Run) -> Result<(), Stop>
+    requires { site.now.room ≡ Room.Closed }
+    ensures { MakesAs result site.now run.new (field_declared site.now expr.now vars.now (record_seen site.now run.old) run.old.steps) }
 {
-    match given {
-        Some(expr) => evaluate(site, expr, vars, tx, steps),
-        None => Ok(Value::Nil),
+    let value = evaluate(site, expr, vars, run)?;
+    run.tx.push_field(site, value)?;
+    Ok(())
+}
+
+/// An assert of `__init__`.
+#[cycle(walk)]
+#[inline(never)]
+fn declare_check(
+    site: &Site<'_>,
+    test: &Expr,
+    note: &Option<Expr>,
+    vars: &Vars,
+    run: &mut Run,
+) -> Result<(), Stop>
+    requires { site.now.room ≡ Room.Closed }
+    ensures { MakesAs result site.now run.new (check_declared site.now test.now note.now vars.now (record_seen site.now run.old) run.old.steps) }
+{
+    if take_truth(evaluate(site, test, vars, run)?) {
+        return Ok(());
     }
+    let message = message(site, note, vars, run)?;
+    Err(Stop::Failed(Failure {
+        kind: ASSERTION_ERROR,
+        message,
+    }))
 }
 
 /// A message, empty where none is written.
 #[cycle(walk)]
 #[tactic(auto, unfolding(crate::specs::Execution::message))]
-fn message(
-    site: &Site<'_>,
-    note: &Option<Expr>,
-    vars: &Vars,
-    tx: &mut Transaction,
-    steps: &mut u32,
-) -> Result<Text, Stop>
-    requires { of_option expr_size (plain_option plain_expr note.now) ≤ most_nodes }
-    ensures { Agrees result (world_of site.now.state.now tx.new) steps.new (the_message (site_of site.now) (plain_option plain_expr note.now) vars.now (world_of site.now.state.now tx.old) steps.old) }
+#[inline(never)]
+fn message(site: &Site<'_>, note: &Option<Expr>, vars: &Vars, run: &mut Run) -> Result<Text, Stop>
+    ensures { Agrees result site.now run.new (the_message (site_of site.now) (plain_option plain_expr note.now) vars.now (seen site.now run.old) run.old.steps) }
 {
     match note {
         Some(expr) => {
-            let value = evaluate(site, expr, vars, tx, steps)?;
-            let text = text(site.alloc, &value)?;
+            let text = take_text(site.alloc, evaluate(site, expr, vars, run)?)?;
             Ok(text)
         }
         None => {
@@ -691,127 +816,191 @@ fn message(
     }
 }
 
-/// `x op= e`: the target is read before e.
+/// One statement, where the stack has room for it: a step, and what it does.
+#[cycle(walk)]
+#[inline(never)]
+fn execute(site: &Site<'_>, stmt: &Stmt, vars: &mut Vars, run: &mut Run) -> Result<Flow, Stop>
+    ensures { EndsAs result vars.new site.now run.new (does site.now stmt.now vars.old (seen site.now run.old) run.old.steps) }
+{
+    let nesting = run.nesting;
+    if nesting >= NESTING_LIMIT {
+        return Err(Stop::NoMemory);
+    }
+    take_step(site.alloc, &mut run.steps)?;
+    run.nesting = nesting + 1;
+    let ended = execute_form(site, stmt, vars, run);
+    run.nesting = nesting;
+    ended
+}
+
+/// What a statement does after its step, by its form.
+#[cycle(walk)]
+#[tactic(auto, using(crate::proofs::ActLaws::act_is, crate::proofs::SizeLaws::stmt_sizes))]
+fn execute_form(site: &Site<'_>, stmt: &Stmt, vars: &mut Vars, run: &mut Run) -> Result<Flow, Stop>
+    ensures { EndsAs result vars.new site.now run.new (does site.now stmt.now vars.old (seen site.now run.old) (run.old.steps + 1)) }
+{
+    match &stmt.kind {
+        StmtKind::Pass => Ok(Flow::On),
+        StmtKind::Break => Ok(Flow::Broke),
+        StmtKind::Continue => Ok(Flow::Continued),
+        StmtKind::Expr(expr) => evaluate_alone(site, expr, vars, run),
+        StmtKind::Return(given) => give_back(site, given, vars, run),
+        StmtKind::Raise(kind, note) => raise(site, *kind, note, vars, run),
+        StmtKind::Assert(test, note) => assertion(site, test, note, vars, run),
+        StmtKind::Assign { target, value, .. } => assign(site, *target, value, vars, run),
+        StmtKind::Augment {
+            target,
+            op,
+            value,
+            ..
+        } => augment(site, *target, *op, value, vars, run),
+        StmtKind::If { arms, other } => {
+            execute_arms(site, arms.as_slice(), other.as_slice(), vars, run)
+        }
+        StmtKind::While { test, body } => while_turns(site, test, body.as_slice(), vars, run),
+        StmtKind::For { name, over, body } => {
+            let turn = Turn {
+                name: name.name,
+                body: body.as_slice(),
+            };
+            execute_for(site, &turn, over, vars, run)
+        }
+    }
+}
+
+/// An expression alone.
+#[cycle(walk)]
+#[inline(never)]
+fn evaluate_alone(site: &Site<'_>, expr: &Expr, vars: &Vars, run: &mut Run) -> Result<Flow, Stop>
+    ensures { EndsAs result vars.now site.now run.new (done vars.now (value_of site.now expr.now vars.now (seen site.now run.old) run.old.steps)) }
+{
+    drop(evaluate(site, expr, vars, run)?);
+    Ok(Flow::On)
+}
+
+/// `return`, of None where nothing is written.
+#[cycle(walk)]
+#[tactic(auto, unfolding(crate::specs::Execution::value_or_none))]
+#[inline(never)]
+fn give_back(
+    site: &Site<'_>,
+    given: &Option<Expr>,
+    vars: &Vars,
+    run: &mut Run,
+) -> Result<Flow, Stop>
+    ensures { EndsAs result vars.now site.now run.new (returned vars.now (the_value_or_none (site_of site.now) (plain_option plain_expr given.now) vars.now (seen site.now run.old) run.old.steps)) }
+{
+    match given {
+        Some(expr) => {
+            let value = evaluate(site, expr, vars, run)?;
+            Ok(Flow::Gave(value))
+        }
+        None => Ok(Flow::Gave(Value::Nil)),
+    }
+}
+
+/// `raise`.
+#[cycle(walk)]
+#[inline(never)]
+fn raise(
+    site: &Site<'_>,
+    kind: u8,
+    note: &Option<Expr>,
+    vars: &Vars,
+    run: &mut Run,
+) -> Result<Flow, Stop>
+    ensures { EndsAs result vars.now site.now run.new (raised kind vars.now (the_message (site_of site.now) (plain_option plain_expr note.now) vars.now (seen site.now run.old) run.old.steps)) }
+{
+    let message = message(site, note, vars, run)?;
+    Err(Stop::Failed(Failure { kind, message }))
+}
+
+/// `assert`.
+#[cycle(walk)]
+#[inline(never)]
+fn assertion(
+    site: &Site<'_>,
+    test: &Expr,
+    note: &Option<Expr>,
+    vars: &Vars,
+    run: &mut Run,
+) -> Result<Flow, Stop>
+    ensures { EndsAs result vars.now site.now run.new (with_given vars.now (value_of site.now test.now vars.now (seen site.now run.old) run.old.steps) (checked (site_of site.now) (plain_option plain_expr note.now) vars.now)) }
+{
+    let holds = take_truth(evaluate(site, test, vars, run)?);
+    if holds {
+        return Ok(Flow::On);
+    }
+    raise(site, ASSERTION_ERROR, note, vars, run)
+}
+
+/// `x = e`.
+#[cycle(walk)]
+#[inline(never)]
+fn assign(
+    site: &Site<'_>,
+    target: Target,
+    expr: &Expr,
+    vars: &mut Vars,
+    run: &mut Run,
+) -> Result<Flow, Stop>
+    ensures { EndsAs result vars.new site.now run.new (stored site.now target vars.old (value_of site.now expr.now vars.old (seen site.now run.old) run.old.steps)) }
+{
+    let value = evaluate(site, expr, vars, run)?;
+    store(site, target, value, vars, &mut run.tx)?;
+    Ok(Flow::On)
+}
+
+/// `x op= e`.
+#[cycle(walk)]
+#[inline(never)]
+fn augment(
+    site: &Site<'_>,
+    target: Target,
+    op: BinOp,
+    expr: &Expr,
+    vars: &mut Vars,
+    run: &mut Run,
+) -> Result<Flow, Stop>
+    ensures { EndsAs result vars.new site.now run.new (stored site.now target vars.old (the_augmented (site_of site.now) target op (plain_expr expr.now) vars.old (seen site.now run.old) run.old.steps)) }
+{
+    let value = augmented(site, target, op, expr, vars, run)?;
+    store(site, target, value, vars, &mut run.tx)?;
+    Ok(Flow::On)
+}
+
+/// The value of `x op= e`: the target is read before e.
 #[cycle(walk)]
 #[tactic(auto, unfolding(crate::specs::Execution::augmented))]
+#[inline(never)]
 fn augmented(
     site: &Site<'_>,
     target: Target,
     op: BinOp,
     expr: &Expr,
     vars: &Vars,
-    tx: &mut Transaction,
-    steps: &mut u32,
+    run: &mut Run,
 ) -> Result<Value, Stop>
-    requires { expr_size (plain_expr expr.now) ≤ most_nodes }
-    ensures { Agrees result (world_of site.now.state.now tx.new) steps.new (the_augmented (site_of site.now) target op (plain_expr expr.now) vars.now (world_of site.now.state.now tx.old) steps.old) }
+    ensures { Agrees result site.now run.new (the_augmented (site_of site.now) target op (plain_expr expr.now) vars.now (seen site.now run.old) run.old.steps) }
 {
-    let before = weigh(site.alloc, read_target(site, target, vars, tx)?)?;
-    let value = evaluate(site, expr, vars, tx, steps)?;
-    combine(site.alloc, op, &before, &value)
-}
-
-/// One statement.
-#[cycle(walk)]
-#[tactic(auto, using(crate::proofs::ActLaws::act_is, crate::proofs::SizeLaws::stmt_sizes))]
-fn execute(
-    site: &Site<'_>,
-    stmt: &Stmt,
-    vars: &mut Vars,
-    tx: &mut Transaction,
-    steps: &mut u32,
-) -> Result<Flow, Stop>
-    requires { stmt_size (plain_stmt stmt.now) ≤ most_nodes }
-    ensures { EndsAs result vars.new (world_of site.now.state.now tx.new) steps.new (act (site_of site.now) (plain_stmt stmt.now) vars.old (world_of site.now.state.now tx.old) steps.old) }
-{
-    take_step(site.alloc, steps)?;
-    match &stmt.kind {
-        StmtKind::Pass => Ok(Flow::On),
-        StmtKind::Break => Ok(Flow::Broke),
-        StmtKind::Continue => Ok(Flow::Continued),
-        StmtKind::Expr(expr) => {
-            evaluate(site, expr, vars, tx, steps)?;
-            Ok(Flow::On)
-        }
-        StmtKind::Return(given) => {
-            let value = value_or_none(site, given, vars, tx, steps)?;
-            Ok(Flow::Gave(value))
-        }
-        StmtKind::Raise(kind, note) => {
-            let message = message(site, note, vars, tx, steps)?;
-            Err(Stop::Failed(Failure {
-                kind: *kind,
-                message,
-            }))
-        }
-        StmtKind::Assert(test, note) => {
-            let truth = evaluate(site, test, vars, tx, steps)?;
-            check(site, &truth, note, vars, tx, steps)
-        }
-        StmtKind::Assign { target, value, .. } => {
-            let value = evaluate(site, value, vars, tx, steps)?;
-            store(site, *target, value, vars, tx)?;
-            Ok(Flow::On)
-        }
-        StmtKind::Augment {
-            target,
-            op,
-            value,
-            ..
-        } => {
-            let value = augmented(site, *target, *op, value, vars, tx, steps)?;
-            store(site, *target, value, vars, tx)?;
-            Ok(Flow::On)
-        }
-        StmtKind::If { arms, other } => {
-            execute_arms(site, arms.as_slice(), other.as_slice(), vars, tx, steps)
-        }
-        StmtKind::While { test, body } => {
-            while_turns(site, test, body.as_slice(), vars, tx, steps)
-        }
-        StmtKind::For { name, over, body } => {
-            execute_for(site, name.name, over, body.as_slice(), vars, tx, steps)
-        }
-    }
-}
-
-/// What follows the test of an assert.
-#[cycle(walk)]
-fn check(
-    site: &Site<'_>,
-    truth: &Value,
-    note: &Option<Expr>,
-    vars: &Vars,
-    tx: &mut Transaction,
-    steps: &mut u32,
-) -> Result<Flow, Stop>
-    requires { of_option expr_size (plain_option plain_expr note.now) ≤ most_nodes }
-    ensures { EndsAs result vars.now (world_of site.now.state.now tx.new) steps.new (checked (site_of site.now) (plain_option plain_expr note.now) vars.now truth.now (world_of site.now.state.now tx.old) steps.old) }
-{
-    if is_true(truth) {
-        return Ok(Flow::On);
-    }
-    let message = message(site, note, vars, tx, steps)?;
-    Err(Stop::Failed(Failure {
-        kind: ASSERTION_ERROR,
-        message,
-    }))
+    let before = read_target(site, target, vars, &run.tx)?;
+    let value = evaluate(site, expr, vars, run)?;
+    take_both(site.alloc, op, before, value)
 }
 
 /// Statements in their order, until one doesn't go on.
 #[cycle(walk)]
+#[inline(never)]
 pub(crate) fn execute_all(
     site: &Site<'_>,
     stmts: &[Stmt],
     vars: &mut Vars,
-    tx: &mut Transaction,
-    steps: &mut u32,
+    run: &mut Run,
 ) -> Result<Flow, Stop>
-    requires { stmts_size (stmts_of (plain_stmts stmts.now)) ≤ most_nodes }
-    ensures { EndsAs result vars.new (world_of site.now.state.now tx.new) steps.new (act_all (site_of site.now) (stmts_of (plain_stmts stmts.now)) vars.old (world_of site.now.state.now tx.old) steps.old) }
+    ensures { EndsAs result vars.new site.now run.new (runs site.now stmts.now vars.old (seen site.now run.old) run.old.steps) }
 {
     for stmt in stmts {
-        match execute(site, stmt, vars, tx, steps)? {
+        match execute(site, stmt, vars, run)? {
             Flow::On => {}
             Flow::Gave(value) => return Ok(Flow::Gave(value)),
             Flow::Broke => return Ok(Flow::Broke),
@@ -823,47 +1012,43 @@ pub(crate) fn execute_all(
 
 /// The first arm whose test is True, or what follows all of them.
 #[cycle(walk)]
+#[inline(never)]
 fn execute_arms(
     site: &Site<'_>,
     arms: &[Arm],
     other: &[Stmt],
     vars: &mut Vars,
-    tx: &mut Transaction,
-    steps: &mut u32,
+    run: &mut Run,
 ) -> Result<Flow, Stop>
-    requires { arms_size (arms_of (plain_arms arms.now)) + stmts_size (stmts_of (plain_stmts other.now)) ≤ most_nodes }
-    ensures { EndsAs result vars.new (world_of site.now.state.now tx.new) steps.new (act_arms (site_of site.now) (arms_of (plain_arms arms.now)) (all_of (site_of site.now) (stmts_of (plain_stmts other.now))) vars.old (world_of site.now.state.now tx.old) steps.old) }
+    ensures { EndsAs result vars.new site.now run.new (act_arms (site_of site.now) (arms_of (plain_arms arms.now)) (runs site.now other.now) vars.old (seen site.now run.old) run.old.steps) }
 {
     for arm in arms {
-        let truth = evaluate(site, &arm.test, vars, tx, steps)?;
-        if is_true(&truth) {
-            return execute_all(site, arm.body.as_slice(), vars, tx, steps);
+        if take_truth(evaluate(site, &arm.test, vars, run)?) {
+            return execute_all(site, arm.body.as_slice(), vars, run);
         }
     }
-    execute_all(site, other, vars, tx, steps)
+    execute_all(site, other, vars, run)
 }
 
 /// The turns of a `while`. Each takes a step, so one more than there are steps is enough.
 #[cycle(walk)]
+#[inline(never)]
 fn while_turns(
     site: &Site<'_>,
     test: &Expr,
     body: &[Stmt],
     vars: &mut Vars,
-    tx: &mut Transaction,
-    steps: &mut u32,
+    run: &mut Run,
 ) -> Result<Flow, Stop>
-    requires { expr_size (plain_expr test.now) + stmts_size (stmts_of (plain_stmts body.now)) ≤ most_nodes }
-    ensures { EndsAs result vars.new (world_of site.now.state.now tx.new) steps.new (the_while_turns (suc steps.old) (λ vars w n. eval (site_of site.now) (plain_expr test.now) vars w n) (all_of (site_of site.now) (stmts_of (plain_stmts body.now))) vars.old (world_of site.now.state.now tx.old) steps.old) }
+    ensures { EndsAs result vars.new site.now run.new (the_while_turns (suc run.old.steps) (value_of site.now test.now) (runs site.now body.now) vars.old (seen site.now run.old) run.old.steps) }
 {
-    let limit = u64::from(*steps) + 1;
+    let limit = u64::from(run.steps) + 1;
     for _turn in 0..limit {
-        let truth = evaluate(site, test, vars, tx, steps)?;
-        if !is_true(&truth) {
+        if !take_truth(evaluate(site, test, vars, run)?) {
             return Ok(Flow::On);
         }
-        take_step(site.alloc, steps)?;
-        match execute_all(site, body, vars, tx, steps)? {
+        take_step(site.alloc, &mut run.steps)?;
+        match execute_all(site, body, vars, run)? {
             Flow::On | Flow::Continued => {}
             Flow::Broke => return Ok(Flow::On),
             Flow::Gave(value) => return Ok(Flow::Gave(value)),
@@ -874,78 +1059,94 @@ fn while_turns(
 
 /// A `for` over a list, or over numbers.
 #[cycle(walk)]
-#[tactic(auto, unfolding(crate::specs::Execution::turns_of))]
+#[inline(never)]
 fn execute_for(
     site: &Site<'_>,
-    name: Name,
+    turn: &Turn<'_>,
     over: &Over,
-    body: &[Stmt],
     vars: &mut Vars,
-    tx: &mut Transaction,
-    steps: &mut u32,
+    run: &mut Run,
 ) -> Result<Flow, Stop>
-    requires { over_size (plain_over over.now) + stmts_size (stmts_of (plain_stmts body.now)) ≤ most_nodes }
-    ensures { EndsAs result vars.new (world_of site.now.state.now tx.new) steps.new (with_given vars.old (turns_of (site_of site.now) (plain_over over.now) vars.old (world_of site.now.state.now tx.old) steps.old) (λ turns w n. over_turns name.0 (all_of (site_of site.now) (stmts_of (plain_stmts body.now))) turns vars.old w n)) }
+    ensures { EndsAs result vars.new site.now run.new (turned site.now turn.now.name.0 turn.now.body.now vars.old (turns_of (site_of site.now) (plain_over over.now) vars.old (seen site.now run.old) run.old.steps)) }
 {
     match over {
-        Over::Items(list) => {
-            let list = evaluate(site, list, vars, tx, steps)?;
-            over_items(site, name, items(&list), body, vars, tx, steps)
-        }
-        Over::Range(start, end) => {
-            let from = start_of(site, start, vars, tx, steps)?;
-            let to = evaluate(site, end, vars, tx, steps)?;
-            over_numbers(
-                site,
-                name,
-                number(&from),
-                number(&to),
-                body,
-                vars,
-                tx,
-                steps,
-            )
-        }
+        Over::Items(list) => for_items(site, turn, list, vars, run),
+        Over::Range(start, end) => for_numbers(site, turn, start, end, vars, run),
     }
+}
+
+/// A `for` over a list.
+#[cycle(walk)]
+#[tactic(auto, unfolding(crate::specs::Execution::turns_of))]
+#[inline(never)]
+fn for_items(
+    site: &Site<'_>,
+    turn: &Turn<'_>,
+    list: &Expr,
+    vars: &mut Vars,
+    run: &mut Run,
+) -> Result<Flow, Stop>
+    ensures { EndsAs result vars.new site.now run.new (turned site.now turn.now.name.0 turn.now.body.now vars.old (turns_of (site_of site.now) (PItems (plain_expr list.now)) vars.old (seen site.now run.old) run.old.steps)) }
+{
+    let list = evaluate(site, list, vars, run)?;
+    let ended = over_items(site, turn, items(&list), vars, run);
+    drop(list);
+    ended
+}
+
+/// A `for` over numbers.
+#[cycle(walk)]
+#[tactic(auto, unfolding(crate::specs::Execution::turns_of))]
+#[inline(never)]
+fn for_numbers(
+    site: &Site<'_>,
+    turn: &Turn<'_>,
+    start: &Option<Expr>,
+    end: &Expr,
+    vars: &mut Vars,
+    run: &mut Run,
+) -> Result<Flow, Stop>
+    ensures { EndsAs result vars.new site.now run.new (turned site.now turn.now.name.0 turn.now.body.now vars.old (turns_of (site_of site.now) (PRange (plain_option plain_expr start.now) (plain_expr end.now)) vars.old (seen site.now run.old) run.old.steps)) }
+{
+    let from = take_number(start_of(site, start, vars, run)?);
+    let to = take_number(evaluate(site, end, vars, run)?);
+    over_numbers(site, turn, from, to, vars, run)
 }
 
 /// Where a range starts, 0 where nothing is written.
 #[cycle(walk)]
 #[tactic(auto, unfolding(crate::specs::Execution::start_of))]
+#[inline(never)]
 fn start_of(
     site: &Site<'_>,
     start: &Option<Expr>,
     vars: &Vars,
-    tx: &mut Transaction,
-    steps: &mut u32,
+    run: &mut Run,
 ) -> Result<Value, Stop>
-    requires { of_option expr_size (plain_option plain_expr start.now) ≤ most_nodes }
-    ensures { Agrees result (world_of site.now.state.now tx.new) steps.new (the_start_of (site_of site.now) (plain_option plain_expr start.now) vars.now (world_of site.now.state.now tx.old) steps.old) }
+    ensures { Agrees result site.now run.new (the_start_of (site_of site.now) (plain_option plain_expr start.now) vars.now (seen site.now run.old) run.old.steps) }
 {
     match start {
-        Some(expr) => evaluate(site, expr, vars, tx, steps),
+        Some(expr) => evaluate(site, expr, vars, run),
         None => Ok(Value::Int(0)),
     }
 }
 
 /// A turn for each item of a list.
 #[cycle(walk)]
+#[inline(never)]
 fn over_items(
     site: &Site<'_>,
-    name: Name,
+    turn: &Turn<'_>,
     values: &[Value],
-    body: &[Stmt],
     vars: &mut Vars,
-    tx: &mut Transaction,
-    steps: &mut u32,
+    run: &mut Run,
 ) -> Result<Flow, Stop>
-    requires { stmts_size (stmts_of (plain_stmts body.now)) ≤ most_nodes }
-    ensures { EndsAs result vars.new (world_of site.now.state.now tx.new) steps.new (the_over_items name.0 (all_of (site_of site.now) (stmts_of (plain_stmts body.now))) values.now vars.old (world_of site.now.state.now tx.old) steps.old) }
+    ensures { EndsAs result vars.new site.now run.new (the_over_items turn.now.name.0 (runs site.now turn.now.body.now) values.now vars.old (seen site.now run.old) run.old.steps) }
 {
     for value in values {
-        take_step(site.alloc, steps)?;
-        assign_local(site.alloc, vars, name, value.try_clone(site.alloc)?)?;
-        match execute_all(site, body, vars, tx, steps)? {
+        take_step(site.alloc, &mut run.steps)?;
+        assign_local(site.alloc, vars, turn.name, value.try_clone(site.alloc)?)?;
+        match execute_all(site, turn.body, vars, run)? {
             Flow::On | Flow::Continued => {}
             Flow::Broke => return Ok(Flow::On),
             Flow::Gave(value) => return Ok(Flow::Gave(value)),
@@ -956,28 +1157,26 @@ fn over_items(
 
 /// A turn for each number from one up to another. Each takes a step, so one more than there are steps is enough.
 #[cycle(walk)]
+#[inline(never)]
 fn over_numbers(
     site: &Site<'_>,
-    name: Name,
+    turn: &Turn<'_>,
     from: i128,
     to: i128,
-    body: &[Stmt],
     vars: &mut Vars,
-    tx: &mut Transaction,
-    steps: &mut u32,
+    run: &mut Run,
 ) -> Result<Flow, Stop>
-    requires { stmts_size (stmts_of (plain_stmts body.now)) ≤ most_nodes }
-    ensures { EndsAs result vars.new (world_of site.now.state.now tx.new) steps.new (the_over_numbers (suc steps.old) name.0 (all_of (site_of site.now) (stmts_of (plain_stmts body.now))) from to vars.old (world_of site.now.state.now tx.old) steps.old) }
+    ensures { EndsAs result vars.new site.now run.new (the_over_numbers (suc run.old.steps) turn.now.name.0 (runs site.now turn.now.body.now) from to vars.old (seen site.now run.old) run.old.steps) }
 {
-    let limit = u64::from(*steps) + 1;
+    let limit = u64::from(run.steps) + 1;
     let mut at = from;
     for _turn in 0..limit {
         if at >= to {
             return Ok(Flow::On);
         }
-        take_step(site.alloc, steps)?;
-        assign_local(site.alloc, vars, name, Value::Int(at))?;
-        match execute_all(site, body, vars, tx, steps)? {
+        take_step(site.alloc, &mut run.steps)?;
+        assign_local(site.alloc, vars, turn.name, Value::Int(at))?;
+        match execute_all(site, turn.body, vars, run)? {
             Flow::On | Flow::Continued => {}
             Flow::Broke => return Ok(Flow::On),
             Flow::Gave(value) => return Ok(Flow::Gave(value)),

@@ -9,7 +9,7 @@ ghost use Rattle.snapshot_store.specs.SlotFile.{log_of, IsEpoch, IsNext, IsNewes
 
 use request_log::{LogFault, append};
 use sf_bytes::{read_batch, read_snapshot};
-use sf_outside::{Disk, MemDisk, StoreFile};
+use sf_outside::{Disk, Failed, MemDisk, StoreFile};
 use snapshot_store::{SnapFault, checkpoint};
 use std::alloc::Global;
 
@@ -50,6 +50,11 @@ pub fn new_disk(alloc: Global) -> Result<MemDisk, SnapFault>
     ensures { IfOk result (λ disk. (image : Image) → (facts_after disk.calls).may_leave image → IsNew image) }
 {
     failing_disk(alloc, &[])
+}
+
+/// Writes bytes, of which there are at most 64, at the start of a file.
+pub fn put<D: Disk>(disk: &mut D, file: StoreFile, bytes: &[u8]) -> Result<(), Failed> {
+    disk.write_at(file, 0, &bytes[..bytes.len().min(64)])
 }
 
 /// Keeps a snapshot where these are the bytes of one.

@@ -1,6 +1,6 @@
 //! The bytes of a record, added and read on a disk in memory.
 
-use crate::kept::{RECORD, keep_and_add, new_disk};
+use crate::kept::{RECORD, keep_and_add, new_disk, put};
 use request_log::{LogFault, next};
 use sf_outside::{Disk, StoreFile};
 use std::alloc::Global;
@@ -22,7 +22,7 @@ fn next_gate(alloc: Global, log: &[u8], at: u64) -> Result<Option<u64>, LogFault
     let Ok(mut disk) = new_disk(alloc) else {
         return Err(LogFault::Failed);
     };
-    disk.write_at(StoreFile::Log1, 0, log)?;
+    put(&mut disk, StoreFile::Log1, log)?;
     Ok(next(alloc, &mut disk, StoreFile::Log1, at)?.map(|found| found.next))
 }
 

@@ -3,7 +3,7 @@
 ghost use Rattle.sf_outside.specs.DiskModel.{Image};
 ghost use Rattle.snapshot_store.specs.SlotFile.{IsNew};
 
-use crate::kept::{NO_PROGRAM, PROGRAM_A, keep, keep_first, new_disk};
+use crate::kept::{NO_PROGRAM, PROGRAM_A, keep, keep_first, new_disk, put};
 use sf_outside::{Disk, StoreFile};
 use snapshot_store::{SnapFault, newest};
 use std::alloc::Global;
@@ -54,8 +54,8 @@ fn the_second_takes_slot_0(rt: HostRuntime) -> Result<(), Fail> {
 /// What is found on a disk whose slots begin with these bytes.
 fn found_in(alloc: Global, first: &[u8], second: &[u8]) -> Result<Option<u64>, SnapFault> {
     let mut disk = new_disk(alloc)?;
-    disk.write_at(StoreFile::Snap0, 0, first)?;
-    disk.write_at(StoreFile::Snap1, 0, second)?;
+    put(&mut disk, StoreFile::Snap0, first)?;
+    put(&mut disk, StoreFile::Snap1, second)?;
     newest_epoch(alloc, &mut disk)
 }
 

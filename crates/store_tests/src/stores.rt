@@ -1,6 +1,6 @@
 //! A store that is found again, on a disk in memory.
 
-use crate::kept::{NO_PROGRAM, RECORD, failing_disk, keep_and_add, keep_first, new_disk};
+use crate::kept::{NO_PROGRAM, RECORD, failing_disk, keep_and_add, keep_first, new_disk, put};
 use recovery::{OpenFault, Opened, reopen};
 use sf_outside::{Disk, StoreFile};
 use snapshot_store::SnapFault;
@@ -48,7 +48,7 @@ fn a_snapshot_and_a_batch_are_found(rt: HostRuntime) -> Result<(), Fail> {
 fn bad_place(alloc: Global, log: &[u8]) -> Result<Option<u64>, SnapFault> {
     let mut disk = new_disk(alloc)?;
     keep_first(alloc, &mut disk, &NO_PROGRAM)?;
-    disk.write_at(StoreFile::Log1, 0, log)?;
+    put(&mut disk, StoreFile::Log1, log)?;
     match reopen(alloc, &mut disk) {
         Err(
             OpenFault::Bad {

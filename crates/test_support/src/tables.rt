@@ -53,10 +53,12 @@ mod tests {
         assert_eq!(rt; rows.len(), 3);
         let mut told = String::new(rt.alloc());
         for row in &rows {
-            for part in [row.label, row.text.as_str(), row.wanted] {
-                told.push_str(part)?;
-                told.push(';')?;
-            }
+            told.push_str(row.label)?;
+            told.push(';')?;
+            told.push_str(row.text.as_str())?;
+            told.push(';')?;
+            told.push_str(row.wanted)?;
+            told.push(';')?;
         }
         assert_eq!(rt;
             told.as_str(),

@@ -22,11 +22,11 @@ returns c =
     let before = c.args.wrote.now in
     let fields = c.args.held.now.fields in
     let left = c.take_out.new.held.fields in
-    let w = world_of c.in_ok-state.state c.evaluate-given.new.tx in
+    let w = world_of c.in_ok-state.state c.evaluate-given.new.run.tx in
     let written = c.into_written-written.result in
     let h : Held = held c.put_back.new.held c.put_back.new.wrote in
     let back : h ≡ record { fields = unwrap_or written (unwrap_or (map.get (map.insert no_state me fields) me) left); wrote = before || is_some written } = λ i. record { fields = (c.put_back.ensures.fields ∙ ap (λ s. unwrap_or written (unwrap_or (map.get s me) left)) c.in_ok-state.ensures) i; wrote = c.put_back.ensures.flag i } in
-    mapped_ok c.outcome_here.result (ComesTo c.evaluate-given.result) (λ x. GivesHere x h c.evaluate-given.new.steps (eval (on_record src me d) (plain_expr c.args.expr.now) c.args.vars.now (held c.args.held.now c.args.wrote.now) c.args.steps.now))
-    (gives_here src me d c.saturating_sub.result c.saturating_sub.ensures before fields left (world_of c.in_ok-state.state c.begin-tx.result) w written h (c.begin-tx.ensures c.in_ok-state.state ∙ ap at_first c.in_ok-state.ensures) (c.into_written-written.ensures.written c.in_ok-state.state) (c.into_written-written.ensures.fields c.in_ok-state.state) back
-    (plain_expr c.args.expr.now) c.args.vars.now c.args.steps.now c.evaluate-given.new.steps c.evaluate-given.result c.evaluate-given.ensures)
+    mapped_ok c.outcome_here.result (ComesTo c.evaluate-given.result) (λ x. GivesHere x h c.evaluate-given.new.run.steps (eval (on_record src me d) (plain_expr c.args.expr.now) c.args.vars.now (held c.args.held.now c.args.wrote.now) c.args.steps.now))
+    (gives_here src me d c.saturating_sub.result c.saturating_sub.ensures before fields left (world_of c.in_ok-state.state c.begin.result) w written h (c.begin.ensures c.in_ok-state.state ∙ ap at_first c.in_ok-state.ensures) (c.into_written-written.ensures.written c.in_ok-state.state) (c.into_written-written.ensures.fields c.in_ok-state.state) back
+    (plain_expr c.args.expr.now) c.args.vars.now c.args.steps.now c.evaluate-given.new.run.steps c.evaluate-given.result c.evaluate-given.ensures)
     c.outcome_here.ensures

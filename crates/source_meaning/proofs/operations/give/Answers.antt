@@ -8,7 +8,7 @@ use Rattle.py_tree.specs.Functions.{plain_function}
 use Rattle.sf_value.specs.declared.value.Value.TheVariants as value
 use Rattle.source_meaning.specs.World.{told}
 use Rattle.source_meaning.specs.Operations.{given_by}
-use Rattle.source_meaning.specs.Agrees.{Agrees}
+use Rattle.source_meaning.specs.Agrees.{AgreesIn}
 use Rattle.source_meaning.proofs.operations.give.Goals as goal
 
 pub returns-in-Text : goal.returns-in-Text
@@ -17,4 +17,4 @@ returns-in-Text c =
     let fx : FitsSigned w128 c.argument_number-x.result = record { sfits = c.argument_number-x.type_inv } in
     let h = simp (to_z-of_z, fx) at c.digits.ensures in
     let e = ap (λ x. Ok (value.Str (chars (signed_decimal x)))) c.argument_number-x.ensures ∙ ap (λ f. given_by (plain_function f) c.args.args.now) (sym c.in-Text.is) in
-    λ w n. subst (λ r. Agrees c.digits.result w n (told r w n)) e (h w n)
+    λ w n. subst (λ r. AgreesIn c.digits.result w n (told r w n)) e (h w n)
