@@ -1,5 +1,5 @@
 -- A statement of `__init__`, which runs on the record made so far, by what its parts do in a world that holds that record.
-use Rattle.std.proofs.Common.{◌≡◌, ◌<◌, ◌≤◌, ◌+◌, ℕ, List, [], ◌∷◌, ◌++◌, Option, Some, cond, true, false, if◌then◌else◌, drop, get_or, length, refl, sym, ap, ◌∙◌, subst, add-one, drop-cons}
+use Rattle.std.proofs.Common.{◌≡◌, ◌<◌, ◌≤◌, ◌+◌, ℕ, List, [], ◌∷◌, ◌++◌, Option, Some, cond, if◌then◌else◌, drop, get_or, length, refl, sym, ap, ◌∙◌, subst, add-one, drop-cons}
 use Rattle.std.specs.FinMap as map
 use Rattle.std.specs.Cmp.{eq_by_cmp_equiv}
 use Rattle.std.specs.Prelude.{unwrap_or}

@@ -1,5 +1,5 @@
 -- Evaluating an expression is evaluating its innermost receiver, and then going on along its trailers.
-use Rattle.std.proofs.Common.{◌≡◌, ◌≤◌, ◌<◌, ◌+◌, ℕ, List, [], ◌∷◌, ◌++◌, Option, Some, None, length, map, refl, sym, ap, ◌∙◌, subst, arith}
+use Rattle.std.proofs.Common.{◌≡◌, ◌≤◌, ◌+◌, ℕ, List, [], ◌∷◌, ◌++◌, Option, Some, None, length, map, refl, ap, ◌∙◌, subst, arith}
 use Rattle.std.proofs.lemmas.List.{map-append}
 use Rattle.std.specs.declared.alloc.Global.{Global}
 use Rattle.std.specs.declared.boxed.Box.{Box}
@@ -7,7 +7,7 @@ use Rattle.py_tree.specs.declared.names.Place.{Place}
 use Rattle.py_tree.specs.declared.names.PlacedName.{PlacedName}
 use Rattle.py_tree.specs.declared.expr.Expr.{Expr}
 use Rattle.py_tree.specs.declared.expr.ExprKind as e
-use Rattle.py_tree.specs.PlainExpressions.{PlainExpr, PInt, PBool, PStr, PNil, PVar, PSelf, PAttr, PCall, PApply, PIndex, PList, PNeg, PPos, PNot, PChain, PAnd, POr, PCompare, PIsNone, PCond, plain_kind, plain_expr, plain_exprs, exprs_of}
+use Rattle.py_tree.specs.PlainExpressions.{PlainExpr, PCall, PIndex, plain_kind, plain_expr, plain_exprs, exprs_of}
 use Rattle.py_tree.specs.Bounded.{expr_size}
 use Rattle.py_tree.proofs.Views.{plain-Call, plain-Index}
 use Rattle.sf_value.specs.declared.value.Value.{Value}

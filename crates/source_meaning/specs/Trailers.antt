@@ -1,5 +1,5 @@
 -- Chains of receivers: a call of a method, or an index, stands behind its receiver, which may end so again.
-use Rattle.std.specs.Prelude.{ℕ, ◌+◌, List, [], ◌∷◌, Some, None, ◌≡◌}
+use Rattle.std.specs.Prelude.{ℕ, List, [], ◌∷◌, Some, None, ◌≡◌}
 use Rattle.std.specs.declared.option.Option.{Option}
 use Rattle.py_tree.specs.PlainExpressions.{PlainExpr, PCall, PIndex, PlainExprs, plain_expr, plain_exprs, exprs_of}
 use Rattle.py_tree.specs.Bounded.{expr_size, exprs_size}

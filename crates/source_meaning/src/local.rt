@@ -12,7 +12,7 @@ ghost use Rattle.source_meaning.specs.World.{State};
 ghost use Rattle.source_meaning.specs.Serial.{no_state};
 ghost use Rattle.source_meaning.specs.Sources.{source_of};
 ghost use Rattle.source_meaning.specs.Transactions.{world_of, with_records};
-ghost use Rattle.source_meaning.specs.Walks.{seen, program_of, Agrees};
+ghost use Rattle.source_meaning.specs.Walks.{seen, program_of};
 
 use crate::Stop;
 use crate::failures::{SIZE_LIMIT, empty_text};
@@ -198,7 +198,7 @@ impl Local {
 fn ask(site: &Site<'_>, asked: &Act, run: &mut Run) -> Result<Value, Stop>
     requires fresh { seen site.now run.now ≡ at_first site.now.state.now }
     requires all { run.now.steps ≡ steps_at_first }
-    ensures { Agrees result site.now run.new (the_begin (program_of site.now) asked.now site.now.state.now) }
+    ensures { AgreesIn result (seen site.now run.new) run.new.steps (the_begin (program_of site.now) asked.now site.now.state.now) }
 {
     match asked {
         Act::Call {

@@ -7,25 +7,22 @@
 //! code nests no deeper than its levels and its calls. A level takes few and small frames: each form
 //! is a function of its own, never put in line, and owns no large value while it runs other code.
 
-ghost use Rattle.std.specs.Prelude.{◌≡◌, ◌≤◌, ◌+◌, true, Some, [], suc, option_map};
-ghost use Rattle.py_tree.specs.PlainExpressions.{plain_expr, plain_exprs, exprs_of};
-ghost use Rattle.py_tree.specs.PlainStatements.{PItems, PRange, plain_option, plain_over, plain_stmt, plain_stmts, stmts_of, plain_arms, arms_of};
+ghost use Rattle.std.specs.Prelude.{◌≡◌, ◌≤◌, ◌+◌, true, Some, [], option_map};
+ghost use Rattle.py_tree.specs.PlainExpressions.{plain_expr};
+ghost use Rattle.py_tree.specs.PlainStatements.{PItems, plain_option, plain_over, plain_stmt, plain_stmts, stmts_of};
 ghost use Rattle.py_tree.specs.PlainProgram.{plain_method};
-ghost use Rattle.py_tree.specs.ClassRules.{body_of, params_of};
+ghost use Rattle.py_tree.specs.ClassRules.{body_of};
 ghost use Rattle.py_tree.specs.ExpressionTypes.{function_of as the_function_of};
 ghost use Rattle.py_tree.specs.Bounded.{most_nodes, stmt_size, stmts_size};
 ghost use Rattle.sf_value.specs.Keys.{Key, key_of};
-ghost use Rattle.source_meaning.specs.ClassTables.{init_of};
-ghost use Rattle.source_meaning.specs.World.{with_given};
 ghost use Rattle.source_meaning.specs.Purity.{is_pure as the_is_pure};
-ghost use Rattle.source_meaning.specs.Evaluation.{each_is as the_each_is, applied as the_applied};
-ghost use Rattle.source_meaning.specs.Execution.{act_arms, checked, augmented as the_augmented, value_or_none as the_value_or_none, message as the_message, start_of as the_start_of, turns_of, over_items as the_over_items, over_numbers as the_over_numbers, while_turns as the_while_turns};
-ghost use Rattle.source_meaning.specs.Calls.{run_body as the_run_body, enter as the_enter, create as the_create, declare as the_declare, declare_all as the_declare_all, bound};
+ghost use Rattle.source_meaning.specs.Evaluation.{applied as the_applied};
+ghost use Rattle.source_meaning.specs.Execution.{start_of as the_start_of};
+ghost use Rattle.source_meaning.specs.Calls.{create as the_create};
 ghost use Rattle.source_meaning.specs.Sites.{site_of};
-ghost use Rattle.source_meaning.specs.InPlace.{element_in, applied_to};
 ghost use Rattle.source_meaning.specs.Trailers.{last_trailer as the_last_trailer, plain_trailer, followed};
 ghost use Rattle.source_meaning.specs.Agrees.{GivesRecord};
-ghost use Rattle.source_meaning.specs.Walks.{seen, record_seen, Agrees, EndsAs, MakesAs, program_of, value_of, values_of, linked_by, does, runs, called, called_with, open_calls, own_calls, own_read, element_from, listed, negated, numbered, inverted, compared_to_none, compared, linked_to, chosen, done, returned, raised, stored, turned, field_declared, check_declared};
+ghost use Rattle.source_meaning.specs.Walks.{record_seen, Agrees, EndsAs, MakesAs, program_of, value_of, values_of, linked_by, does, runs, called, open_calls, own_calls, entered, body_run, record_made, record_of_new, own_read, called_with, applied_with, element_from, indexed, listed, negated, numbered, inverted, compared_to_none, compared, linked_to, chosen, all_are, optional, message_of, combined_with, done, returned, raised, asserted, stored, first_of_arms, turned_while, range_of, turned, turned_over, turned_from, declared, all_declared, field_declared, check_declared};
 
 use crate::Stop;
 use crate::direct::{
@@ -86,7 +83,7 @@ pub(crate) fn evaluate(
     vars: &Vars,
     run: &mut Run,
 ) -> Result<Value, Stop>
-    ensures { Agrees result site.now run.new (value_of site.now expr.now vars.now (seen site.now run.old) run.old.steps) }
+    ensures { Agrees result site.now run.old run.new (value_of site.now expr.now vars.now) }
 {
     let nesting = run.nesting;
     if nesting >= NESTING_LIMIT {
@@ -102,7 +99,7 @@ pub(crate) fn evaluate(
 #[cycle(walk)]
 #[tactic(auto, using(crate::proofs::EvalLaws::eval_is, crate::proofs::SizeLaws::expr_sizes))]
 fn evaluate_form(site: &Site<'_>, expr: &Expr, vars: &Vars, run: &mut Run) -> Result<Value, Stop>
-    ensures { Agrees result site.now run.new (value_of site.now expr.now vars.now (seen site.now run.old) run.old.steps) }
+    ensures { Agrees result site.now run.old run.new (value_of site.now expr.now vars.now) }
 {
     match &expr.kind {
         ExprKind::Int(n) => Ok(Value::Int(*n)),
@@ -146,7 +143,7 @@ fn chain(
     run: &mut Run,
 ) -> Result<Value, Stop>
     requires { the_last_trailer (plain_expr expr.now) ≡ Some (plain_expr on.now, plain_trailer last) }
-    ensures { Agrees result site.now run.new (value_of site.now expr.now vars.now (seen site.now run.old) run.old.steps) }
+    ensures { Agrees result site.now run.old run.new (value_of site.now expr.now vars.now) }
 {
     let whole = chain_of(site.alloc, expr, on, last)?;
     let Chain {
@@ -170,7 +167,7 @@ fn follow(
     vars: &Vars,
     run: &mut Run,
 ) -> Result<Value, Stop>
-    ensures { Agrees result site.now run.new (followed (site_of site.now) (plain_trailer trailer.entry) vars.now on (seen site.now run.old) run.old.steps) }
+    ensures { Agrees result site.now run.old run.new (followed (site_of site.now) (plain_trailer trailer.entry) vars.now on) }
 {
     match trailer {
         Trailer::Call(name, args) => {
@@ -197,7 +194,7 @@ fn call_with(
     vars: &Vars,
     run: &mut Run,
 ) -> Result<Value, Stop>
-    ensures { Agrees result site.now run.new (called_with site.now on.now name.0 (values_of site.now args.now [] vars.now (seen site.now run.old) run.old.steps)) }
+    ensures { Agrees result site.now run.old run.new (called_with site.now on.now name.0 (values_of site.now args.now [] vars.now)) }
 {
     let args = evaluate_all(site, args, vars, run)?;
     let given = call(site, on, name, &args, run);
@@ -215,7 +212,7 @@ fn element_of(
     vars: &Vars,
     run: &mut Run,
 ) -> Result<Value, Stop>
-    ensures { Agrees result site.now run.new (element_from list.now (value_of site.now index.now vars.now (seen site.now run.old) run.old.steps)) }
+    ensures { Agrees result site.now run.old run.new (element_from list.now (value_of site.now index.now vars.now)) }
 {
     let at = evaluate(site, index, vars, run)?;
     let item = element_copy(site.alloc, list, &at);
@@ -235,7 +232,7 @@ fn element(
     vars: &Vars,
     run: &mut Run,
 ) -> Result<Value, Stop>
-    ensures { Agrees result site.now run.new (element_in (value_of site.now on.now vars.now (seen site.now run.old) run.old.steps) (value_of site.now index.now vars.now)) }
+    ensures { Agrees result site.now run.old run.new (indexed (value_of site.now on.now vars.now) (value_of site.now index.now vars.now)) }
 {
     if let Some(list) = local_in_place(on, vars) {
         check_weight(site.alloc, list)?;
@@ -259,7 +256,7 @@ fn element_of_copy(
     vars: &Vars,
     run: &mut Run,
 ) -> Result<Value, Stop>
-    ensures { Agrees result site.now run.new (element_in (value_of site.now on.now vars.now (seen site.now run.old) run.old.steps) (value_of site.now index.now vars.now)) }
+    ensures { Agrees result site.now run.old run.new (indexed (value_of site.now on.now vars.now) (value_of site.now index.now vars.now)) }
 {
     let list = evaluate(site, on, vars, run)?;
     let item = element_of(site, &list, index, vars, run);
@@ -278,7 +275,7 @@ fn own_element(
     run: &mut Run,
 ) -> Result<Value, Stop>
     requires { the_is_pure (plain_expr index.now) ≡ true }
-    ensures { Agrees result site.now run.new (element_in (own_read site.now name.0 (seen site.now run.old) run.old.steps) (value_of site.now index.now vars.now)) }
+    ensures { Agrees result site.now run.old run.new (indexed (own_read site.now name.0) (value_of site.now index.now vars.now)) }
 {
     check_own_weight(site, name, &run.tx)?;
     let at = evaluate(site, index, vars, run)?;
@@ -291,7 +288,7 @@ fn own_element(
 #[cycle(walk)]
 #[inline(never)]
 fn evaluate_all(site: &Site<'_>, exprs: &[Expr], vars: &Vars, run: &mut Run) -> Result<Values, Stop>
-    ensures { Agrees result site.now run.new (values_of site.now exprs.now [] vars.now (seen site.now run.old) run.old.steps) }
+    ensures { Agrees result site.now run.old run.new (values_of site.now exprs.now [] vars.now) }
 {
     let mut values = Sequence::new(site.alloc);
     for expr in exprs {
@@ -305,7 +302,7 @@ fn evaluate_all(site: &Site<'_>, exprs: &[Expr], vars: &Vars, run: &mut Run) -> 
 #[cycle(walk)]
 #[inline(never)]
 fn list(site: &Site<'_>, items: &[Expr], vars: &Vars, run: &mut Run) -> Result<Value, Stop>
-    ensures { Agrees result site.now run.new (listed (values_of site.now items.now [] vars.now (seen site.now run.old) run.old.steps)) }
+    ensures { Agrees result site.now run.old run.new (listed (values_of site.now items.now [] vars.now)) }
 {
     let items = evaluate_all(site, items, vars, run)?;
     weigh(site.alloc, Value::List(items))
@@ -315,7 +312,7 @@ fn list(site: &Site<'_>, items: &[Expr], vars: &Vars, run: &mut Run) -> Result<V
 #[cycle(walk)]
 #[inline(never)]
 fn negation(site: &Site<'_>, a: &Expr, vars: &Vars, run: &mut Run) -> Result<Value, Stop>
-    ensures { Agrees result site.now run.new (negated (value_of site.now a.now vars.now (seen site.now run.old) run.old.steps)) }
+    ensures { Agrees result site.now run.old run.new (negated (value_of site.now a.now vars.now)) }
 {
     negate(site.alloc, evaluate(site, a, vars, run)?)
 }
@@ -324,7 +321,7 @@ fn negation(site: &Site<'_>, a: &Expr, vars: &Vars, run: &mut Run) -> Result<Val
 #[cycle(walk)]
 #[inline(never)]
 fn plus_sign(site: &Site<'_>, a: &Expr, vars: &Vars, run: &mut Run) -> Result<Value, Stop>
-    ensures { Agrees result site.now run.new (numbered (value_of site.now a.now vars.now (seen site.now run.old) run.old.steps)) }
+    ensures { Agrees result site.now run.old run.new (numbered (value_of site.now a.now vars.now)) }
 {
     Ok(Value::Int(take_number(evaluate(site, a, vars, run)?)))
 }
@@ -333,7 +330,7 @@ fn plus_sign(site: &Site<'_>, a: &Expr, vars: &Vars, run: &mut Run) -> Result<Va
 #[cycle(walk)]
 #[inline(never)]
 fn inversion(site: &Site<'_>, a: &Expr, vars: &Vars, run: &mut Run) -> Result<Value, Stop>
-    ensures { Agrees result site.now run.new (inverted (value_of site.now a.now vars.now (seen site.now run.old) run.old.steps)) }
+    ensures { Agrees result site.now run.old run.new (inverted (value_of site.now a.now vars.now)) }
 {
     Ok(Value::Bool(!take_truth(evaluate(site, a, vars, run)?)))
 }
@@ -348,7 +345,7 @@ fn none_test(
     vars: &Vars,
     run: &mut Run,
 ) -> Result<Value, Stop>
-    ensures { Agrees result site.now run.new (compared_to_none positive (value_of site.now a.now vars.now (seen site.now run.old) run.old.steps)) }
+    ensures { Agrees result site.now run.old run.new (compared_to_none positive (value_of site.now a.now vars.now)) }
 {
     let nil = take_nil(evaluate(site, a, vars, run)?);
     Ok(Value::Bool(if positive { nil } else { !nil }))
@@ -365,7 +362,7 @@ fn comparison(
     vars: &Vars,
     run: &mut Run,
 ) -> Result<Value, Stop>
-    ensures { Agrees result site.now run.new (compared op (value_of site.now left.now vars.now (seen site.now run.old) run.old.steps) (value_of site.now right.now vars.now)) }
+    ensures { Agrees result site.now run.old run.new (compared op (value_of site.now left.now vars.now) (value_of site.now right.now vars.now)) }
 {
     let x = evaluate(site, left, vars, run)?;
     let y = evaluate(site, right, vars, run)?;
@@ -383,7 +380,7 @@ fn conditional(
     vars: &Vars,
     run: &mut Run,
 ) -> Result<Value, Stop>
-    ensures { Agrees result site.now run.new (chosen (value_of site.now test.now vars.now (seen site.now run.old) run.old.steps) (value_of site.now yes.now vars.now) (value_of site.now no.now vars.now)) }
+    ensures { Agrees result site.now run.old run.new (chosen site.now test.now yes.now no.now vars.now) }
 {
     if take_truth(evaluate(site, test, vars, run)?) {
         evaluate(site, yes, vars, run)
@@ -402,7 +399,7 @@ fn operators(
     vars: &Vars,
     run: &mut Run,
 ) -> Result<Value, Stop>
-    ensures { Agrees result site.now run.new (linked_to (value_of site.now first.now vars.now (seen site.now run.old) run.old.steps) (λ v. linked_by site.now links.now v vars.now)) }
+    ensures { Agrees result site.now run.old run.new (linked_to (value_of site.now first.now vars.now) (λ v. linked_by site.now links.now v vars.now)) }
 {
     let value = evaluate(site, first, vars, run)?;
     link(site, value, links, vars, run)
@@ -417,7 +414,7 @@ fn link(
     vars: &Vars,
     run: &mut Run,
 ) -> Result<Value, Stop>
-    ensures { Agrees result site.now run.new (linked_by site.now links.now first vars.now (seen site.now run.old) run.old.steps) }
+    ensures { Agrees result site.now run.old run.new (linked_by site.now links.now first vars.now) }
 {
     let mut value = first;
     for link in links {
@@ -437,7 +434,7 @@ fn each_is(
     vars: &Vars,
     run: &mut Run,
 ) -> Result<Value, Stop>
-    ensures { Agrees result site.now run.new (the_each_is (site_of site.now) truth (exprs_of (plain_exprs operands.now)) vars.now (seen site.now run.old) run.old.steps) }
+    ensures { Agrees result site.now run.old run.new (all_are site.now truth operands.now vars.now) }
 {
     for operand in operands {
         if take_truth(evaluate(site, operand, vars, run)?) != truth {
@@ -457,7 +454,7 @@ fn call(
     args: &Values,
     run: &mut Run,
 ) -> Result<Value, Stop>
-    ensures { Agrees result site.now run.new (called site.now on.now name.0 args.now (seen site.now run.old) run.old.steps) }
+    ensures { Agrees result site.now run.old run.new (called site.now on.now name.0 args.now) }
 {
     let number = method_number(site.program, target_class(on), name);
     match site.room {
@@ -482,7 +479,7 @@ fn call_own(
     args: &Values,
     run: &mut Run,
 ) -> Result<Value, Stop>
-    ensures { (at : Key) → Agrees result site.now run.new ((own_calls site.now left).call at number args.now (seen site.now run.old) run.old.steps) }
+    ensures { (at : Key) → Agrees result site.now run.old run.new ((own_calls site.now left).call at number args.now) }
 {
     take_step(site.alloc, &mut run.steps)?;
     let Some(left) = left.checked_sub(1) else {
@@ -511,7 +508,7 @@ pub(crate) fn call_entity(
     args: &Values,
     run: &mut Run,
 ) -> Result<Value, Stop>
-    ensures { Agrees result site.now run.new ((open_calls site.now left).call (key_of at.now) number args.now (seen site.now run.old) run.old.steps) }
+    ensures { Agrees result site.now run.old run.new ((open_calls site.now left).call (key_of at.now) number args.now) }
 {
     take_step(site.alloc, &mut run.steps)?;
     let Some(left) = left.checked_sub(1) else {
@@ -531,7 +528,7 @@ fn enter(
     args: &Values,
     run: &mut Run,
 ) -> Result<Value, Stop>
-    ensures { Agrees result site.now run.new (the_enter (program_of site.now) (open_calls site.now left) (key_of at.now) number args.now (seen site.now run.old) run.old.steps) }
+    ensures { Agrees result site.now run.old run.new (entered site.now left (key_of at.now) number args.now) }
 {
     run.tx.mark_read(at.try_clone(site.alloc)?)?;
     if !run.tx.contains(site.state, at) {
@@ -562,7 +559,7 @@ fn run_body(
     run: &mut Run,
 ) -> Result<Value, Stop>
     requires { stmts_size (stmts_of (body_of (option_map (λ m. plain_method m.now) method))) ≤ most_nodes }
-    ensures { Agrees result site.now run.new (the_run_body (site_of site.now) (option_map (λ m. plain_method m.now) method.entry) args.now (seen site.now run.old) run.old.steps) }
+    ensures { Agrees result site.now run.old run.new (body_run site.now method.entry args.now) }
 {
     let mut vars = bind(site.alloc, params(method), args)?;
     let ended = execute_all(site, body(method), &mut vars, run);
@@ -583,7 +580,7 @@ fn application(
     vars: &Vars,
     run: &mut Run,
 ) -> Result<Value, Stop>
-    ensures { Agrees result site.now run.new (applied_to (site_of site.now) name.0 (values_of site.now args.now [] vars.now (seen site.now run.old) run.old.steps)) }
+    ensures { Agrees result site.now run.old run.new (applied_with site.now name.0 (values_of site.now args.now [] vars.now)) }
 {
     if let Some(length) = own_length(site, name, args, vars, &run.tx) {
         return length;
@@ -598,7 +595,7 @@ fn application(
 #[cycle(walk)]
 #[inline(never)]
 fn apply(site: &Site<'_>, name: Name, args: &Values, run: &mut Run) -> Result<Value, Stop>
-    ensures { Agrees result site.now run.new (the_applied (site_of site.now) (the_function_of name.0) name.0 args.now (seen site.now run.old) run.old.steps) }
+    ensures { Agrees result site.now run.old run.new (the_applied (site_of site.now) (the_function_of name.0) name.0 args.now) }
 {
     match function_of(name) {
         Some(function) => give(site.alloc, function, args),
@@ -610,7 +607,7 @@ fn apply(site: &Site<'_>, name: Name, args: &Values, run: &mut Run) -> Result<Va
 #[cycle(walk)]
 #[inline(never)]
 fn make(site: &Site<'_>, class: u32, args: &Values, run: &mut Run) -> Result<Value, Stop>
-    ensures { Agrees result site.now run.new ((site_of site.now).calls.make class args.now (seen site.now run.old) run.old.steps) }
+    ensures { Agrees result site.now run.old run.new ((site_of site.now).calls.make class args.now) }
 {
     match site.room {
         Room::Closed | Room::Within(_) => Err(fail(site.alloc, RECURSION_ERROR)),
@@ -628,7 +625,7 @@ pub(crate) fn make_entity(
     args: &Values,
     run: &mut Run,
 ) -> Result<Value, Stop>
-    ensures { Agrees result site.now run.new ((open_calls site.now left).make class args.now (seen site.now run.old) run.old.steps) }
+    ensures { Agrees result site.now run.old run.new ((open_calls site.now left).make class args.now) }
 {
     take_step(site.alloc, &mut run.steps)?;
     if left == 0 {
@@ -644,7 +641,7 @@ pub(crate) fn make_entity(
 #[cycle(walk)]
 #[inline(never)]
 fn create(site: &Site<'_>, at: &Ref, args: &Values, run: &mut Run) -> Result<Value, Stop>
-    ensures { Agrees result site.now run.new (the_create (program_of site.now) (key_of at.now) args.now (seen site.now run.old) run.old.steps) }
+    ensures { Agrees result site.now run.old run.new (the_create (program_of site.now) (key_of at.now) args.now) }
 {
     run.tx.mark_read(at.try_clone(site.alloc)?)?;
     if run.tx.contains(site.state, at) {
@@ -659,7 +656,7 @@ fn create(site: &Site<'_>, at: &Ref, args: &Values, run: &mut Run) -> Result<Val
 #[cycle(walk)]
 #[inline(never)]
 fn make_record(site: &Site<'_>, at: &Ref, args: &Values, run: &mut Run) -> Result<Values, Stop>
-    ensures record { GivesRecord result run.new.steps (the_declare_all (program_of site.now) (key_of at.now) (body_of (init_of (program_of site.now) at.now.class)) (bound (params_of (init_of (program_of site.now) at.now.class)) args.now) [] run.old.steps) }
+    ensures record { GivesRecord result run.new.steps (record_of_new site.now at.now args.now run.old.steps) }
     ensures kept { run.new.tx ≡ run.old.tx }
 {
     let init = init(site.program, at.class);
@@ -680,7 +677,7 @@ fn init_record(
     run: &mut Run,
 ) -> Result<Values, Stop>
     requires { stmts_size (stmts_of (body_of (option_map (λ m. plain_method m.now) init))) ≤ most_nodes }
-    ensures record { GivesRecord result run.new.steps (the_declare_all (program_of site.now) (key_of at.now) (body_of (option_map (λ m. plain_method m.now) init.entry)) vars.now [] run.old.steps) }
+    ensures record { GivesRecord result run.new.steps (record_made site.now at.now init.entry vars.now run.old.steps) }
     ensures kept { run.new.tx ≡ run.old.tx }
 {
     let fields = class_fields(site.alloc, site.program, at.class)?;
@@ -717,7 +714,7 @@ fn declared_record(
 ) -> Result<Values, Stop>
     requires closed { site.now.room ≡ Room.Closed }
     requires small { stmts_size (stmts_of (plain_stmts body.now)) ≤ most_nodes }
-    ensures { GivesRecord result run.new.steps (the_declare_all (program_of site.now) (key_of site.now.me.now) (plain_stmts body.now) vars.now (record_seen site.now run.old) run.old.steps) }
+    ensures { GivesRecord result run.new.steps (all_declared site.now body.now vars.now (record_seen site.now run.old) run.old.steps) }
 {
     declare_all(site, body, vars, run)?;
     Ok(run.tx.copied_fields(site.alloc, site.state, site.me)?)
@@ -729,7 +726,7 @@ fn declared_record(
 fn declare_all(site: &Site<'_>, body: &[Stmt], vars: &Vars, run: &mut Run) -> Result<(), Stop>
     requires closed { site.now.room ≡ Room.Closed }
     requires small { stmts_size (stmts_of (plain_stmts body.now)) ≤ most_nodes }
-    ensures { MakesAs result site.now run.new (the_declare_all (program_of site.now) (key_of site.now.me.now) (plain_stmts body.now) vars.now (record_seen site.now run.old) run.old.steps) }
+    ensures { MakesAs result site.now run.old run.new (all_declared site.now body.now vars.now) }
 {
     for stmt in body {
         declare(site, stmt, vars, run)?;
@@ -743,7 +740,7 @@ fn declare_all(site: &Site<'_>, body: &[Stmt], vars: &Vars, run: &mut Run) -> Re
 fn declare(site: &Site<'_>, stmt: &Stmt, vars: &Vars, run: &mut Run) -> Result<(), Stop>
     requires closed { site.now.room ≡ Room.Closed }
     requires small { stmt_size (plain_stmt stmt.now) ≤ most_nodes }
-    ensures { MakesAs result site.now run.new (the_declare (program_of site.now) (key_of site.now.me.now) (plain_stmt stmt.now) vars.now (record_seen site.now run.old) run.old.steps) }
+    ensures { MakesAs result site.now run.old run.new (declared site.now stmt.now vars.now) }
 {
     take_step(site.alloc, &mut run.steps)?;
     match &stmt.kind {
@@ -767,7 +764,7 @@ fn declare(site: &Site<'_>, stmt: &Stmt, vars: &Vars, run: &mut Run) -> Result<(
 #[inline(never)]
 fn declare_field(site: &Site<'_>, expr: &Expr, vars: &Vars, run: &mut Run) -> Result<(), Stop>
     requires { site.now.room ≡ Room.Closed }
-    ensures { MakesAs result site.now run.new (field_declared site.now expr.now vars.now (record_seen site.now run.old) run.old.steps) }
+    ensures { MakesAs result site.now run.old run.new (field_declared site.now expr.now vars.now) }
 {
     let value = evaluate(site, expr, vars, run)?;
     run.tx.push_field(site, value)?;
@@ -785,7 +782,7 @@ fn declare_check(
     run: &mut Run,
 ) -> Result<(), Stop>
     requires { site.now.room ≡ Room.Closed }
-    ensures { MakesAs result site.now run.new (check_declared site.now test.now note.now vars.now (record_seen site.now run.old) run.old.steps) }
+    ensures { MakesAs result site.now run.old run.new (check_declared site.now test.now note.now vars.now) }
 {
     if take_truth(evaluate(site, test, vars, run)?) {
         return Ok(());
@@ -802,7 +799,7 @@ fn declare_check(
 #[tactic(auto, unfolding(crate::specs::Execution::message))]
 #[inline(never)]
 fn message(site: &Site<'_>, note: &Option<Expr>, vars: &Vars, run: &mut Run) -> Result<Text, Stop>
-    ensures { Agrees result site.now run.new (the_message (site_of site.now) (plain_option plain_expr note.now) vars.now (seen site.now run.old) run.old.steps) }
+    ensures { Agrees result site.now run.old run.new (message_of site.now note.now vars.now) }
 {
     match note {
         Some(expr) => {
@@ -820,7 +817,7 @@ fn message(site: &Site<'_>, note: &Option<Expr>, vars: &Vars, run: &mut Run) -> 
 #[cycle(walk)]
 #[inline(never)]
 fn execute(site: &Site<'_>, stmt: &Stmt, vars: &mut Vars, run: &mut Run) -> Result<Flow, Stop>
-    ensures { EndsAs result vars.new site.now run.new (does site.now stmt.now vars.old (seen site.now run.old) run.old.steps) }
+    ensures { EndsAs result vars.new site.now run.old run.new (does site.now stmt.now vars.old) }
 {
     let nesting = run.nesting;
     if nesting >= NESTING_LIMIT {
@@ -837,7 +834,7 @@ fn execute(site: &Site<'_>, stmt: &Stmt, vars: &mut Vars, run: &mut Run) -> Resu
 #[cycle(walk)]
 #[tactic(auto, using(crate::proofs::ActLaws::act_is, crate::proofs::SizeLaws::stmt_sizes))]
 fn execute_form(site: &Site<'_>, stmt: &Stmt, vars: &mut Vars, run: &mut Run) -> Result<Flow, Stop>
-    ensures { EndsAs result vars.new site.now run.new (does site.now stmt.now vars.old (seen site.now run.old) (run.old.steps + 1)) }
+    ensures { EndsAs result vars.new site.now run.old run.new (λ w n. does site.now stmt.now vars.old w (n + 1)) }
 {
     match &stmt.kind {
         StmtKind::Pass => Ok(Flow::On),
@@ -872,7 +869,7 @@ fn execute_form(site: &Site<'_>, stmt: &Stmt, vars: &mut Vars, run: &mut Run) ->
 #[cycle(walk)]
 #[inline(never)]
 fn evaluate_alone(site: &Site<'_>, expr: &Expr, vars: &Vars, run: &mut Run) -> Result<Flow, Stop>
-    ensures { EndsAs result vars.now site.now run.new (done vars.now (value_of site.now expr.now vars.now (seen site.now run.old) run.old.steps)) }
+    ensures { EndsAs result vars.now site.now run.old run.new (done vars.now (value_of site.now expr.now vars.now)) }
 {
     drop(evaluate(site, expr, vars, run)?);
     Ok(Flow::On)
@@ -888,7 +885,7 @@ fn give_back(
     vars: &Vars,
     run: &mut Run,
 ) -> Result<Flow, Stop>
-    ensures { EndsAs result vars.now site.now run.new (returned vars.now (the_value_or_none (site_of site.now) (plain_option plain_expr given.now) vars.now (seen site.now run.old) run.old.steps)) }
+    ensures { EndsAs result vars.now site.now run.old run.new (returned vars.now (optional site.now given.now vars.now)) }
 {
     match given {
         Some(expr) => {
@@ -909,7 +906,7 @@ fn raise(
     vars: &Vars,
     run: &mut Run,
 ) -> Result<Flow, Stop>
-    ensures { EndsAs result vars.now site.now run.new (raised kind vars.now (the_message (site_of site.now) (plain_option plain_expr note.now) vars.now (seen site.now run.old) run.old.steps)) }
+    ensures { EndsAs result vars.now site.now run.old run.new (raised kind vars.now (message_of site.now note.now vars.now)) }
 {
     let message = message(site, note, vars, run)?;
     Err(Stop::Failed(Failure { kind, message }))
@@ -925,7 +922,7 @@ fn assertion(
     vars: &Vars,
     run: &mut Run,
 ) -> Result<Flow, Stop>
-    ensures { EndsAs result vars.now site.now run.new (with_given vars.now (value_of site.now test.now vars.now (seen site.now run.old) run.old.steps) (checked (site_of site.now) (plain_option plain_expr note.now) vars.now)) }
+    ensures { EndsAs result vars.now site.now run.old run.new (asserted site.now note.now vars.now (value_of site.now test.now vars.now)) }
 {
     let holds = take_truth(evaluate(site, test, vars, run)?);
     if holds {
@@ -944,7 +941,7 @@ fn assign(
     vars: &mut Vars,
     run: &mut Run,
 ) -> Result<Flow, Stop>
-    ensures { EndsAs result vars.new site.now run.new (stored site.now target vars.old (value_of site.now expr.now vars.old (seen site.now run.old) run.old.steps)) }
+    ensures { EndsAs result vars.new site.now run.old run.new (stored site.now target vars.old (value_of site.now expr.now vars.old)) }
 {
     let value = evaluate(site, expr, vars, run)?;
     store(site, target, value, vars, &mut run.tx)?;
@@ -962,7 +959,7 @@ fn augment(
     vars: &mut Vars,
     run: &mut Run,
 ) -> Result<Flow, Stop>
-    ensures { EndsAs result vars.new site.now run.new (stored site.now target vars.old (the_augmented (site_of site.now) target op (plain_expr expr.now) vars.old (seen site.now run.old) run.old.steps)) }
+    ensures { EndsAs result vars.new site.now run.old run.new (stored site.now target vars.old (combined_with site.now target op expr.now vars.old)) }
 {
     let value = augmented(site, target, op, expr, vars, run)?;
     store(site, target, value, vars, &mut run.tx)?;
@@ -981,7 +978,7 @@ fn augmented(
     vars: &Vars,
     run: &mut Run,
 ) -> Result<Value, Stop>
-    ensures { Agrees result site.now run.new (the_augmented (site_of site.now) target op (plain_expr expr.now) vars.now (seen site.now run.old) run.old.steps) }
+    ensures { Agrees result site.now run.old run.new (combined_with site.now target op expr.now vars.now) }
 {
     let before = read_target(site, target, vars, &run.tx)?;
     let value = evaluate(site, expr, vars, run)?;
@@ -997,7 +994,7 @@ pub(crate) fn execute_all(
     vars: &mut Vars,
     run: &mut Run,
 ) -> Result<Flow, Stop>
-    ensures { EndsAs result vars.new site.now run.new (runs site.now stmts.now vars.old (seen site.now run.old) run.old.steps) }
+    ensures { EndsAs result vars.new site.now run.old run.new (runs site.now stmts.now vars.old) }
 {
     for stmt in stmts {
         match execute(site, stmt, vars, run)? {
@@ -1020,7 +1017,7 @@ fn execute_arms(
     vars: &mut Vars,
     run: &mut Run,
 ) -> Result<Flow, Stop>
-    ensures { EndsAs result vars.new site.now run.new (act_arms (site_of site.now) (arms_of (plain_arms arms.now)) (runs site.now other.now) vars.old (seen site.now run.old) run.old.steps) }
+    ensures { EndsAs result vars.new site.now run.old run.new (first_of_arms site.now arms.now other.now vars.old) }
 {
     for arm in arms {
         if take_truth(evaluate(site, &arm.test, vars, run)?) {
@@ -1040,7 +1037,7 @@ fn while_turns(
     vars: &mut Vars,
     run: &mut Run,
 ) -> Result<Flow, Stop>
-    ensures { EndsAs result vars.new site.now run.new (the_while_turns (suc run.old.steps) (value_of site.now test.now) (runs site.now body.now) vars.old (seen site.now run.old) run.old.steps) }
+    ensures { EndsAs result vars.new site.now run.old run.new (turned_while site.now test.now body.now vars.old) }
 {
     let limit = u64::from(run.steps) + 1;
     for _turn in 0..limit {
@@ -1067,7 +1064,7 @@ fn execute_for(
     vars: &mut Vars,
     run: &mut Run,
 ) -> Result<Flow, Stop>
-    ensures { EndsAs result vars.new site.now run.new (turned site.now turn.now.name.0 turn.now.body.now vars.old (turns_of (site_of site.now) (plain_over over.now) vars.old (seen site.now run.old) run.old.steps)) }
+    ensures { EndsAs result vars.new site.now run.old run.new (turned site.now turn.now (plain_over over.now) vars.old) }
 {
     match over {
         Over::Items(list) => for_items(site, turn, list, vars, run),
@@ -1086,7 +1083,7 @@ fn for_items(
     vars: &mut Vars,
     run: &mut Run,
 ) -> Result<Flow, Stop>
-    ensures { EndsAs result vars.new site.now run.new (turned site.now turn.now.name.0 turn.now.body.now vars.old (turns_of (site_of site.now) (PItems (plain_expr list.now)) vars.old (seen site.now run.old) run.old.steps)) }
+    ensures { EndsAs result vars.new site.now run.old run.new (turned site.now turn.now (PItems (plain_expr list.now)) vars.old) }
 {
     let list = evaluate(site, list, vars, run)?;
     let ended = over_items(site, turn, items(&list), vars, run);
@@ -1106,7 +1103,7 @@ fn for_numbers(
     vars: &mut Vars,
     run: &mut Run,
 ) -> Result<Flow, Stop>
-    ensures { EndsAs result vars.new site.now run.new (turned site.now turn.now.name.0 turn.now.body.now vars.old (turns_of (site_of site.now) (PRange (plain_option plain_expr start.now) (plain_expr end.now)) vars.old (seen site.now run.old) run.old.steps)) }
+    ensures { EndsAs result vars.new site.now run.old run.new (turned site.now turn.now (range_of start.now end.now) vars.old) }
 {
     let from = take_number(start_of(site, start, vars, run)?);
     let to = take_number(evaluate(site, end, vars, run)?);
@@ -1123,7 +1120,7 @@ fn start_of(
     vars: &Vars,
     run: &mut Run,
 ) -> Result<Value, Stop>
-    ensures { Agrees result site.now run.new (the_start_of (site_of site.now) (plain_option plain_expr start.now) vars.now (seen site.now run.old) run.old.steps) }
+    ensures { Agrees result site.now run.old run.new (the_start_of (site_of site.now) (plain_option plain_expr start.now) vars.now) }
 {
     match start {
         Some(expr) => evaluate(site, expr, vars, run),
@@ -1141,7 +1138,7 @@ fn over_items(
     vars: &mut Vars,
     run: &mut Run,
 ) -> Result<Flow, Stop>
-    ensures { EndsAs result vars.new site.now run.new (the_over_items turn.now.name.0 (runs site.now turn.now.body.now) values.now vars.old (seen site.now run.old) run.old.steps) }
+    ensures { EndsAs result vars.new site.now run.old run.new (turned_over site.now turn.now values.now vars.old) }
 {
     for value in values {
         take_step(site.alloc, &mut run.steps)?;
@@ -1166,7 +1163,7 @@ fn over_numbers(
     vars: &mut Vars,
     run: &mut Run,
 ) -> Result<Flow, Stop>
-    ensures { EndsAs result vars.new site.now run.new (the_over_numbers (suc run.old.steps) turn.now.name.0 (runs site.now turn.now.body.now) from to vars.old (seen site.now run.old) run.old.steps) }
+    ensures { EndsAs result vars.new site.now run.old run.new (turned_from site.now turn.now from to vars.old) }
 {
     let limit = u64::from(run.steps) + 1;
     let mut at = from;

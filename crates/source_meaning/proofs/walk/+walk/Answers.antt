@@ -17,12 +17,11 @@ use Rattle.source_meaning.specs.World.{Got, Fell, Goes, Fails, step_limit, recur
 use Rattle.source_meaning.specs.Evaluation.{entity}
 use Rattle.source_meaning.specs.Execution.{act_all, over_items, over_numbers, while_turns}
 use Rattle.source_meaning.specs.Calls.{own_at, calls_at, calls_within, run_body, in_state, create, made, declare_all}
-use Rattle.source_meaning.specs.Sources.{source_of}
 use Rattle.source_meaning.specs.Sites.{calls_of}
-use Rattle.source_meaning.proofs.AgreeLaws.{falls_as, fails_as, agrees_by, falls_by, falls_then, body_falls, turn_fails, given_fails, record_stops, making_stops}
+use Rattle.source_meaning.proofs.AgreeLaws.{falls_as, fails_as, agrees_by, falls_by, body_falls, turn_fails, given_fails, record_stops, making_stops}
 use Rattle.source_meaning.proofs.CallLaws.{within_zero, within_deep, within_more, nothing_made, call_zero, call_deep, call_more, make_zero, make_deep, make_more, enter_missing, enter_found, create_taken, create_free, body_is}
 use Rattle.source_meaning.proofs.DeclareLaws.{record_written, declare_none, declare-Assign, declare-Assert, declares_next, declares_end}
-use Rattle.source_meaning.proofs.ActLaws.{act-Pass, act-Break, act-Continue, act-Expr, act-Return, act-Raise, act-Assert, act-Assign, act-Augment, act-While, act-For, while_given, while_ends, while_stops, while_turn, items_stop, items_turn, numbers_end, numbers_stop, numbers_turn}
+use Rattle.source_meaning.proofs.ActLaws.{act-While, act-For, while_given, while_ends, while_stops, while_turn, items_stop, items_turn, numbers_end, numbers_stop, numbers_turn}
 use Rattle.std.proofs.Common.{Ok, [], Bor, if◌then◌else◌, ◌+ℤ◌, pos, of_z, to_z}
 use Rattle.std.specs.Int.{w128}
 use Rattle.std.proofs.lemmas.Int.{to_z-of_z}
@@ -35,7 +34,7 @@ use Rattle.source_meaning.proofs.DeclareLaws.{declare-Pass, declare-Break, decla
 use Rattle.py_tree.specs.PlainStatements.{plain_stmt_kind, plain_over}
 use Rattle.py_tree.specs.PlainExpressions.{plain_kind}
 use Rattle.py_tree.specs.PlainProgram.{plain_method}
-use Rattle.py_tree.specs.Bounded.{stmts_size, expr_size, exprs_size}
+use Rattle.py_tree.specs.Bounded.{stmts_size, expr_size}
 use Rattle.py_tree.specs.ClassRules.{body_of, params_of}
 use Rattle.py_tree.specs.declared.program.Method.{Method}
 use Rattle.py_tree.specs.declared.stmt.Arm.{out-Arm}
@@ -43,12 +42,9 @@ use Rattle.sf_value.specs.declared.value.Value.TheVariants as value
 use Rattle.source_meaning.specs.Agrees.{EndsIn}
 use Rattle.source_meaning.specs.World.{with_given, next_turn, assigned, assertion_error, ◌>>=◌}
 use Rattle.source_meaning.specs.Operations.{is_true}
-use Rattle.source_meaning.specs.Evaluation.{eval_all, key_in, method_of}
-use Rattle.source_meaning.specs.Execution.{act, store, turns_of, over_turns, stepping, message}
-use Rattle.source_meaning.specs.Calls.{bound, declare, making}
+use Rattle.source_meaning.specs.Execution.{act, turns_of, over_turns, stepping}
+use Rattle.source_meaning.specs.Calls.{bound, declare}
 use Rattle.source_meaning.proofs.ViewLaws.{viewed}
-use Rattle.source_meaning.proofs.EvalLaws.{eval-Call}
-use Rattle.source_meaning.proofs.SizeLaws.{size-Call}
 use Rattle.source_meaning.proofs.AgreeLaws.{turn_goes, gives_nil}
 use Rattle.source_meaning.proofs.InPlaceLaws.{element_told}
 use Rattle.std.proofs.Common.{List, Some, map, refl, length, option_to_list}
@@ -59,7 +55,7 @@ use Rattle.source_meaning.specs.World.{Gives}
 use Rattle.source_meaning.specs.RequestRun.{at_first}
 use Rattle.source_meaning.specs.Agrees.{GivesRecord, MakesIn}
 use Rattle.source_meaning.specs.Trailers.{Calling, last_trailer, plain_trailer, all_followed}
-use Rattle.source_meaning.specs.Walks.{seen, record_seen, program_of, value_of, does, runs, turned, check_failed}
+use Rattle.source_meaning.specs.Walks.{seen, record_seen, program_of, value_of, does, runs, check_failed}
 use Rattle.source_meaning.proofs.ActLaws.{act_none}
 use Rattle.source_meaning.proofs.AgreeLaws.{ends_as}
 use Rattle.source_meaning.proofs.DeclareLaws.{made_eval, made_message, no_record}
@@ -403,7 +399,7 @@ pub execute_form-returns-in-While : goal.execute_form-returns-in-While
 execute_form-returns-in-While t c = subst (λ e. EndsIn c.while_turns.result c.while_turns.new.vars (seen c.args.site.now c.while_turns.new.run) c.while_turns.new.run.steps e) (sym (ap (λ k. act (site_of c.args.site.now) (plain_stmt_kind k c.args.stmt.now.place) c.args.vars.now (seen c.args.site.now c.args.run.now) (c.args.run.now.steps + 1)) c.in-While.is ∙ act-While (site_of c.args.site.now) c.args.stmt.now.place c.args.vars.now (seen c.args.site.now c.args.run.now) c.args.run.now.steps c.in-While.test c.in-While.body ∙ ap (λ b. while_turns (suc c.args.run.now.steps) (value_of c.args.site.now c.in-While.test) (runs c.args.site.now b) c.args.vars.now (seen c.args.site.now c.args.run.now) c.args.run.now.steps) (sym c.as_slice-in-While.ensures))) c.while_turns.ensures
 
 pub execute_form-returns-in-For : goal.execute_form-returns-in-For
-execute_form-returns-in-For t c = subst (λ e. EndsIn c.execute_for.result c.execute_for.new.vars (seen c.args.site.now c.execute_for.new.run) c.execute_for.new.run.steps e) (sym (ap (λ k. act (site_of c.args.site.now) (plain_stmt_kind k c.args.stmt.now.place) c.args.vars.now (seen c.args.site.now c.args.run.now) (c.args.run.now.steps + 1)) c.in-For.is ∙ act-For (site_of c.args.site.now) c.args.stmt.now.place c.args.vars.now (seen c.args.site.now c.args.run.now) c.args.run.now.steps c.in-For.name c.in-For.over c.in-For.body ∙ ap (λ b. turned c.args.site.now c.in-For.name.name.0 b c.args.vars.now (turns_of (site_of c.args.site.now) (plain_over c.in-For.over) c.args.vars.now (seen c.args.site.now c.args.run.now) c.args.run.now.steps)) (sym c.as_slice-in-For.ensures))) c.execute_for.ensures
+execute_form-returns-in-For t c = subst (λ e. EndsIn c.execute_for.result c.execute_for.new.vars (seen c.args.site.now c.execute_for.new.run) c.execute_for.new.run.steps e) (sym (ap (λ k. act (site_of c.args.site.now) (plain_stmt_kind k c.args.stmt.now.place) c.args.vars.now (seen c.args.site.now c.args.run.now) (c.args.run.now.steps + 1)) c.in-For.is ∙ act-For (site_of c.args.site.now) c.args.stmt.now.place c.args.vars.now (seen c.args.site.now c.args.run.now) c.args.run.now.steps c.in-For.name c.in-For.over c.in-For.body ∙ ap (λ b. with_given c.args.vars.now (turns_of (site_of c.args.site.now) (plain_over c.in-For.over) c.args.vars.now (seen c.args.site.now c.args.run.now) c.args.run.now.steps) (λ turns w n. over_turns c.in-For.name.name.0 (runs c.args.site.now b) turns c.args.vars.now w n)) (sym c.as_slice-in-For.ensures))) c.execute_for.ensures
 
 pub declare-declare_field-requires : goal.declare-declare_field-requires
 declare-declare_field-requires t c = let e : stmt_size (plain_stmt c.args.stmt.now) ≡ 1 + expr_size (plain_expr c.in-Assign.value) = ap (λ k. stmt_size (plain_stmt_kind k c.args.stmt.now.place)) c.in-Assign.is ∙ stmt_size-Assign c.args.stmt.now.place c.in-Assign.target c.in-Assign.ty c.in-Assign.value in (omega arith, c.requires.closed)
