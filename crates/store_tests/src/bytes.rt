@@ -141,7 +141,7 @@ fn what_is_no_value_is_none(rt: HostRuntime) -> Result<(), Fail> {
 #[test]
 fn bytes_after_a_value_stay(rt: HostRuntime) -> Result<(), Fail> {
     let (value, taken) = read_value(rt.alloc(), &[2, 9, 9])?.ok_or("no value")?;
-    let is_true = matches!(value, Value::Bool(true));
+    let is_true = matches!(&value, Value::Bool(true));
     drop(value);
     assert!(rt; is_true);
     assert_eq!(rt; taken, 1);
