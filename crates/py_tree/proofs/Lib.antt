@@ -26,3 +26,4 @@ pub mod DeclarationLaws
 pub mod KeyLaws
 pub mod ClassRuleLaws
 pub mod CheckedLaws
+pub mod IndexLaws

@@ -19,6 +19,7 @@ use Rattle.py_tree.specs.PlainProgram.{PlainMethod, PlainClass, PlainProgram}
 use Rattle.py_tree.specs.ClassRules.{PlainSigParam, PlainSig, PlainTable, is_reserved, is_full, type_fault, broken, first_of, init_of, body_of, methods_of, tables_of}
 use Rattle.py_tree.specs.FlowEnvironment.{PlainLocal, PlainEnv, has_name, local_of, has_none, shown, narrowed}
 use Rattle.py_tree.specs.ExpressionTypes.{same_ty, is_int, is_str, is_plus, are_ints, element_of, table_named, field_of, assignable, right_wanted, refuse_if, needs, with_found, operand, fits, place_of, as_condition, type_of}
+use Rattle.py_tree.specs.ReservedNames.{self_number}
 use Rattle.py_tree.specs.Reachability.{is_true, all_go_on, goes_on, assigned_in}
 
 -- Where a statement stands
@@ -217,7 +218,7 @@ assigned c locals at (Field f) (Some ty) value = field_declared c locals at (typ
 
 -- a target as it is read: the word `self` is no local
 abbrev pub target_read : Place → Target → PlainExpr
-target_read at (Local x) = if x.name.0 == 0 then PSelf x.place else PVar x.place x.name.0
+target_read at (Local x) = if x.name.0 == self_number then PSelf x.place else PVar x.place x.name.0
 target_read at (Field f) = PAttr at (PSelf at) f.name.0 f.place
 
 -- `x op e` within `x op= e`: lists aren't joined

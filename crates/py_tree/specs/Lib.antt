@@ -20,5 +20,6 @@ pub mod Reachability
 pub mod Flow
 pub mod Acceptance
 pub mod Bounded
+pub mod ClassIndices
 pub mod CheckedViews
 pub mod Functions

@@ -12,3 +12,7 @@ reserved_names =
 -- the number of a reserved name, by its text
 abbrev pub reserved_number : List ℕ → ℕ
 reserved_number text = unwrap_or (place_of reserved_names text) (length reserved_names)
+
+-- the word `self`
+abbrev pub self_number : ℕ
+self_number = reserved_number (codes "self")

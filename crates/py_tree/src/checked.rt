@@ -1,69 +1,58 @@
 //! Accepted programs.
 
-ghost use Rattle.std.specs.Prelude.{◌≡◌, ◌<◌, ◌==◌, length, IfOk, IfSome};
+ghost use Rattle.std.specs.Prelude.{◌≡◌, ◌<◌, ◌==◌, map, length, nat_eq, IfOk};
 ghost use Rattle.std.specs.List.{position_from};
-ghost use Rattle.py_tree.specs.PlainProgram.{plain_program, plain_classes, plain_methods};
-ghost use Rattle.py_tree.specs.ClassRules.{methods_of};
+ghost use Rattle.py_tree.specs.PlainProgram.{plain_program, plain_method};
 ghost use Rattle.py_tree.specs.Bounded.{IsBounded, HasReserved};
 ghost use Rattle.py_tree.specs.Acceptance.{KeepsRules};
+ghost use Rattle.py_tree.specs.ClassIndices.{HasPlaces, AreIndices, Keeps};
 
-use crate::member_names::is_called_by_name;
+use crate::class_index::{ClassIndex, class_names, indices_of, places_of};
 use crate::names::{Name, Names};
 use crate::program::{Class, Method, Program};
+use indexmap::IndexMap;
 use std::alloc::{AllocError, Global};
 
-/// A program with its names that keeps every rule of the language.
+/// A program with its names that keeps every rule of the language. Its classes, their methods and their
+/// fields are found by number, and by name with one look-up by hash.
 #[derive(Drop)]
 pub struct Checked {
     program: Program,
     names: Names,
+    /// The numbers of the classes, by their names.
+    classes: IndexMap<u32, usize>,
+    /// What is kept of each class.
+    indices: Vec<ClassIndex>,
     pub ghost bounded: { ∥ IsBounded names (plain_program program) ∥₁ },
     pub ghost reserved: { ∥ HasReserved names ∥₁ },
     pub ghost rules: { KeepsRules names (plain_program program) },
-}
-
-#[tactic(auto, using(crate::proofs::ListWalks::place_laws))]
-fn place_of_class(classes: &[Class], name: Name) -> Option<usize>
-    ensures place { result ≡ position_from (λ c. c.name == name.0) 0 (plain_classes classes.now) }
-    ensures within { IfSome result (λ at. at < length classes.now) }
-{
-    for (at, class) in classes.iter().enumerate() {
-        if class.name.0 == name.0 {
-            return Some(at);
-        }
-    }
-    None
-}
-
-/// The number of the method of this name, counted without `__init__` and `__key__`.
-fn place_of_method(names: &Names, members: &[Method], name: Name) -> Option<usize>
-    ensures place { result ≡ position_from (λ m. m.name == name.0) 0 (methods_of names.now (plain_methods members.now)) }
-    ensures within { IfSome result (λ at. at < length (methods_of names.now (plain_methods members.now))) }
-{
-    let mut at = 0;
-    for member in members {
-        if is_called_by_name(names, member.name) {
-            if member.name.0 == name.0 {
-                return Some(at);
-            }
-            at += 1;
-        }
-    }
-    None
+    pub ghost has_classes: { HasPlaces classes (map (λ c. c.name) (plain_program program)) },
+    pub ghost are_indices: { AreIndices names (plain_program program) indices.items },
 }
 
 impl Checked {
     ghost use Rattle.std.specs.Prelude.{slice_get};
-    ghost use Rattle.py_tree.specs.Acceptance.{IsAccepted, class_number, method_named, method_number};
+    ghost use Rattle.std.specs.Option.{option_map};
+    ghost use Rattle.py_tree.specs.ClassRules.{init_of, methods_of, field_names, body_of, key_of};
+    ghost use Rattle.py_tree.specs.ClassViews.{numbers_of};
+    ghost use Rattle.py_tree.specs.Acceptance.{IsAccepted, class_number, members_of, method_named, method_number};
     ghost use Rattle.py_tree.specs.CheckedViews.{checked_program, checked_names};
 
     /// An accepted program. The two are kept as they are.
-    pub fn new(_alloc: Global, program: Program, names: Names) -> Result<Checked, AllocError>
+    pub fn new(alloc: Global, program: Program, names: Names) -> Result<Checked, AllocError>
         requires { IsAccepted names (plain_program program) }
         ensures program { IfOk result (λ c. checked_program c ≡ plain_program program) }
         ensures names { IfOk result (λ c. checked_names c ≡ names) }
     {
-        Ok(Checked { program, names })
+        let class_names = class_names(alloc, program.classes.as_slice())?;
+        let classes = places_of(alloc, class_names.as_slice())?;
+        let indices = indices_of(alloc, &names, program.classes.as_slice())?;
+        Ok(Checked {
+            program,
+            names,
+            classes,
+            indices,
+        })
     }
 
     pub fn program(&self) -> &Program
@@ -78,12 +67,19 @@ impl Checked {
         &self.names
     }
 
+    /// What is kept of a class.
+    fn index(&self, class: u32) -> Option<&ClassIndex>
+        ensures { Keeps (checked_names self.now) (members_of (checked_program self.now) class) result }
+    {
+        self.indices.get(class as usize)
+    }
+
     /// The number of the class with this name.
     pub fn class_by_name(&self, name: Name) -> Option<u32>
         ensures { result ≡ position_from (λ c. c.name == name.0) 0 (checked_program self.now) }
     {
-        let at = place_of_class(self.program.classes.as_slice(), name)?;
-        Some(at as u32)
+        let number = self.classes.get(&name.0)?;
+        Some(*number as u32)
     }
 
     /// The number of the class with this name, by its text.
@@ -96,20 +92,60 @@ impl Checked {
 
     /// The number of the method with this name in a class. `__init__` and `__key__` have none.
     pub fn method_by_name(&self, class: u32, name: Name) -> Option<u32>
-        requires { class < length (checked_program self.now) }
         ensures { result ≡ method_named (checked_names self.now) (checked_program self.now) class name.0 }
     {
-        let class = &self.program.classes.as_slice()[class as usize];
-        let at = place_of_method(&self.names, class.members.as_slice(), name)?;
-        Some(at as u32)
+        let index = self.index(class)?;
+        let number = index.numbers.get(&name.0)?;
+        Some(*number as u32)
     }
 
     /// The number of the method with this name in a class, by its text.
     pub fn method_of(&self, class: u32, text: &str) -> Option<u32>
-        requires { class < length (checked_program self.now) }
         ensures { result ≡ method_number (checked_names self.now) (checked_program self.now) class text.now }
     {
         let name = self.names.find(text)?;
         self.method_by_name(class, name)
+    }
+
+    /// A member of a class, by its place among what the class defines.
+    fn member(&self, class: u32, place: usize) -> Option<&Method>
+        ensures { option_map (λ m. plain_method m.now) result ≡ slice_get (members_of (checked_program self.now) class) place }
+    {
+        let class = self.program.classes.get(class as usize)?;
+        class.members.get(place)
+    }
+
+    /// The method of a class with this number, counted without `__init__` and `__key__`.
+    pub fn method(&self, class: u32, number: u32) -> Option<&Method>
+        ensures { option_map (λ m. plain_method m.now) result ≡ slice_get (methods_of (checked_names self.now) (members_of (checked_program self.now) class)) number }
+    {
+        let index = self.index(class)?;
+        let place = index.methods.get(number as usize)?;
+        self.member(class, *place)
+    }
+
+    /// The `__init__` of a class.
+    pub fn init(&self, class: u32) -> Option<&Method>
+        ensures { option_map (λ m. plain_method m.now) result ≡ init_of (checked_names self.now) (members_of (checked_program self.now) class) }
+    {
+        let index = self.index(class)?;
+        self.member(class, index.init?)
+    }
+
+    /// The names of the fields of a class, in the order of its records.
+    pub fn fields(&self, class: u32) -> &[Name]
+        ensures { numbers_of result.now ≡ field_names (body_of (init_of (checked_names self.now) (members_of (checked_program self.now) class))) }
+    {
+        match self.index(class) {
+            Some(index) => index.fields.as_slice(),
+            None => &[],
+        }
+    }
+
+    /// The place of the parameter of `__init__` that gives the key of a class.
+    pub fn key_param(&self, class: u32) -> Option<usize>
+        ensures { result ≡ option_map (λ k. k.param) (key_of (checked_names self.now) (members_of (checked_program self.now) class)) }
+    {
+        self.index(class)?.key_param
     }
 }

@@ -5,6 +5,7 @@
 #![tactic(auto)]
 
 mod checked;
+mod class_index;
 mod class_names;
 mod copy;
 mod copy_program;

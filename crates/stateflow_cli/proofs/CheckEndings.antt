@@ -9,11 +9,11 @@ use Rattle.stateflow_cli.proofs.OneReading.{never_refused, never_held}
 use Rattle.stateflow_cli.specs.Words.{Check}
 use Rattle.stateflow_cli.specs.CheckLine.{check_line}
 use Rattle.stateflow_cli.specs.Devices.{Devices, Untouched}
-use Rattle.stateflow_cli.specs.Loading.{IsAcceptedText, HasFault}
+use Rattle.program_text.specs.Readings.{IsAcceptedText, HasFault}
 use Rattle.stateflow_cli.specs.Endings.{CheckEnds, Prints}
 use Rattle.stateflow_cli.specs.StatusLines.{status_of, line_of}
 use Rattle.stateflow_cli.specs.Answers.{TellsFault, PrintsFront, IsRefused, FileRose, IsUndisturbed, ChecksWhole}
-use Rattle.stateflow_cli.specs.declared.fault.TextFault.{TextFault}
+use Rattle.program_text.specs.declared.fault.ProgramFault.{ProgramFault}
 use Rattle.stateflow_cli.specs.declared.ending.Ending.{Ending}
 use Rattle.stateflow_cli.specs.declared.ending.Ending.TheVariants.{Misused, Refused, FileFault, NoMemory, Printed, Unprinted, Served, Stopped}
 
@@ -108,7 +108,7 @@ module _ (before after : Devices) (file text : List ℕ) (errors errors' status 
   check_accepted program names is (Served end) ends s = absurd ends
   check_accepted program names is (Stopped stopped) ends s = absurd ends
 
-  check_faulty : (fault : TextFault) → HasFault text fault → (e : Ending) → CheckEnds file before after e → status ≡ status_of e → (status ≡ 1) ⊎ (status ≡ 8)
+  check_faulty : (fault : ProgramFault) → HasFault text fault → (e : Ending) → CheckEnds file before after e → status ≡ status_of e → (status ≡ 1) ⊎ (status ≡ 8)
   check_faulty fault has Misused ends s = absurd ends
   check_faulty fault has (Refused f) ends s = inl s
   check_faulty fault has FileFault ends s = absurd (u.file_still ends.file_cause)

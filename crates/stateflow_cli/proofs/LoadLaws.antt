@@ -1,34 +1,27 @@
--- Reading the first bytes of a file piece by piece.
+-- Reading the first bytes of a file piece by piece, and what they are read as.
 use Rattle.std.proofs.Common.{◌≡◌, ℕ, ◌+◌, ◌≤◌, ◌<◌, List, [], ◌++◌, length, map, take, Some, None, Ok, Err, refl, sym, ap, ◌∙◌, subst, arith}
 use Rattle.std.proofs.Math.Seq.{take-add}
 use Rattle.std.proofs.lemmas.List.{take_all, length-take, length-take-le, length-append, take-append-le}
 use Rattle.std.specs.declared.option.Option.{Option}
 use Rattle.std.specs.declared.result.Result.{Result}
-use Rattle.sf_outside.specs.Bytes.{ReadsAt}
 use Rattle.std.specs.List.{sum_by}
+use Rattle.sf_outside.specs.Bytes.{ReadsAt}
 use Rattle.py_tree.specs.Tokens.{PlainLine}
 use Rattle.py_tree.specs.declared.checked.Checked.{Checked}
 use Rattle.py_tree.specs.CheckedViews.{checked_program, checked_names}
-use Rattle.py_tree.specs.PlainProgram.{PlainProgram, plain_program}
-use Rattle.py_tree.specs.Grammar.{IsProgram, has_tree}
+use Rattle.py_tree.specs.PlainProgram.{PlainProgram}
 use Rattle.py_lexer.specs.declared.fault.LexFault.{LexFault}
-use Rattle.py_lexer.specs.declared.fault.LexError.{LexError}
-use Rattle.py_lexer.specs.declared.fault.LexError.TheVariants as lex
-use Rattle.py_lexer.specs.declared.token.Line.{Line}
 use Rattle.py_lexer.specs.LogicalLines.{has_lines, has_fault, IsText, text_too_long, text_stops, text_lines}
-use Rattle.py_lexer.specs.Views.{Lexes, plain_line}
-use Rattle.py_parser.specs.declared.program.Parsed.{Parsed}
-use Rattle.py_parser.specs.declared.syntax_error.SyntaxError.{SyntaxError}
-use Rattle.py_parser.specs.declared.syntax_error.SyntaxError.TheVariants as syntax
-use Rattle.py_parser.specs.Reads.{Parses}
-use Rattle.stateflow_cli.specs.declared.fault.TextFault.{TextFault}
-use Rattle.stateflow_cli.specs.declared.loading.Accepted.{Accepted}
+use Rattle.program_text.specs.declared.accept.Accepted.{Accepted}
+use Rattle.program_text.specs.declared.fault.ProgramFault.{ProgramFault}
+use Rattle.program_text.specs.declared.fault.ProgramFault.TheVariants.{Lex}
+use Rattle.program_text.specs.declared.fault.ProgramError.{ProgramError}
+use Rattle.program_text.specs.declared.fault.ProgramError.TheVariants as error
+use Rattle.program_text.specs.Readings.{Reads, IsOf, IsAcceptedText, HasFault, has_lexical, has_syntax, has_rule}
 use Rattle.stateflow_cli.specs.declared.loading.LoadStop.{LoadStop}
 use Rattle.stateflow_cli.specs.declared.loading.LoadStop.TheVariants as stop
 use Rattle.stateflow_cli.specs.declared.printing.Counts.{Counts}
-use Rattle.stateflow_cli.specs.Loading.{MayBegin, Judges, ReadsAs, Gives, IsOf, IsCounted, IsChecked, IsAcceptedText, HasFault, has_lexical, has_syntax, has_rule, lexical_fault, lex_stop, syntax_stop}
-use Rattle.py_tree.specs.ClassRules.{tables_of}
-use Rattle.entity_tables.specs.declared.table.ClassTable.{ClassTable}
+use Rattle.stateflow_cli.specs.Loading.{MayBegin, ReadsAs, Gives, IsCounted, IsChecked, load_stop}
 use Rattle.stateflow_cli.proofs.CountLaws.{classes_counted, methods_counted}
 
 pub MayBegin-none : (content : Option (List ℕ)) → MayBegin content 0 []
@@ -58,18 +51,18 @@ lines_short : (text : List ℕ) (ls : List PlainLine) → IsText text (has_lines
 lines_short text ls (text_lines short is) = short
 
 -- a fault of the first bytes is one of the whole text
-lexical_of : (text all : List ℕ) (f : LexFault) → text ≡ take 1048577 all → IsText text (has_fault f) → HasFault all (lexical_fault f)
+lexical_of : (text all : List ℕ) (f : LexFault) → text ≡ take 1048577 all → IsText text (has_fault f) → HasFault all (Lex f)
 lexical_of text all f e (text_too_long long) = has_lexical (text_too_long (let l : length text ≡ length (take 1048577 all) = ap length e in omega (arith, l, long, length-take 1048577 all)))
-lexical_of text all f e (text_stops short is) = subst (λ t. HasFault t (lexical_fault f)) (whole text all e short) (has_lexical (text_stops short is))
+lexical_of text all f e (text_stops short is) = subst (λ t. HasFault t (Lex f)) (whole text all e short) (has_lexical (text_stops short is))
 
-pub fault_of : (text all : List ℕ) (f : TextFault) → text ≡ take 1048577 all → HasFault text f → HasFault all f
+pub fault_of : (text all : List ℕ) (f : ProgramFault) → text ≡ take 1048577 all → HasFault text f → HasFault all f
 fault_of text all f e (has_lexical {f = g} is) = lexical_of text all g e is
 fault_of text all f e (has_syntax {logical = ls} is parsed) = subst (λ t. HasFault t f) (whole text all e (lines_short text ls is)) (has_syntax is parsed)
 fault_of text all f e (has_rule {logical = ls} is parsed broken) = subst (λ t. HasFault t f) (whole text all e (lines_short text ls is)) (has_rule is parsed broken)
 
 -- what the first bytes of a file are read as, its text is
 module _ {X : Type 0} (Is : List ℕ → X → Type 0) (short : (text : List ℕ) (x : X) → Is text x → length text ≤ 1048576) where
-  gives : (content : Option (List ℕ)) (text : List ℕ) (r : Result X LoadStop) → MayBegin content 1048577 text → ReadsAs Is HasFault text r → Gives Is HasFault content r
+  gives : (content : Option (List ℕ)) (text : List ℕ) (r : Result X LoadStop) → MayBegin content 1048577 text → ReadsAs Is text r → Gives Is content r
   gives None text (Ok x) b is = record { text = text; told = tt; is = is }
   gives None text (Err (stop.Refused f)) b is = record { text = text; told = tt; is = is }
   gives (Some all) text (Ok x) b is = record { text = text; told = whole text all b (short text x is); is = is }
@@ -82,45 +75,17 @@ module _ {X : Type 0} (Is : List ℕ → X → Type 0) (short : (text : List ℕ
 accepted_short : (text : List ℕ) (program : PlainProgram) (names : List (List ℕ)) → IsAcceptedText text program names → length text ≤ 1048576
 accepted_short text program names a = lines_short text a.logical a.lexed
 
-pub gives_counts : (content : Option (List ℕ)) (text : List ℕ) (r : Result Counts LoadStop) → MayBegin content 1048577 text → ReadsAs IsCounted HasFault text r → Gives IsCounted HasFault content r
+pub gives_counts : (content : Option (List ℕ)) (text : List ℕ) (r : Result Counts LoadStop) → MayBegin content 1048577 text → ReadsAs IsCounted text r → Gives IsCounted content r
 gives_counts = gives IsCounted (λ text x is. accepted_short text is.program is.names is.is_accepted)
 
-pub gives_program : (content : Option (List ℕ)) (text : List ℕ) (r : Result Checked LoadStop) → MayBegin content 1048577 text → ReadsAs IsChecked HasFault text r → Gives IsChecked HasFault content r
+pub gives_program : (content : Option (List ℕ)) (text : List ℕ) (r : Result Checked LoadStop) → MayBegin content 1048577 text → ReadsAs IsChecked text r → Gives IsChecked content r
 gives_program = gives IsChecked (λ text x is. accepted_short text (checked_program x) (checked_names x) is)
 
 -- a file that could not be read says nothing of its text
-pub gives_none : {X : Type 0} (Is : List ℕ → X → Type 0) (IsRefused : List ℕ → TextFault → Type 0) (content : Option (List ℕ)) (e : LoadStop) → ((f : TextFault) → e ≡ stop.Refused f → ⊥) → Gives Is IsRefused content (Err e)
-gives_none Is IsRefused content (stop.Refused f) n = absurd (n f refl)
-gives_none Is IsRefused content stop.FileFault n = tt
-gives_none Is IsRefused content stop.NoMemory n = tt
-
--- a text without lines, lines without a tree, and a tree that breaks a rule
-pub reads_no_lines : (text : List ℕ) (e : LexError) → Lexes text (Err e) → ReadsAs {X = Accepted} IsOf HasFault text (Err (lex_stop e))
-reads_no_lines text (lex.Fault f) is = has_lexical is
-reads_no_lines text lex.NoMemory is = tt
-
-pub reads_no_tree : (text : List ℕ) (ls : List Line) (e : SyntaxError) → IsText text (has_lines (map (plain_line text) ls)) → Parses (map (plain_line text) ls) (Err e) → ReadsAs {X = Accepted} IsOf HasFault text (Err (syntax_stop e))
-reads_no_tree text ls (syntax.Fault f) is parsed = has_syntax is parsed
-reads_no_tree text ls syntax.NoMemory is parsed = tt
-
-pub reads_broken : (text : List ℕ) (ls : List Line) (parsed : Parsed) (e : LoadStop) → IsText text (has_lines (map (plain_line text) ls)) → IsProgram (map (plain_line text) ls) (has_tree (plain_program parsed.program) parsed.names) → Judges parsed (Err e)
-    → ReadsAs {X = Accepted} IsOf HasFault text (Err e)
-reads_broken text ls parsed (stop.Refused fault) lexed is (f, broken, told) = subst (HasFault text) (sym told) (has_rule lexed is broken)
-reads_broken text ls parsed stop.FileFault lexed is judged = absurd judged
-reads_broken text ls parsed stop.NoMemory lexed is judged = tt
-
--- a text without memory for its program
-pub reads_no_memory : (text : List ℕ) (e : LoadStop) → e ≡ stop.NoMemory → ReadsAs {X = Accepted} IsOf HasFault text (Err e)
-reads_no_memory text e is = subst (λ f. ReadsAs {X = Accepted} IsOf HasFault text (Err f)) (sym is) tt
-
--- an accepted text, as it was read
-pub reads_accepted : (text : List ℕ) (ls : List Line) (parsed : Parsed) (c : Checked) (tables : List ClassTable) → IsText text (has_lines (map (plain_line text) ls)) → IsProgram (map (plain_line text) ls) (has_tree (plain_program parsed.program) parsed.names) → Judges parsed (Ok tables)
-    → checked_program c ≡ plain_program parsed.program → checked_names c ≡ parsed.names → IsOf text (record { program = c; tables = tables })
-reads_accepted text ls parsed c tables lexed is judged same_program same_names = record {
-  is_accepted = subst (λ ns. IsAcceptedText text (checked_program c) ns) (sym same_names)
-      (subst (λ p. IsAcceptedText text p parsed.names) (sym same_program) (record { logical = map (plain_line text) ls; lexed = lexed; parsed = is; rules = judged.0 }));
-  tables = judged.1 ∙ sym (ap (λ ns. tables_of ns (checked_program c)) same_names ∙ ap (tables_of parsed.names) same_program);
-}
+pub gives_none : {X : Type 0} (Is : List ℕ → X → Type 0) (content : Option (List ℕ)) (e : LoadStop) → ((f : ProgramFault) → e ≡ stop.Refused f → ⊥) → Gives Is content (Err e)
+gives_none Is content (stop.Refused f) n = absurd (n f refl)
+gives_none Is content stop.FileFault n = tt
+gives_none Is content stop.NoMemory n = tt
 
 -- what is counted in it
 pub counted : (text : List ℕ) (a : Accepted) (counts : Counts) → IsOf text a → counts.classes ≡ length a.tables → counts.methods ≡ sum_by (λ t. length t.methods) a.tables → IsCounted text counts
@@ -133,10 +98,9 @@ counted text a counts is classes methods = record {
 }
 
 -- a text that isn't accepted gives nothing
-pub reads_none : {X : Type 0} (Is : List ℕ → X → Type 0) (text : List ℕ) (e : LoadStop) → ReadsAs {X = Accepted} IsOf HasFault text (Err e) → ReadsAs Is HasFault text (Err e)
-reads_none Is text (stop.Refused f) is = is
-reads_none Is text stop.FileFault is = absurd is
-reads_none Is text stop.NoMemory is = tt
+pub reads_none : {X : Type 0} (Is : List ℕ → X → Type 0) (text : List ℕ) (e : ProgramError) → Reads text (Err e) → ReadsAs Is text (Err (load_stop e))
+reads_none Is text (error.Fault f) is = is
+reads_none Is text error.NoMemory is = tt
 
 -- one round: what was read begins the file, and so it goes on
 pub read_more : (E : Type 0) (content now : Option (List ℕ)) (text buf rest new : List ℕ) (at n : ℕ) → MayBegin content (length text) text → now ≡ content → at ≡ length text → ReadsAt {E = E} now at (Ok n) buf → n ≤ length buf

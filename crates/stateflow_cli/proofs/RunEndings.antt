@@ -17,11 +17,12 @@ use Rattle.session.proofs.SerialOutputLaws.{Served-serial}
 use Rattle.stateflow_cli.proofs.OneReading.{never_refused, never_held}
 use Rattle.stateflow_cli.specs.Words.{Run}
 use Rattle.stateflow_cli.specs.Devices.{Devices, Untouched}
-use Rattle.stateflow_cli.specs.Loading.{IsAcceptedText, HasFault, source_in}
+use Rattle.program_text.specs.Readings.{IsAcceptedText, HasFault}
+use Rattle.stateflow_cli.specs.Loading.{source_in}
 use Rattle.stateflow_cli.specs.Endings.{RunEnds, Ran}
 use Rattle.stateflow_cli.specs.StatusLines.{status_of}
 use Rattle.stateflow_cli.specs.Answers.{WritesText, PrintsRun, IsRefused, ServedRose, Exceeds, Fits, IsUndisturbed, RunsWhole}
-use Rattle.stateflow_cli.specs.declared.fault.TextFault.{TextFault}
+use Rattle.program_text.specs.declared.fault.ProgramFault.{ProgramFault}
 use Rattle.stateflow_cli.specs.declared.ending.Ending.{Ending}
 use Rattle.stateflow_cli.specs.declared.ending.Ending.TheVariants.{Misused, Refused, FileFault, NoMemory, Printed, Unprinted, Served, Stopped}
 
@@ -131,7 +132,7 @@ module _ (limit : ℕ) (before after : Devices) (file text : List ℕ) (errors e
   run_accepted program names is (Stopped stop.NoMemory) ends s = inr (inl s)
   run_accepted program names is (Stopped stop.WriteFault) ends s = absurd (u.out_still (ends.out_cause refl))
 
-  run_faulty : (fault : TextFault) → HasFault text fault → (e : Ending) → RunEnds limit file before after e → status ≡ status_of e → (status ≡ 1) ⊎ (status ≡ 8)
+  run_faulty : (fault : ProgramFault) → HasFault text fault → (e : Ending) → RunEnds limit file before after e → status ≡ status_of e → (status ≡ 1) ⊎ (status ≡ 8)
   run_faulty fault has Misused ends s = absurd ends
   run_faulty fault has (Refused f) ends s = inl s
   run_faulty fault has FileFault ends s = absurd (u.file_still ends.file_cause)

@@ -11,12 +11,13 @@ use Rattle.session.specs.SerialOutput.{SerialRun}
 use Rattle.stateflow_cli.specs.Words.{Asked, Check, Local, Run, file_of}
 use Rattle.stateflow_cli.specs.CheckLine.{check_line}
 use Rattle.stateflow_cli.specs.Devices.{Devices, Untouched}
-use Rattle.stateflow_cli.specs.Loading.{IsAcceptedText, HasFault, Refuses, Holds, source_in}
+use Rattle.program_text.specs.Readings.{IsAcceptedText, HasFault}
+use Rattle.stateflow_cli.specs.Loading.{Refuses, Holds, source_in}
 use Rattle.stateflow_cli.specs.Endings.{Ends, Prints, Ran}
 use Rattle.stateflow_cli.specs.StatusLines.{status_of, line_of, fault_line}
 use Rattle.stateflow_cli.specs.Telling.{Told}
 use Rattle.stateflow_cli.specs.declared.ending.Ending.{Ending}
-use Rattle.stateflow_cli.specs.declared.fault.TextFault.{TextFault}
+use Rattle.program_text.specs.declared.fault.ProgramFault.{ProgramFault}
 
 -- the file that was asked for, or no name
 abbrev pub file_in : Option Asked → List ℕ
@@ -55,7 +56,7 @@ pub record PrintsFront (file : List ℕ) (before after : Devices) : Type 0 where
 
 -- the text of the file has a fault, which was told
 pub record TellsFault (file : List ℕ) (before : Devices) (said said' : Option (List ℕ)) : Type 0 where
-  pub fault : TextFault
+  pub fault : ProgramFault
   pub refused : Refuses (before.content file) fault
   pub line : Appends said said' (fault_line file fault)
 
@@ -89,7 +90,7 @@ PrintsSerially (Some (Run file)) before after = Keeps before.held after.held ⊎
 -- the text of the file that is asked for has a fault
 abbrev pub IsRefused : Option Asked → Devices → Type 0
 IsRefused None before = ⊥
-IsRefused (Some asked) before = (fault : TextFault) × Refuses (before.content (file_of asked)) fault
+IsRefused (Some asked) before = (fault : ProgramFault) × Refuses (before.content (file_of asked)) fault
 
 -- a fault of the file, or of the input where that is served, was counted
 abbrev pub FileRose : List ℕ → Devices → Devices → Type 0
@@ -146,12 +147,12 @@ pub record IsUndisturbed (file : List ℕ) (text : List ℕ) (before after : Dev
 -- the line was printed where the text is accepted, and else its fault was told; or memory ran out
 pub record ChecksWhole (text : List ℕ) (status : ℕ) : Type 0 where
   pub accepted : (program : PlainProgram) (names : List (List ℕ)) → IsAcceptedText text program names → (status ≡ 0) ⊎ (status ≡ 8)
-  pub refused : (fault : TextFault) → HasFault text fault → (status ≡ 1) ⊎ (status ≡ 8)
+  pub refused : (fault : ProgramFault) → HasFault text fault → (status ≡ 1) ⊎ (status ≡ 8)
 
 -- it ran to the end, or the input was too long, where the text is accepted, and else its fault was told; or memory ran out
 pub record RunsWhole (text : List ℕ) (status : ℕ) : Type 0 where
   pub accepted : (program : PlainProgram) (names : List (List ℕ)) → IsAcceptedText text program names → (status ≡ 0) ⊎ ((status ≡ 8) ⊎ (status ≡ 9))
-  pub refused : (fault : TextFault) → HasFault text fault → (status ≡ 1) ⊎ (status ≡ 8)
+  pub refused : (fault : ProgramFault) → HasFault text fault → (status ≡ 1) ⊎ (status ≡ 8)
 
 -- what an undisturbed call answers
 abbrev pub IsComplete : Option Asked → Devices → Devices → ℕ → ℕ → ℕ → Type 0

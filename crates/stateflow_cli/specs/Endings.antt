@@ -14,7 +14,7 @@ use Rattle.stateflow_cli.specs.Words.{Asked, Check, Local, Run}
 use Rattle.stateflow_cli.specs.CheckLine.{check_line}
 use Rattle.stateflow_cli.specs.Devices.{Devices, Untouched}
 use Rattle.stateflow_cli.specs.Loading.{Refuses, Holds, source_in}
-use Rattle.stateflow_cli.specs.declared.fault.TextFault.{TextFault}
+use Rattle.program_text.specs.declared.fault.ProgramFault.{ProgramFault}
 use Rattle.stateflow_cli.specs.declared.ending.Ending.{Ending}
 use Rattle.stateflow_cli.specs.declared.ending.Ending.TheVariants.{Misused, Refused, FileFault, NoMemory, Printed, Unprinted, Served, Stopped}
 
@@ -43,7 +43,7 @@ pub record Ran (limit : ℕ) (file : List ℕ) (before after : Devices) (result 
   pub out_cause : result ≡ Err WriteFault → Rose before.out_faults after.out_faults
 
 -- the file's text has this fault
-pub record IsTurnedDown (file : List ℕ) (before after : Devices) (fault : TextFault) : Type 0 where
+pub record IsTurnedDown (file : List ℕ) (before after : Devices) (fault : ProgramFault) : Type 0 where
   pub refused : Refuses (before.content file) fault
   pub untouched : Untouched before after
 

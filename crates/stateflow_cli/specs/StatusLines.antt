@@ -11,9 +11,9 @@ use Rattle.sf_outside.specs.declared.gains.WriteStop.{WriteStop}
 use Rattle.sf_outside.specs.declared.gains.WriteStop.TheVariants as stop
 use Rattle.session.specs.declared.feeding.InputEnd.{InputEnd}
 use Rattle.session.specs.declared.feeding.InputEnd.TheVariants as input
-use Rattle.stateflow_cli.specs.declared.fault.FaultKind.{FaultKind}
-use Rattle.stateflow_cli.specs.declared.fault.FaultKind.TheVariants.{Lexical, Syntax, Broken}
-use Rattle.stateflow_cli.specs.declared.fault.TextFault.{TextFault}
+use Rattle.program_text.specs.declared.fault.ProgramFault.{ProgramFault}
+use Rattle.program_text.specs.declared.fault.ProgramFault.TheVariants as program
+use Rattle.program_text.specs.Readings.{place_of}
 use Rattle.stateflow_cli.specs.declared.ending.Ending.{Ending}
 use Rattle.stateflow_cli.specs.declared.ending.Ending.TheVariants.{Misused, Refused, FileFault, NoMemory, Printed, Unprinted, Served, Stopped}
 
@@ -75,17 +75,17 @@ rule_name rule.KeyAssigned = codes "KeyAssigned"
 rule_name rule.LoopWord = codes "LoopWord"
 rule_name rule.MissingReturn = codes "MissingReturn"
 
-abbrev pub kind_name : FaultKind → List ℕ
-kind_name (Lexical kind) = lex_name kind
-kind_name (Syntax kind) = syntax_name kind
-kind_name (Broken rule) = rule_name rule
+abbrev pub fault_name : ProgramFault → List ℕ
+fault_name (program.Lex f) = lex_name f.kind
+fault_name (program.Syntax f) = syntax_name f.kind
+fault_name (program.Rule f) = rule_name f.rule
 
 -- `stateflow: FILE:LINE:COL: KIND`
 abbrev pub placed_line : List ℕ → List ℕ → List ℕ → List ℕ → List ℕ
 placed_line file line col kind = concat (codes "stateflow: " ∷ file ∷ codes ":" ∷ line ∷ codes ":" ∷ col ∷ codes ": " ∷ kind ∷ codes "\n" ∷ [])
 
-abbrev pub fault_line : List ℕ → TextFault → List ℕ
-fault_line file f = placed_line file (decimal f.place.line) (decimal f.place.col) (kind_name f.kind)
+abbrev pub fault_line : List ℕ → ProgramFault → List ℕ
+fault_line file f = placed_line file (decimal (place_of f).line) (decimal (place_of f).col) (fault_name f)
 
 abbrev pub read_fault_line : List ℕ
 read_fault_line = codes "stateflow: read fault\n"

@@ -3,7 +3,7 @@
 ghost use Rattle.std.specs.Prelude.{◌≡◌};
 ghost use Rattle.stateflow_cli.specs.StatusLines.{status_of};
 
-use crate::fault::TextFault;
+use program_text::ProgramFault;
 use session::InputEnd;
 use sf_outside::WriteStop;
 
@@ -12,7 +12,7 @@ pub enum Ending {
     /// The words ask for nothing that can be done.
     Misused,
     /// The file's text has this fault.
-    Refused(TextFault),
+    Refused(ProgramFault),
     /// The file could not be read.
     FileFault,
     /// Memory ran out before anything was read of the input or printed.

@@ -1,27 +1,11 @@
-//! Why a text is refused.
+//! The names of faults, as they are told.
 
 ghost use Rattle.std.specs.Prelude.{◌≡◌};
-ghost use Rattle.stateflow_cli.specs.StatusLines.{lex_name, syntax_name, rule_name, kind_name};
+ghost use Rattle.stateflow_cli.specs.StatusLines.{lex_name, syntax_name, rule_name, fault_name};
 
+use program_text::ProgramFault;
 use py_lexer::LexKind;
-use py_tree::{Place, Rule, SyntaxKind};
-
-#[derive(Clone, Copy, PartialEq, Eq, Debug)]
-pub enum FaultKind {
-    /// The text has no logical lines.
-    Lexical(LexKind),
-    /// Its lines have no tree.
-    Syntax(SyntaxKind),
-    /// Its program breaks this rule.
-    Broken(Rule),
-}
-
-/// The fault of a text, and where it stands.
-#[derive(Clone, Copy, PartialEq, Eq, Debug)]
-pub struct TextFault {
-    pub place: Place,
-    pub kind: FaultKind,
-}
+use py_tree::{Rule, SyntaxKind};
 
 fn name_of_lexical(kind: LexKind) -> &'static [u8]
     ensures { result.now ≡ lex_name kind }
@@ -80,15 +64,13 @@ fn name_of_rule(rule: Rule) -> &'static [u8]
     }
 }
 
-impl FaultKind {
-    /// The kind as it is told.
-    pub(crate) fn name(self) -> &'static [u8]
-        ensures { result.now ≡ kind_name self }
-    {
-        match self {
-            FaultKind::Lexical(kind) => name_of_lexical(kind),
-            FaultKind::Syntax(kind) => name_of_syntax(kind),
-            FaultKind::Broken(rule) => name_of_rule(rule),
-        }
+/// The name of a text's fault.
+pub(crate) fn fault_name_of(fault: ProgramFault) -> &'static [u8]
+    ensures { result.now ≡ fault_name fault }
+{
+    match fault {
+        ProgramFault::Lex(fault) => name_of_lexical(fault.kind),
+        ProgramFault::Syntax(fault) => name_of_syntax(fault.kind),
+        ProgramFault::Rule(fault) => name_of_rule(fault.rule),
     }
 }

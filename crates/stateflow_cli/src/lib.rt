@@ -4,7 +4,6 @@
 mod checking;
 mod ending;
 mod fault;
-mod laws;
 mod loading;
 mod pieces;
 mod printing;
@@ -14,7 +13,5 @@ mod telling;
 mod top_call;
 mod words;
 
-pub use fault::{FaultKind, TextFault};
-pub use laws::has_one_reading;
 pub use real_devices::{NamedFiles, Reading, Writing};
 pub use top_call::stateflow;

@@ -9,9 +9,10 @@ ghost use Rattle.stateflow_cli.specs.StatusLines.{status_of, line_of, end_line, 
 ghost use Rattle.stateflow_cli.specs.Telling.{Told};
 
 use crate::ending::Ending;
-use crate::fault::TextFault;
+use crate::fault::fault_name_of;
 use crate::pieces::write_pieces;
 use itoa::Buffer;
+use program_text::ProgramFault;
 use session::InputEnd;
 use sf_outside::{Failed, Sink, WriteStop};
 
@@ -57,19 +58,20 @@ fn say_placed<E: Sink>(
     )
 }
 
-fn say_fault<E: Sink>(err: &mut E, file: &str, fault: TextFault) -> Result<(), Failed>
+fn say_fault<E: Sink>(err: &mut E, file: &str, fault: ProgramFault) -> Result<(), Failed>
     ensures whole { OnOk result (Appends (E.held err.old) (E.held err.new) (fault_line file.now fault)) }
     ensures part { OnErr result (AppendsPrefix (E.held err.old) (E.held err.new) (fault_line file.now fault)) }
     ensures cause { HasCause (E.faults err.old) (E.faults err.new) result }
 {
+    let place = fault.place();
     let mut line = Buffer::new();
     let mut col = Buffer::new();
     say_placed(
         err,
         file.as_bytes(),
-        line.format(fault.place.line).as_bytes(),
-        col.format(fault.place.col).as_bytes(),
-        fault.kind.name(),
+        line.format(place.line).as_bytes(),
+        col.format(place.col).as_bytes(),
+        fault_name_of(fault),
     )
 }
 

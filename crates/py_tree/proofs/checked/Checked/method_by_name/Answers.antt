@@ -1,34 +1,44 @@
-use Rattle.std.proofs.Common.{◌≡◌, ◌<◌, ℕ, List, map, get_or, refl, Some, arith, ap, sym, length, ◌∙◌}
-use Rattle.std.specs.Prelude.{◌==◌, slice_get, option_map, option_and_then}
-use Rattle.std.specs.List.{position_from}
-use Rattle.std.proofs.lemmas.List.{length-map}
-use Rattle.std.proofs.lemmas.Option.{slice_get-map, slice_get_read}
-use Rattle.py_tree.specs.PlainProgram.{PlainClass, plain_class, plain_method, plain_program}
-use Rattle.py_tree.specs.ClassRules.{methods_of}
-use Rattle.py_tree.specs.declared.program.Class.{Class}
-use Rattle.py_tree.proofs.ClassRuleLaws.{few_methods}
+use Rattle.std.proofs.Common.{◌≡◌, ◌≤◌, Some, None, ◌∙◌, sym, ap, subst, arith, nat_eq}
+use Rattle.std.specs.Option.{option_copied}
+use Rattle.indexmap.specs.IndexMap.{get}
+use Rattle.py_tree.specs.CheckedViews.{checked_program, checked_names}
+use Rattle.py_tree.specs.Acceptance.{members_of}
+use Rattle.py_tree.specs.ClassIndices.{IsIndex, Keeps}
+use Rattle.py_tree.proofs.IndexLaws.{no_method_named, method_found, method_fits, few_in}
 use Rattle.py_tree.proofs.checked.Checked.method_by_name.Goals as goal
 
--- the class at a place, as a plain one
-class_at : (classes read : List Class) (i : ℕ) (c : Class) → read ≡ classes → i < length read → c ≡ get_or read i c → slice_get (map plain_class classes) i ≡ Some (plain_class c)
-class_at classes read i c same within is =
-    ap (λ xs. slice_get (map plain_class xs) i) (sym same) ∙ slice_get-map plain_class read i ∙ ap (option_map plain_class) (slice_get_read read (length read) i c refl within is)
+pub returns-in_err-index : goal.returns-in_err-index
+returns-in_err-index c =
+    let me = c.args.self.now in
+    let members = members_of (checked_program me) c.args.class in
+    c.from_residual.ensures ∙ sym (no_method_named (checked_names me) members (subst (Keeps (checked_names me) members) c.in_err-index.was c.index.ensures) c.args.name.0)
+
+pub returns-in_err-number : goal.returns-in_err-number
+returns-in_err-number c =
+    let me = c.args.self.now in
+    let members = members_of (checked_program me) c.args.class in
+    let index = c.in_ok-index.index.now in
+    let is : IsIndex (checked_names me) members index = subst (Keeps (checked_names me) members) c.in_ok-index.was c.index.ensures in
+    let none : get nat_eq index.numbers c.args.name.0 ≡ None = sym c.get.ensures.value ∙ ap option_copied c.in_err-number.was in
+    c.from_residual-in_err-number.ensures ∙ method_found (checked_names me) members index is c.args.name.0 None none
 
 pub overflow_cast-result : goal.overflow_cast-result
 overflow_cast-result c =
-    let self = c.args.self.now in
-    let class = c.index-as_slice-class.result in
-    let within : c.args.class < length c.as_slice.result.now = omega (arith, c.requires, length-map self.program.classes plain_class, ap length c.as_slice.ensures) in
-    let there = class_at self.program.classes c.as_slice.result.now c.args.class class c.as_slice.ensures within c.index-as_slice-class.is in
-    omega (arith, c.in_ok-at.ensures.within, ap (λ ms. length (methods_of self.names (map plain_method ms))) c.as_slice-2.ensures, few_methods self.names (plain_program self.program) c.args.class (plain_class class) self.rules.classes there)
+    let me = c.args.self.now in
+    let members = members_of (checked_program me) c.args.class in
+    let index = c.in_ok-index.index.now in
+    let number = c.in_ok-number.number.now in
+    let is : IsIndex (checked_names me) members index = subst (Keeps (checked_names me) members) c.in_ok-index.was c.index.ensures in
+    let found : get nat_eq index.numbers c.args.name.0 ≡ Some number = sym c.get.ensures.value ∙ ap option_copied c.in_ok-number.was in
+    let small : number ≤ 255 = method_fits (checked_names me) members index is c.args.name.0 number (few_in (checked_names me) (checked_program me) c.args.class me.rules) found in
+    omega (arith, small)
 
 pub returns : goal.returns
 returns c =
-    let self = c.args.self.now in
-    let class = c.index-as_slice-class.result in
-    let name = c.args.name.0 in
-    let within : c.args.class < length c.as_slice.result.now = omega (arith, c.requires, length-map self.program.classes plain_class, ap length c.as_slice.ensures) in
-    let there = class_at self.program.classes c.as_slice.result.now c.args.class class c.as_slice.ensures within c.index-as_slice-class.is in
-    c.in_ok-at.ensures.place
-    ∙ ap (λ ms. position_from (λ m. m.name == name) 0 (methods_of self.names (map plain_method ms))) c.as_slice-2.ensures
-    ∙ ap (option_and_then (λ (x : PlainClass). position_from (λ m. m.name == name) 0 (methods_of self.names x.members))) (sym there)
+    let me = c.args.self.now in
+    let members = members_of (checked_program me) c.args.class in
+    let index = c.in_ok-index.index.now in
+    let number = c.in_ok-number.number.now in
+    let is : IsIndex (checked_names me) members index = subst (Keeps (checked_names me) members) c.in_ok-index.was c.index.ensures in
+    let found : get nat_eq index.numbers c.args.name.0 ≡ Some number = sym c.get.ensures.value ∙ ap option_copied c.in_ok-number.was in
+    method_found (checked_names me) members index is c.args.name.0 (Some number) found

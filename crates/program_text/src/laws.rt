@@ -4,8 +4,8 @@ ghost use Rattle.std.specs.Prelude.{◌≡◌, ◌⊎◌, ℕ, List, Some};
 ghost use Rattle.py_tree.specs.declared.rule.RuleFault.{RuleFault};
 ghost use Rattle.py_tree.specs.PlainProgram.{PlainProgram};
 ghost use Rattle.py_tree.specs.Acceptance.{KeepsRules, rule_fault};
-ghost use Rattle.stateflow_cli.specs.Loading.{IsAcceptedText, HasFault};
-ghost use Rattle.stateflow_cli.specs.declared.fault.TextFault.{TextFault as AFault};
+ghost use Rattle.program_text.specs.Readings.{IsAcceptedText, HasFault};
+ghost use Rattle.program_text.specs.declared.fault.ProgramFault.{ProgramFault as AFault};
 
 /// A text is accepted with one tree and one table of names, or has one fault, and not both. A tree
 /// keeps every rule, or breaks a first one.

@@ -1,6 +1,6 @@
 use Rattle.std.proofs.lemmas.Result.{err_from_is_err_and}
-use Rattle.stateflow_cli.proofs.LoadLaws.{reads_no_lines, reads_no_tree, reads_broken, reads_no_memory, reads_accepted}
-use Rattle.stateflow_cli.proofs.loading.read_accepted.Goals as goal
+use Rattle.program_text.proofs.ReadLaws.{reads_no_lines, reads_no_tree, reads_broken, reads_no_memory, reads_accepted}
+use Rattle.program_text.proofs.accept.accept.Goals as goal
 
 pub returns-in_err-lines : goal.returns-in_err-lines
 returns-in_err-lines c =
@@ -15,7 +15,7 @@ returns-in_err-parsed c =
 pub returns-in_err-tables : goal.returns-in_err-tables
 returns-in_err-tables c =
     let p = err_from_is_err_and c.from_residual-in_err-tables.result c.from_residual-in_err-tables.ensures.1 in
-    rw (p.1, p.2) (reads_broken c.args.text.now c.in_ok-lines.lines c.in_ok-parsed.parsed _ c.in_ok-lines.ensures.lines c.in_ok-parsed.ensures.outcome c.in_err-tables.ensures)
+    rw (p.1, p.2) (reads_broken c.args.text.now c.in_ok-lines.lines c.in_ok-parsed.parsed c.in_ok-lines.ensures.lines c.in_ok-parsed.ensures.outcome _ c.in_err-tables.ensures)
 
 pub returns-in_err-program : goal.returns-in_err-program
 returns-in_err-program c =
@@ -23,4 +23,6 @@ returns-in_err-program c =
     rw (p.1) (reads_no_memory c.args.text.now _ p.2)
 
 pub returns : goal.returns
-returns c = reads_accepted c.args.text.now c.in_ok-lines.lines c.in_ok-parsed.parsed c.in_ok-program.program c.in_ok-tables.tables c.in_ok-lines.ensures.lines c.in_ok-parsed.ensures.outcome c.in_ok-tables.ensures c.in_ok-program.ensures.program c.in_ok-program.ensures.names
+returns c =
+    reads_accepted c.args.text.now c.in_ok-lines.lines c.in_ok-parsed.parsed c.in_ok-lines.ensures.lines c.in_ok-parsed.ensures.outcome
+    c.in_ok-program.program c.in_ok-tables.tables c.in_ok-tables.ensures c.in_ok-program.ensures.program c.in_ok-program.ensures.names

@@ -1,5 +1,5 @@
-use Rattle.stateflow_cli.proofs.OneReading.{one_tree, one_fault, no_fault, keeps_or_breaks}
-use Rattle.stateflow_cli.proofs.laws.has_one_reading.Goals as goal
+use Rattle.program_text.proofs.OneReading.{one_tree, one_fault, no_fault, keeps_or_breaks}
+use Rattle.program_text.proofs.laws.has_one_reading.Goals as goal
 
 pub returns-clause-tree : goal.returns-clause-tree
 returns-clause-tree c = one_tree
