@@ -7,12 +7,12 @@ use Rattle.py_tree.specs.ClassRules.{PlainTable, tables_of}
 use Rattle.py_tree.specs.Acceptance.{IsAccepted}
 use Rattle.sf_value.specs.declared.Entry.{Entry}
 use Rattle.sf_value.specs.declared.Request.{Request}
-use Rattle.source_meaning.specs.ClassTables.{Source}
-use Rattle.source_meaning.specs.World.{State}
-use Rattle.source_meaning.specs.RequestRun.{run}
-use Rattle.source_meaning.specs.Serial.{no_state, serial_outcomes, serial_state, acts_of, outcomes_of}
-use Rattle.source_meaning.specs.Fits.{StateFits, OutcomeFits}
-use Rattle.source_meaning.proofs.Soundness.{first_fits, runs_fit}
+use Rattle.program_meaning.specs.ClassTables.{Source}
+use Rattle.program_meaning.specs.World.{State}
+use Rattle.program_meaning.specs.RequestRun.{run}
+use Rattle.program_meaning.specs.Serial.{no_state, serial_outcomes, serial_state, acts_of, outcomes_of}
+use Rattle.program_meaning.specs.Fits.{StateFits, OutcomeFits}
+use Rattle.program_meaning.proofs.Soundness.{first_fits, runs_fit}
 use Rattle.request_json.specs.declared.fault.LineFault.{LineFault}
 use Rattle.request_json.specs.RequestLines.{longest, reading_of}
 use Rattle.request_json.specs.Actions.{Line, Refuse, LineTooLong, Ask, asking, used, content_of, action_of}

@@ -4,7 +4,7 @@ use Rattle.py_tree.specs.PlainProgram.{PlainProgram}
 use Rattle.py_tree.specs.ClassRules.{PlainTable, tables_of}
 use Rattle.py_tree.specs.Acceptance.{IsAccepted}
 use Rattle.sf_value.specs.declared.Entry.{Entry}
-use Rattle.source_meaning.specs.Fits.{StateFits, OutcomeFits}
+use Rattle.program_meaning.specs.Fits.{StateFits, OutcomeFits}
 use Rattle.request_json.specs.Actions.{Line}
 use Rattle.request_json.specs.LinesFit.{RequestFits}
 use Rattle.session.specs.SerialOutput.{SerialLines}

@@ -28,7 +28,7 @@ use Rattle.stateflow_cli.specs.declared.loading.LoadStop.{LoadStop}
 use Rattle.stateflow_cli.specs.declared.loading.LoadStop.TheVariants.{Refused, FileFault, NoMemory}
 use Rattle.stateflow_cli.specs.declared.printing.Counts.{Counts}
 use Rattle.stateflow_cli.specs.CheckLine.{count_methods}
-use Rattle.source_meaning.specs.ClassTables.{Source}
+use Rattle.program_meaning.specs.ClassTables.{Source}
 
 abbrev pub lexical_fault : LexFault → TextFault
 lexical_fault f = record { place = f.place; kind = Lexical f.kind }

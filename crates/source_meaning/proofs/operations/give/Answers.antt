@@ -6,8 +6,8 @@ use Rattle.std.specs.Str.{chars}
 use Rattle.std.proofs.lemmas.Int.{to_z-of_z}
 use Rattle.py_tree.specs.Functions.{plain_function}
 use Rattle.sf_value.specs.declared.value.Value.TheVariants as value
-use Rattle.source_meaning.specs.World.{told}
-use Rattle.source_meaning.specs.Operations.{given_by}
+use Rattle.program_meaning.specs.World.{told}
+use Rattle.program_meaning.specs.Operations.{given_by}
 use Rattle.source_meaning.specs.Agrees.{AgreesIn}
 use Rattle.source_meaning.proofs.operations.give.Goals as goal
 

@@ -1,36 +1,36 @@
 use Rattle.std.proofs.Common.{◌≡◌, ◌∙◌, ◌+◌, ◌-◌, arith, sym, ap, suc, subst}
 use Rattle.py_tree.specs.PlainExpressions.{plain_expr, plain_exprs, exprs_of}
 use Rattle.py_tree.specs.PlainStatements.{plain_stmts, stmts_of}
-use Rattle.source_meaning.specs.Evaluation.{eval}
-use Rattle.source_meaning.specs.Execution.{all_of}
+use Rattle.program_meaning.specs.Evaluation.{eval}
+use Rattle.program_meaning.specs.Execution.{all_of}
 use Rattle.source_meaning.specs.Sites.{site_of}
 use Rattle.source_meaning.specs.Transactions.{world_of}
-use Rattle.source_meaning.proofs.EvalLaws.{all_next, all_end, link_next, link_end, each_next, each_end}
-use Rattle.source_meaning.proofs.ActLaws.{stmts_next, stmts_end, arms_next, arms_end, while_over, items_end, numbers_over}
+use Rattle.program_meaning.proofs.EvalLaws.{all_next, all_end, link_next, link_end, each_next, each_end}
+use Rattle.program_meaning.proofs.ActLaws.{stmts_next, stmts_end, arms_next, arms_end, while_over, items_end, numbers_over}
 use Rattle.source_meaning.proofs.SizeLaws.{item_size, link_part, stmt_part, arm_part}
 use Rattle.std.proofs.Common.{◌≡◌, true, false, inl, inr, option_map, drop, ◌∷◌, ◌++◌}
 use Rattle.std.specs.Prelude.{is_some}
 use Rattle.std.specs.FinMap.{get}
 use Rattle.py_tree.specs.PlainStatements.{plain_stmt, plain_option}
 use Rattle.sf_value.specs.Keys.{key_of}
-use Rattle.source_meaning.specs.World.{Got, Fell, Goes, Fails, step_limit, recursion_error, no_entity, already_exists, reading, record_at, result_of}
-use Rattle.source_meaning.specs.Evaluation.{entity}
-use Rattle.source_meaning.specs.Execution.{act_all, over_items, over_numbers, while_turns}
-use Rattle.source_meaning.specs.Calls.{own_at, calls_at, calls_within, run_body, in_state, create, made, declare_all}
+use Rattle.program_meaning.specs.World.{Got, Fell, Goes, Fails, step_limit, recursion_error, no_entity, already_exists, reading, record_at, result_of}
+use Rattle.program_meaning.specs.Evaluation.{entity}
+use Rattle.program_meaning.specs.Execution.{act_all, over_items, over_numbers, while_turns}
+use Rattle.program_meaning.specs.Calls.{own_at, calls_at, calls_within, run_body, in_state, create, made, declare_all}
 use Rattle.source_meaning.specs.Sites.{calls_of}
 use Rattle.source_meaning.proofs.AgreeLaws.{falls_as, fails_as, agrees_by, falls_by, body_falls, turn_fails, given_fails, record_stops, making_stops}
-use Rattle.source_meaning.proofs.CallLaws.{within_zero, within_deep, within_more, nothing_made, call_zero, call_deep, call_more, make_zero, make_deep, make_more, enter_missing, enter_found, create_taken, create_free, body_is}
-use Rattle.source_meaning.proofs.DeclareLaws.{record_written, declare_none, declare-Assign, declare-Assert, declares_next, declares_end}
-use Rattle.source_meaning.proofs.ActLaws.{act-While, act-For, while_given, while_ends, while_stops, while_turn, items_stop, items_turn, numbers_end, numbers_stop, numbers_turn}
+use Rattle.program_meaning.proofs.CallLaws.{within_zero, within_deep, within_more, nothing_made, call_zero, call_deep, call_more, make_zero, make_deep, make_more, enter_missing, enter_found, create_taken, create_free, body_is}
+use Rattle.program_meaning.proofs.DeclareLaws.{record_written, declare_none, declare-Assign, declare-Assert, declares_next, declares_end}
+use Rattle.program_meaning.proofs.ActLaws.{act-While, act-For, while_given, while_ends, while_stops, while_turn, items_stop, items_turn, numbers_end, numbers_stop, numbers_turn}
 use Rattle.std.proofs.Common.{Ok, [], Bor, if◌then◌else◌, ◌+ℤ◌, pos, of_z, to_z}
 use Rattle.std.specs.Int.{w128}
 use Rattle.std.proofs.lemmas.Int.{to_z-of_z}
-use Rattle.source_meaning.specs.World.{writing}
+use Rattle.program_meaning.specs.World.{writing}
 use Rattle.source_meaning.proofs.RangeLaws.{is_before, is_after, next_fits}
 use Rattle.std.proofs.Common.{SFits}
 use Rattle.std.proofs.Math.Facts.{sfits_to_z}
 use Rattle.std.specs.Int.Signed.{le_z}
-use Rattle.source_meaning.proofs.DeclareLaws.{declare-Pass, declare-Break, declare-Continue, declare-Expr, declare-Return, declare-Raise, declare-Augment, declare-If, declare-While, declare-For}
+use Rattle.program_meaning.proofs.DeclareLaws.{declare-Pass, declare-Break, declare-Continue, declare-Expr, declare-Return, declare-Raise, declare-Augment, declare-If, declare-While, declare-For}
 use Rattle.py_tree.specs.PlainStatements.{plain_stmt_kind, plain_over}
 use Rattle.py_tree.specs.PlainExpressions.{plain_kind}
 use Rattle.py_tree.specs.PlainProgram.{plain_method}
@@ -40,26 +40,29 @@ use Rattle.py_tree.specs.declared.program.Method.{Method}
 use Rattle.py_tree.specs.declared.stmt.Arm.{out-Arm}
 use Rattle.sf_value.specs.declared.value.Value.TheVariants as value
 use Rattle.source_meaning.specs.Agrees.{EndsIn}
-use Rattle.source_meaning.specs.World.{with_given, next_turn, assigned, assertion_error, ◌>>=◌}
-use Rattle.source_meaning.specs.Operations.{is_true}
-use Rattle.source_meaning.specs.Execution.{act, turns_of, over_turns, stepping}
-use Rattle.source_meaning.specs.Calls.{bound, declare}
-use Rattle.source_meaning.proofs.ViewLaws.{viewed}
+use Rattle.program_meaning.specs.World.{with_given, next_turn, assigned, assertion_error, ◌>>=◌}
+use Rattle.program_meaning.specs.Operations.{is_true}
+use Rattle.program_meaning.specs.Execution.{act, turns_of, over_turns, stepping}
+use Rattle.program_meaning.specs.Calls.{bound, declare}
+use Rattle.program_meaning.proofs.ViewLaws.{viewed}
 use Rattle.source_meaning.proofs.AgreeLaws.{turn_goes, gives_nil}
 use Rattle.source_meaning.proofs.InPlaceLaws.{element_told}
 use Rattle.std.proofs.Common.{List, Some, map, refl, length, option_to_list}
 use Rattle.py_tree.specs.PlainExpressions.{plain_kind, plain_expr, plain_exprs, exprs_of}
 use Rattle.sf_value.specs.declared.value.Value.{Value}
-use Rattle.source_meaning.specs.ClassTables.{init_of}
-use Rattle.source_meaning.specs.World.{Gives}
-use Rattle.source_meaning.specs.RequestRun.{at_first}
+use Rattle.program_meaning.specs.ClassTables.{init_of}
+use Rattle.program_meaning.specs.World.{Gives}
+use Rattle.program_meaning.specs.RequestRun.{at_first}
 use Rattle.source_meaning.specs.Agrees.{GivesRecord, MakesIn}
-use Rattle.source_meaning.specs.Trailers.{Calling, last_trailer, plain_trailer, all_followed}
+use Rattle.program_meaning.specs.Trailers.{Calling, last_trailer, all_followed}
+use Rattle.source_meaning.specs.TrailerViews.{plain_trailer}
 use Rattle.source_meaning.specs.Walks.{seen, record_seen, program_of, value_of, does, runs, check_failed}
-use Rattle.source_meaning.proofs.ActLaws.{act_none}
+use Rattle.program_meaning.proofs.ActLaws.{act_none}
 use Rattle.source_meaning.proofs.AgreeLaws.{ends_as}
-use Rattle.source_meaning.proofs.DeclareLaws.{made_eval, made_message, no_record}
-use Rattle.source_meaning.proofs.TrailerLaws.{trailer-Call, eval_along, trailers_within, sizes_last, follow_last, chain_falls, follow_ended}
+use Rattle.program_meaning.proofs.DeclareLaws.{no_record}
+use Rattle.source_meaning.proofs.ClosedSites.{made_eval, made_message}
+use Rattle.program_meaning.proofs.TrailerLaws.{trailer-Call, eval_along, trailers_within}
+use Rattle.source_meaning.proofs.TrailerViews.{sizes_last, follow_last, chain_falls, follow_ended}
 use Rattle.py_tree.specs.Bounded.{of_option, stmt_size}
 use Rattle.source_meaning.proofs.SizeLaws.{stmt_size-Assign, stmt_size-Assert}
 use Rattle.source_meaning.proofs.walk.+walk.Goals as goal
