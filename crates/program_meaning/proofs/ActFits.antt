@@ -1,5 +1,5 @@
 -- A statement that breaks no rule leaves locals and a world that fit.
-use Rattle.std.proofs.Common.{◌≡◌, ℕ, ℤ, pos, suc, zero, arith, Bool, true, false, cond, not, Option, Some, None, Ok, List, [], ◌∷◌, ◌++◌, append_assoc, refl, sym, ap, ◌∙◌, subst, true≢false}
+use Rattle.std.proofs.Common.{◌≡◌, ℕ, ℤ, pos, suc, zero, arith, Bool, true, false, cond, not, Option, Some, None, Ok, Err, List, [], ◌∷◌, ◌++◌, append_assoc, refl, sym, ap, ◌∙◌, subst, true≢false}
 use Rattle.std.specs.Prelude.{◌==◌, ◌||◌, ◌&&◌, ◌+ℤ◌}
 use Rattle.std.specs.Ordering.{int_cmp, is_lt}
 use Rattle.std.specs.declared.result.Result.{Result}
@@ -26,9 +26,9 @@ use Rattle.program_meaning.specs.declared.vars.Var.{Var}
 use Rattle.program_meaning.specs.ClassTables.{fields_of}
 use Rattle.program_meaning.specs.World.{assigned as assigned_to}
 use Rattle.program_meaning.specs.World.{Gives, Got, Fell, told, Ends, Goes, Returns, Breaks, Continues, Fails, step_limit, assertion_error, with_given, next, next_turn, local_value, with_field}
-use Rattle.program_meaning.specs.Operations.{weighed, is_true, items_of, combined}
+use Rattle.program_meaning.specs.Operations.{in_range, weighed, is_true, items_of, combined}
 use Rattle.program_meaning.specs.Evaluation.{Site, eval}
-use Rattle.program_meaning.specs.Execution.{stepping, store, target_value, augmented, value_or_none, message, Turns, Items, Numbers, start_of, turns_of, turn, over_items, over_numbers, over_turns, while_turns, checked, act, act_all, act_arms}
+use Rattle.program_meaning.specs.Execution.{stepping, store, target_value, augmented, value_or_none, message, Turns, Items, Numbers, start_of, turns_of, turn, over_items, over_numbers, over_turns, counting, while_turns, checked, act, act_all, act_arms}
 use Rattle.program_meaning.specs.Fits.{Fits, int, nil, AllFit, empty, more as more_fit, FailureFits}
 use Rattle.program_meaning.specs.PointFits.{VarsFit, GivesFit, got, fell}
 use Rattle.program_meaning.proofs.FitsLaws.{as_list, fits_same, fits_wider}
@@ -36,7 +36,7 @@ use Rattle.program_meaning.proofs.ShownLaws as shown'
 use Rattle.program_meaning.proofs.ShownLaws.{Only}
 use Rattle.program_meaning.proofs.LocalsFit.{narrowed_fits, name_fits}
 use Rattle.program_meaning.proofs.TypedParts.{done, same_ok, found_ok, refuse_ok, not_false, condition_ok, typed_attr, Joins}
-use Rattle.program_meaning.proofs.ValuesFit.{failure_fits, told_fits, weighed_fits, items_are, combined_fits}
+use Rattle.program_meaning.proofs.ValuesFit.{ToldFits, ok, err, failure_fits, told_fits, range_fits, weighed_fits, items_are, combined_fits}
 use Rattle.program_meaning.proofs.EvalFits.{Anywhere, Around, Tests, fit_then, fit_more, fit_both, eval_fits, test_fits}
 use Rattle.program_meaning.proofs.LocalShapes.{shapes, type_in, Within, Sound, within_more, within_both, Grows, alike_grows, grows_on, grows_same, keeps_named, shapes_behind, earlier_is, shapes_narrowed, shapes_at_head, shapes_settled, shapes_more, local_grows, MetFits, met_left, met_right, met_grown, met_here, behind_fits, fits_both, fits_first, fits_second}
 use Rattle.program_meaning.proofs.AssignedFits.{or_left, or_right, Forgets, forgets_first, forgets_second, forgets_both, forgets_at_head, head_fits, kept_fits, local_given}
@@ -201,15 +201,25 @@ module _ (tables : List PlainTable) {W : Type 0} (s : Site W) (WorldFits : W →
         (λ vars world n v h p. items_fit vs vars world n fs v h p)
         (λ vars c m. (refl, for_left tables vars head end m))
 
+    counted_fits : (from : ℤ) (vars : List Var) (world : W) (n : ℕ) → WorldFits world → EndFits tables WorldFits R (all_go_on body) (break_in body) true end (head ++ kept) (turn name (λ vars w n. act_all s body vars w n) (value.Int from) vars world n)
+        → EndFits tables WorldFits R (all_go_on body) (break_in body) true end (head ++ kept) (turn name (counting from (λ vars w n. act_all s body vars w n)) (value.Int from) vars world n)
+    counted_fits from vars world zero p fit = fit
+    counted_fits from vars world (suc n) p fit = by (in_range (from +ℤ pos 1)) (range_fits tables (from +ℤ pos 1))
+      where
+        by : (r : Result Value Failure) → ToldFits tables TInt r
+            → EndFits tables WorldFits R (all_go_on body) (break_in body) true end (head ++ kept) (with_given (assigned_to vars name (value.Int from)) (told r world n) (λ v world n. act_all s body (assigned_to vars name (value.Int from)) world n))
+        by (Ok v) f = fit
+        by (Err e) (err f) = fails f p
+
     numbers_fit : (most : ℕ) (from to : ℤ) (vars : List Var) (world : W) (n : ℕ) → TInt ≡ item → VarsFit tables vars head → VarsFit tables vars kept → WorldFits world → ForFits (over_numbers most name (λ vars w n. act_all s body vars w n) from to vars world n)
     unfolding over_numbers
     numbers_fit zero from to vars world n is v h p = fails (failure_fits step_limit (omega arith) (omega arith)) p
     numbers_fit (suc most) from to vars world n is v h p = by (is_lt (int_cmp from to)) (numbers_fit most (from +ℤ pos 1) to)
       where
         by : (c : Bool) → ((vars : List Var) (world : W) (n : ℕ) → TInt ≡ item → VarsFit tables vars head → VarsFit tables vars kept → WorldFits world → ForFits (over_numbers most name (λ vars w n. act_all s body vars w n) (from +ℤ pos 1) to vars world n))
-            → ForFits (cond c (next_turn (turn name (λ vars w n. act_all s body vars w n) (value.Int from) vars world n) (over_numbers most name (λ vars w n. act_all s body vars w n) (from +ℤ pos 1) to)) (Goes vars world n))
+            → ForFits (cond c (next_turn (turn name (counting from (λ vars w n. act_all s body vars w n)) (value.Int from) vars world n) (over_numbers most name (λ vars w n. act_all s body vars w n) (from +ℤ pos 1) to)) (Goes vars world n))
         by true again =
-            turn_fits tables WorldFits R (all_go_on body) (break_in body) true false b end (on w (after_for head end)) head kept _ _ (inside (value.Int from) vars world n (fits_same tables TInt item (value.Int from) is (int from)) v h p)
+            turn_fits tables WorldFits R (all_go_on body) (break_in body) true false b end (on w (after_for head end)) head kept _ _ (counted_fits from vars world n p (inside (value.Int from) vars world n (fits_same tables TInt item (value.Int from) is (int from)) v h p))
             (λ vars world n v h p. again vars world n is v h p)
             (λ vars c m. (refl, for_left tables vars head end m))
         by false again = goes refl (for_done tables vars head end g v) h p

@@ -1,5 +1,5 @@
 -- What a statement does, at each variant and at each part of a walk.
-use Rattle.std.proofs.Common.{◌≡◌, ◌<◌, ◌≤◌, ◌+◌, ◌-◌, ℕ, zero, suc, ℤ, pos, ◌+ℤ◌, true, false, List, [], Option, if◌then◌else◌, drop, get_or, length, refl, sym, ap, ◌∙◌, add-one, subst, arith}
+use Rattle.std.proofs.Common.{◌≡◌, ◌<◌, ◌≤◌, ◌+◌, ◌-◌, ℕ, zero, suc, ℤ, pos, ◌+ℤ◌, true, false, List, [], Option, Ok, if◌then◌else◌, drop, get_or, length, refl, sym, ap, ◌∙◌, add-one, subst, arith}
 use Rattle.std.specs.Ordering.{int_cmp, is_lt}
 use Rattle.std.proofs.lemmas.List.{drop_all}
 use Rattle.py_tree.proofs.ListWalks.{from_item, stmts_from, stmts_end as stmts_past, arms_from, arms_end as arms_past}
@@ -19,10 +19,10 @@ use Rattle.py_tree.proofs.Views.{stmt-Pass, stmt-Break, stmt-Continue, stmt-Expr
 use Rattle.sf_value.specs.declared.value.Value.{Value}
 use Rattle.sf_value.specs.declared.value.Value.TheVariants as value
 use Rattle.program_meaning.specs.declared.vars.Var.{Var}
-use Rattle.program_meaning.specs.World.{Gives, Got, Ends, Goes, Returns, Breaks, Continues, Fails, step, step_limit, with_given, next, next_turn, assigned}
-use Rattle.program_meaning.specs.Operations.{is_true}
+use Rattle.program_meaning.specs.World.{Gives, Got, Ends, Goes, Returns, Breaks, Continues, Fails, step, step_limit, with_given, next, next_turn, assigned, told}
+use Rattle.program_meaning.specs.Operations.{in_range, is_true}
 use Rattle.program_meaning.specs.Evaluation.{Site, eval}
-use Rattle.program_meaning.specs.Execution.{act, act_all, act_arms, all_of, checked, store, augmented, value_or_none, message, turns_of, over_turns, over_items, over_numbers, while_turns, stepping}
+use Rattle.program_meaning.specs.Execution.{act, act_all, act_arms, all_of, checked, store, augmented, value_or_none, message, turns_of, over_turns, over_items, over_numbers, counting, while_turns, stepping}
 
 -- a step that there is
 pub step_more : {A : Type 0} (n m : ℕ) (a : A) (f : ℕ → A) → n ≡ m + 1 → step n a f ≡ f m
@@ -144,7 +144,7 @@ module _ {W : Type 0} (vars : List Var) (w : W) (n : ℕ) where
   items_end name body vs i le = let cut : drop i vs ≡ [] = drop_all i vs le in ap (λ l. over_items name body l vars w n) cut
 
   pub numbers_next : (most name : ℕ) (body : List Var → W → ℕ → Ends W) (from to : ℤ) → 0 < most
-      → over_numbers most name body from to vars w n ≡ (if is_lt (int_cmp from to) then next_turn (stepping vars w n (λ n. body (assigned vars name (value.Int from)) w n)) (over_numbers (most - 1) name body (from +ℤ pos 1) to) else Goes vars w n)
+      → over_numbers most name body from to vars w n ≡ (if is_lt (int_cmp from to) then next_turn (stepping vars w n (λ n. counting from body (assigned vars name (value.Int from)) w n)) (over_numbers (most - 1) name body (from +ℤ pos 1) to) else Goes vars w n)
   unfolding over_numbers
   numbers_next zero name body from to lt = absurd (omega arith)
   numbers_next (suc most) name body from to lt = let less : suc most - 1 ≡ most = omega arith in rw less refl
@@ -187,13 +187,16 @@ module _ {W : Type 0} (vars : List Var) (w : W) (n name : ℕ) (body : List Var 
 -- a turn of a `for` over numbers
 module _ {W : Type 0} (vars : List Var) (w : W) (n most name : ℕ) (body : List Var → W → ℕ → Ends W) (from to : ℤ) (lt : 0 < most) where
   pub numbers_end : is_lt (int_cmp from to) ≡ false → over_numbers most name body from to vars w n ≡ Goes vars w n
-  numbers_end on = numbers_next vars w n most name body from to lt ∙ ap (λ b. if b then next_turn (stepping vars w n (λ n. body (assigned vars name (value.Int from)) w n)) (over_numbers (most - 1) name body (from +ℤ pos 1) to) else Goes vars w n) on
+  numbers_end on = numbers_next vars w n most name body from to lt ∙ ap (λ b. if b then next_turn (stepping vars w n (λ n. counting from body (assigned vars name (value.Int from)) w n)) (over_numbers (most - 1) name body (from +ℤ pos 1) to) else Goes vars w n) on
 
-  numbers_go : is_lt (int_cmp from to) ≡ true → over_numbers most name body from to vars w n ≡ next_turn (stepping vars w n (λ n. body (assigned vars name (value.Int from)) w n)) (over_numbers (most - 1) name body (from +ℤ pos 1) to)
-  numbers_go on = numbers_next vars w n most name body from to lt ∙ ap (λ b. if b then next_turn (stepping vars w n (λ n. body (assigned vars name (value.Int from)) w n)) (over_numbers (most - 1) name body (from +ℤ pos 1) to) else Goes vars w n) on
+  numbers_go : is_lt (int_cmp from to) ≡ true → over_numbers most name body from to vars w n ≡ next_turn (stepping vars w n (λ n. counting from body (assigned vars name (value.Int from)) w n)) (over_numbers (most - 1) name body (from +ℤ pos 1) to)
+  numbers_go on = numbers_next vars w n most name body from to lt ∙ ap (λ b. if b then next_turn (stepping vars w n (λ n. counting from body (assigned vars name (value.Int from)) w n)) (over_numbers (most - 1) name body (from +ℤ pos 1) to) else Goes vars w n) on
 
   pub numbers_stop : is_lt (int_cmp from to) ≡ true → n ≡ 0 → over_numbers most name body from to vars w n ≡ Fails step_limit vars w n
   numbers_stop on none = numbers_go on ∙ ap (λ e. next_turn e (over_numbers (most - 1) name body (from +ℤ pos 1) to)) (step_none n _ _ none)
 
-  pub numbers_turn : (m : ℕ) → is_lt (int_cmp from to) ≡ true → n ≡ m + 1 → over_numbers most name body from to vars w n ≡ next_turn (body (assigned vars name (value.Int from)) w m) (over_numbers (most - 1) name body (from +ℤ pos 1) to)
-  numbers_turn m on more = numbers_go on ∙ ap (λ e. next_turn e (over_numbers (most - 1) name body (from +ℤ pos 1) to)) (step_more n m _ _ more)
+  pub numbers_turn : (m : ℕ) → is_lt (int_cmp from to) ≡ true → n ≡ m + 1 → in_range (from +ℤ pos 1) ≡ Ok (value.Int (from +ℤ pos 1)) → over_numbers most name body from to vars w n ≡ next_turn (body (assigned vars name (value.Int from)) w m) (over_numbers (most - 1) name body (from +ℤ pos 1) to)
+  numbers_turn m on more there =
+      numbers_go on
+      ∙ ap (λ e. next_turn e (over_numbers (most - 1) name body (from +ℤ pos 1) to)) (step_more n m _ _ more)
+      ∙ ap (λ r. next_turn (with_given (assigned vars name (value.Int from)) (told r w m) (λ v w n. body (assigned vars name (value.Int from)) w n)) (over_numbers (most - 1) name body (from +ℤ pos 1) to)) there

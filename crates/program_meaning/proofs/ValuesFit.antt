@@ -107,7 +107,7 @@ module _ (tables : List PlainTable) where
   pub given_fits : (f : Function) (args : List Value) → ToldFits (type_given f) (given_by f args)
   unfolding given_by
   given_fits Length args = ok (int _)
-  given_fits Text args = ok (str _)
+  given_fits Text args = weighed_fits TStr _ (str _)
   given_fits Absolute args = range_fits _
   given_fits Least args = ok (int _)
   given_fits Greatest args = ok (int _)

@@ -19,7 +19,7 @@ use Rattle.program_meaning.specs.ClassTables.{Source, fields_of, methods_of}
 use Rattle.program_meaning.specs.World.{Calls, Own, Gives, Got, Fell, ◌>>=◌, Ends, Goes, Returns, Breaks, Continues, Fails, told, step, assertion_error, with_given, next, next_turn, result_of, local_value, assigned, field_value, with_field}
 use Rattle.program_meaning.specs.Operations.{in_range, weighed, int_of, is_true, is_nil, items_of, text_of, element, combined, holds, given_by}
 use Rattle.program_meaning.specs.Evaluation.{Site, eval, eval_all, linked, each_is, same_truth, applied, entity, key_in, method_of, class_of, literal, own_field}
-use Rattle.program_meaning.specs.Execution.{message, stepping, store, target_value, augmented, value_or_none, start_of, turns_of, Turns, Items, Numbers, turn, over_items, over_numbers, over_turns, while_turns, checked, act, act_all, act_arms}
+use Rattle.program_meaning.specs.Execution.{message, stepping, store, target_value, augmented, value_or_none, start_of, turns_of, Turns, Items, Numbers, turn, over_items, over_numbers, over_turns, counting, while_turns, checked, act, act_all, act_arms}
 use Rattle.program_meaning.specs.Calls.{bound, run_body, calls_within}
 
 abbrev pub viewed : {V W A : Type 0} → (W → V) → Gives W A → Gives V A
@@ -91,12 +91,18 @@ module _ {V W : Type 0} (f : W → V) where
     items_viewed name [] vars w n = refl
     items_viewed name (v ∷ vs) vars w n = next_turn_viewed (turn name body v vars w n) _ (over_items name body vs) (over_items name shown vs) (turn_viewed name v vars w n) (λ vars w n. items_viewed name vs vars w n)
 
+    counted_viewed : (name : ℕ) (from : ℤ) (vars : List Var) (w : W) (n : ℕ) → turn name (counting from shown) (value.Int from) vars (f w) n ≡ viewed_end f (turn name (counting from body) (value.Int from) vars w n)
+    counted_viewed name from vars w n =
+        let to : List Var = assigned vars name (value.Int from) in
+        stepping_viewed vars w n (λ n. counting from body to w n) (λ n. counting from shown to (f w) n) (λ n.
+        given_viewed to (told (in_range (from +ℤ pos 1)) w n) _ (λ v w n. body to w n) _ (told_viewed (in_range (from +ℤ pos 1)) w n) (λ v w n. same to w n))
+
     numbers_viewed : (most name : ℕ) (from to : ℤ) (vars : List Var) (w : W) (n : ℕ) → over_numbers most name shown from to vars (f w) n ≡ viewed_end f (over_numbers most name body from to vars w n)
     unfolding over_numbers
     numbers_viewed zero name from to vars w n = refl
     numbers_viewed (suc most) name from to vars w n =
-        choice_viewed (is_lt (int_cmp from to)) (next_turn (turn name body (value.Int from) vars w n) (over_numbers most name body (from +ℤ pos 1) to)) (Goes vars w n) _ _
-        (next_turn_viewed (turn name body (value.Int from) vars w n) _ (over_numbers most name body (from +ℤ pos 1) to) (over_numbers most name shown (from +ℤ pos 1) to) (turn_viewed name (value.Int from) vars w n) (λ vars w n. numbers_viewed most name (from +ℤ pos 1) to vars w n))
+        choice_viewed (is_lt (int_cmp from to)) (next_turn (turn name (counting from body) (value.Int from) vars w n) (over_numbers most name body (from +ℤ pos 1) to)) (Goes vars w n) _ _
+        (next_turn_viewed (turn name (counting from body) (value.Int from) vars w n) _ (over_numbers most name body (from +ℤ pos 1) to) (over_numbers most name shown (from +ℤ pos 1) to) (counted_viewed name from vars w n) (λ vars w n. numbers_viewed most name (from +ℤ pos 1) to vars w n))
         refl
 
     over_viewed : (name : ℕ) (turns : Turns) (vars : List Var) (w : W) (n : ℕ) → over_turns name shown turns vars (f w) n ≡ viewed_end f (over_turns name body turns vars w n)

@@ -12,7 +12,7 @@ use Rattle.sf_value.specs.declared.value.Value.TheVariants as value
 use Rattle.program_meaning.specs.declared.vars.Var.{Var}
 use Rattle.program_meaning.specs.ClassTables.{fields_of}
 use Rattle.program_meaning.specs.World.{Gives, Got, ◌>>=◌, told, Ends, Goes, Returns, Breaks, Continues, Fails, step, step_limit, assertion_error, with_given, next, next_turn, local_value, assigned, with_field}
-use Rattle.program_meaning.specs.Operations.{weighed, int_of, is_true, text_of, items_of, combined}
+use Rattle.program_meaning.specs.Operations.{in_range, weighed, int_of, is_true, text_of, items_of, combined}
 use Rattle.program_meaning.specs.Evaluation.{Site, eval, own_field}
 
 -- one step, and then the rest of the statement
@@ -71,11 +71,15 @@ unfoldable pub over_items : {W : Type 0} → ℕ → (List Var → W → ℕ →
 over_items name body [] vars w n = Goes vars w n
 over_items name body (v ∷ vs) vars w n = next_turn (turn name body v vars w n) (over_items name body vs)
 
+-- a turn of a range makes the next number, an int, before its body
+abbrev pub counting : {W : Type 0} → ℤ → (List Var → W → ℕ → Ends W) → List Var → W → ℕ → Ends W
+counting from body vars w n = with_given vars (told (in_range (from +ℤ pos 1)) w n) (λ v w n. body vars w n)
+
 -- of so many turns at most; each takes a step, so one more than there are steps is enough
 unfoldable pub over_numbers : {W : Type 0} → ℕ → ℕ → (List Var → W → ℕ → Ends W) → ℤ → ℤ → List Var → W → ℕ → Ends W
 over_numbers zero name body from to vars w n = Fails step_limit vars w n
 over_numbers (suc most) name body from to vars w n =
-    if is_lt (int_cmp from to) then next_turn (turn name body (value.Int from) vars w n) (over_numbers most name body (from +ℤ pos 1) to)
+    if is_lt (int_cmp from to) then next_turn (turn name (counting from body) (value.Int from) vars w n) (over_numbers most name body (from +ℤ pos 1) to)
     else Goes vars w n
 
 abbrev pub over_turns : {W : Type 0} → ℕ → (List Var → W → ℕ → Ends W) → Turns → List Var → W → ℕ → Ends W

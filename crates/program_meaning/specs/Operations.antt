@@ -116,7 +116,7 @@ argument args k = unwrap_or (slice_get args k) value.Nil
 
 unfoldable pub given_by : Function → List Value → Result Value Failure
 given_by Length args = Ok (value.Int (pos (size_in (out-Value (argument args 0)))))
-given_by Text args = Ok (value.Str (chars (signed_decimal (int_of (argument args 0)))))
+given_by Text args = weighed (value.Str (chars (signed_decimal (int_of (argument args 0)))))
 given_by Absolute args = in_range (absolute (int_of (argument args 0)))
 given_by Least args = Ok (value.Int (if is_gt (int_cmp (int_of (argument args 0)) (int_of (argument args 1))) then int_of (argument args 1) else int_of (argument args 0)))
 given_by Greatest args = Ok (value.Int (if is_lt (int_cmp (int_of (argument args 0)) (int_of (argument args 1))) then int_of (argument args 1) else int_of (argument args 0)))

@@ -29,7 +29,7 @@ in_bounds : (n : ℤ) → FitsSigned w128 n → fits n ≡ true
 in_bounds (pos n) fit = lt-ltb n (2 ^ 127) (omega (arith, ints, fit))
 in_bounds (negsuc n) fit = lt-ltb n (2 ^ 127) (omega (arith, ints, fit))
 
-in_range_here : (z n : ℤ) → FitsSigned w128 n → n ≡ z → in_range z ≡ Ok (value.Int n)
+pub in_range_here : (z n : ℤ) → FitsSigned w128 n → n ≡ z → in_range z ≡ Ok (value.Int n)
 unfolding in_range
 in_range_here z n fit same = ap in_range (sym same) ∙ ap (λ b. if b then Ok (value.Int n) else Err overflow_error) (in_bounds n fit)
 

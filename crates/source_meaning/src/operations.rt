@@ -378,12 +378,12 @@ fn argument_number(args: &Values, at: usize) -> i128
     }
 }
 
-/// The decimal digits of a number.
+/// The decimal digits of a number, as a value that an expression gives.
 fn digits(alloc: Global, n: i128) -> Result<Value, Stop>
-    ensures { Tells result (Ok (value.Str (chars (signed_decimal n)))) }
+    ensures { Tells result (weighed (value.Str (chars (signed_decimal n)))) }
 {
     let written = n.to_string(alloc)?;
-    Ok(Value::Str(Text::of(alloc, written.as_str())?))
+    weigh(alloc, Value::Str(Text::of(alloc, written.as_str())?))
 }
 
 /// A number without its sign.

@@ -26,7 +26,7 @@ use Rattle.std.proofs.Common.{Ok, [], Bor, if◌then◌else◌, ◌+ℤ◌, pos,
 use Rattle.std.specs.Int.{w128}
 use Rattle.std.proofs.lemmas.Int.{to_z-of_z}
 use Rattle.program_meaning.specs.World.{writing}
-use Rattle.source_meaning.proofs.RangeLaws.{is_before, is_after, next_fits}
+use Rattle.source_meaning.proofs.RangeLaws.{is_before, is_after, next_fits, next_there}
 use Rattle.std.proofs.Common.{SFits}
 use Rattle.std.proofs.Math.Facts.{sfits_to_z}
 use Rattle.std.specs.Int.Signed.{le_z}
@@ -230,16 +230,16 @@ pub over_numbers-returns-in_err-take_step : goal.over_numbers-returns-in_err-tak
 over_numbers-returns-in_err-take_step t c = let h = fails_as c.in_err-take_step.field-0.0 step_limit c.loop-turn.vars (seen c.args.site.now c.loop-turn.run) c.take_step.new.steps _ c.in_err-take_step.ensures.failure (sym ((λ i. over_numbers (c.from-limit.result + 1 - c.loop-turn._turn) c.args.turn.now.name.0 (all_of (site_of c.args.site.now) (stmts_of (plain_stmts c.args.turn.now.body.now))) (sym c.loop-turn.at-is i) (sym (to_z-of_z w128 c.args.to (record { sfits = c.ranges.to.sfits })) i) c.loop-turn.vars (seen c.args.site.now c.loop-turn.run) c.loop-turn.run.steps) ∙ c.loop-turn.invariant ∙ (λ i. over_numbers (suc c.args.run.now.steps) c.args.turn.now.name.0 (all_of (site_of c.args.site.now) (stmts_of (plain_stmts c.args.turn.now.body.now))) ((to_z-of_z w128 c.args.from (record { sfits = c.ranges.from.sfits })) i) ((to_z-of_z w128 c.args.to (record { sfits = c.ranges.to.sfits })) i) c.args.vars.now (seen c.args.site.now c.args.run.now) c.args.run.now.steps)) ∙ numbers_stop c.loop-turn.vars (seen c.args.site.now c.loop-turn.run) c.loop-turn.run.steps (c.from-limit.result + 1 - c.loop-turn._turn) c.args.turn.now.name.0 (all_of (site_of c.args.site.now) (stmts_of (plain_stmts c.args.turn.now.body.now))) c.loop-turn.at c.args.to (omega arith) (is_before c.loop-turn.at c.args.to ((λ i. le_z (sym (to_z-of_z w128 c.args.to (record { sfits = c.ranges.to.sfits })) i) (sym c.loop-turn.at-is i)) ∙ c.if-at-to.false)) c.in_err-take_step.ensures.none_left ∙ ap (Fails step_limit c.loop-turn.vars (seen c.args.site.now c.loop-turn.run)) (sym c.in_err-take_step.ensures.kept)) in grind (arith, h)
 
 pub over_numbers-returns-in_err-execute_all : goal.over_numbers-returns-in_err-execute_all
-over_numbers-returns-in_err-execute_all t c = let h = turn_fails c.in_err-execute_all.field-0.0 c.execute_all.new.vars (seen c.args.site.now c.execute_all.new.run) c.execute_all.new.run.steps _ _ (over_numbers ((c.from-limit.result + 1 - c.loop-turn._turn) - 1) c.args.turn.now.name.0 (all_of (site_of c.args.site.now) (stmts_of (plain_stmts c.args.turn.now.body.now))) (c.loop-turn.at +ℤ pos 1) c.args.to) (sym ((λ i. over_numbers (c.from-limit.result + 1 - c.loop-turn._turn) c.args.turn.now.name.0 (all_of (site_of c.args.site.now) (stmts_of (plain_stmts c.args.turn.now.body.now))) (sym c.loop-turn.at-is i) (sym (to_z-of_z w128 c.args.to (record { sfits = c.ranges.to.sfits })) i) c.loop-turn.vars (seen c.args.site.now c.loop-turn.run) c.loop-turn.run.steps) ∙ c.loop-turn.invariant ∙ (λ i. over_numbers (suc c.args.run.now.steps) c.args.turn.now.name.0 (all_of (site_of c.args.site.now) (stmts_of (plain_stmts c.args.turn.now.body.now))) ((to_z-of_z w128 c.args.from (record { sfits = c.ranges.from.sfits })) i) ((to_z-of_z w128 c.args.to (record { sfits = c.ranges.to.sfits })) i) c.args.vars.now (seen c.args.site.now c.args.run.now) c.args.run.now.steps)) ∙ numbers_turn c.loop-turn.vars (seen c.args.site.now c.loop-turn.run) c.loop-turn.run.steps (c.from-limit.result + 1 - c.loop-turn._turn) c.args.turn.now.name.0 (all_of (site_of c.args.site.now) (stmts_of (plain_stmts c.args.turn.now.body.now))) c.loop-turn.at c.args.to (omega arith) c.take_step.new.steps (is_before c.loop-turn.at c.args.to ((λ i. le_z (sym (to_z-of_z w128 c.args.to (record { sfits = c.ranges.to.sfits })) i) (sym c.loop-turn.at-is i)) ∙ c.if-at-to.false)) c.in_ok-take_step.ensures.taken ∙ ap (λ vs. next_turn ((all_of (site_of c.args.site.now) (stmts_of (plain_stmts c.args.turn.now.body.now))) vs (seen c.args.site.now c.loop-turn.run) c.take_step.new.steps) (over_numbers ((c.from-limit.result + 1 - c.loop-turn._turn) - 1) c.args.turn.now.name.0 (all_of (site_of c.args.site.now) (stmts_of (plain_stmts c.args.turn.now.body.now))) (c.loop-turn.at +ℤ pos 1) c.args.to)) (sym (c.in_ok-assign_local.ensures ∙ ap (λ a. assigned c.loop-turn.vars c.args.turn.now.name.0 (value.Int a)) c.loop-turn.at-is))) c.in_err-execute_all.ensures in grind (arith, h)
+over_numbers-returns-in_err-execute_all t c = let h = turn_fails c.in_err-execute_all.field-0.0 c.execute_all.new.vars (seen c.args.site.now c.execute_all.new.run) c.execute_all.new.run.steps _ _ (over_numbers ((c.from-limit.result + 1 - c.loop-turn._turn) - 1) c.args.turn.now.name.0 (all_of (site_of c.args.site.now) (stmts_of (plain_stmts c.args.turn.now.body.now))) (c.loop-turn.at +ℤ pos 1) c.args.to) (sym ((λ i. over_numbers (c.from-limit.result + 1 - c.loop-turn._turn) c.args.turn.now.name.0 (all_of (site_of c.args.site.now) (stmts_of (plain_stmts c.args.turn.now.body.now))) (sym c.loop-turn.at-is i) (sym (to_z-of_z w128 c.args.to (record { sfits = c.ranges.to.sfits })) i) c.loop-turn.vars (seen c.args.site.now c.loop-turn.run) c.loop-turn.run.steps) ∙ c.loop-turn.invariant ∙ (λ i. over_numbers (suc c.args.run.now.steps) c.args.turn.now.name.0 (all_of (site_of c.args.site.now) (stmts_of (plain_stmts c.args.turn.now.body.now))) ((to_z-of_z w128 c.args.from (record { sfits = c.ranges.from.sfits })) i) ((to_z-of_z w128 c.args.to (record { sfits = c.ranges.to.sfits })) i) c.args.vars.now (seen c.args.site.now c.args.run.now) c.args.run.now.steps)) ∙ numbers_turn c.loop-turn.vars (seen c.args.site.now c.loop-turn.run) c.loop-turn.run.steps (c.from-limit.result + 1 - c.loop-turn._turn) c.args.turn.now.name.0 (all_of (site_of c.args.site.now) (stmts_of (plain_stmts c.args.turn.now.body.now))) c.loop-turn.at c.args.to (omega arith) c.take_step.new.steps (is_before c.loop-turn.at c.args.to ((λ i. le_z (sym (to_z-of_z w128 c.args.to (record { sfits = c.ranges.to.sfits })) i) (sym c.loop-turn.at-is i)) ∙ c.if-at-to.false)) c.in_ok-take_step.ensures.taken (next_there c.loop-turn.at c.args.to (subst (SFits w128) c.loop-turn.at-is (sfits_to_z c.loop-turn.auto.at-fits)) (record { sfits = c.ranges.to.sfits }) ((λ i. le_z (sym (to_z-of_z w128 c.args.to (record { sfits = c.ranges.to.sfits })) i) (sym c.loop-turn.at-is i)) ∙ c.if-at-to.false)) ∙ ap (λ vs. next_turn ((all_of (site_of c.args.site.now) (stmts_of (plain_stmts c.args.turn.now.body.now))) vs (seen c.args.site.now c.loop-turn.run) c.take_step.new.steps) (over_numbers ((c.from-limit.result + 1 - c.loop-turn._turn) - 1) c.args.turn.now.name.0 (all_of (site_of c.args.site.now) (stmts_of (plain_stmts c.args.turn.now.body.now))) (c.loop-turn.at +ℤ pos 1) c.args.to)) (sym (c.in_ok-assign_local.ensures ∙ ap (λ a. assigned c.loop-turn.vars c.args.turn.now.name.0 (value.Int a)) c.loop-turn.at-is))) c.in_err-execute_all.ensures in grind (arith, h)
 
 pub over_numbers-returns-in-Broke : goal.over_numbers-returns-in-Broke
-over_numbers-returns-in-Broke t c = sym ((λ i. over_numbers (c.from-limit.result + 1 - c.loop-turn._turn) c.args.turn.now.name.0 (all_of (site_of c.args.site.now) (stmts_of (plain_stmts c.args.turn.now.body.now))) (sym c.loop-turn.at-is i) (sym (to_z-of_z w128 c.args.to (record { sfits = c.ranges.to.sfits })) i) c.loop-turn.vars (seen c.args.site.now c.loop-turn.run) c.loop-turn.run.steps) ∙ c.loop-turn.invariant ∙ (λ i. over_numbers (suc c.args.run.now.steps) c.args.turn.now.name.0 (all_of (site_of c.args.site.now) (stmts_of (plain_stmts c.args.turn.now.body.now))) ((to_z-of_z w128 c.args.from (record { sfits = c.ranges.from.sfits })) i) ((to_z-of_z w128 c.args.to (record { sfits = c.ranges.to.sfits })) i) c.args.vars.now (seen c.args.site.now c.args.run.now) c.args.run.now.steps)) ∙ numbers_turn c.loop-turn.vars (seen c.args.site.now c.loop-turn.run) c.loop-turn.run.steps (c.from-limit.result + 1 - c.loop-turn._turn) c.args.turn.now.name.0 (all_of (site_of c.args.site.now) (stmts_of (plain_stmts c.args.turn.now.body.now))) c.loop-turn.at c.args.to (omega arith) c.take_step.new.steps (is_before c.loop-turn.at c.args.to ((λ i. le_z (sym (to_z-of_z w128 c.args.to (record { sfits = c.ranges.to.sfits })) i) (sym c.loop-turn.at-is i)) ∙ c.if-at-to.false)) c.in_ok-take_step.ensures.taken ∙ ap (λ vs. next_turn ((all_of (site_of c.args.site.now) (stmts_of (plain_stmts c.args.turn.now.body.now))) vs (seen c.args.site.now c.loop-turn.run) c.take_step.new.steps) (over_numbers ((c.from-limit.result + 1 - c.loop-turn._turn) - 1) c.args.turn.now.name.0 (all_of (site_of c.args.site.now) (stmts_of (plain_stmts c.args.turn.now.body.now))) (c.loop-turn.at +ℤ pos 1) c.args.to)) (sym (c.in_ok-assign_local.ensures ∙ ap (λ a. assigned c.loop-turn.vars c.args.turn.now.name.0 (value.Int a)) c.loop-turn.at-is)) ∙ ap (λ e. next_turn e (over_numbers ((c.from-limit.result + 1 - c.loop-turn._turn) - 1) c.args.turn.now.name.0 (all_of (site_of c.args.site.now) (stmts_of (plain_stmts c.args.turn.now.body.now))) (c.loop-turn.at +ℤ pos 1) c.args.to)) (subst (λ f. EndsIn (Ok f) c.execute_all.new.vars (seen c.args.site.now c.execute_all.new.run) c.execute_all.new.run.steps ((all_of (site_of c.args.site.now) (stmts_of (plain_stmts c.args.turn.now.body.now))) c.assign_local.new.vars (seen c.args.site.now c.loop-turn.run) c.take_step.new.steps)) c.in-Broke.is c.in_ok-execute_all.ensures)
+over_numbers-returns-in-Broke t c = sym ((λ i. over_numbers (c.from-limit.result + 1 - c.loop-turn._turn) c.args.turn.now.name.0 (all_of (site_of c.args.site.now) (stmts_of (plain_stmts c.args.turn.now.body.now))) (sym c.loop-turn.at-is i) (sym (to_z-of_z w128 c.args.to (record { sfits = c.ranges.to.sfits })) i) c.loop-turn.vars (seen c.args.site.now c.loop-turn.run) c.loop-turn.run.steps) ∙ c.loop-turn.invariant ∙ (λ i. over_numbers (suc c.args.run.now.steps) c.args.turn.now.name.0 (all_of (site_of c.args.site.now) (stmts_of (plain_stmts c.args.turn.now.body.now))) ((to_z-of_z w128 c.args.from (record { sfits = c.ranges.from.sfits })) i) ((to_z-of_z w128 c.args.to (record { sfits = c.ranges.to.sfits })) i) c.args.vars.now (seen c.args.site.now c.args.run.now) c.args.run.now.steps)) ∙ numbers_turn c.loop-turn.vars (seen c.args.site.now c.loop-turn.run) c.loop-turn.run.steps (c.from-limit.result + 1 - c.loop-turn._turn) c.args.turn.now.name.0 (all_of (site_of c.args.site.now) (stmts_of (plain_stmts c.args.turn.now.body.now))) c.loop-turn.at c.args.to (omega arith) c.take_step.new.steps (is_before c.loop-turn.at c.args.to ((λ i. le_z (sym (to_z-of_z w128 c.args.to (record { sfits = c.ranges.to.sfits })) i) (sym c.loop-turn.at-is i)) ∙ c.if-at-to.false)) c.in_ok-take_step.ensures.taken (next_there c.loop-turn.at c.args.to (subst (SFits w128) c.loop-turn.at-is (sfits_to_z c.loop-turn.auto.at-fits)) (record { sfits = c.ranges.to.sfits }) ((λ i. le_z (sym (to_z-of_z w128 c.args.to (record { sfits = c.ranges.to.sfits })) i) (sym c.loop-turn.at-is i)) ∙ c.if-at-to.false)) ∙ ap (λ vs. next_turn ((all_of (site_of c.args.site.now) (stmts_of (plain_stmts c.args.turn.now.body.now))) vs (seen c.args.site.now c.loop-turn.run) c.take_step.new.steps) (over_numbers ((c.from-limit.result + 1 - c.loop-turn._turn) - 1) c.args.turn.now.name.0 (all_of (site_of c.args.site.now) (stmts_of (plain_stmts c.args.turn.now.body.now))) (c.loop-turn.at +ℤ pos 1) c.args.to)) (sym (c.in_ok-assign_local.ensures ∙ ap (λ a. assigned c.loop-turn.vars c.args.turn.now.name.0 (value.Int a)) c.loop-turn.at-is)) ∙ ap (λ e. next_turn e (over_numbers ((c.from-limit.result + 1 - c.loop-turn._turn) - 1) c.args.turn.now.name.0 (all_of (site_of c.args.site.now) (stmts_of (plain_stmts c.args.turn.now.body.now))) (c.loop-turn.at +ℤ pos 1) c.args.to)) (subst (λ f. EndsIn (Ok f) c.execute_all.new.vars (seen c.args.site.now c.execute_all.new.run) c.execute_all.new.run.steps ((all_of (site_of c.args.site.now) (stmts_of (plain_stmts c.args.turn.now.body.now))) c.assign_local.new.vars (seen c.args.site.now c.loop-turn.run) c.take_step.new.steps)) c.in-Broke.is c.in_ok-execute_all.ensures)
 
 pub over_numbers-returns-in-Gave : goal.over_numbers-returns-in-Gave
-over_numbers-returns-in-Gave t c = sym ((λ i. over_numbers (c.from-limit.result + 1 - c.loop-turn._turn) c.args.turn.now.name.0 (all_of (site_of c.args.site.now) (stmts_of (plain_stmts c.args.turn.now.body.now))) (sym c.loop-turn.at-is i) (sym (to_z-of_z w128 c.args.to (record { sfits = c.ranges.to.sfits })) i) c.loop-turn.vars (seen c.args.site.now c.loop-turn.run) c.loop-turn.run.steps) ∙ c.loop-turn.invariant ∙ (λ i. over_numbers (suc c.args.run.now.steps) c.args.turn.now.name.0 (all_of (site_of c.args.site.now) (stmts_of (plain_stmts c.args.turn.now.body.now))) ((to_z-of_z w128 c.args.from (record { sfits = c.ranges.from.sfits })) i) ((to_z-of_z w128 c.args.to (record { sfits = c.ranges.to.sfits })) i) c.args.vars.now (seen c.args.site.now c.args.run.now) c.args.run.now.steps)) ∙ numbers_turn c.loop-turn.vars (seen c.args.site.now c.loop-turn.run) c.loop-turn.run.steps (c.from-limit.result + 1 - c.loop-turn._turn) c.args.turn.now.name.0 (all_of (site_of c.args.site.now) (stmts_of (plain_stmts c.args.turn.now.body.now))) c.loop-turn.at c.args.to (omega arith) c.take_step.new.steps (is_before c.loop-turn.at c.args.to ((λ i. le_z (sym (to_z-of_z w128 c.args.to (record { sfits = c.ranges.to.sfits })) i) (sym c.loop-turn.at-is i)) ∙ c.if-at-to.false)) c.in_ok-take_step.ensures.taken ∙ ap (λ vs. next_turn ((all_of (site_of c.args.site.now) (stmts_of (plain_stmts c.args.turn.now.body.now))) vs (seen c.args.site.now c.loop-turn.run) c.take_step.new.steps) (over_numbers ((c.from-limit.result + 1 - c.loop-turn._turn) - 1) c.args.turn.now.name.0 (all_of (site_of c.args.site.now) (stmts_of (plain_stmts c.args.turn.now.body.now))) (c.loop-turn.at +ℤ pos 1) c.args.to)) (sym (c.in_ok-assign_local.ensures ∙ ap (λ a. assigned c.loop-turn.vars c.args.turn.now.name.0 (value.Int a)) c.loop-turn.at-is)) ∙ ap (λ e. next_turn e (over_numbers ((c.from-limit.result + 1 - c.loop-turn._turn) - 1) c.args.turn.now.name.0 (all_of (site_of c.args.site.now) (stmts_of (plain_stmts c.args.turn.now.body.now))) (c.loop-turn.at +ℤ pos 1) c.args.to)) (subst (λ f. EndsIn (Ok f) c.execute_all.new.vars (seen c.args.site.now c.execute_all.new.run) c.execute_all.new.run.steps ((all_of (site_of c.args.site.now) (stmts_of (plain_stmts c.args.turn.now.body.now))) c.assign_local.new.vars (seen c.args.site.now c.loop-turn.run) c.take_step.new.steps)) c.in-Gave.is c.in_ok-execute_all.ensures)
+over_numbers-returns-in-Gave t c = sym ((λ i. over_numbers (c.from-limit.result + 1 - c.loop-turn._turn) c.args.turn.now.name.0 (all_of (site_of c.args.site.now) (stmts_of (plain_stmts c.args.turn.now.body.now))) (sym c.loop-turn.at-is i) (sym (to_z-of_z w128 c.args.to (record { sfits = c.ranges.to.sfits })) i) c.loop-turn.vars (seen c.args.site.now c.loop-turn.run) c.loop-turn.run.steps) ∙ c.loop-turn.invariant ∙ (λ i. over_numbers (suc c.args.run.now.steps) c.args.turn.now.name.0 (all_of (site_of c.args.site.now) (stmts_of (plain_stmts c.args.turn.now.body.now))) ((to_z-of_z w128 c.args.from (record { sfits = c.ranges.from.sfits })) i) ((to_z-of_z w128 c.args.to (record { sfits = c.ranges.to.sfits })) i) c.args.vars.now (seen c.args.site.now c.args.run.now) c.args.run.now.steps)) ∙ numbers_turn c.loop-turn.vars (seen c.args.site.now c.loop-turn.run) c.loop-turn.run.steps (c.from-limit.result + 1 - c.loop-turn._turn) c.args.turn.now.name.0 (all_of (site_of c.args.site.now) (stmts_of (plain_stmts c.args.turn.now.body.now))) c.loop-turn.at c.args.to (omega arith) c.take_step.new.steps (is_before c.loop-turn.at c.args.to ((λ i. le_z (sym (to_z-of_z w128 c.args.to (record { sfits = c.ranges.to.sfits })) i) (sym c.loop-turn.at-is i)) ∙ c.if-at-to.false)) c.in_ok-take_step.ensures.taken (next_there c.loop-turn.at c.args.to (subst (SFits w128) c.loop-turn.at-is (sfits_to_z c.loop-turn.auto.at-fits)) (record { sfits = c.ranges.to.sfits }) ((λ i. le_z (sym (to_z-of_z w128 c.args.to (record { sfits = c.ranges.to.sfits })) i) (sym c.loop-turn.at-is i)) ∙ c.if-at-to.false)) ∙ ap (λ vs. next_turn ((all_of (site_of c.args.site.now) (stmts_of (plain_stmts c.args.turn.now.body.now))) vs (seen c.args.site.now c.loop-turn.run) c.take_step.new.steps) (over_numbers ((c.from-limit.result + 1 - c.loop-turn._turn) - 1) c.args.turn.now.name.0 (all_of (site_of c.args.site.now) (stmts_of (plain_stmts c.args.turn.now.body.now))) (c.loop-turn.at +ℤ pos 1) c.args.to)) (sym (c.in_ok-assign_local.ensures ∙ ap (λ a. assigned c.loop-turn.vars c.args.turn.now.name.0 (value.Int a)) c.loop-turn.at-is)) ∙ ap (λ e. next_turn e (over_numbers ((c.from-limit.result + 1 - c.loop-turn._turn) - 1) c.args.turn.now.name.0 (all_of (site_of c.args.site.now) (stmts_of (plain_stmts c.args.turn.now.body.now))) (c.loop-turn.at +ℤ pos 1) c.args.to)) (subst (λ f. EndsIn (Ok f) c.execute_all.new.vars (seen c.args.site.now c.execute_all.new.run) c.execute_all.new.run.steps ((all_of (site_of c.args.site.now) (stmts_of (plain_stmts c.args.turn.now.body.now))) c.assign_local.new.vars (seen c.args.site.now c.loop-turn.run) c.take_step.new.steps)) c.in-Gave.is c.in_ok-execute_all.ensures)
 
 pub over_numbers-loop-turn-preserved : goal.over_numbers-loop-turn-preserved
-over_numbers-loop-turn-preserved t c = let less : (c.from-limit.result + 1 - (c.loop-turn._turn + 1)) ≡ (c.from-limit.result + 1 - c.loop-turn._turn) - 1 = omega arith in let kept : over_numbers (c.from-limit.result + 1 - (c.loop-turn._turn + 1)) c.args.turn.now.name.0 (all_of (site_of c.args.site.now) (stmts_of (plain_stmts c.args.turn.now.body.now))) (c.loop-turn.at +ℤ pos 1) c.args.to c.execute_all.new.vars (seen c.args.site.now c.execute_all.new.run) c.execute_all.new.run.steps ≡ over_numbers (suc c.args.run.now.steps) c.args.turn.now.name.0 (all_of (site_of c.args.site.now) (stmts_of (plain_stmts c.args.turn.now.body.now))) c.args.from c.args.to c.args.vars.now (seen c.args.site.now c.args.run.now) c.args.run.now.steps = ap (λ k. over_numbers k c.args.turn.now.name.0 (all_of (site_of c.args.site.now) (stmts_of (plain_stmts c.args.turn.now.body.now))) (c.loop-turn.at +ℤ pos 1) c.args.to c.execute_all.new.vars (seen c.args.site.now c.execute_all.new.run) c.execute_all.new.run.steps) less ∙ sym (numbers_turn c.loop-turn.vars (seen c.args.site.now c.loop-turn.run) c.loop-turn.run.steps (c.from-limit.result + 1 - c.loop-turn._turn) c.args.turn.now.name.0 (all_of (site_of c.args.site.now) (stmts_of (plain_stmts c.args.turn.now.body.now))) c.loop-turn.at c.args.to (omega arith) c.take_step.new.steps (is_before c.loop-turn.at c.args.to ((λ i. le_z (sym (to_z-of_z w128 c.args.to (record { sfits = c.ranges.to.sfits })) i) (sym c.loop-turn.at-is i)) ∙ c.if-at-to.false)) c.in_ok-take_step.ensures.taken ∙ ap (λ vs. next_turn ((all_of (site_of c.args.site.now) (stmts_of (plain_stmts c.args.turn.now.body.now))) vs (seen c.args.site.now c.loop-turn.run) c.take_step.new.steps) (over_numbers ((c.from-limit.result + 1 - c.loop-turn._turn) - 1) c.args.turn.now.name.0 (all_of (site_of c.args.site.now) (stmts_of (plain_stmts c.args.turn.now.body.now))) (c.loop-turn.at +ℤ pos 1) c.args.to)) (sym (c.in_ok-assign_local.ensures ∙ ap (λ a. assigned c.loop-turn.vars c.args.turn.now.name.0 (value.Int a)) c.loop-turn.at-is)) ∙ turn_goes c.in_ok-execute_all.field-0 c.execute_all.new.vars (seen c.args.site.now c.execute_all.new.run) c.execute_all.new.run.steps _ (over_numbers ((c.from-limit.result + 1 - c.loop-turn._turn) - 1) c.args.turn.now.name.0 (all_of (site_of c.args.site.now) (stmts_of (plain_stmts c.args.turn.now.body.now))) (c.loop-turn.at +ℤ pos 1) c.args.to) c.in-On.is c.in_ok-execute_all.ensures) ∙ ((λ i. over_numbers (c.from-limit.result + 1 - c.loop-turn._turn) c.args.turn.now.name.0 (all_of (site_of c.args.site.now) (stmts_of (plain_stmts c.args.turn.now.body.now))) (sym c.loop-turn.at-is i) (sym (to_z-of_z w128 c.args.to (record { sfits = c.ranges.to.sfits })) i) c.loop-turn.vars (seen c.args.site.now c.loop-turn.run) c.loop-turn.run.steps) ∙ c.loop-turn.invariant ∙ (λ i. over_numbers (suc c.args.run.now.steps) c.args.turn.now.name.0 (all_of (site_of c.args.site.now) (stmts_of (plain_stmts c.args.turn.now.body.now))) ((to_z-of_z w128 c.args.from (record { sfits = c.ranges.from.sfits })) i) ((to_z-of_z w128 c.args.to (record { sfits = c.ranges.to.sfits })) i) c.args.vars.now (seen c.args.site.now c.args.run.now) c.args.run.now.steps)) in (λ i. over_numbers (c.from-limit.result + 1 - (c.loop-turn._turn + 1)) c.args.turn.now.name.0 (all_of (site_of c.args.site.now) (stmts_of (plain_stmts c.args.turn.now.body.now))) ((ap (λ a. to_z w128 (of_z w128 (a +ℤ pos 1))) c.loop-turn.at-is ∙ to_z-of_z w128 (c.loop-turn.at +ℤ pos 1) (next_fits c.loop-turn.at c.args.to (subst (SFits w128) c.loop-turn.at-is (sfits_to_z c.loop-turn.auto.at-fits)) (record { sfits = c.ranges.to.sfits }) ((λ i. le_z (sym (to_z-of_z w128 c.args.to (record { sfits = c.ranges.to.sfits })) i) (sym c.loop-turn.at-is i)) ∙ c.if-at-to.false))) i) ((to_z-of_z w128 c.args.to (record { sfits = c.ranges.to.sfits })) i) c.execute_all.new.vars (seen c.args.site.now c.execute_all.new.run) c.execute_all.new.run.steps) ∙ kept ∙ (λ i. over_numbers (suc c.args.run.now.steps) c.args.turn.now.name.0 (all_of (site_of c.args.site.now) (stmts_of (plain_stmts c.args.turn.now.body.now))) (sym (to_z-of_z w128 c.args.from (record { sfits = c.ranges.from.sfits })) i) (sym (to_z-of_z w128 c.args.to (record { sfits = c.ranges.to.sfits })) i) c.args.vars.now (seen c.args.site.now c.args.run.now) c.args.run.now.steps)
+over_numbers-loop-turn-preserved t c = let less : (c.from-limit.result + 1 - (c.loop-turn._turn + 1)) ≡ (c.from-limit.result + 1 - c.loop-turn._turn) - 1 = omega arith in let kept : over_numbers (c.from-limit.result + 1 - (c.loop-turn._turn + 1)) c.args.turn.now.name.0 (all_of (site_of c.args.site.now) (stmts_of (plain_stmts c.args.turn.now.body.now))) (c.loop-turn.at +ℤ pos 1) c.args.to c.execute_all.new.vars (seen c.args.site.now c.execute_all.new.run) c.execute_all.new.run.steps ≡ over_numbers (suc c.args.run.now.steps) c.args.turn.now.name.0 (all_of (site_of c.args.site.now) (stmts_of (plain_stmts c.args.turn.now.body.now))) c.args.from c.args.to c.args.vars.now (seen c.args.site.now c.args.run.now) c.args.run.now.steps = ap (λ k. over_numbers k c.args.turn.now.name.0 (all_of (site_of c.args.site.now) (stmts_of (plain_stmts c.args.turn.now.body.now))) (c.loop-turn.at +ℤ pos 1) c.args.to c.execute_all.new.vars (seen c.args.site.now c.execute_all.new.run) c.execute_all.new.run.steps) less ∙ sym (numbers_turn c.loop-turn.vars (seen c.args.site.now c.loop-turn.run) c.loop-turn.run.steps (c.from-limit.result + 1 - c.loop-turn._turn) c.args.turn.now.name.0 (all_of (site_of c.args.site.now) (stmts_of (plain_stmts c.args.turn.now.body.now))) c.loop-turn.at c.args.to (omega arith) c.take_step.new.steps (is_before c.loop-turn.at c.args.to ((λ i. le_z (sym (to_z-of_z w128 c.args.to (record { sfits = c.ranges.to.sfits })) i) (sym c.loop-turn.at-is i)) ∙ c.if-at-to.false)) c.in_ok-take_step.ensures.taken (next_there c.loop-turn.at c.args.to (subst (SFits w128) c.loop-turn.at-is (sfits_to_z c.loop-turn.auto.at-fits)) (record { sfits = c.ranges.to.sfits }) ((λ i. le_z (sym (to_z-of_z w128 c.args.to (record { sfits = c.ranges.to.sfits })) i) (sym c.loop-turn.at-is i)) ∙ c.if-at-to.false)) ∙ ap (λ vs. next_turn ((all_of (site_of c.args.site.now) (stmts_of (plain_stmts c.args.turn.now.body.now))) vs (seen c.args.site.now c.loop-turn.run) c.take_step.new.steps) (over_numbers ((c.from-limit.result + 1 - c.loop-turn._turn) - 1) c.args.turn.now.name.0 (all_of (site_of c.args.site.now) (stmts_of (plain_stmts c.args.turn.now.body.now))) (c.loop-turn.at +ℤ pos 1) c.args.to)) (sym (c.in_ok-assign_local.ensures ∙ ap (λ a. assigned c.loop-turn.vars c.args.turn.now.name.0 (value.Int a)) c.loop-turn.at-is)) ∙ turn_goes c.in_ok-execute_all.field-0 c.execute_all.new.vars (seen c.args.site.now c.execute_all.new.run) c.execute_all.new.run.steps _ (over_numbers ((c.from-limit.result + 1 - c.loop-turn._turn) - 1) c.args.turn.now.name.0 (all_of (site_of c.args.site.now) (stmts_of (plain_stmts c.args.turn.now.body.now))) (c.loop-turn.at +ℤ pos 1) c.args.to) c.in-On.is c.in_ok-execute_all.ensures) ∙ ((λ i. over_numbers (c.from-limit.result + 1 - c.loop-turn._turn) c.args.turn.now.name.0 (all_of (site_of c.args.site.now) (stmts_of (plain_stmts c.args.turn.now.body.now))) (sym c.loop-turn.at-is i) (sym (to_z-of_z w128 c.args.to (record { sfits = c.ranges.to.sfits })) i) c.loop-turn.vars (seen c.args.site.now c.loop-turn.run) c.loop-turn.run.steps) ∙ c.loop-turn.invariant ∙ (λ i. over_numbers (suc c.args.run.now.steps) c.args.turn.now.name.0 (all_of (site_of c.args.site.now) (stmts_of (plain_stmts c.args.turn.now.body.now))) ((to_z-of_z w128 c.args.from (record { sfits = c.ranges.from.sfits })) i) ((to_z-of_z w128 c.args.to (record { sfits = c.ranges.to.sfits })) i) c.args.vars.now (seen c.args.site.now c.args.run.now) c.args.run.now.steps)) in (λ i. over_numbers (c.from-limit.result + 1 - (c.loop-turn._turn + 1)) c.args.turn.now.name.0 (all_of (site_of c.args.site.now) (stmts_of (plain_stmts c.args.turn.now.body.now))) ((ap (λ a. to_z w128 (of_z w128 (a +ℤ pos 1))) c.loop-turn.at-is ∙ to_z-of_z w128 (c.loop-turn.at +ℤ pos 1) (next_fits c.loop-turn.at c.args.to (subst (SFits w128) c.loop-turn.at-is (sfits_to_z c.loop-turn.auto.at-fits)) (record { sfits = c.ranges.to.sfits }) ((λ i. le_z (sym (to_z-of_z w128 c.args.to (record { sfits = c.ranges.to.sfits })) i) (sym c.loop-turn.at-is i)) ∙ c.if-at-to.false))) i) ((to_z-of_z w128 c.args.to (record { sfits = c.ranges.to.sfits })) i) c.execute_all.new.vars (seen c.args.site.now c.execute_all.new.run) c.execute_all.new.run.steps) ∙ kept ∙ (λ i. over_numbers (suc c.args.run.now.steps) c.args.turn.now.name.0 (all_of (site_of c.args.site.now) (stmts_of (plain_stmts c.args.turn.now.body.now))) (sym (to_z-of_z w128 c.args.from (record { sfits = c.ranges.from.sfits })) i) (sym (to_z-of_z w128 c.args.to (record { sfits = c.ranges.to.sfits })) i) c.args.vars.now (seen c.args.site.now c.args.run.now) c.args.run.now.steps)
 
 pub over_numbers-returns : goal.over_numbers-returns
 over_numbers-returns t c = let none : (c.from-limit.result + 1 - c.loop-turn._turn) ≡ 0 = omega arith in fails_as c.fail.result step_limit c.loop-turn.vars (seen c.args.site.now c.loop-turn.run) c.loop-turn.run.steps _ c.fail.ensures (sym ((λ i. over_numbers (c.from-limit.result + 1 - c.loop-turn._turn) c.args.turn.now.name.0 (all_of (site_of c.args.site.now) (stmts_of (plain_stmts c.args.turn.now.body.now))) (sym c.loop-turn.at-is i) (sym (to_z-of_z w128 c.args.to (record { sfits = c.ranges.to.sfits })) i) c.loop-turn.vars (seen c.args.site.now c.loop-turn.run) c.loop-turn.run.steps) ∙ c.loop-turn.invariant ∙ (λ i. over_numbers (suc c.args.run.now.steps) c.args.turn.now.name.0 (all_of (site_of c.args.site.now) (stmts_of (plain_stmts c.args.turn.now.body.now))) ((to_z-of_z w128 c.args.from (record { sfits = c.ranges.from.sfits })) i) ((to_z-of_z w128 c.args.to (record { sfits = c.ranges.to.sfits })) i) c.args.vars.now (seen c.args.site.now c.args.run.now) c.args.run.now.steps)) ∙ numbers_over c.loop-turn.vars (seen c.args.site.now c.loop-turn.run) c.loop-turn.run.steps (c.from-limit.result + 1 - c.loop-turn._turn) c.args.turn.now.name.0 (all_of (site_of c.args.site.now) (stmts_of (plain_stmts c.args.turn.now.body.now))) c.loop-turn.at c.args.to none)
