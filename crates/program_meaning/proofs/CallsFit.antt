@@ -16,7 +16,7 @@ use Rattle.py_tree.specs.ExpressionTypes.{field_of}
 use Rattle.py_tree.specs.Reachability.{all_go_on, break_in}
 use Rattle.py_tree.specs.Bounded.{EachOfStmts, RaisesFailure}
 use Rattle.py_tree.specs.Flow.{result_at, result_in, param_local, Way, begun, flow_all, locals_at_start, sig_at, in_method, init_locals, in_init}
-use Rattle.py_tree.specs.Acceptance.{IsAccepted}
+use Rattle.program_meaning.specs.NothingGoesWrong.{IsKnownAccepted}
 use Rattle.py_tree.proofs.ClassRuleLaws.{head_none, rest_none, not_broken, class_kept}
 use Rattle.sf_value.specs.Keys.{Key, key_cmp}
 use Rattle.sf_value.proofs.Maps.{key_total, tied_key}
@@ -40,6 +40,10 @@ use Rattle.program_meaning.proofs.ActFits.{EndFits, goes, returns, leaves, turns
 use Rattle.program_meaning.proofs.TableFacts.{matches, class_at, table_methods, methods_here, mapped_at, read_fits, written_fits}
 use Rattle.program_meaning.proofs.MethodFacts.{bound_fits, bound_sound, init_flows, params_kept, body_kept, method_member, raises_kept, BodyFlows, body_flows}
 use Rattle.program_meaning.proofs.InitFits.{Makes, makes, breaks_off, declared_types, declared_fit}
+
+makes_so : (P Q : List Value → Type 0) (g : Gives (List Value) Value) → ((fields : List Value) → P fields → Q fields) → Makes P g → Makes Q g
+makes_so P Q (Got v fields n) h (makes p) = makes (h fields p)
+makes_so P Q (Fell f fields n) h (breaks_off c) = breaks_off c
 
 -- States
 
@@ -98,7 +102,7 @@ pub is_some_of : {A : Type 0} (o : Option A) → is_none o ≡ false → (x : A)
 is_some_of None h = absurd (true≢false h)
 is_some_of (Some x) h = (x, refl)
 
-module _ (names : List (List ℕ)) (program : PlainProgram) (accepted : IsAccepted names program) where
+module _ (names : List (List ℕ)) (program : PlainProgram) (accepted : IsKnownAccepted names program) where
   abbrev src : Source
   src = record { program = program; names = names }
 
@@ -180,9 +184,11 @@ module _ (names : List (List ℕ)) (program : PlainProgram) (accepted : IsAccept
   abbrev pub TextsTold : ℕ → List Value → Type 0
   TextsTold k args = (name p : ℕ) → slice_get (filter_map (source_in name) (body_of (init_of src k))) 0 ≡ Some p → Fits tables TStr (local_value (bound (params_of (init_of src k)) args) p)
 
-  pub create_fits : (s : State) (at : Key) (args : List Value) (w : World) (n : ℕ) → NewFits tables at.0 args → Since tables s w → GivesFit (Since tables s) (λ v. (v ≡ entity at) × TextsTold at.0 args) (create src at args w n)
-  unfolding create class_fault whole_fault init_among table_of fields_of init_body_fault
-  create_fits s at args w n h p = by (map.get w.state at)
+  -- `__init__` makes a record that fits its class
+  pub record_made_fits : (at : Key) (args : List Value) (n : ℕ) → NewFits tables at.0 args
+      → Makes (λ fields. RecordFits tables at.0 fields × TextsTold at.0 args) (declare_all src at (body_of (init_of src at.0)) (bound (params_of (init_of src at.0)) args) [] n)
+  unfolding class_fault whole_fault init_among table_of fields_of init_body_fault
+  record_made_fits at args n h = made_so
     where
       k : ℕ
       k = at.0
@@ -235,12 +241,18 @@ module _ (names : List (List ℕ)) (program : PlainProgram) (accepted : IsAccept
       first_locals : VarsFit tables (bound m.0.params args) (init_locals tables k)
       first_locals = subst (λ ls. VarsFit tables (bound m.0.params args) ls) first_is (bound_fits tables program m.0.params args params (subst (λ ps. EachFits tables (param_types ps) args) (sym is_params) h.fit))
 
-      by : (o : Option (List Value)) → GivesFit (Since tables s) (λ v. (v ≡ entity at) × TextsTold at.0 args) (if_there o (made at (reading w at) (declare_all src at (body_of (init_of src at.0)) (bound (params_of (init_of src at.0)) args) [] n)) (Fell already_exists (reading w at) n))
-      by None = subst (λ o. GivesFit (Since tables s) (λ v. (v ≡ entity at) × ((name p : ℕ) → slice_get (filter_map (source_in name) (body_of o)) 0 ≡ Some p → Fits tables TStr (local_value (bound (params_of o) args) p))) (made at (reading w at) (declare_all src at (body_of o) (bound (params_of o) args) [] n))) (sym here)
-          (made_fits s at (reading w at) (λ fields. EachFits tables (declared_types m.0.body) fields) ((name p : ℕ) → slice_get (filter_map (source_in name) m.0.body) 0 ≡ Some p → Fits tables TStr (local_value (bound m.0.params args) p)) (declare_all src at m.0.body (bound m.0.params args) [] n)
-          (λ fields fit. record { table = h.table; has_table = h.has_table; fit = subst (λ fs. EachFits tables (over (λ (f : PlainField). f.ty) fs) fields) is_body fit })
-          (since_read tables s w at p)
+      made_so : Makes (λ fields. RecordFits tables at.0 fields × TextsTold at.0 args) (declare_all src at (body_of (init_of src at.0)) (bound (params_of (init_of src at.0)) args) [] n)
+      made_so = subst (λ o. Makes (λ fields. RecordFits tables at.0 fields × ((name p : ℕ) → slice_get (filter_map (source_in name) (body_of o)) 0 ≡ Some p → Fits tables TStr (local_value (bound (params_of o) args) p))) (declare_all src at (body_of o) (bound (params_of o) args) [] n)) (sym here)
+          (makes_so _ _ (declare_all src at m.0.body (bound m.0.params args) [] n)
+          (λ fields fit. (record { table = h.table; has_table = h.has_table; fit = subst (λ fs. EachFits tables (over (λ (f : PlainField). f.ty) fs) fields) is_body fit.0 }, fit.1))
           (declared_fit names program accepted.rules.classes at h.table m.0.body h.has_table is_body c.0.members m.0.body [] (begun (init_locals tables k)) flows.0 (bound m.0.params args) [] n refl body flows.1 first_locals no_value))
+
+  pub create_fits : (s : State) (at : Key) (args : List Value) (w : World) (n : ℕ) → NewFits tables at.0 args → Since tables s w → GivesFit (Since tables s) (λ v. (v ≡ entity at) × TextsTold at.0 args) (create src at args w n)
+  unfolding create
+  create_fits s at args w n h p = by (map.get w.state at)
+    where
+      by : (o : Option (List Value)) → GivesFit (Since tables s) (λ v. (v ≡ entity at) × TextsTold at.0 args) (if_there o (made at (reading w at) (declare_all src at (body_of (init_of src at.0)) (bound (params_of (init_of src at.0)) args) [] n)) (Fell already_exists (reading w at) n))
+      by None = made_fits s at (reading w at) (RecordFits tables at.0) (TextsTold at.0 args) (declare_all src at (body_of (init_of src at.0)) (bound (params_of (init_of src at.0)) args) [] n) (λ fields fit. fit) (since_read tables s w at p) (record_made_fits at args n h)
       by (Some fields) = fell (failure_fits already_exists (omega arith) (omega arith)) (since_read tables s w at p)
 
   new_fits : (s : State) (class : ℕ) (args : List Value) (w : World) (n : ℕ) → NewFits tables class args → Since tables s w → GivesFit (Since tables s) (MadeFits tables class) (create src (new_key src class args) args w n)

@@ -5,15 +5,17 @@ use Rattle.std.specs.List.{list_any}
 use Rattle.std.specs.declared.result.Result.{Result}
 use Rattle.std.proofs.lemmas.Option.{same_Some, none-some}
 use Rattle.std.proofs.lemmas.Bool.{eq-eqb}
+use Rattle.std.proofs.Math.Bridge.{le_prop}
+use Rattle.std.proofs.Math.Logic.{∥∥₁_elim}
 use Rattle.py_tree.specs.declared.rule.Rule.TheVariants.{TooMany, ReservedName, DuplicateMember, MissingReturn}
 use Rattle.py_tree.specs.declared.rule.RuleFault.{RuleFault}
-use Rattle.py_tree.specs.PlainStatements.{stmts_of}
+use Rattle.py_tree.specs.PlainStatements.{PlainStmt, PPass, PBreak, PContinue, PDo, PReturn, PRaise, PAssert, PAssign, PAugment, PIf, PWhile, PFor, PlainStmts, PNoStmt, PStmt, PArm, PlainArms, PNoArm, PMoreArms, stmts_of}
 use Rattle.py_tree.specs.PlainProgram.{PlainParam, PlainMethod, PlainClass, PlainProgram}
 use Rattle.py_tree.specs.ClassRules.{PlainTable, is_reserved, is_class, is_param, is_init, is_full, broken, first_behind, first_in, param_fault, annotation_fault, member_fault, member_name_fault, result_fault, init_body_fault, class_fault, whole_fault, program_fault, methods_of as methods_among, init_of as init_among, body_of, written_or_none, sig_param, sig_params, tables_of}
 use Rattle.py_tree.specs.FlowEnvironment.{PlainLocal, has_none}
 use Rattle.py_tree.specs.ExpressionTypes.{inside, refuse_if}
 use Rattle.py_tree.specs.Reachability.{all_go_on}
-use Rattle.py_tree.specs.Bounded.{IsBounded, IsBoundedClass, IsBoundedMethod, EachOfStmts, RaisesFailure}
+use Rattle.py_tree.specs.Bounded.{IsBounded, IsBoundedClass, IsBoundedMethod, EachStmt, EachOfStmts, EachOfArms, RaisesFailure}
 use Rattle.py_tree.specs.Flow.{param_local, result_at, known_at, settled, Way, begun, flow_all, fault_in, locals_at_start, sig_at, in_method, method_locals, init_locals, in_init, init_flow_fault, methods_flow_fault, class_flow_fault, classes_flow_fault, flow_fault}
 use Rattle.py_tree.proofs.ClassRuleLaws.{head_none, rest_none, not_broken, class_kept}
 use Rattle.sf_value.specs.declared.value.Value.{Value}
@@ -27,6 +29,42 @@ use Rattle.program_meaning.proofs.TypedParts.{found_ok, refuse_ok}
 use Rattle.program_meaning.proofs.FlowParts.{no_fault}
 use Rattle.program_meaning.proofs.LocalShapes.{Shape, shapes, type_in, Within, all_in, one_in, Sound, not_none_value}
 use Rattle.program_meaning.proofs.TableFacts.{none_before, kept_behind, filtered_at, all_at}
+
+-- That what is raised is a failure is known in one way
+
+unit_same : (a b : Unit {0}) → a ≡ b
+unit_same a b = refl
+
+two_same : {A B : Type 0} → ((a b : A) → a ≡ b) → ((a b : B) → a ≡ b) → (p q : A × B) → p ≡ q
+two_same f g p q = λ i. (f p.0 q.0 i, g p.1 q.1 i)
+
+three_same : {A B C : Type 0} → ((a b : A) → a ≡ b) → ((a b : B) → a ≡ b) → ((a b : C) → a ≡ b) → (p q : A × B × C) → p ≡ q
+three_same f g h p q = λ i. (f p.0 q.0 i, g p.1 q.1 i, h p.2 q.2 i)
+
+mutual
+  unfolding EachStmt
+
+  raise_same : (x : PlainStmt) (a b : EachStmt RaisesFailure x) → a ≡ b
+  raise_same (PPass at) a b = unit_same a b
+  raise_same (PBreak at) a b = unit_same a b
+  raise_same (PContinue at) a b = unit_same a b
+  raise_same (PDo at e) a b = unit_same a b
+  raise_same (PReturn at e) a b = unit_same a b
+  raise_same (PRaise at kind e) a b = two_same (λ a b. le_prop a b) (λ a b. le_prop a b) a b
+  raise_same (PAssert at test e) a b = unit_same a b
+  raise_same (PAssign at x ty e) a b = unit_same a b
+  raise_same (PAugment at x o o_at e) a b = unit_same a b
+  raise_same (PIf at arms other) a b = three_same unit_same (arms_same arms) (raises_same other) a b
+  raise_same (PWhile at test body) a b = two_same unit_same (raises_same body) a b
+  raise_same (PFor at x x_at over body) a b = two_same unit_same (raises_same body) a b
+
+  raises_same : (xs : PlainStmts) (a b : EachOfStmts RaisesFailure xs) → a ≡ b
+  raises_same PNoStmt a b = unit_same a b
+  raises_same (PStmt x xs) a b = two_same (raise_same x) (raises_same xs) a b
+
+  arms_same : (arms : PlainArms) (a b : EachOfArms RaisesFailure arms) → a ≡ b
+  arms_same PNoArm a b = unit_same a b
+  arms_same (PMoreArms (PArm test body) more) a b = two_same (raises_same body) (arms_same more) a b
 
 -- Parameters
 
@@ -189,11 +227,11 @@ module _ (names : List (List ℕ)) (program : PlainProgram) (kept : program_faul
   unfolding methods_among
   method_member j c m at = filtered_at _ c.members j m at
 
-  pub raises_kept : IsBounded names program → (k i : ℕ) (c : PlainClass) (m : PlainMethod) → slice_get program k ≡ Some c → slice_get c.members i ≡ Some m → EachOfStmts RaisesFailure (stmts_of m.body)
-  raises_kept bounded k i c m is at =
-      let class : IsBoundedClass (length names) c = all_at (IsBoundedClass (length names)) program k c bounded.classes is in
+  pub raises_kept : ∥ IsBounded names program ∥₁ → (k i : ℕ) (c : PlainClass) (m : PlainMethod) → slice_get program k ≡ Some c → slice_get c.members i ≡ Some m → EachOfStmts RaisesFailure (stmts_of m.body)
+  raises_kept bounded k i c m is at = ∥∥₁_elim bounded (raises_same (stmts_of m.body)) (λ (b : IsBounded names program).
+      let class : IsBoundedClass (length names) c = all_at (IsBoundedClass (length names)) program k c b.classes is in
       let member : IsBoundedMethod (length names) m = all_at (IsBoundedMethod (length names)) c.members i m class.members at in
-      member.failures
+      member.failures)
 
   -- the body of a method, and its end
   pub record BodyFlows (k j : ℕ) (m : PlainMethod) : Type 0 where

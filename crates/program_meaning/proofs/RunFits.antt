@@ -9,7 +9,7 @@ use Rattle.py_tree.specs.declared.rule.RuleFault.{RuleFault}
 use Rattle.py_tree.specs.PlainTypes.{TStr}
 use Rattle.py_tree.specs.PlainProgram.{PlainMethod, PlainClass, PlainProgram}
 use Rattle.py_tree.specs.ClassRules.{PlainKey, PlainTable, broken, first_in, class_fault, whole_fault, member_fault, init_of as init_among, key_method, key_of, key_told, key_or_first, key_fault, params_of, body_of, source_in, sig_params, table_of, tables_of}
-use Rattle.py_tree.specs.Acceptance.{IsAccepted}
+use Rattle.program_meaning.specs.NothingGoesWrong.{IsKnownAccepted}
 use Rattle.py_tree.proofs.ClassRuleLaws.{head_none, rest_none, not_broken, class_kept}
 use Rattle.sf_value.specs.declared.value.Value.{Value}
 use Rattle.sf_value.specs.declared.value.Value.TheVariants as value
@@ -38,7 +38,7 @@ key_there place (Some m) key none =
     let k : (k : PlainKey) × (key ≡ Some k) = is_some_of key (not_broken KeyForm m.place (is_none key) none) in
     (m, k.0, refl, k.1)
 
-module _ (names : List (List ℕ)) (program : PlainProgram) (accepted : IsAccepted names program) where
+module _ (names : List (List ℕ)) (program : PlainProgram) (accepted : IsKnownAccepted names program) where
   abbrev src : Source
   src = record { program = program; names = names }
 

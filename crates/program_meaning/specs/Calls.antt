@@ -51,6 +51,10 @@ unfoldable pub declare_all : Source → Key → List PlainStmt → List Var → 
 declare_all src me [] vars fields n = Got value.Nil fields n
 declare_all src me (x ∷ xs) vars fields n = declare src me x vars fields n >>= λ v fields n. declare_all src me xs vars fields n
 
+-- the record that `__init__` makes of arguments
+abbrev pub made_record : Source → Key → List Value → ℕ → Gives (List Value) Value
+made_record src at args n = declare_all src at (body_of (init_of src at.0)) (bound (params_of (init_of src at.0)) args) [] n
+
 -- the entity that a creation with these arguments makes
 abbrev pub new_key : Source → ℕ → List Value → Key
 new_key src class args = (class, text_of (value_at args (key_param_of src class)))
@@ -69,7 +73,7 @@ if_there (Some fields) absent present = present
 unfoldable pub create : Source → Key → List Value → World → ℕ → Gives World Value
 create src at args w n =
     if_there (map.get w.state at)
-    (made at (reading w at) (declare_all src at (body_of (init_of src at.0)) (bound (params_of (init_of src at.0)) args) [] n))
+    (made at (reading w at) (made_record src at args n))
     (Fell already_exists (reading w at) n)
 
 -- Calls on the whole state
