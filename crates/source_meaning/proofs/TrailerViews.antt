@@ -27,8 +27,8 @@ module _ {W : Type 0} (s : Site W) (vars : List Var) where
   follow_last old new t v w n is =
       ap (λ ts. all_followed s (map plain_trailer ts) vars (Got v w n)) is
       ∙ ap (λ ts. all_followed s ts vars (Got v w n)) (map-append plain_trailer new (t ∷ []))
-      ∙ follow_first (map plain_trailer new) (plain_trailer t) (Got v w n)
+      ∙ follow_first s vars (map plain_trailer new) (plain_trailer t) (Got v w n)
 
   pub chain_falls : (stop : Stop) (ts : List PlainTrailer) (w : W) (n : ℕ) (g h : Gives W Value) → h ≡ all_followed s ts vars g → FallsIn stop w n g → FallsIn stop w n h
   chain_falls stops.NoMemory ts w n g h same falls = tt
-  chain_falls (stops.Failed f) ts w n g h same falls = same ∙ ap (all_followed s ts vars) falls ∙ follow_fallen ts f w n
+  chain_falls (stops.Failed f) ts w n g h same falls = same ∙ ap (all_followed s ts vars) falls ∙ follow_fallen s vars ts f w n
