@@ -6,13 +6,14 @@ ghost use Rattle.py_tree.specs.PlainStatements.{plain_stmt, plain_stmts, stmts_o
 ghost use Rattle.py_tree.specs.Bounded.{expr_size, stmt_size, stmts_size, most_nodes};
 
 use crate::accepted::accepted;
+use program_meaning::Vars;
 use py_tree::nodes::{
     apply_of, assert_of, assignment, bool_of, break_of, call_of, int_of, pass_of, self_of,
 };
 use py_tree::{Expr, Name, Place, PlacedName, Stmt, Stmts, Target};
 use sf_list::Sequence;
 use sf_value::{Outcome, Record, Ref, Text, Value};
-use source_meaning::{Ended, Vars, eval_here, run_here};
+use source_meaning::{Ended, eval_here, run_here};
 use std::alloc::{AllocError, Global};
 use std::test::Fail;
 

@@ -8,7 +8,7 @@ use Rattle.serde_json.specs.View.{view, items_view}
 use Rattle.serde_json.specs.declared.value.Value.{Value}
 use Rattle.py_tree.specs.declared.program.Param.{Param}
 use Rattle.py_tree.specs.PlainProgram.{plain_param, plain_params}
-use Rattle.source_meaning.specs.ClassTables.{Source}
+use Rattle.program_meaning.specs.ClassTables.{Source}
 use Rattle.sf_value.specs.declared.value.Value.{Value as Arg}
 use Rattle.request_json.specs.Arguments.{◌>>?◌, each_of, arg_of, args_of}
 use Rattle.request_json.specs.RequestLines.{length_of, arguments_of}

@@ -12,7 +12,7 @@ use Rattle.serde_json.specs.Data as json
 use Rattle.serde_json.proofs.OnLiterals.{serde_json_on_literals}
 use Rattle.sf_value.specs.declared.value.Value.TheVariants as value
 use Rattle.sf_value.specs.declared.Act.TheVariants as act
-use Rattle.source_meaning.specs.ClassTables.{Source}
+use Rattle.program_meaning.specs.ClassTables.{Source}
 use Rattle.request_json.specs.declared.fault.LineFault.TheVariants.{NotJson, NotRequest, UnknownClass, UnknownMethod, ArgumentCount, ArgumentType}
 use Rattle.request_json.specs.Arguments.{int_of_text, int_of, value_of, args_of}
 use Rattle.request_json.specs.RequestLines.{reading_of}

@@ -18,10 +18,10 @@ use Rattle.py_tree.specs.ClassRules.{PlainTable, methods_of as methods_among, in
 use Rattle.sf_value.specs.declared.value.Value.{Value}
 use Rattle.sf_value.specs.declared.value.Value.TheVariants as value
 use Rattle.sf_value.specs.declared.Request.{Request}
-use Rattle.source_meaning.specs.ClassTables.{Source, members_of, methods_of, init_of}
-use Rattle.source_meaning.specs.Fits.{HasTable, Fits, int, bool, str, nil, list, none, some, entity, AllFit, empty, more, EachFits, no_value, one_more, param_types, CallFits, NewFits}
-use Rattle.source_meaning.proofs.TableFacts.{map_found, then_found}
-use Rattle.source_meaning.proofs.Places.{position_is, position_of_more}
+use Rattle.program_meaning.specs.ClassTables.{Source, members_of, methods_of, init_of}
+use Rattle.program_meaning.specs.Fits.{HasTable, Fits, int, bool, str, nil, list, none, some, entity, AllFit, empty, more, EachFits, no_value, one_more, param_types, CallFits, NewFits}
+use Rattle.program_meaning.proofs.TableFacts.{map_found, then_found}
+use Rattle.program_meaning.proofs.Places.{position_is, position_of_more}
 use Rattle.request_json.specs.declared.fault.LineFault.{LineFault}
 use Rattle.request_json.specs.declared.fault.LineFault.TheVariants.{NotJson, NotRequest, UnknownClass, UnknownMethod, ArgumentCount, ArgumentType}
 use Rattle.request_json.specs.Arguments.{◌>>?◌, int_of, each_of, class_named, value_of, arg_of, args_of}

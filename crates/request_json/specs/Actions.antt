@@ -2,7 +2,7 @@
 use Rattle.std.specs.Prelude.{ℕ, ◌-◌, ◌==◌, nat_le, List, [], ◌∷◌, ◌++◌, length, take, slice_index, Ok, Err, codes, if◌then◌else◌}
 use Rattle.std.specs.declared.result.Result.{Result}
 use Rattle.sf_value.specs.declared.Request.{Request}
-use Rattle.source_meaning.specs.ClassTables.{Source}
+use Rattle.program_meaning.specs.ClassTables.{Source}
 use Rattle.request_json.specs.declared.fault.LineFault.{LineFault}
 use Rattle.request_json.specs.RequestLines.{longest, reading_of, text_of}
 

@@ -13,7 +13,7 @@ use Rattle.py_tree.specs.PlainTypes.{PlainTy, TInt, TBool, TStr, TNil, TList, TO
 use Rattle.py_tree.specs.PlainProgram.{PlainParam}
 use Rattle.sf_value.specs.declared.value.Value.{Value}
 use Rattle.sf_value.specs.declared.value.Value.TheVariants as value
-use Rattle.source_meaning.specs.ClassTables.{Source}
+use Rattle.program_meaning.specs.ClassTables.{Source}
 
 -- goes on with a value, where there is one
 infixl 10 ◌>>?◌

@@ -4,7 +4,7 @@ use Rattle.std.specs.Str.{encode_utf8_all}
 use Rattle.py_tree.specs.PlainProgram.{PlainProgram}
 use Rattle.py_tree.specs.ClassRules.{PlainTable, tables_of}
 use Rattle.sf_value.specs.declared.Request.{Request}
-use Rattle.source_meaning.specs.Fits.{ActFits}
+use Rattle.program_meaning.specs.Fits.{ActFits}
 use Rattle.request_json.specs.RequestLines.{reading_of}
 
 -- an id has 1 to 64 bytes

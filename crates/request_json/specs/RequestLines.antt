@@ -16,7 +16,7 @@ use Rattle.py_tree.specs.Acceptance.{class_number, method_number}
 use Rattle.sf_value.specs.declared.value.Value.{Value}
 use Rattle.sf_value.specs.declared.Act.TheVariants as act
 use Rattle.sf_value.specs.declared.Request.{Request}
-use Rattle.source_meaning.specs.ClassTables.{Source, methods_of, init_of}
+use Rattle.program_meaning.specs.ClassTables.{Source, methods_of, init_of}
 use Rattle.request_json.specs.Arguments.{◌>>?◌, args_of}
 use Rattle.request_json.specs.declared.fault.LineFault.{LineFault}
 use Rattle.request_json.specs.declared.fault.LineFault.TheVariants.{NotJson, NotRequest, UnknownClass, UnknownMethod, ArgumentCount, ArgumentType}

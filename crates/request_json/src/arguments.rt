@@ -7,7 +7,7 @@ ghost use Rattle.std.specs.Str.Parse.{starts_with_minus};
 ghost use Rattle.serde_json.specs.View.{view, items_view};
 ghost use Rattle.py_tree.specs.PlainTypes.{plain_written, type_of};
 ghost use Rattle.py_tree.specs.PlainProgram.{plain_param, plain_params};
-ghost use Rattle.source_meaning.specs.Sources.{source_of};
+ghost use Rattle.program_meaning.specs.Sources.{source_of};
 ghost use Rattle.request_json.specs.Arguments as spec;
 ghost use Rattle.request_json.specs.RequestLines.{arguments_of as passed};
 ghost use Rattle.request_json.specs.Answers.{Gives};

@@ -4,15 +4,15 @@ use Rattle.std.specs.declared.result.Result.{Result}
 use Rattle.std.specs.Prelude.{nat_le}
 use Rattle.py_tree.specs.PlainProgram.{PlainProgram}
 use Rattle.py_tree.specs.ClassRules.{PlainTable, tables_of}
-use Rattle.py_tree.specs.Acceptance.{IsAccepted}
+use Rattle.program_meaning.specs.NothingGoesWrong.{IsKnownAccepted}
 use Rattle.sf_value.specs.declared.Entry.{Entry}
 use Rattle.sf_value.specs.declared.Request.{Request}
-use Rattle.source_meaning.specs.ClassTables.{Source}
-use Rattle.source_meaning.specs.World.{State}
-use Rattle.source_meaning.specs.RequestRun.{run}
-use Rattle.source_meaning.specs.Serial.{no_state, serial_outcomes, serial_state, acts_of, outcomes_of}
-use Rattle.source_meaning.specs.Fits.{StateFits, OutcomeFits}
-use Rattle.source_meaning.proofs.Soundness.{first_fits, runs_fit}
+use Rattle.program_meaning.specs.ClassTables.{Source}
+use Rattle.program_meaning.specs.World.{State}
+use Rattle.program_meaning.specs.RequestRun.{run}
+use Rattle.program_meaning.specs.Serial.{no_state, serial_outcomes, serial_state, acts_of, outcomes_of}
+use Rattle.program_meaning.specs.Fits.{StateFits, OutcomeFits}
+use Rattle.program_meaning.proofs.Soundness.{first_fits, runs_fit}
 use Rattle.request_json.specs.declared.fault.LineFault.{LineFault}
 use Rattle.request_json.specs.RequestLines.{longest, reading_of}
 use Rattle.request_json.specs.Actions.{Line, Refuse, LineTooLong, Ask, asking, used, content_of, action_of}
@@ -42,7 +42,7 @@ module _ (names : List (List ℕ)) (program : PlainProgram) where
       by true (b ∷ bs) is = asks (b ∷ bs) (reading_of src (b ∷ bs)) refl is
       by false text is = absurd cc
 
-  module _ (accepted : IsAccepted names program) where
+  module _ (accepted : IsKnownAccepted names program) where
     entries_fit : (before : List Entry) (lines : List Line) (printed : List Printed) (added : List Entry) (s : State) → StateFits tables s → Fits src before lines printed added → outcomes_of added ≡ serial_outcomes src s (acts_of added)
         → EntriesFit tables added × StateFits tables (serial_state src s (acts_of added))
     unfolding serial_outcomes serial_state

@@ -9,7 +9,7 @@ use Rattle.sf_outside.specs.Gains.{Wrote}
 use Rattle.sf_outside.specs.declared.gains.WriteStop.{WriteStop}
 use Rattle.sf_outside.specs.declared.gains.WriteStop.TheVariants.{NoMemory}
 use Rattle.sf_outside.proofs.GainLaws.{Wrote-none, Wrote-after, Wrote-more, Wrote-passed}
-use Rattle.source_meaning.specs.ClassTables.{Source}
+use Rattle.program_meaning.specs.ClassTables.{Source}
 use Rattle.request_json.specs.RequestLines.{longest}
 use Rattle.request_json.specs.Actions.{Ended, Left, whole_from, rest_from, last_line}
 use Rattle.session.specs.declared.feeding.Session.{Session}

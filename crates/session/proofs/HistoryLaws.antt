@@ -6,8 +6,8 @@ use Rattle.std.specs.Option.{option_map}
 use Rattle.std.proofs.lemmas.Option.{same_Some, none-some}
 use Rattle.indexmap.specs.IndexMap.{insert_entry}
 use Rattle.sf_value.specs.declared.text.Text.{Text}
-use Rattle.source_meaning.proofs.Places.{position_of_more}
-use Rattle.source_meaning.proofs.TableFacts.{map_found}
+use Rattle.program_meaning.proofs.Places.{position_of_more}
+use Rattle.program_meaning.proofs.TableFacts.{map_found}
 use Rattle.session.specs.declared.history.Committed.{Committed}
 use Rattle.session.specs.HistoryView.{kept_entry, entries_of}
 use Rattle.session.specs.Repeats.{kept_from, kept_of}

@@ -12,7 +12,7 @@ use Rattle.sf_value.specs.declared.Act.TheVariants as act
 use Rattle.sf_value.specs.declared.Entry.{Entry}
 use Rattle.sf_value.specs.Sameness.{same_value}
 use Rattle.sf_value.proofs.SameLaws.{same_value-Decides}
-use Rattle.source_meaning.specs.Serial.{is_committed}
+use Rattle.program_meaning.specs.Serial.{is_committed}
 use Rattle.session.specs.Repeats.{same_values, same_act, Kept, kept_from, kept_of}
 use Rattle.session.specs.SerialOutput.{entry_at}
 

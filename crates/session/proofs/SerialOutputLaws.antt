@@ -13,9 +13,9 @@ use Rattle.sf_outside.specs.Gains.{Wrote, joined}
 use Rattle.sf_outside.specs.declared.gains.WriteStop.{WriteStop}
 use Rattle.sf_outside.specs.declared.gains.WriteStop.TheVariants.{NoMemory, WriteFault}
 use Rattle.sf_outside.proofs.GainLaws.{joined-append}
-use Rattle.source_meaning.specs.ClassTables.{Source}
-use Rattle.source_meaning.specs.Serial.{Core, IsSound}
-use Rattle.source_meaning.proofs.SerialLaws.{IsSound-empty, IsSound-more}
+use Rattle.program_meaning.specs.ClassTables.{Source}
+use Rattle.program_meaning.specs.Serial.{Core, IsSound}
+use Rattle.program_meaning.proofs.SerialLaws.{IsSound-empty, IsSound-more}
 use Rattle.request_json.specs.Actions.{Line, Action, Skip, Refuse, Ask, cause_text, action_of}
 use Rattle.request_json.specs.ReplyLines.{reply_line, bad_line}
 use Rattle.session.specs.declared.feeding.InputEnd.{InputEnd}

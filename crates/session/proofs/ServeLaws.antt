@@ -9,7 +9,7 @@ use Rattle.sf_outside.specs.Gains.{Wrote, joined}
 use Rattle.sf_outside.specs.declared.gains.WriteStop.{WriteStop}
 use Rattle.sf_outside.specs.declared.gains.WriteStop.TheVariants.{WriteFault}
 use Rattle.sf_outside.proofs.GainLaws.{Wrote-after, Wrote-more, Wrote-passed}
-use Rattle.source_meaning.specs.ClassTables.{Source}
+use Rattle.program_meaning.specs.ClassTables.{Source}
 use Rattle.request_json.specs.Actions.{Line, whole_lines, all_lines, last_line, rest_from}
 use Rattle.session.specs.declared.feeding.Session.{Session}
 use Rattle.session.specs.declared.feeding.InputEnd.{InputEnd}

@@ -6,7 +6,7 @@ use Rattle.std.specs.declared.result.Result.{Result}
 use Rattle.std.specs.Io.KnownBytes.{Consumes, Keeps}
 use Rattle.std.proofs.KnownBytes.{Consumes-trans, Consumes-kept, Consumes-nil}
 use Rattle.sf_outside.specs.declared.gains.WriteStop.{WriteStop}
-use Rattle.source_meaning.specs.ClassTables.{Source}
+use Rattle.program_meaning.specs.ClassTables.{Source}
 use Rattle.request_json.specs.Actions.{rest_from}
 use Rattle.session.specs.declared.feeding.Session.{Session}
 use Rattle.session.specs.declared.feeding.InputEnd.{InputEnd}

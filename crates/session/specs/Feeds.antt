@@ -4,7 +4,7 @@ use Rattle.std.specs.declared.option.Option.{Option}
 use Rattle.std.specs.declared.result.Result.{Result}
 use Rattle.sf_outside.specs.Gains.{Wrote}
 use Rattle.sf_outside.specs.declared.gains.WriteStop.{WriteStop}
-use Rattle.source_meaning.specs.ClassTables.{Source}
+use Rattle.program_meaning.specs.ClassTables.{Source}
 use Rattle.request_json.specs.Actions.{whole_from, rest_from}
 use Rattle.request_json.specs.RequestLines.{longest}
 use Rattle.session.specs.declared.feeding.Session.{Session}

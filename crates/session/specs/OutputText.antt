@@ -4,9 +4,9 @@ use Rattle.std.specs.declared.option.Option.{Option}
 use Rattle.sf_value.specs.declared.Act.{Act}
 use Rattle.sf_value.specs.declared.Entry.{Entry}
 use Rattle.sf_value.specs.declared.Request.{Request}
-use Rattle.source_meaning.specs.ClassTables.{Source}
-use Rattle.source_meaning.specs.RequestRun.{run}
-use Rattle.source_meaning.specs.Serial.{Core, no_state}
+use Rattle.program_meaning.specs.ClassTables.{Source}
+use Rattle.program_meaning.specs.RequestRun.{run}
+use Rattle.program_meaning.specs.Serial.{Core, no_state}
 use Rattle.sf_outside.specs.Gains.{joined}
 use Rattle.request_json.specs.Actions.{Line, Action, Skip, Refuse, Ask, cause_text, action_of, all_lines}
 use Rattle.request_json.specs.ReplyLines.{reply_line, bad_line}

@@ -6,8 +6,8 @@ use Rattle.sf_value.specs.declared.Entry.{Entry}
 use Rattle.sf_value.specs.declared.Request.{Request}
 use Rattle.sf_outside.specs.Bytes.{AppendsPrefix}
 use Rattle.sf_outside.specs.Gains.{joined}
-use Rattle.source_meaning.specs.ClassTables.{Source}
-use Rattle.source_meaning.specs.Serial.{Core, IsSound}
+use Rattle.program_meaning.specs.ClassTables.{Source}
+use Rattle.program_meaning.specs.Serial.{Core, IsSound}
 use Rattle.request_json.specs.Actions.{Line, Action, Skip, Refuse, Ask, cause_text, action_of}
 use Rattle.request_json.specs.ReplyLines.{reply_line, bad_line}
 use Rattle.session.specs.OutputText.{reused, replies, start}

@@ -5,7 +5,7 @@ use Rattle.std.specs.declared.result.Result.{Result}
 use Rattle.std.specs.Io.KnownBytes.{Consumes, IsAtEnd}
 use Rattle.sf_outside.specs.Gains.{Wrote}
 use Rattle.sf_outside.specs.declared.gains.WriteStop.{WriteStop}
-use Rattle.source_meaning.specs.ClassTables.{Source}
+use Rattle.program_meaning.specs.ClassTables.{Source}
 use Rattle.request_json.specs.Actions.{Line, whole_lines, all_lines}
 use Rattle.session.specs.declared.feeding.InputEnd.{InputEnd}
 use Rattle.session.specs.declared.feeding.InputEnd.TheVariants.{End, ReadFault, TooLong}

@@ -1,7 +1,7 @@
 -- What a session holds between two lines, as the definitions see it.
 use Rattle.std.specs.Prelude.{ℕ, Bool, true, false, List}
 use Rattle.request_json.specs.Actions.{Line, Ended, Left}
-use Rattle.source_meaning.specs.Serial.{Core}
+use Rattle.program_meaning.specs.Serial.{Core}
 use Rattle.session.specs.declared.answering.Standing.{Standing}
 use Rattle.session.specs.OutputText as text
 

@@ -1,7 +1,7 @@
 //! One line at a time: what it asks, what it comes to, and its reply line.
 
 ghost use Rattle.std.specs.Prelude.{◌≡◌, ◌+◌, ◌<◌, ◌≤◌, ◌^◌, [], ◌∷◌, ◌++◌, length, None, take, IfOk, OnOk};
-ghost use Rattle.source_meaning.specs.Sources.{source_of};
+ghost use Rattle.program_meaning.specs.Sources.{source_of};
 ghost use Rattle.request_json.specs.Actions.{Ask, without_cr, used};
 ghost use Rattle.session.specs.Repeats.{kept_of};
 ghost use Rattle.session.specs.HistoryView.{kept_at};

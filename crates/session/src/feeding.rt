@@ -3,7 +3,7 @@
 ghost use Rattle.std.specs.Prelude.{◌≡◌, ◌≤◌, ◌<◌, ◌++◌, ◌+◌, ◌^◌, min, length, List, ℕ, [], ◌∷◌, OnOk};
 ghost use Rattle.sf_outside.specs.Causes.{Rose};
 ghost use Rattle.sf_outside.specs.Gains.{Wrote, Counts};
-ghost use Rattle.source_meaning.specs.Sources.{source_of};
+ghost use Rattle.program_meaning.specs.Sources.{source_of};
 ghost use Rattle.request_json.specs.Actions.{last_line};
 ghost use Rattle.session.specs.OutputText.{replies, after, reply, start};
 ghost use Rattle.session.specs.Standings.{standing_of, line_of};

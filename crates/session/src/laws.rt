@@ -5,7 +5,7 @@ ghost use Rattle.std.specs.Prelude.{List, ℕ};
 ghost use Rattle.std.specs.declared.option.Option.{Option};
 ghost use Rattle.std.specs.declared.result.Result.{Result};
 ghost use Rattle.sf_outside.specs.declared.gains.WriteStop.{WriteStop};
-ghost use Rattle.source_meaning.specs.ClassTables.{Source};
+ghost use Rattle.program_meaning.specs.ClassTables.{Source};
 ghost use Rattle.request_json.specs.Actions.{Line};
 ghost use Rattle.session.specs.declared.feeding.InputEnd.{InputEnd};
 ghost use Rattle.session.specs.Served.{Served};

@@ -6,13 +6,13 @@ use Rattle.sf_value.specs.declared.value.Value.TheVariants as value
 use Rattle.sf_value.specs.declared.Failure.{Failure}
 use Rattle.source_meaning.specs.declared.Stop.{Stop}
 use Rattle.source_meaning.specs.declared.Stop.TheVariants as stop
-use Rattle.source_meaning.specs.declared.vars.Var.{Var}
+use Rattle.program_meaning.specs.declared.vars.Var.{Var}
 use Rattle.source_meaning.specs.declared.walk.Flow.{Flow}
 use Rattle.source_meaning.specs.declared.walk.Flow.TheVariants as flow
-use Rattle.source_meaning.specs.World.{World, Gives, Got, Fell, ◌>>=◌, Ends, Fails, told, with_given, next_turn, result_of}
-use Rattle.source_meaning.specs.Calls.{made}
+use Rattle.program_meaning.specs.World.{World, Gives, Got, Fell, ◌>>=◌, Ends, Fails, told, with_given, next_turn, result_of}
+use Rattle.program_meaning.specs.Calls.{made}
 use Rattle.source_meaning.specs.Agrees.{FailsAs, FallsIn, FailsIn, AgreesIn, EndsIn, FallsWith}
-use Rattle.source_meaning.proofs.ViewLaws.{viewed}
+use Rattle.program_meaning.proofs.ViewLaws.{viewed}
 
 pub falls_as : {W A : Type 0} (s : Stop) (f : Failure) (w : W) (n : ℕ) (g : Gives W A) → FailsAs s f → g ≡ Fell f w n → FallsIn s w n g
 falls_as stop.NoMemory f w n g told e = tt

@@ -5,7 +5,7 @@ use Rattle.std.proofs.lemmas.Option.{slice_get_within, unwrap_or-slice_get}
 use Rattle.py_tree.specs.declared.program.Param.{Param}
 use Rattle.py_tree.specs.PlainProgram.{plain_param, plain_params, PlainParam}
 use Rattle.sf_value.specs.declared.value.Value.{Value}
-use Rattle.source_meaning.specs.Calls.{bound}
+use Rattle.program_meaning.specs.Calls.{bound}
 
 params_from : (ps : List Param) (i : ℕ) (p : Param) → i < length ps → p ≡ get_or ps i p → plain_params (drop i ps) ≡ plain_param p ∷ plain_params (drop (i + 1) ps)
 params_from ps i p lt is =

@@ -8,7 +8,7 @@ use Rattle.sf_value.specs.Keys.{key_cmp, key_of}
 use Rattle.sf_value.specs.declared.value.Value.{Value}
 use Rattle.sf_value.specs.declared.value.Ref.{Ref}
 use Rattle.sf_value.proofs.Maps.{key_total, key_exact, ref_eq, tied_refl, tied_key, swapped, insert-keyed}
-use Rattle.source_meaning.specs.World.{State}
+use Rattle.program_meaning.specs.World.{State}
 use Rattle.source_meaning.specs.StateView.{state_of}
 use Rattle.source_meaning.specs.Transactions.{with_records, entities_of}
 

@@ -5,17 +5,17 @@ use Rattle.py_tree.specs.ExpressionTypes.{Length, function_of}
 use Rattle.py_tree.specs.PlainExpressions.{PlainExpr, plain_expr, plain_exprs, exprs_of}
 use Rattle.sf_value.specs.declared.value.Value.{Value}
 use Rattle.sf_value.specs.declared.Failure.{Failure}
-use Rattle.source_meaning.specs.declared.vars.Var.{Var}
+use Rattle.program_meaning.specs.declared.vars.Var.{Var}
 use Rattle.source_meaning.specs.declared.Stop.{Stop}
-use Rattle.source_meaning.specs.World.{World, Got, ◌>>=◌, told}
-use Rattle.source_meaning.specs.Operations.{weighed, int_of, items_of, element, given_by}
-use Rattle.source_meaning.specs.Evaluation.{Site, eval, eval_all, applied, own_field}
-use Rattle.source_meaning.specs.Purity.{is_pure}
+use Rattle.program_meaning.specs.World.{World, Got, ◌>>=◌, told}
+use Rattle.program_meaning.specs.Operations.{weighed, int_of, items_of, element, given_by}
+use Rattle.program_meaning.specs.Evaluation.{Site, eval, eval_all, applied, own_field}
+use Rattle.program_meaning.specs.Purity.{is_pure}
 use Rattle.source_meaning.specs.Agrees.{AgreesIn, Tells}
 use Rattle.source_meaning.specs.InPlace.{element_in, length_in, applied_to}
 use Rattle.source_meaning.proofs.AgreeLaws.{agrees_by}
-use Rattle.source_meaning.proofs.EvalLaws.{all_next, all_end}
-use Rattle.source_meaning.proofs.PurityLaws.{pure_stays}
+use Rattle.program_meaning.proofs.EvalLaws.{all_next, all_end}
+use Rattle.program_meaning.proofs.PurityLaws.{pure_stays}
 
 -- an element of an own field, at a place that changes nothing
 pub element_told : (s : Site World) (x : ℕ) (index : PlainExpr) (vars : List Var) (w v : World) (n m : ℕ) (at : Value) (r : Result Value Stop)

@@ -11,8 +11,8 @@ use Rattle.sf_value.proofs.FloorLaws.{floor_is}
 use Rattle.sf_value.specs.declared.value.Value.{Value}
 use Rattle.sf_value.specs.declared.value.Value.TheVariants as value
 use Rattle.sf_value.specs.declared.Failure.{Failure}
-use Rattle.source_meaning.specs.World.{zero_division_error, overflow_error}
-use Rattle.source_meaning.specs.Operations.{fits, in_range, divided, order, text_of}
+use Rattle.program_meaning.specs.World.{zero_division_error, overflow_error}
+use Rattle.program_meaning.specs.Operations.{fits, in_range, divided, order, text_of}
 
 -- the order of a text and a value
 pub texts_in_order : (a : List ℕ) (w : Value) (x y : List ℕ) → x ≡ a → y ≡ text_of w → slice_cmp nat_cmp x y ≡ order (value.Str a) w
@@ -29,7 +29,7 @@ in_bounds : (n : ℤ) → FitsSigned w128 n → fits n ≡ true
 in_bounds (pos n) fit = lt-ltb n (2 ^ 127) (omega (arith, ints, fit))
 in_bounds (negsuc n) fit = lt-ltb n (2 ^ 127) (omega (arith, ints, fit))
 
-in_range_here : (z n : ℤ) → FitsSigned w128 n → n ≡ z → in_range z ≡ Ok (value.Int n)
+pub in_range_here : (z n : ℤ) → FitsSigned w128 n → n ≡ z → in_range z ≡ Ok (value.Int n)
 unfolding in_range
 in_range_here z n fit same = ap in_range (sym same) ∙ ap (λ b. if b then Ok (value.Int n) else Err overflow_error) (in_bounds n fit)
 

@@ -1,5 +1,5 @@
 -- Whether a range has a number left, and that it can be counted on then.
-use Rattle.std.proofs.Common.{◌≡◌, zero, suc, ◌-◌, ◌<◌, ℤ, pos, negsuc, ◌+ℤ◌, ◌<ℤ◌, SFits, Bool, true, false, true≢false, not, cond, T, refl, sym, ap, subst, arith}
+use Rattle.std.proofs.Common.{◌≡◌, zero, suc, ◌-◌, ◌<◌, ℤ, pos, negsuc, ◌+ℤ◌, ◌<ℤ◌, SFits, Bool, true, false, true≢false, not, cond, T, Ok, refl, sym, ap, subst, arith}
 use Rattle.std.specs.Int.{w128}
 use Rattle.std.specs.Int.Signed.{lt_z, le_z, lt_z_yes, lt_z_no, le_z_yes, clash_ℤ}
 use Rattle.std.specs.Ordering.{MatchOrdering, int_cmp, is_lt}
@@ -8,6 +8,9 @@ use Rattle.std.specs.declared.cmp.Ordering.TheVariants.{Less, Equal, Greater}
 use Rattle.std.specs.Cmp.{int_ranks, int_cmp_is}
 use Rattle.std.proofs.Math.Dec.{ltb, nleb→lt}
 use Rattle.std.proofs.lemmas.Bool.{lt-ltb}
+use Rattle.sf_value.specs.declared.value.Value.TheVariants as value
+use Rattle.program_meaning.specs.Operations.{in_range}
+use Rattle.source_meaning.proofs.OperationLaws.{in_range_here}
 
 before_by : (a b : ℤ) (t : Bool) → lt_z a b ≡ t → le_z b a ≡ false → is_lt (int_cmp a b) ≡ true
 before_by a b true lt h = sym (ap is_lt (int_cmp_is a b Less (lt_z_yes (subst T (sym lt) tt))))
@@ -32,3 +35,7 @@ next_fits (negsuc (suc k)) b fa fb h =
     let on : ltb 1 (suc (suc k)) ≡ true = lt-ltb 1 (suc (suc k)) (omega arith) in
     let less : SFits w128 (negsuc (suc (suc k) - 2)) = omega (arith, fa.sfits) in
     subst (SFits w128) (sym (ap (λ t. cond t (negsuc (suc (suc k) - 2)) (pos (1 - suc (suc k)))) on)) less
+
+-- the next number of a range is an int
+pub next_there : (a b : ℤ) → SFits w128 a → SFits w128 b → le_z b a ≡ false → in_range (a +ℤ pos 1) ≡ Ok (value.Int (a +ℤ pos 1))
+next_there a b fa fb h = in_range_here (a +ℤ pos 1) (a +ℤ pos 1) (record { sfits = (next_fits a b fa fb h).sfits }) refl

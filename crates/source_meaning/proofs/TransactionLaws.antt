@@ -14,7 +14,7 @@ use Rattle.sf_value.specs.Keys.{Key, key_cmp, key_of}
 use Rattle.sf_value.specs.declared.value.Value.{Value}
 use Rattle.sf_value.specs.declared.value.Ref.{Ref}
 use Rattle.sf_value.proofs.Maps.{key_total, key_exact, ref_eq, ref_ties, keyed, find-keyed, find-insert_entry, tied_key, same_key}
-use Rattle.source_meaning.specs.World.{State, Keys, reading, writing}
+use Rattle.program_meaning.specs.World.{State, Keys, reading, writing}
 use Rattle.source_meaning.specs.Transactions.{with_records, keys_of, entities_of}
 
 -- the first of two that is there

@@ -1,7 +1,7 @@
 -- Laws of look-ups by name.
 use Rattle.std.proofs.Common.{◌≡◌, ◌≤◌, ℕ, zero, suc, nat_eq, List, [], ◌∷◌, map, length, position, slice_set, Option, Some, None, refl, ap, arith}
 use Rattle.sf_value.specs.declared.value.Value.TheVariants as value
-use Rattle.source_meaning.specs.World.{value_at, field_value}
+use Rattle.program_meaning.specs.World.{value_at, field_value}
 use Rattle.py_tree.specs.declared.names.Name.{Name}
 use Rattle.py_tree.proofs.NameLaws.{position-map}
 

@@ -8,8 +8,8 @@ use Rattle.source_meaning.specs.declared.Stop.{Stop}
 use Rattle.source_meaning.specs.declared.Stop.TheVariants as stop
 use Rattle.source_meaning.specs.declared.walk.Flow.{Flow}
 use Rattle.source_meaning.specs.declared.walk.Flow.TheVariants as flow
-use Rattle.source_meaning.specs.declared.vars.Var.{Var}
-use Rattle.source_meaning.specs.World.{World, Gives, Got, Fell, Ends, Goes, Returns, Breaks, Continues, Fails, told}
+use Rattle.program_meaning.specs.declared.vars.Var.{Var}
+use Rattle.program_meaning.specs.World.{World, Gives, Got, Fell, Ends, Goes, Returns, Breaks, Continues, Fails, told}
 
 -- it stops for this failure, or for want of memory
 abbrev pub FailsAs : Stop → Failure → Type 0

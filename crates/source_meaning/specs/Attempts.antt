@@ -1,7 +1,7 @@
 -- What a request came to before it is committed, as the meaning has it.
 use Rattle.source_meaning.specs.declared.local.Attempt.{Attempt}
-use Rattle.source_meaning.specs.World.{State}
-use Rattle.source_meaning.specs.RequestRun.{Ran}
+use Rattle.program_meaning.specs.World.{State}
+use Rattle.program_meaning.specs.RequestRun.{Ran}
 use Rattle.source_meaning.specs.Transactions.{with_records, keys_of, entities_of}
 
 abbrev pub ran_of : State → Attempt → Ran

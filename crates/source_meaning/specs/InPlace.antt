@@ -5,9 +5,9 @@ use Rattle.sf_value.specs.declared.value.Value.{Value, out-Value}
 use Rattle.sf_value.specs.declared.value.Value.TheVariants as value
 use Rattle.py_tree.specs.ExpressionTypes.{function_of}
 use Rattle.source_meaning.specs.declared.Stop.{Stop}
-use Rattle.source_meaning.specs.World.{World, Gives, Got, ◌>>=◌, told}
-use Rattle.source_meaning.specs.Operations.{weighed, int_of, items_of, element, size_in}
-use Rattle.source_meaning.specs.Evaluation.{Site, applied}
+use Rattle.program_meaning.specs.World.{World, Gives, Got, ◌>>=◌, told}
+use Rattle.program_meaning.specs.Operations.{weighed, int_of, items_of, element, size_in}
+use Rattle.program_meaning.specs.Evaluation.{Site, applied}
 use Rattle.source_meaning.specs.Agrees.{FallsIn}
 
 -- a value weighs no more than it may, or its weight stops the code

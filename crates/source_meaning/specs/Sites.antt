@@ -3,11 +3,11 @@ use Rattle.sf_value.specs.Keys.{Key, key_of}
 use Rattle.source_meaning.specs.declared.site.Room.{Room}
 use Rattle.source_meaning.specs.declared.site.Room.TheVariants as room
 use Rattle.source_meaning.specs.declared.site.Site.{Site}
-use Rattle.source_meaning.specs.ClassTables.{Source}
-use Rattle.source_meaning.specs.World.{World, Calls}
-use Rattle.source_meaning.specs.Evaluation as meaning
-use Rattle.source_meaning.specs.Calls.{no_calls, calls_within, calls_at, own_at}
-use Rattle.source_meaning.specs.Sources.{source_of}
+use Rattle.program_meaning.specs.ClassTables.{Source}
+use Rattle.program_meaning.specs.World.{World, Calls}
+use Rattle.program_meaning.specs.Evaluation as meaning
+use Rattle.program_meaning.specs.Calls.{no_calls, calls_within, calls_at, own_at}
+use Rattle.program_meaning.specs.Sources.{source_of}
 
 abbrev pub calls_of : Source → Key → Room → Calls World
 calls_of src me room.Closed = no_calls

@@ -6,7 +6,7 @@ use Rattle.sf_value.specs.Keys.{key_of}
 use Rattle.sf_value.specs.declared.value.Value.{Value}
 use Rattle.sf_value.specs.declared.value.Ref.{Ref}
 use Rattle.sf_value.specs.contracts.value.Value as row
-use Rattle.source_meaning.specs.World.{State}
+use Rattle.program_meaning.specs.World.{State}
 
 -- the state that these entries make
 abbrev pub state_of : List (Ref × List Value) → State

@@ -6,7 +6,7 @@ use Rattle.sf_value.specs.Keys.{key_of}
 use Rattle.sf_value.specs.declared.value.Value.{Value}
 use Rattle.sf_value.specs.declared.value.Ref.{Ref}
 use Rattle.source_meaning.specs.declared.transaction.Transaction.{Transaction}
-use Rattle.source_meaning.specs.World.{State, Keys, World}
+use Rattle.program_meaning.specs.World.{State, Keys, World}
 
 -- a state with these records in place of its own
 abbrev pub with_records : State → List (Ref × List Value) → State

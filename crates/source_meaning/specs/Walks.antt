@@ -23,19 +23,19 @@ use Rattle.sf_value.specs.declared.value.Value.TheVariants as value
 use Rattle.source_meaning.specs.declared.Stop.{Stop}
 use Rattle.source_meaning.specs.declared.run.Run.{Run}
 use Rattle.source_meaning.specs.declared.site.Site.{Site}
-use Rattle.source_meaning.specs.declared.vars.Var.{Var}
+use Rattle.program_meaning.specs.declared.vars.Var.{Var}
 use Rattle.source_meaning.specs.declared.walk.Flow.{Flow}
 use Rattle.source_meaning.specs.declared.walk.Turn.{Turn}
-use Rattle.source_meaning.specs.ClassTables.{Source, init_of}
-use Rattle.source_meaning.specs.World.{World, Calls, Gives, Got, Fell, ◌>>=◌, told, Ends, Goes, Returns, Fails, with_given, assertion_error, record_at}
-use Rattle.source_meaning.specs.Operations.{in_range, weighed, int_of, is_true, is_nil, items_of, element, holds}
-use Rattle.source_meaning.specs.Evaluation.{eval, eval_all, linked, each_is, key_in, method_of, own_field}
-use Rattle.source_meaning.specs.Execution.{act, act_arms, all_of, store, augmented, value_or_none, message, checked, turns_of, over_turns, over_items, over_numbers, while_turns}
-use Rattle.source_meaning.specs.Calls.{own_at, calls_at, calls_within, making, enter, run_body, declare, declare_all, bound}
+use Rattle.program_meaning.specs.ClassTables.{Source, init_of}
+use Rattle.program_meaning.specs.World.{World, Calls, Gives, Got, Fell, ◌>>=◌, told, Ends, Goes, Returns, Fails, with_given, assertion_error, record_at}
+use Rattle.program_meaning.specs.Operations.{in_range, weighed, int_of, is_true, is_nil, items_of, element, holds}
+use Rattle.program_meaning.specs.Evaluation.{eval, eval_all, linked, each_is, key_in, method_of, own_field}
+use Rattle.program_meaning.specs.Execution.{act, act_arms, all_of, store, augmented, value_or_none, message, checked, turns_of, over_turns, over_items, over_numbers, while_turns}
+use Rattle.program_meaning.specs.Calls.{own_at, calls_at, calls_within, making, enter, run_body, declare, declare_all, bound}
 use Rattle.source_meaning.specs.Agrees.{AgreesIn, EndsIn, MakesIn}
 use Rattle.source_meaning.specs.InPlace.{element_in, applied_to}
 use Rattle.source_meaning.specs.Sites.{site_of}
-use Rattle.source_meaning.specs.Sources.{source_of}
+use Rattle.program_meaning.specs.Sources.{source_of}
 use Rattle.source_meaning.specs.Transactions.{world_of}
 
 -- Where a run stands

@@ -3,11 +3,11 @@
 ghost use Rattle.std.specs.Prelude.{◌≡◌, ◌+◌, ℕ, IfErr, IfOk, OnOk, OnErr};
 ghost use Rattle.sf_value.specs.Keys.{key_of};
 ghost use Rattle.sf_value.specs.declared.value.Value.TheVariants as value;
-ghost use Rattle.source_meaning.specs.World.{Goes, step_limit, local_value};
-ghost use Rattle.source_meaning.specs.Operations.{weighed};
-ghost use Rattle.source_meaning.specs.Evaluation.{entity, key_in, literal as the_literal, own_field as the_own_field};
-ghost use Rattle.source_meaning.specs.Execution.{store as the_store, target_value};
-ghost use Rattle.source_meaning.specs.Sources.{source_of};
+ghost use Rattle.program_meaning.specs.World.{Goes, step_limit, local_value};
+ghost use Rattle.program_meaning.specs.Operations.{weighed};
+ghost use Rattle.program_meaning.specs.Evaluation.{entity, key_in, literal as the_literal, own_field as the_own_field};
+ghost use Rattle.program_meaning.specs.Execution.{store as the_store, target_value};
+ghost use Rattle.program_meaning.specs.Sources.{source_of};
 ghost use Rattle.source_meaning.specs.Sites.{site_of};
 ghost use Rattle.source_meaning.specs.Transactions.{world_of};
 ghost use Rattle.source_meaning.specs.Agrees.{FailsAs, Tells};
@@ -18,7 +18,8 @@ use crate::in_place::own_value;
 use crate::operations::weigh;
 use crate::site::Site;
 use crate::transaction::Transaction;
-use crate::vars::{Vars, assign_local, read_local};
+use crate::vars::{assign_local, read_local};
+use program_meaning::Vars;
 use py_tree::{Name, Target, name_text};
 use sf_list::TryClone;
 use sf_value::{Ref, Text, Value};
@@ -39,7 +40,7 @@ pub(crate) fn take_step(alloc: Global, steps: &mut u32) -> Result<(), Stop>
 }
 
 /// The text that a literal's name stands for.
-#[tactic(auto, unfolding(crate::specs::Evaluation::literal))]
+#[tactic(auto, unfolding(program_meaning::specs::Evaluation::literal))]
 fn literal(site: &Site<'_>, name: Name) -> Result<Value, AllocError>
     ensures { IfOk result (λ v. v ≡ value.Str (the_literal (source_of site.now.program.now) name.0)) }
 {

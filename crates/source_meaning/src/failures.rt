@@ -1,7 +1,7 @@
 //! Failures by their kinds' numbers.
 
 ghost use Rattle.std.specs.Prelude.{◌≡◌, [], IfOk};
-ghost use Rattle.source_meaning.specs.World.{failure};
+ghost use Rattle.program_meaning.specs.World.{failure};
 ghost use Rattle.source_meaning.specs.Agrees.{FailsAs};
 
 use crate::Stop;

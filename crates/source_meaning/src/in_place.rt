@@ -4,10 +4,10 @@ ghost use Rattle.std.specs.Prelude.{◌≡◌, ℕ, List, [], IfSome, unwrap_or}
 ghost use Rattle.std.specs.Option.{option_copied};
 ghost use Rattle.sf_value.specs.declared.value.Value.TheVariants as value;
 ghost use Rattle.py_tree.specs.PlainExpressions.{plain_expr, plain_exprs, exprs_of};
-ghost use Rattle.source_meaning.specs.declared.vars.Var.{Var};
-ghost use Rattle.source_meaning.specs.World.{World, told};
-ghost use Rattle.source_meaning.specs.Operations.{weighed, int_of, items_of, element};
-ghost use Rattle.source_meaning.specs.Evaluation.{Site as CodeSite, eval, eval_all, own_field};
+ghost use Rattle.program_meaning.specs.declared.vars.Var.{Var};
+ghost use Rattle.program_meaning.specs.World.{World, told};
+ghost use Rattle.program_meaning.specs.Operations.{weighed, int_of, items_of, element};
+ghost use Rattle.program_meaning.specs.Evaluation.{Site as CodeSite, eval, eval_all, own_field};
 ghost use Rattle.source_meaning.specs.Agrees.{AgreesIn, Tells};
 ghost use Rattle.source_meaning.specs.InPlace.{Passes, length_in, applied_to};
 ghost use Rattle.source_meaning.specs.Sites.{site_of};
@@ -17,7 +17,8 @@ use crate::Stop;
 use crate::operations::{check_weight, element_copy, size};
 use crate::site::Site;
 use crate::transaction::Transaction;
-use crate::vars::{Vars, field, local};
+use crate::vars::{field, local};
+use program_meaning::Vars;
 use py_tree::{Expr, ExprKind, Function, Name, function_of};
 use sf_value::Value;
 use std::alloc::Global;
@@ -60,7 +61,7 @@ pub(crate) fn own_element_copy(
 }
 
 /// The value of an expression that is a local.
-#[tactic(auto, using(crate::proofs::EvalLaws::eval_is))]
+#[tactic(auto, using(program_meaning::proofs::EvalLaws::eval_is))]
 pub(crate) fn local_in_place<'a>(expr: &Expr, vars: &'a Vars) -> Option<&'a Value>
     ensures { (s : CodeSite World) (w : World) (n : ℕ) → IfSome result (λ v. eval s (plain_expr expr.now) vars.now w n ≡ told (weighed v.now) w n) }
 {
@@ -71,7 +72,7 @@ pub(crate) fn local_in_place<'a>(expr: &Expr, vars: &'a Vars) -> Option<&'a Valu
 }
 
 /// The value of an expression that is an own field.
-#[tactic(auto, using(crate::proofs::EvalLaws::eval_is))]
+#[tactic(auto, using(program_meaning::proofs::EvalLaws::eval_is))]
 fn field_in_place<'a>(site: &'a Site<'_>, expr: &Expr, tx: &'a Transaction) -> Option<&'a Value>
     ensures { (vars : List Var) (n : ℕ) → IfSome result (λ v. eval (site_of site.now) (plain_expr expr.now) vars (world_of site.now.state.now tx.now) n ≡ told (weighed v.now) (world_of site.now.state.now tx.now) n) }
 {

@@ -1,14 +1,11 @@
-//! What a program means: its requests run on the state of its entities, one after another.
-//!
-//! The definitions stand in `specs/`, from expressions up to serial runs. The direct interpreter does
-//! exactly what they say.
+//! The interpreter: requests run on the state of all entities, and code on one record, exactly as
+//! the meaning says.
 #![tactic(auto)]
 
 mod direct;
 mod failures;
 mod here;
 mod in_place;
-mod laws;
 mod local;
 mod operations;
 mod purity;
@@ -21,12 +18,10 @@ mod vars;
 mod walk;
 
 pub use here::{Ended, eval_here, run_here};
-pub use laws::nothing_goes_wrong;
 pub use local::{Attempt, Local};
 use sf_value::Failure;
 use std::alloc::{AllocError, AllocFailed};
 pub use tables::{init_params, method_at, method_params};
-pub use vars::{Var, Vars};
 
 /// Why a part of a run stops without a value.
 #[derive(Drop)]

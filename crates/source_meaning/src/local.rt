@@ -7,10 +7,10 @@ ghost use Rattle.std.specs.Option.{option_copied};
 ghost use Rattle.sf_value.specs.Keys.{key_of};
 ghost use Rattle.source_meaning.specs.Agrees.{AgreesIn};
 ghost use Rattle.source_meaning.specs.Attempts.{ran_of};
-ghost use Rattle.source_meaning.specs.RequestRun.{at_first, steps_at_first, run as run_of, begin as the_begin, refused, is_too_heavy, is_heavy as is_heavy_value};
-ghost use Rattle.source_meaning.specs.World.{State};
-ghost use Rattle.source_meaning.specs.Serial.{no_state};
-ghost use Rattle.source_meaning.specs.Sources.{source_of};
+ghost use Rattle.program_meaning.specs.RequestRun.{at_first, steps_at_first, run as run_of, begin as the_begin, refused, is_too_heavy, is_heavy as is_heavy_value};
+ghost use Rattle.program_meaning.specs.World.{State};
+ghost use Rattle.program_meaning.specs.Serial.{no_state};
+ghost use Rattle.program_meaning.specs.Sources.{source_of};
 ghost use Rattle.source_meaning.specs.Transactions.{world_of, with_records};
 ghost use Rattle.source_meaning.specs.Walks.{seen, program_of};
 
@@ -44,7 +44,7 @@ pub struct Local {
 }
 
 impl Model for Local {
-    ghost use Rattle.source_meaning.specs.World.{State};
+    ghost use Rattle.program_meaning.specs.World.{State};
     ghost use Rattle.source_meaning.specs.StateView.{state_of, state_code};
 
     ghost Value = { State };
@@ -194,7 +194,7 @@ impl Local {
 }
 
 /// The call or the creation that a request asks for.
-#[tactic(auto, unfolding(crate::specs::RequestRun::begin))]
+#[tactic(auto, unfolding(program_meaning::specs::RequestRun::begin))]
 fn ask(site: &Site<'_>, asked: &Act, run: &mut Run) -> Result<Value, Stop>
     requires fresh { seen site.now run.now ≡ at_first site.now.state.now }
     requires all { run.now.steps ≡ steps_at_first }
@@ -247,7 +247,7 @@ fn any_heavy(args: &[Value]) -> bool
 }
 
 /// Whether the key or an argument of a request weighs too much.
-#[tactic(auto, unfolding(crate::specs::RequestRun::is_too_heavy))]
+#[tactic(auto, unfolding(program_meaning::specs::RequestRun::is_too_heavy))]
 fn is_heavy(asked: &Act) -> bool
     ensures { result ≡ is_too_heavy asked.now }
 {

@@ -11,7 +11,7 @@ ghost use Rattle.sf_value.specs.Arithmetic.{floor_quotient, floor_rest};
 ghost use Rattle.sf_value.specs.Sameness.{same_value};
 ghost use Rattle.sf_value.specs.declared.value.Value.{out-Value};
 ghost use Rattle.sf_value.specs.declared.value.Value.TheVariants as value;
-ghost use Rattle.source_meaning.specs.Operations.{in_range, divided, weighed, int_of, is_true as true_value, is_nil as nil_value, text_of, items_of, element, element_at, combined, sum_with, holds as the_holds, order as the_order, absolute, given_by, argument, size_in};
+ghost use Rattle.program_meaning.specs.Operations.{in_range, divided, weighed, int_of, is_true as true_value, is_nil as nil_value, text_of, items_of, element, element_at, combined, sum_with, holds as the_holds, order as the_order, absolute, given_by, argument, size_in};
 ghost use Rattle.source_meaning.specs.Agrees.{Tells};
 ghost use Rattle.source_meaning.specs.InPlace.{Passes};
 
@@ -26,7 +26,7 @@ use std::alloc::{AllocError, Global};
 use std::cmp::Ordering;
 
 /// A value that an expression gives, which weighs no more than it may.
-#[tactic(auto, unfolding(crate::specs::Operations::weighed))]
+#[tactic(auto, unfolding(program_meaning::specs::Operations::weighed))]
 pub(crate) fn weigh(alloc: Global, value: Value) -> Result<Value, Stop>
     ensures { Tells result (weighed value) }
 {
@@ -37,7 +37,7 @@ pub(crate) fn weigh(alloc: Global, value: Value) -> Result<Value, Stop>
 }
 
 /// Tests the weight of a value where it stands.
-#[tactic(auto, unfolding(crate::specs::Operations::weighed))]
+#[tactic(auto, unfolding(program_meaning::specs::Operations::weighed))]
 pub(crate) fn check_weight(alloc: Global, value: &Value) -> Result<(), Stop>
     ensures { Passes result value.now }
 {
@@ -169,7 +169,7 @@ pub(crate) fn take_element(alloc: Global, list: Value, index: Value) -> Result<V
 }
 
 /// The sum of two numbers.
-#[tactic(auto, unfolding(crate::specs::Operations::in_range))]
+#[tactic(auto, unfolding(program_meaning::specs::Operations::in_range))]
 fn add(alloc: Global, x: i128, y: i128) -> Result<Value, Stop>
     ensures { Tells result (in_range (x +ℤ y)) }
 {
@@ -180,7 +180,7 @@ fn add(alloc: Global, x: i128, y: i128) -> Result<Value, Stop>
 }
 
 /// The difference of two numbers.
-#[tactic(auto, unfolding(crate::specs::Operations::in_range))]
+#[tactic(auto, unfolding(program_meaning::specs::Operations::in_range))]
 fn subtract(alloc: Global, x: i128, y: i128) -> Result<Value, Stop>
     ensures { Tells result (in_range (x -ℤ y)) }
 {
@@ -191,7 +191,7 @@ fn subtract(alloc: Global, x: i128, y: i128) -> Result<Value, Stop>
 }
 
 /// The product of two numbers.
-#[tactic(auto, unfolding(crate::specs::Operations::in_range))]
+#[tactic(auto, unfolding(program_meaning::specs::Operations::in_range))]
 fn multiply(alloc: Global, x: i128, y: i128) -> Result<Value, Stop>
     ensures { Tells result (in_range (x *ℤ y)) }
 {
@@ -225,7 +225,7 @@ fn rest(alloc: Global, x: i128, y: i128) -> Result<Value, Stop>
 }
 
 /// The number with its sign turned.
-#[tactic(auto, unfolding(crate::specs::Operations::in_range))]
+#[tactic(auto, unfolding(program_meaning::specs::Operations::in_range))]
 pub(crate) fn negate(alloc: Global, value: Value) -> Result<Value, Stop>
     ensures { Tells result (in_range (pos 0 -ℤ int_of value)) }
 {
@@ -266,7 +266,7 @@ fn plus(alloc: Global, left: &Value, right: &Value) -> Result<Value, Stop>
 }
 
 /// `left op right`
-#[tactic(auto, unfolding(crate::specs::Operations::combined))]
+#[tactic(auto, unfolding(program_meaning::specs::Operations::combined))]
 pub(crate) fn combine(alloc: Global, op: BinOp, left: &Value, right: &Value) -> Result<Value, Stop>
     ensures { Tells result (combined op left.now right.now) }
 {
@@ -320,7 +320,7 @@ fn order(left: &Value, right: &Value) -> Ordering
 }
 
 /// Whether a comparison holds.
-#[tactic(auto, unfolding(crate::specs::Operations::holds))]
+#[tactic(auto, unfolding(program_meaning::specs::Operations::holds))]
 pub(crate) fn holds(op: Cmp, left: &Value, right: &Value) -> bool
     ensures { result ≡ the_holds op left.now right.now }
 {
@@ -378,16 +378,16 @@ fn argument_number(args: &Values, at: usize) -> i128
     }
 }
 
-/// The decimal digits of a number.
+/// The decimal digits of a number, as a value that an expression gives.
 fn digits(alloc: Global, n: i128) -> Result<Value, Stop>
-    ensures { Tells result (Ok (value.Str (chars (signed_decimal n)))) }
+    ensures { Tells result (weighed (value.Str (chars (signed_decimal n)))) }
 {
     let written = n.to_string(alloc)?;
-    Ok(Value::Str(Text::of(alloc, written.as_str())?))
+    weigh(alloc, Value::Str(Text::of(alloc, written.as_str())?))
 }
 
 /// A number without its sign.
-#[tactic(auto, unfolding(crate::specs::Operations::in_range))]
+#[tactic(auto, unfolding(program_meaning::specs::Operations::in_range))]
 fn magnitude(alloc: Global, n: i128) -> Result<Value, Stop>
     ensures { Tells result (in_range (absolute n)) }
 {
@@ -407,7 +407,7 @@ fn length_of(args: &Values) -> i128
 }
 
 /// What a function gives.
-#[tactic(auto, unfolding(crate::specs::Operations::given_by))]
+#[tactic(auto, unfolding(program_meaning::specs::Operations::given_by))]
 pub(crate) fn give(alloc: Global, function: Function, args: &Values) -> Result<Value, Stop>
     ensures { Tells result (given_by (plain_function function) args.now) }
 {

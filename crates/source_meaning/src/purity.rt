@@ -2,13 +2,13 @@
 
 ghost use Rattle.std.specs.Prelude.{◌≡◌};
 ghost use Rattle.py_tree.specs.PlainExpressions.{plain_expr, plain_exprs, exprs_of, plain_links, links_of};
-ghost use Rattle.source_meaning.specs.Purity as spec;
+ghost use Rattle.program_meaning.specs.Purity as spec;
 
 use py_tree::{Expr, ExprKind, Exprs, Links, function_of};
 
 /// Whether an expression calls no method and creates nothing.
 #[cycle(purity)]
-#[tactic(auto, using(crate::proofs::PurityLaws::pure_is))]
+#[tactic(auto, using(program_meaning::proofs::PurityLaws::pure_is))]
 pub(crate) fn is_pure(expr: &Expr) -> bool
     ensures { result ≡ spec.is_pure (plain_expr expr.now) }
 {
@@ -33,7 +33,7 @@ pub(crate) fn is_pure(expr: &Expr) -> bool
 }
 
 #[cycle(purity)]
-#[tactic(auto, using(crate::proofs::PurityLaws::list_rules))]
+#[tactic(auto, using(program_meaning::proofs::PurityLaws::list_rules))]
 fn all_pure(exprs: &Exprs) -> bool
     ensures { result ≡ spec.all_pure (exprs_of (plain_exprs exprs.now)) }
 {
@@ -46,7 +46,7 @@ fn all_pure(exprs: &Exprs) -> bool
 }
 
 #[cycle(purity)]
-#[tactic(auto, using(crate::proofs::PurityLaws::link_rules))]
+#[tactic(auto, using(program_meaning::proofs::PurityLaws::link_rules))]
 fn links_pure(links: &Links) -> bool
     ensures { result ≡ spec.links_pure (links_of (plain_links links.now)) }
 {

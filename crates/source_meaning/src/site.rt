@@ -1,8 +1,8 @@
 //! Where code runs.
 
 ghost use Rattle.std.specs.Prelude.{◌≡◌, map};
-ghost use Rattle.source_meaning.specs.ClassTables.{fields_of};
-ghost use Rattle.source_meaning.specs.Sources.{source_of};
+ghost use Rattle.program_meaning.specs.ClassTables.{fields_of};
+ghost use Rattle.program_meaning.specs.Sources.{source_of};
 
 use crate::local::Local;
 use py_tree::{Checked, Name};

@@ -10,12 +10,12 @@ ghost use Rattle.py_tree.specs.PlainProgram.{plain_program, plain_method, plain_
 ghost use Rattle.py_tree.specs.ClassRules.{methods_of as methods_among, params_of, body_of};
 ghost use Rattle.py_tree.specs.Bounded.{most_nodes, stmts_size};
 ghost use Rattle.sf_value.specs.Keys.{key_of as the_key_of};
-ghost use Rattle.source_meaning.specs.ClassTables.{members_of, init_of, methods_of, fields_of, key_param_of};
-ghost use Rattle.source_meaning.specs.World.{value_at};
-ghost use Rattle.source_meaning.specs.Operations.{text_of};
-ghost use Rattle.source_meaning.specs.Evaluation.{class_of, method_of};
-ghost use Rattle.source_meaning.specs.Calls.{new_key};
-ghost use Rattle.source_meaning.specs.Sources.{source_of};
+ghost use Rattle.program_meaning.specs.ClassTables.{members_of, init_of, methods_of, fields_of, key_param_of};
+ghost use Rattle.program_meaning.specs.World.{value_at};
+ghost use Rattle.program_meaning.specs.Operations.{text_of};
+ghost use Rattle.program_meaning.specs.Evaluation.{class_of, method_of};
+ghost use Rattle.program_meaning.specs.Calls.{new_key};
+ghost use Rattle.program_meaning.specs.Sources.{source_of};
 
 use crate::failures::empty_text;
 use crate::operations::text;
@@ -123,7 +123,7 @@ pub fn init_params(program: &Checked, class: u32) -> &[Param]
 }
 
 /// The number of the class with this name, 0 where there is none.
-#[tactic(auto, unfolding(crate::specs::Evaluation::class_of))]
+#[tactic(auto, unfolding(program_meaning::specs::Evaluation::class_of))]
 pub(crate) fn class_number(program: &Checked, name: Name) -> u32
     ensures { result ≡ class_of (source_of program.now) name.0 }
 {
@@ -131,7 +131,7 @@ pub(crate) fn class_number(program: &Checked, name: Name) -> u32
 }
 
 /// The number of the method with this name in a class, 0 where there is none.
-#[tactic(auto, unfolding(crate::specs::Evaluation::method_of))]
+#[tactic(auto, unfolding(program_meaning::specs::Evaluation::method_of))]
 pub(crate) fn method_number(program: &Checked, class: u32, name: Name) -> u32
     ensures { result ≡ method_of (source_of program.now) class name.0 }
 {

@@ -3,7 +3,8 @@
 ghost use Rattle.std.specs.Prelude.{◌≡◌, ◌<◌, Some, IfSome, IfOk, map};
 ghost use Rattle.py_tree.specs.PlainExpressions.{plain_expr};
 ghost use Rattle.py_tree.specs.Bounded.{expr_size};
-ghost use Rattle.source_meaning.specs.Trailers.{last_trailer as the_last_trailer, plain_trailer, EndsWith};
+ghost use Rattle.program_meaning.specs.Trailers.{last_trailer as the_last_trailer, EndsWith};
+ghost use Rattle.source_meaning.specs.TrailerViews.{plain_trailer};
 
 use py_tree::{Expr, ExprKind, Name};
 use std::alloc::{AllocError, Global};
@@ -18,7 +19,7 @@ pub(crate) enum Trailer<'a> {
 }
 
 /// The receiver of a call, or of an index whose list has to be evaluated, and what stands behind it.
-#[tactic(auto, using(crate::proofs::TrailerLaws::trailers))]
+#[tactic(auto, using(program_meaning::proofs::TrailerLaws::trailers))]
 pub(crate) fn last_trailer(expr: &Expr) -> Option<(&Expr, Trailer<'_>)>
     ensures { IfSome result (λ r. the_last_trailer (plain_expr expr.now) ≡ Some (plain_expr r.0.now, plain_trailer r.1)) }
 {

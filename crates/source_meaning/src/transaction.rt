@@ -6,8 +6,8 @@ ghost use Rattle.std.specs.Option.{option_copied};
 ghost use Rattle.std.specs.FinMap as finite;
 ghost use Rattle.std.specs.FinSet as set;
 ghost use Rattle.sf_value.specs.Keys.{key_of};
-ghost use Rattle.source_meaning.specs.World.{State, record_at, reading, writing, with_field};
-ghost use Rattle.source_meaning.specs.RequestRun.{at_first};
+ghost use Rattle.program_meaning.specs.World.{State, record_at, reading, writing, with_field};
+ghost use Rattle.program_meaning.specs.RequestRun.{at_first};
 ghost use Rattle.source_meaning.specs.Transactions.{world_of};
 
 use crate::local::Local;

@@ -1,26 +1,18 @@
 //! The locals of a running method, and the fields of its own record.
-#![tactic(auto, unfolding(crate::specs::World::local_value, crate::specs::World::assigned, crate::specs::World::field_value, crate::specs::World::with_field))]
+#![tactic(auto, unfolding(program_meaning::specs::World::local_value, program_meaning::specs::World::assigned, program_meaning::specs::World::field_value, program_meaning::specs::World::with_field))]
 
 ghost use Rattle.std.specs.Prelude.{◌≡◌, ◌<◌, IfOk, IfSome, OnOk, map, position, length, nat_eq, unwrap_or};
 ghost use Rattle.std.specs.Option.{option_copied};
 ghost use Rattle.sf_value.specs.declared.value.Value.TheVariants as value;
 ghost use Rattle.py_tree.specs.PlainProgram.{plain_params};
-ghost use Rattle.source_meaning.specs.Calls.{bound};
-ghost use Rattle.source_meaning.specs.World.{local_value, assigned, field_value, with_field, is_named};
+ghost use Rattle.program_meaning.specs.Calls.{bound};
+ghost use Rattle.program_meaning.specs.World.{local_value, assigned, field_value, with_field, is_named};
 
+use program_meaning::{Var, Vars};
 use py_tree::{Name, Param};
 use sf_list::{Sequence, TryClone};
 use sf_value::{Value, Values};
 use std::alloc::{AllocError, Global};
-
-/// A local with its value.
-#[derive(Drop)]
-pub struct Var {
-    pub name: Name,
-    pub value: Value,
-}
-
-pub type Vars = Sequence<Var>;
 
 /// The value of a local, where there is one.
 pub(crate) fn local(vars: &Vars, name: Name) -> Option<&Value>
@@ -73,7 +65,7 @@ fn place_of_field(names: &[Name], name: Name) -> Option<usize>
 }
 
 /// The value of a field, where there is one.
-#[tactic(auto, using(crate::proofs::VarLaws::position_names), unfolding(crate::specs::World::field_value))]
+#[tactic(auto, using(crate::proofs::VarLaws::position_names), unfolding(program_meaning::specs::World::field_value))]
 pub(crate) fn field<'a>(names: &[Name], fields: &'a Values, name: Name) -> Option<&'a Value>
     ensures { unwrap_or (option_copied result) value.Nil ≡ field_value (map (λ x. x.0) names.now) fields.now name.0 }
 {
@@ -81,7 +73,7 @@ pub(crate) fn field<'a>(names: &[Name], fields: &'a Values, name: Name) -> Optio
 }
 
 /// Sets a field of a record.
-#[tactic(auto, using(crate::proofs::VarLaws::position_names, crate::proofs::VarLaws::set_past), unfolding(crate::specs::World::with_field))]
+#[tactic(auto, using(crate::proofs::VarLaws::position_names, crate::proofs::VarLaws::set_past), unfolding(program_meaning::specs::World::with_field))]
 pub(crate) fn set_field(names: &[Name], fields: &mut Values, name: Name, value: Value)
     ensures { fields.new ≡ with_field (map (λ x. x.0) names.now) fields.old name.0 value }
 {

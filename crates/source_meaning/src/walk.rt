@@ -15,12 +15,13 @@ ghost use Rattle.py_tree.specs.ClassRules.{body_of};
 ghost use Rattle.py_tree.specs.ExpressionTypes.{function_of as the_function_of};
 ghost use Rattle.py_tree.specs.Bounded.{most_nodes, stmt_size, stmts_size};
 ghost use Rattle.sf_value.specs.Keys.{Key, key_of};
-ghost use Rattle.source_meaning.specs.Purity.{is_pure as the_is_pure};
-ghost use Rattle.source_meaning.specs.Evaluation.{applied as the_applied};
-ghost use Rattle.source_meaning.specs.Execution.{start_of as the_start_of};
-ghost use Rattle.source_meaning.specs.Calls.{create as the_create};
+ghost use Rattle.program_meaning.specs.Purity.{is_pure as the_is_pure};
+ghost use Rattle.program_meaning.specs.Evaluation.{applied as the_applied};
+ghost use Rattle.program_meaning.specs.Execution.{start_of as the_start_of};
+ghost use Rattle.program_meaning.specs.Calls.{create as the_create};
 ghost use Rattle.source_meaning.specs.Sites.{site_of};
-ghost use Rattle.source_meaning.specs.Trailers.{last_trailer as the_last_trailer, plain_trailer, followed};
+ghost use Rattle.program_meaning.specs.Trailers.{last_trailer as the_last_trailer, followed};
+ghost use Rattle.source_meaning.specs.TrailerViews.{plain_trailer};
 ghost use Rattle.source_meaning.specs.Agrees.{GivesRecord};
 ghost use Rattle.source_meaning.specs.Walks.{record_seen, Agrees, EndsAs, MakesAs, program_of, value_of, values_of, linked_by, does, runs, called, open_calls, own_calls, entered, body_run, record_made, record_of_new, own_read, called_with, applied_with, element_from, indexed, listed, negated, numbered, inverted, compared_to_none, compared, linked_to, chosen, all_are, optional, message_of, combined_with, done, returned, raised, asserted, stored, first_of_arms, turned_while, range_of, turned, turned_over, turned_from, declared, all_declared, field_declared, check_declared};
 
@@ -46,7 +47,8 @@ use crate::tables::{
 };
 use crate::trailers::{Chain, Trailer, chain_of, last_trailer};
 use crate::transaction::begin;
-use crate::vars::{Vars, assign_local, bind};
+use crate::vars::{assign_local, bind};
+use program_meaning::Vars;
 use py_tree::{
     Arm, BinOp, Cmp, Expr, ExprKind, Link, Method, Name, Over, Stmt, StmtKind, Target, function_of,
 };
@@ -97,7 +99,7 @@ pub(crate) fn evaluate(
 
 /// The value of an expression by its form.
 #[cycle(walk)]
-#[tactic(auto, using(crate::proofs::EvalLaws::eval_is, crate::proofs::SizeLaws::expr_sizes))]
+#[tactic(auto, using(program_meaning::proofs::EvalLaws::eval_is, crate::proofs::SizeLaws::expr_sizes))]
 fn evaluate_form(site: &Site<'_>, expr: &Expr, vars: &Vars, run: &mut Run) -> Result<Value, Stop>
     ensures { Agrees result site.now run.old run.new (value_of site.now expr.now vars.now) }
 {
@@ -159,7 +161,7 @@ fn chain(
 
 /// What a trailer makes of the value of its receiver.
 #[cycle(walk)]
-#[tactic(auto, unfolding(crate::specs::Trailers::followed))]
+#[tactic(auto, unfolding(program_meaning::specs::Trailers::followed))]
 fn follow(
     site: &Site<'_>,
     on: Value,
@@ -223,7 +225,7 @@ fn element_of(
 /// `on[index]`, where the list is a local or an own field. Of a local, and of a field while the index
 /// calls no method and creates nothing, the element alone is copied.
 #[cycle(walk)]
-#[tactic(auto, using(crate::proofs::EvalLaws::eval_is))]
+#[tactic(auto, using(program_meaning::proofs::EvalLaws::eval_is))]
 #[inline(never)]
 fn element(
     site: &Site<'_>,
@@ -796,7 +798,7 @@ fn declare_check(
 
 /// A message, empty where none is written.
 #[cycle(walk)]
-#[tactic(auto, unfolding(crate::specs::Execution::message))]
+#[tactic(auto, unfolding(program_meaning::specs::Execution::message))]
 #[inline(never)]
 fn message(site: &Site<'_>, note: &Option<Expr>, vars: &Vars, run: &mut Run) -> Result<Text, Stop>
     ensures { Agrees result site.now run.old run.new (message_of site.now note.now vars.now) }
@@ -832,7 +834,7 @@ fn execute(site: &Site<'_>, stmt: &Stmt, vars: &mut Vars, run: &mut Run) -> Resu
 
 /// What a statement does after its step, by its form.
 #[cycle(walk)]
-#[tactic(auto, using(crate::proofs::ActLaws::act_is, crate::proofs::SizeLaws::stmt_sizes))]
+#[tactic(auto, using(program_meaning::proofs::ActLaws::act_is, crate::proofs::SizeLaws::stmt_sizes))]
 fn execute_form(site: &Site<'_>, stmt: &Stmt, vars: &mut Vars, run: &mut Run) -> Result<Flow, Stop>
     ensures { EndsAs result vars.new site.now run.old run.new (λ w n. does site.now stmt.now vars.old w (n + 1)) }
 {
@@ -877,7 +879,7 @@ fn evaluate_alone(site: &Site<'_>, expr: &Expr, vars: &Vars, run: &mut Run) -> R
 
 /// `return`, of None where nothing is written.
 #[cycle(walk)]
-#[tactic(auto, unfolding(crate::specs::Execution::value_or_none))]
+#[tactic(auto, unfolding(program_meaning::specs::Execution::value_or_none))]
 #[inline(never)]
 fn give_back(
     site: &Site<'_>,
@@ -968,7 +970,7 @@ fn augment(
 
 /// The value of `x op= e`: the target is read before e.
 #[cycle(walk)]
-#[tactic(auto, unfolding(crate::specs::Execution::augmented))]
+#[tactic(auto, unfolding(program_meaning::specs::Execution::augmented))]
 #[inline(never)]
 fn augmented(
     site: &Site<'_>,
@@ -1074,7 +1076,7 @@ fn execute_for(
 
 /// A `for` over a list.
 #[cycle(walk)]
-#[tactic(auto, unfolding(crate::specs::Execution::turns_of))]
+#[tactic(auto, unfolding(program_meaning::specs::Execution::turns_of))]
 #[inline(never)]
 fn for_items(
     site: &Site<'_>,
@@ -1093,7 +1095,7 @@ fn for_items(
 
 /// A `for` over numbers.
 #[cycle(walk)]
-#[tactic(auto, unfolding(crate::specs::Execution::turns_of))]
+#[tactic(auto, unfolding(program_meaning::specs::Execution::turns_of))]
 #[inline(never)]
 fn for_numbers(
     site: &Site<'_>,
@@ -1112,7 +1114,7 @@ fn for_numbers(
 
 /// Where a range starts, 0 where nothing is written.
 #[cycle(walk)]
-#[tactic(auto, unfolding(crate::specs::Execution::start_of))]
+#[tactic(auto, unfolding(program_meaning::specs::Execution::start_of))]
 #[inline(never)]
 fn start_of(
     site: &Site<'_>,

@@ -7,7 +7,7 @@ use Rattle.sf_outside.specs.Causes.{Rose}
 use Rattle.sf_outside.specs.declared.gains.WriteStop.{WriteStop}
 use Rattle.sf_outside.specs.declared.gains.WriteStop.TheVariants as stop
 use Rattle.py_tree.specs.PlainProgram.{PlainProgram}
-use Rattle.source_meaning.specs.ClassTables.{Source}
+use Rattle.program_meaning.specs.ClassTables.{Source}
 use Rattle.request_json.specs.Actions.{all_lines}
 use Rattle.session.specs.declared.feeding.InputEnd.{InputEnd}
 use Rattle.session.specs.declared.feeding.InputEnd.TheVariants as input

@@ -12,7 +12,7 @@ use Rattle.stateflow_cli.specs.declared.loading.LoadStop.{LoadStop}
 use Rattle.stateflow_cli.specs.declared.loading.LoadStop.TheVariants.{Refused, FileFault, NoMemory}
 use Rattle.stateflow_cli.specs.declared.printing.Counts.{Counts}
 use Rattle.stateflow_cli.specs.CheckLine.{count_methods}
-use Rattle.source_meaning.specs.ClassTables.{Source}
+use Rattle.program_meaning.specs.ClassTables.{Source}
 
 -- what a text was read as, or the fault that it is refused for; want of memory is free
 abbrev pub ReadsAs : {X : Type 0} → (List ℕ → X → Type 0) → List ℕ → Result X LoadStop → Type 0

@@ -1,7 +1,7 @@
 use Rattle.std.proofs.Common.{drop}
 use Rattle.serde_json.specs.View.{items_view}
 use Rattle.py_tree.specs.PlainTypes.{plain_written, type_of}
-use Rattle.source_meaning.specs.Sources.{source_of}
+use Rattle.program_meaning.specs.Sources.{source_of}
 use Rattle.request_json.specs.Arguments.{each_of, value_of}
 use Rattle.request_json.proofs.ArgLaws.{GoesOn}
 use Rattle.request_json.proofs.arguments.+values.Given as goal

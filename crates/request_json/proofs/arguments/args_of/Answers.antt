@@ -1,7 +1,7 @@
 use Rattle.std.proofs.Common.{◌++◌, ◌+◌, ◌∙◌, drop, ap, sym, arith}
 use Rattle.std.specs.Option.{option_map}
 use Rattle.serde_json.specs.View.{items_view}
-use Rattle.source_meaning.specs.Sources.{source_of}
+use Rattle.program_meaning.specs.Sources.{source_of}
 use Rattle.py_tree.specs.PlainProgram.{plain_params}
 use Rattle.request_json.specs.Arguments.{args_of}
 use Rattle.request_json.proofs.ArgLaws.{args_go, args_stop, args_too_few, args_too_many, args_done}

@@ -1,7 +1,7 @@
 use Rattle.std.proofs.Common.{◌≤◌, drop, length}
 use Rattle.serde_json.specs.View.{items_view}
 use Rattle.py_tree.specs.PlainProgram.{plain_params}
-use Rattle.source_meaning.specs.Sources.{source_of}
+use Rattle.program_meaning.specs.Sources.{source_of}
 use Rattle.request_json.specs.Arguments.{args_of}
 use Rattle.request_json.proofs.ArgLaws.{GoesOn}
 use Rattle.request_json.proofs.arguments.args_of.Given as goal

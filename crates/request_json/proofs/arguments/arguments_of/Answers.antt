@@ -1,6 +1,6 @@
 use Rattle.std.proofs.Common.{ap, sym, ◌∙◌}
 use Rattle.std.specs.Option.{ok_or}
-use Rattle.source_meaning.specs.Sources.{source_of}
+use Rattle.program_meaning.specs.Sources.{source_of}
 use Rattle.request_json.specs.declared.fault.LineFault.TheVariants.{ArgumentType}
 use Rattle.request_json.proofs.ArgLaws.{same_count, other_count}
 use Rattle.request_json.proofs.arguments.arguments_of.Goals as goal

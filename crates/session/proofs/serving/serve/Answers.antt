@@ -1,6 +1,6 @@
 use Rattle.std.proofs.Common.{◌∙◌, ap, Err}
 use Rattle.std.proofs.lemmas.Result.{err_from_is_err_and}
-use Rattle.source_meaning.specs.Sources.{source_of}
+use Rattle.program_meaning.specs.Sources.{source_of}
 use Rattle.session.proofs.ServeLaws.{Served-unflushed, Served-flushed}
 use Rattle.session.proofs.serving.serve.Goals as goal
 

@@ -3,14 +3,15 @@ use Rattle.std.specs.Prelude.{unwrap_or, is_some, ◌||◌}
 use Rattle.std.specs.FinMap as map
 use Rattle.py_tree.specs.PlainExpressions.{plain_expr}
 use Rattle.sf_value.specs.Keys.{key_of}
-use Rattle.source_meaning.specs.Evaluation.{eval}
-use Rattle.source_meaning.specs.Calls.{Held, on_record}
-use Rattle.source_meaning.specs.RequestRun.{at_first, depth_limit}
-use Rattle.source_meaning.specs.Serial.{no_state}
-use Rattle.source_meaning.specs.Sources.{source_of}
+use Rattle.program_meaning.specs.Evaluation.{eval}
+use Rattle.program_meaning.specs.Calls.{Held, on_record}
+use Rattle.program_meaning.specs.RequestRun.{at_first, depth_limit}
+use Rattle.program_meaning.specs.Serial.{no_state}
+use Rattle.program_meaning.specs.Sources.{source_of}
 use Rattle.source_meaning.specs.Transactions.{world_of}
-use Rattle.source_meaning.specs.Here.{held, GivesHere, ComesTo}
-use Rattle.source_meaning.proofs.HereLaws.{mapped_ok, gives_here}
+use Rattle.program_meaning.specs.Here.{held, GivesHere}
+use Rattle.source_meaning.specs.HereAnswers.{ComesTo}
+use Rattle.source_meaning.proofs.HereAnswers.{mapped_ok, gives_here}
 use Rattle.source_meaning.proofs.here.eval_here.Goals as goal
 
 -- src/here.rt:90

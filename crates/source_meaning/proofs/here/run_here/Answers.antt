@@ -3,15 +3,17 @@ use Rattle.std.specs.Prelude.{unwrap_or, is_some, ◌||◌}
 use Rattle.std.specs.FinMap as map
 use Rattle.py_tree.specs.PlainStatements.{plain_stmts, stmts_of}
 use Rattle.sf_value.specs.Keys.{key_of}
-use Rattle.source_meaning.specs.Execution.{act_all}
-use Rattle.source_meaning.specs.Calls.{Held, on_record}
-use Rattle.source_meaning.specs.RequestRun.{at_first, depth_limit}
-use Rattle.source_meaning.specs.Serial.{no_state}
-use Rattle.source_meaning.specs.Sources.{source_of}
+use Rattle.program_meaning.specs.Execution.{act_all}
+use Rattle.program_meaning.specs.Calls.{Held, on_record}
+use Rattle.program_meaning.specs.RequestRun.{at_first, depth_limit}
+use Rattle.program_meaning.specs.Serial.{no_state}
+use Rattle.program_meaning.specs.Sources.{source_of}
 use Rattle.source_meaning.specs.Transactions.{world_of}
 use Rattle.source_meaning.specs.Agrees.{EndsIn}
-use Rattle.source_meaning.specs.Here.{held, EndsHere, EndedAs}
-use Rattle.source_meaning.proofs.HereLaws.{mapped_ok, within, acts_here}
+use Rattle.program_meaning.specs.Here.{held}
+use Rattle.source_meaning.specs.HereAnswers.{EndsHere, EndedAs}
+use Rattle.program_meaning.proofs.HereLaws.{within}
+use Rattle.source_meaning.proofs.HereAnswers.{mapped_ok, acts_here}
 use Rattle.source_meaning.proofs.here.run_here.Goals as goal
 
 -- src/here.rt:54

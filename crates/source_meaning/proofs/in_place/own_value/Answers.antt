@@ -3,9 +3,9 @@ use Rattle.std.specs.Prelude.{unwrap_or}
 use Rattle.std.specs.Option.{option_copied}
 use Rattle.sf_value.specs.declared.value.Value.TheVariants as value
 use Rattle.sf_value.specs.Keys.{key_of}
-use Rattle.source_meaning.specs.ClassTables.{fields_of}
-use Rattle.source_meaning.specs.World.{field_value}
-use Rattle.source_meaning.specs.Sources.{source_of}
+use Rattle.program_meaning.specs.ClassTables.{fields_of}
+use Rattle.program_meaning.specs.World.{field_value}
+use Rattle.program_meaning.specs.Sources.{source_of}
 use Rattle.source_meaning.proofs.VarLaws.{no_field}
 use Rattle.source_meaning.proofs.in_place.own_value.Goals as goal
 

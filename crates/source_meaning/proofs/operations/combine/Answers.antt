@@ -3,8 +3,8 @@ use Rattle.std.specs.Int.{w128}
 use Rattle.std.specs.Int.RustNames.{FitsSigned}
 use Rattle.std.proofs.lemmas.Int.{to_z-of_z}
 use Rattle.sf_value.specs.Arithmetic.{floor_quotient, floor_rest}
-use Rattle.source_meaning.specs.World.{told}
-use Rattle.source_meaning.specs.Operations.{combined, divided, in_range}
+use Rattle.program_meaning.specs.World.{told}
+use Rattle.program_meaning.specs.Operations.{combined, divided, in_range}
 use Rattle.source_meaning.specs.Agrees.{AgreesIn}
 use Rattle.source_meaning.proofs.operations.combine.Goals as goal
 

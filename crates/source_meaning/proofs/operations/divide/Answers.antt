@@ -6,7 +6,7 @@ use Rattle.std.proofs.lemmas.Int.{to_z-of_z}
 use Rattle.sf_value.specs.declared.value.Value.TheVariants as value
 use Rattle.source_meaning.proofs.AgreeLaws.{stops_as}
 use Rattle.source_meaning.proofs.OperationLaws.{quotient_given, quotient_refused}
-use Rattle.source_meaning.specs.World.{told, overflow_error}
+use Rattle.program_meaning.specs.World.{told, overflow_error}
 use Rattle.source_meaning.proofs.operations.divide.Goals as goal
 
 pub returns-in-Some : goal.returns-in-Some

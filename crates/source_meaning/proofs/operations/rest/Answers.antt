@@ -4,7 +4,7 @@ use Rattle.std.specs.Int.RustNames.{FitsSigned}
 use Rattle.std.proofs.lemmas.Int.{to_z-of_z}
 use Rattle.sf_value.specs.declared.value.Value.TheVariants as value
 use Rattle.source_meaning.proofs.OperationLaws.{rest_given}
-use Rattle.source_meaning.specs.World.{told}
+use Rattle.program_meaning.specs.World.{told}
 use Rattle.source_meaning.proofs.operations.rest.Goals as goal
 
 pub returns-in-Some : goal.returns-in-Some

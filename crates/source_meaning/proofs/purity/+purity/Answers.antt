@@ -1,5 +1,5 @@
 use Rattle.std.proofs.Common.{arith}
-use Rattle.source_meaning.proofs.PurityLaws.{exprs_more, links_more}
+use Rattle.program_meaning.proofs.PurityLaws.{exprs_more, links_more}
 use Rattle.source_meaning.proofs.purity.+purity.Goals as goal
 
 pub all_pure-returns-then-not-is_pure : goal.all_pure-returns-then-not-is_pure

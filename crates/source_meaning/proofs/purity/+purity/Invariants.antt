@@ -1,6 +1,6 @@
 use Rattle.std.proofs.Common.{◌≡◌, drop}
 use Rattle.py_tree.specs.PlainExpressions.{plain_exprs, exprs_of, plain_links, links_of}
-use Rattle.source_meaning.specs.Purity.{all_pure, links_pure}
+use Rattle.program_meaning.specs.Purity.{all_pure, links_pure}
 use Rattle.source_meaning.proofs.purity.+purity.Given as goal
 
 abbrev pub invariant-all_pure-loop-expr : goal.invariant-all_pure-loop-expr

@@ -1,7 +1,7 @@
 use Rattle.std.proofs.Common.{◌∙◌, ap, slice_get}
 use Rattle.py_tree.specs.ClassRules.{methods_of as methods_among}
-use Rattle.source_meaning.specs.ClassTables.{members_of}
-use Rattle.source_meaning.proofs.SmallLaws.{small_method}
+use Rattle.program_meaning.specs.ClassTables.{members_of}
+use Rattle.program_meaning.proofs.SmallLaws.{small_method}
 use Rattle.source_meaning.proofs.tables.method_at.Goals as goal
 
 pub returns-clause-small : goal.returns-clause-small

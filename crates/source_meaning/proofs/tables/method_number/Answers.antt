@@ -6,8 +6,8 @@ use Rattle.std.proofs.lemmas.Option.{slice_get_past}
 use Rattle.py_tree.specs.CheckedViews.{checked_program, checked_names}
 use Rattle.py_tree.specs.PlainProgram.{plain_class}
 use Rattle.py_tree.specs.ClassRules.{methods_of as methods_among}
-use Rattle.source_meaning.specs.ClassTables.{members_of}
-use Rattle.source_meaning.specs.Evaluation.{method_of}
+use Rattle.program_meaning.specs.ClassTables.{members_of}
+use Rattle.program_meaning.specs.Evaluation.{method_of}
 use Rattle.source_meaning.proofs.tables.method_number.Goals as goal
 
 pub returns-else-class-len : goal.returns-else-class-len

@@ -2,8 +2,9 @@ use Rattle.std.proofs.Common.{List, ◌++◌, ◌∷◌, [], map, sym, ap, ◌�
 use Rattle.std.proofs.lemmas.List.{map-append}
 use Rattle.py_tree.specs.PlainExpressions.{plain_expr}
 use Rattle.source_meaning.specs.declared.trailers.Trailer.{Trailer}
-use Rattle.source_meaning.specs.Trailers.{PlainTrailer, plain_trailer, EndsWith, bare, behind}
-use Rattle.source_meaning.proofs.TrailerLaws.{trailer_part, further}
+use Rattle.program_meaning.specs.Trailers.{PlainTrailer, EndsWith, bare, behind}
+use Rattle.source_meaning.specs.TrailerViews.{plain_trailer}
+use Rattle.program_meaning.proofs.TrailerLaws.{trailer_part, further}
 use Rattle.source_meaning.proofs.trailers.chain_of.Goals as goal
 
 pub loop-on-init : goal.loop-on-init

@@ -1,7 +1,8 @@
 use Rattle.std.proofs.Common.{◌<◌, map}
 use Rattle.py_tree.specs.PlainExpressions.{plain_expr}
 use Rattle.py_tree.specs.Bounded.{expr_size}
-use Rattle.source_meaning.specs.Trailers.{plain_trailer, EndsWith}
+use Rattle.program_meaning.specs.Trailers.{EndsWith}
+use Rattle.source_meaning.specs.TrailerViews.{plain_trailer}
 use Rattle.source_meaning.proofs.trailers.chain_of.Given as goal
 
 abbrev pub invariant-loop-on : goal.invariant-loop-on

@@ -1,7 +1,7 @@
 use Rattle.std.proofs.Common.{Some, sym, ap, ◌∙◌}
 use Rattle.py_tree.specs.PlainExpressions.{plain_kind, plain_expr, plain_exprs, exprs_of}
-use Rattle.source_meaning.specs.Trailers.{Calling, last_trailer}
-use Rattle.source_meaning.proofs.TrailerLaws.{trailer-Call}
+use Rattle.program_meaning.specs.Trailers.{Calling, last_trailer}
+use Rattle.program_meaning.proofs.TrailerLaws.{trailer-Call}
 use Rattle.source_meaning.proofs.trailers.last_trailer.Goals as goal
 
 pub returns-in-Call : goal.returns-in-Call

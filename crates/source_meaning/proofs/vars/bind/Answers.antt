@@ -1,7 +1,7 @@
 use Rattle.std.proofs.Common.{◌++◌, ◌+◌, drop, ap, sym, ◌∙◌, append-nil, append_assoc, List, Some}
 use Rattle.py_tree.specs.PlainProgram.{plain_params}
-use Rattle.source_meaning.specs.Calls.{bound}
-use Rattle.source_meaning.specs.declared.vars.Var.{Var}
+use Rattle.program_meaning.specs.Calls.{bound}
+use Rattle.program_meaning.specs.declared.vars.Var.{Var}
 use Rattle.source_meaning.proofs.BindLaws.{bound_more, bound_short, bound_end}
 use Rattle.source_meaning.proofs.vars.bind.Goals as goal
 

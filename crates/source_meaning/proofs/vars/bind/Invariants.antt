@@ -1,6 +1,6 @@
 use Rattle.std.proofs.Common.{◌≡◌, ◌++◌, drop}
 use Rattle.py_tree.specs.PlainProgram.{plain_params}
-use Rattle.source_meaning.specs.Calls.{bound}
+use Rattle.program_meaning.specs.Calls.{bound}
 use Rattle.source_meaning.proofs.vars.bind.Given as goal
 
 abbrev pub invariant-loop-i : goal.invariant-loop-i

@@ -1,36 +1,36 @@
 use Rattle.std.proofs.Common.{◌≡◌, ◌∙◌, ◌+◌, ◌-◌, arith, sym, ap, suc, subst}
 use Rattle.py_tree.specs.PlainExpressions.{plain_expr, plain_exprs, exprs_of}
 use Rattle.py_tree.specs.PlainStatements.{plain_stmts, stmts_of}
-use Rattle.source_meaning.specs.Evaluation.{eval}
-use Rattle.source_meaning.specs.Execution.{all_of}
+use Rattle.program_meaning.specs.Evaluation.{eval}
+use Rattle.program_meaning.specs.Execution.{all_of}
 use Rattle.source_meaning.specs.Sites.{site_of}
 use Rattle.source_meaning.specs.Transactions.{world_of}
-use Rattle.source_meaning.proofs.EvalLaws.{all_next, all_end, link_next, link_end, each_next, each_end}
-use Rattle.source_meaning.proofs.ActLaws.{stmts_next, stmts_end, arms_next, arms_end, while_over, items_end, numbers_over}
+use Rattle.program_meaning.proofs.EvalLaws.{all_next, all_end, link_next, link_end, each_next, each_end}
+use Rattle.program_meaning.proofs.ActLaws.{stmts_next, stmts_end, arms_next, arms_end, while_over, items_end, numbers_over}
 use Rattle.source_meaning.proofs.SizeLaws.{item_size, link_part, stmt_part, arm_part}
 use Rattle.std.proofs.Common.{◌≡◌, true, false, inl, inr, option_map, drop, ◌∷◌, ◌++◌}
 use Rattle.std.specs.Prelude.{is_some}
 use Rattle.std.specs.FinMap.{get}
 use Rattle.py_tree.specs.PlainStatements.{plain_stmt, plain_option}
 use Rattle.sf_value.specs.Keys.{key_of}
-use Rattle.source_meaning.specs.World.{Got, Fell, Goes, Fails, step_limit, recursion_error, no_entity, already_exists, reading, record_at, result_of}
-use Rattle.source_meaning.specs.Evaluation.{entity}
-use Rattle.source_meaning.specs.Execution.{act_all, over_items, over_numbers, while_turns}
-use Rattle.source_meaning.specs.Calls.{own_at, calls_at, calls_within, run_body, in_state, create, made, declare_all}
+use Rattle.program_meaning.specs.World.{Got, Fell, Goes, Fails, step_limit, recursion_error, no_entity, already_exists, reading, record_at, result_of}
+use Rattle.program_meaning.specs.Evaluation.{entity}
+use Rattle.program_meaning.specs.Execution.{act_all, over_items, over_numbers, while_turns}
+use Rattle.program_meaning.specs.Calls.{own_at, calls_at, calls_within, run_body, in_state, create, made, declare_all}
 use Rattle.source_meaning.specs.Sites.{calls_of}
 use Rattle.source_meaning.proofs.AgreeLaws.{falls_as, fails_as, agrees_by, falls_by, body_falls, turn_fails, given_fails, record_stops, making_stops}
-use Rattle.source_meaning.proofs.CallLaws.{within_zero, within_deep, within_more, nothing_made, call_zero, call_deep, call_more, make_zero, make_deep, make_more, enter_missing, enter_found, create_taken, create_free, body_is}
-use Rattle.source_meaning.proofs.DeclareLaws.{record_written, declare_none, declare-Assign, declare-Assert, declares_next, declares_end}
-use Rattle.source_meaning.proofs.ActLaws.{act-While, act-For, while_given, while_ends, while_stops, while_turn, items_stop, items_turn, numbers_end, numbers_stop, numbers_turn}
+use Rattle.program_meaning.proofs.CallLaws.{within_zero, within_deep, within_more, nothing_made, call_zero, call_deep, call_more, make_zero, make_deep, make_more, enter_missing, enter_found, create_taken, create_free, body_is}
+use Rattle.program_meaning.proofs.DeclareLaws.{record_written, declare_none, declare-Assign, declare-Assert, declares_next, declares_end}
+use Rattle.program_meaning.proofs.ActLaws.{act-While, act-For, while_given, while_ends, while_stops, while_turn, items_stop, items_turn, numbers_end, numbers_stop, numbers_turn}
 use Rattle.std.proofs.Common.{Ok, [], Bor, if◌then◌else◌, ◌+ℤ◌, pos, of_z, to_z}
 use Rattle.std.specs.Int.{w128}
 use Rattle.std.proofs.lemmas.Int.{to_z-of_z}
-use Rattle.source_meaning.specs.World.{writing}
-use Rattle.source_meaning.proofs.RangeLaws.{is_before, is_after, next_fits}
+use Rattle.program_meaning.specs.World.{writing}
+use Rattle.source_meaning.proofs.RangeLaws.{is_before, is_after, next_fits, next_there}
 use Rattle.std.proofs.Common.{SFits}
 use Rattle.std.proofs.Math.Facts.{sfits_to_z}
 use Rattle.std.specs.Int.Signed.{le_z}
-use Rattle.source_meaning.proofs.DeclareLaws.{declare-Pass, declare-Break, declare-Continue, declare-Expr, declare-Return, declare-Raise, declare-Augment, declare-If, declare-While, declare-For}
+use Rattle.program_meaning.proofs.DeclareLaws.{declare-Pass, declare-Break, declare-Continue, declare-Expr, declare-Return, declare-Raise, declare-Augment, declare-If, declare-While, declare-For}
 use Rattle.py_tree.specs.PlainStatements.{plain_stmt_kind, plain_over}
 use Rattle.py_tree.specs.PlainExpressions.{plain_kind}
 use Rattle.py_tree.specs.PlainProgram.{plain_method}
@@ -40,26 +40,29 @@ use Rattle.py_tree.specs.declared.program.Method.{Method}
 use Rattle.py_tree.specs.declared.stmt.Arm.{out-Arm}
 use Rattle.sf_value.specs.declared.value.Value.TheVariants as value
 use Rattle.source_meaning.specs.Agrees.{EndsIn}
-use Rattle.source_meaning.specs.World.{with_given, next_turn, assigned, assertion_error, ◌>>=◌}
-use Rattle.source_meaning.specs.Operations.{is_true}
-use Rattle.source_meaning.specs.Execution.{act, turns_of, over_turns, stepping}
-use Rattle.source_meaning.specs.Calls.{bound, declare}
-use Rattle.source_meaning.proofs.ViewLaws.{viewed}
+use Rattle.program_meaning.specs.World.{with_given, next_turn, assigned, assertion_error, ◌>>=◌}
+use Rattle.program_meaning.specs.Operations.{is_true}
+use Rattle.program_meaning.specs.Execution.{act, turns_of, over_turns, stepping}
+use Rattle.program_meaning.specs.Calls.{bound, declare}
+use Rattle.program_meaning.proofs.ViewLaws.{viewed}
 use Rattle.source_meaning.proofs.AgreeLaws.{turn_goes, gives_nil}
 use Rattle.source_meaning.proofs.InPlaceLaws.{element_told}
 use Rattle.std.proofs.Common.{List, Some, map, refl, length, option_to_list}
 use Rattle.py_tree.specs.PlainExpressions.{plain_kind, plain_expr, plain_exprs, exprs_of}
 use Rattle.sf_value.specs.declared.value.Value.{Value}
-use Rattle.source_meaning.specs.ClassTables.{init_of}
-use Rattle.source_meaning.specs.World.{Gives}
-use Rattle.source_meaning.specs.RequestRun.{at_first}
+use Rattle.program_meaning.specs.ClassTables.{init_of}
+use Rattle.program_meaning.specs.World.{Gives}
+use Rattle.program_meaning.specs.RequestRun.{at_first}
 use Rattle.source_meaning.specs.Agrees.{GivesRecord, MakesIn}
-use Rattle.source_meaning.specs.Trailers.{Calling, last_trailer, plain_trailer, all_followed}
+use Rattle.program_meaning.specs.Trailers.{Calling, last_trailer, all_followed}
+use Rattle.source_meaning.specs.TrailerViews.{plain_trailer}
 use Rattle.source_meaning.specs.Walks.{seen, record_seen, program_of, value_of, does, runs, check_failed}
-use Rattle.source_meaning.proofs.ActLaws.{act_none}
+use Rattle.program_meaning.proofs.ActLaws.{act_none}
 use Rattle.source_meaning.proofs.AgreeLaws.{ends_as}
-use Rattle.source_meaning.proofs.DeclareLaws.{made_eval, made_message, no_record}
-use Rattle.source_meaning.proofs.TrailerLaws.{trailer-Call, eval_along, trailers_within, sizes_last, follow_last, chain_falls, follow_ended}
+use Rattle.program_meaning.proofs.DeclareLaws.{no_record}
+use Rattle.source_meaning.proofs.ClosedSites.{made_eval, made_message}
+use Rattle.program_meaning.proofs.TrailerLaws.{trailer-Call, eval_along, trailers_within}
+use Rattle.source_meaning.proofs.TrailerViews.{sizes_last, follow_last, chain_falls, follow_ended}
 use Rattle.py_tree.specs.Bounded.{of_option, stmt_size}
 use Rattle.source_meaning.proofs.SizeLaws.{stmt_size-Assign, stmt_size-Assert}
 use Rattle.source_meaning.proofs.walk.+walk.Goals as goal
@@ -227,16 +230,16 @@ pub over_numbers-returns-in_err-take_step : goal.over_numbers-returns-in_err-tak
 over_numbers-returns-in_err-take_step t c = let h = fails_as c.in_err-take_step.field-0.0 step_limit c.loop-turn.vars (seen c.args.site.now c.loop-turn.run) c.take_step.new.steps _ c.in_err-take_step.ensures.failure (sym ((λ i. over_numbers (c.from-limit.result + 1 - c.loop-turn._turn) c.args.turn.now.name.0 (all_of (site_of c.args.site.now) (stmts_of (plain_stmts c.args.turn.now.body.now))) (sym c.loop-turn.at-is i) (sym (to_z-of_z w128 c.args.to (record { sfits = c.ranges.to.sfits })) i) c.loop-turn.vars (seen c.args.site.now c.loop-turn.run) c.loop-turn.run.steps) ∙ c.loop-turn.invariant ∙ (λ i. over_numbers (suc c.args.run.now.steps) c.args.turn.now.name.0 (all_of (site_of c.args.site.now) (stmts_of (plain_stmts c.args.turn.now.body.now))) ((to_z-of_z w128 c.args.from (record { sfits = c.ranges.from.sfits })) i) ((to_z-of_z w128 c.args.to (record { sfits = c.ranges.to.sfits })) i) c.args.vars.now (seen c.args.site.now c.args.run.now) c.args.run.now.steps)) ∙ numbers_stop c.loop-turn.vars (seen c.args.site.now c.loop-turn.run) c.loop-turn.run.steps (c.from-limit.result + 1 - c.loop-turn._turn) c.args.turn.now.name.0 (all_of (site_of c.args.site.now) (stmts_of (plain_stmts c.args.turn.now.body.now))) c.loop-turn.at c.args.to (omega arith) (is_before c.loop-turn.at c.args.to ((λ i. le_z (sym (to_z-of_z w128 c.args.to (record { sfits = c.ranges.to.sfits })) i) (sym c.loop-turn.at-is i)) ∙ c.if-at-to.false)) c.in_err-take_step.ensures.none_left ∙ ap (Fails step_limit c.loop-turn.vars (seen c.args.site.now c.loop-turn.run)) (sym c.in_err-take_step.ensures.kept)) in grind (arith, h)
 
 pub over_numbers-returns-in_err-execute_all : goal.over_numbers-returns-in_err-execute_all
-over_numbers-returns-in_err-execute_all t c = let h = turn_fails c.in_err-execute_all.field-0.0 c.execute_all.new.vars (seen c.args.site.now c.execute_all.new.run) c.execute_all.new.run.steps _ _ (over_numbers ((c.from-limit.result + 1 - c.loop-turn._turn) - 1) c.args.turn.now.name.0 (all_of (site_of c.args.site.now) (stmts_of (plain_stmts c.args.turn.now.body.now))) (c.loop-turn.at +ℤ pos 1) c.args.to) (sym ((λ i. over_numbers (c.from-limit.result + 1 - c.loop-turn._turn) c.args.turn.now.name.0 (all_of (site_of c.args.site.now) (stmts_of (plain_stmts c.args.turn.now.body.now))) (sym c.loop-turn.at-is i) (sym (to_z-of_z w128 c.args.to (record { sfits = c.ranges.to.sfits })) i) c.loop-turn.vars (seen c.args.site.now c.loop-turn.run) c.loop-turn.run.steps) ∙ c.loop-turn.invariant ∙ (λ i. over_numbers (suc c.args.run.now.steps) c.args.turn.now.name.0 (all_of (site_of c.args.site.now) (stmts_of (plain_stmts c.args.turn.now.body.now))) ((to_z-of_z w128 c.args.from (record { sfits = c.ranges.from.sfits })) i) ((to_z-of_z w128 c.args.to (record { sfits = c.ranges.to.sfits })) i) c.args.vars.now (seen c.args.site.now c.args.run.now) c.args.run.now.steps)) ∙ numbers_turn c.loop-turn.vars (seen c.args.site.now c.loop-turn.run) c.loop-turn.run.steps (c.from-limit.result + 1 - c.loop-turn._turn) c.args.turn.now.name.0 (all_of (site_of c.args.site.now) (stmts_of (plain_stmts c.args.turn.now.body.now))) c.loop-turn.at c.args.to (omega arith) c.take_step.new.steps (is_before c.loop-turn.at c.args.to ((λ i. le_z (sym (to_z-of_z w128 c.args.to (record { sfits = c.ranges.to.sfits })) i) (sym c.loop-turn.at-is i)) ∙ c.if-at-to.false)) c.in_ok-take_step.ensures.taken ∙ ap (λ vs. next_turn ((all_of (site_of c.args.site.now) (stmts_of (plain_stmts c.args.turn.now.body.now))) vs (seen c.args.site.now c.loop-turn.run) c.take_step.new.steps) (over_numbers ((c.from-limit.result + 1 - c.loop-turn._turn) - 1) c.args.turn.now.name.0 (all_of (site_of c.args.site.now) (stmts_of (plain_stmts c.args.turn.now.body.now))) (c.loop-turn.at +ℤ pos 1) c.args.to)) (sym (c.in_ok-assign_local.ensures ∙ ap (λ a. assigned c.loop-turn.vars c.args.turn.now.name.0 (value.Int a)) c.loop-turn.at-is))) c.in_err-execute_all.ensures in grind (arith, h)
+over_numbers-returns-in_err-execute_all t c = let h = turn_fails c.in_err-execute_all.field-0.0 c.execute_all.new.vars (seen c.args.site.now c.execute_all.new.run) c.execute_all.new.run.steps _ _ (over_numbers ((c.from-limit.result + 1 - c.loop-turn._turn) - 1) c.args.turn.now.name.0 (all_of (site_of c.args.site.now) (stmts_of (plain_stmts c.args.turn.now.body.now))) (c.loop-turn.at +ℤ pos 1) c.args.to) (sym ((λ i. over_numbers (c.from-limit.result + 1 - c.loop-turn._turn) c.args.turn.now.name.0 (all_of (site_of c.args.site.now) (stmts_of (plain_stmts c.args.turn.now.body.now))) (sym c.loop-turn.at-is i) (sym (to_z-of_z w128 c.args.to (record { sfits = c.ranges.to.sfits })) i) c.loop-turn.vars (seen c.args.site.now c.loop-turn.run) c.loop-turn.run.steps) ∙ c.loop-turn.invariant ∙ (λ i. over_numbers (suc c.args.run.now.steps) c.args.turn.now.name.0 (all_of (site_of c.args.site.now) (stmts_of (plain_stmts c.args.turn.now.body.now))) ((to_z-of_z w128 c.args.from (record { sfits = c.ranges.from.sfits })) i) ((to_z-of_z w128 c.args.to (record { sfits = c.ranges.to.sfits })) i) c.args.vars.now (seen c.args.site.now c.args.run.now) c.args.run.now.steps)) ∙ numbers_turn c.loop-turn.vars (seen c.args.site.now c.loop-turn.run) c.loop-turn.run.steps (c.from-limit.result + 1 - c.loop-turn._turn) c.args.turn.now.name.0 (all_of (site_of c.args.site.now) (stmts_of (plain_stmts c.args.turn.now.body.now))) c.loop-turn.at c.args.to (omega arith) c.take_step.new.steps (is_before c.loop-turn.at c.args.to ((λ i. le_z (sym (to_z-of_z w128 c.args.to (record { sfits = c.ranges.to.sfits })) i) (sym c.loop-turn.at-is i)) ∙ c.if-at-to.false)) c.in_ok-take_step.ensures.taken (next_there c.loop-turn.at c.args.to (subst (SFits w128) c.loop-turn.at-is (sfits_to_z c.loop-turn.auto.at-fits)) (record { sfits = c.ranges.to.sfits }) ((λ i. le_z (sym (to_z-of_z w128 c.args.to (record { sfits = c.ranges.to.sfits })) i) (sym c.loop-turn.at-is i)) ∙ c.if-at-to.false)) ∙ ap (λ vs. next_turn ((all_of (site_of c.args.site.now) (stmts_of (plain_stmts c.args.turn.now.body.now))) vs (seen c.args.site.now c.loop-turn.run) c.take_step.new.steps) (over_numbers ((c.from-limit.result + 1 - c.loop-turn._turn) - 1) c.args.turn.now.name.0 (all_of (site_of c.args.site.now) (stmts_of (plain_stmts c.args.turn.now.body.now))) (c.loop-turn.at +ℤ pos 1) c.args.to)) (sym (c.in_ok-assign_local.ensures ∙ ap (λ a. assigned c.loop-turn.vars c.args.turn.now.name.0 (value.Int a)) c.loop-turn.at-is))) c.in_err-execute_all.ensures in grind (arith, h)
 
 pub over_numbers-returns-in-Broke : goal.over_numbers-returns-in-Broke
-over_numbers-returns-in-Broke t c = sym ((λ i. over_numbers (c.from-limit.result + 1 - c.loop-turn._turn) c.args.turn.now.name.0 (all_of (site_of c.args.site.now) (stmts_of (plain_stmts c.args.turn.now.body.now))) (sym c.loop-turn.at-is i) (sym (to_z-of_z w128 c.args.to (record { sfits = c.ranges.to.sfits })) i) c.loop-turn.vars (seen c.args.site.now c.loop-turn.run) c.loop-turn.run.steps) ∙ c.loop-turn.invariant ∙ (λ i. over_numbers (suc c.args.run.now.steps) c.args.turn.now.name.0 (all_of (site_of c.args.site.now) (stmts_of (plain_stmts c.args.turn.now.body.now))) ((to_z-of_z w128 c.args.from (record { sfits = c.ranges.from.sfits })) i) ((to_z-of_z w128 c.args.to (record { sfits = c.ranges.to.sfits })) i) c.args.vars.now (seen c.args.site.now c.args.run.now) c.args.run.now.steps)) ∙ numbers_turn c.loop-turn.vars (seen c.args.site.now c.loop-turn.run) c.loop-turn.run.steps (c.from-limit.result + 1 - c.loop-turn._turn) c.args.turn.now.name.0 (all_of (site_of c.args.site.now) (stmts_of (plain_stmts c.args.turn.now.body.now))) c.loop-turn.at c.args.to (omega arith) c.take_step.new.steps (is_before c.loop-turn.at c.args.to ((λ i. le_z (sym (to_z-of_z w128 c.args.to (record { sfits = c.ranges.to.sfits })) i) (sym c.loop-turn.at-is i)) ∙ c.if-at-to.false)) c.in_ok-take_step.ensures.taken ∙ ap (λ vs. next_turn ((all_of (site_of c.args.site.now) (stmts_of (plain_stmts c.args.turn.now.body.now))) vs (seen c.args.site.now c.loop-turn.run) c.take_step.new.steps) (over_numbers ((c.from-limit.result + 1 - c.loop-turn._turn) - 1) c.args.turn.now.name.0 (all_of (site_of c.args.site.now) (stmts_of (plain_stmts c.args.turn.now.body.now))) (c.loop-turn.at +ℤ pos 1) c.args.to)) (sym (c.in_ok-assign_local.ensures ∙ ap (λ a. assigned c.loop-turn.vars c.args.turn.now.name.0 (value.Int a)) c.loop-turn.at-is)) ∙ ap (λ e. next_turn e (over_numbers ((c.from-limit.result + 1 - c.loop-turn._turn) - 1) c.args.turn.now.name.0 (all_of (site_of c.args.site.now) (stmts_of (plain_stmts c.args.turn.now.body.now))) (c.loop-turn.at +ℤ pos 1) c.args.to)) (subst (λ f. EndsIn (Ok f) c.execute_all.new.vars (seen c.args.site.now c.execute_all.new.run) c.execute_all.new.run.steps ((all_of (site_of c.args.site.now) (stmts_of (plain_stmts c.args.turn.now.body.now))) c.assign_local.new.vars (seen c.args.site.now c.loop-turn.run) c.take_step.new.steps)) c.in-Broke.is c.in_ok-execute_all.ensures)
+over_numbers-returns-in-Broke t c = sym ((λ i. over_numbers (c.from-limit.result + 1 - c.loop-turn._turn) c.args.turn.now.name.0 (all_of (site_of c.args.site.now) (stmts_of (plain_stmts c.args.turn.now.body.now))) (sym c.loop-turn.at-is i) (sym (to_z-of_z w128 c.args.to (record { sfits = c.ranges.to.sfits })) i) c.loop-turn.vars (seen c.args.site.now c.loop-turn.run) c.loop-turn.run.steps) ∙ c.loop-turn.invariant ∙ (λ i. over_numbers (suc c.args.run.now.steps) c.args.turn.now.name.0 (all_of (site_of c.args.site.now) (stmts_of (plain_stmts c.args.turn.now.body.now))) ((to_z-of_z w128 c.args.from (record { sfits = c.ranges.from.sfits })) i) ((to_z-of_z w128 c.args.to (record { sfits = c.ranges.to.sfits })) i) c.args.vars.now (seen c.args.site.now c.args.run.now) c.args.run.now.steps)) ∙ numbers_turn c.loop-turn.vars (seen c.args.site.now c.loop-turn.run) c.loop-turn.run.steps (c.from-limit.result + 1 - c.loop-turn._turn) c.args.turn.now.name.0 (all_of (site_of c.args.site.now) (stmts_of (plain_stmts c.args.turn.now.body.now))) c.loop-turn.at c.args.to (omega arith) c.take_step.new.steps (is_before c.loop-turn.at c.args.to ((λ i. le_z (sym (to_z-of_z w128 c.args.to (record { sfits = c.ranges.to.sfits })) i) (sym c.loop-turn.at-is i)) ∙ c.if-at-to.false)) c.in_ok-take_step.ensures.taken (next_there c.loop-turn.at c.args.to (subst (SFits w128) c.loop-turn.at-is (sfits_to_z c.loop-turn.auto.at-fits)) (record { sfits = c.ranges.to.sfits }) ((λ i. le_z (sym (to_z-of_z w128 c.args.to (record { sfits = c.ranges.to.sfits })) i) (sym c.loop-turn.at-is i)) ∙ c.if-at-to.false)) ∙ ap (λ vs. next_turn ((all_of (site_of c.args.site.now) (stmts_of (plain_stmts c.args.turn.now.body.now))) vs (seen c.args.site.now c.loop-turn.run) c.take_step.new.steps) (over_numbers ((c.from-limit.result + 1 - c.loop-turn._turn) - 1) c.args.turn.now.name.0 (all_of (site_of c.args.site.now) (stmts_of (plain_stmts c.args.turn.now.body.now))) (c.loop-turn.at +ℤ pos 1) c.args.to)) (sym (c.in_ok-assign_local.ensures ∙ ap (λ a. assigned c.loop-turn.vars c.args.turn.now.name.0 (value.Int a)) c.loop-turn.at-is)) ∙ ap (λ e. next_turn e (over_numbers ((c.from-limit.result + 1 - c.loop-turn._turn) - 1) c.args.turn.now.name.0 (all_of (site_of c.args.site.now) (stmts_of (plain_stmts c.args.turn.now.body.now))) (c.loop-turn.at +ℤ pos 1) c.args.to)) (subst (λ f. EndsIn (Ok f) c.execute_all.new.vars (seen c.args.site.now c.execute_all.new.run) c.execute_all.new.run.steps ((all_of (site_of c.args.site.now) (stmts_of (plain_stmts c.args.turn.now.body.now))) c.assign_local.new.vars (seen c.args.site.now c.loop-turn.run) c.take_step.new.steps)) c.in-Broke.is c.in_ok-execute_all.ensures)
 
 pub over_numbers-returns-in-Gave : goal.over_numbers-returns-in-Gave
-over_numbers-returns-in-Gave t c = sym ((λ i. over_numbers (c.from-limit.result + 1 - c.loop-turn._turn) c.args.turn.now.name.0 (all_of (site_of c.args.site.now) (stmts_of (plain_stmts c.args.turn.now.body.now))) (sym c.loop-turn.at-is i) (sym (to_z-of_z w128 c.args.to (record { sfits = c.ranges.to.sfits })) i) c.loop-turn.vars (seen c.args.site.now c.loop-turn.run) c.loop-turn.run.steps) ∙ c.loop-turn.invariant ∙ (λ i. over_numbers (suc c.args.run.now.steps) c.args.turn.now.name.0 (all_of (site_of c.args.site.now) (stmts_of (plain_stmts c.args.turn.now.body.now))) ((to_z-of_z w128 c.args.from (record { sfits = c.ranges.from.sfits })) i) ((to_z-of_z w128 c.args.to (record { sfits = c.ranges.to.sfits })) i) c.args.vars.now (seen c.args.site.now c.args.run.now) c.args.run.now.steps)) ∙ numbers_turn c.loop-turn.vars (seen c.args.site.now c.loop-turn.run) c.loop-turn.run.steps (c.from-limit.result + 1 - c.loop-turn._turn) c.args.turn.now.name.0 (all_of (site_of c.args.site.now) (stmts_of (plain_stmts c.args.turn.now.body.now))) c.loop-turn.at c.args.to (omega arith) c.take_step.new.steps (is_before c.loop-turn.at c.args.to ((λ i. le_z (sym (to_z-of_z w128 c.args.to (record { sfits = c.ranges.to.sfits })) i) (sym c.loop-turn.at-is i)) ∙ c.if-at-to.false)) c.in_ok-take_step.ensures.taken ∙ ap (λ vs. next_turn ((all_of (site_of c.args.site.now) (stmts_of (plain_stmts c.args.turn.now.body.now))) vs (seen c.args.site.now c.loop-turn.run) c.take_step.new.steps) (over_numbers ((c.from-limit.result + 1 - c.loop-turn._turn) - 1) c.args.turn.now.name.0 (all_of (site_of c.args.site.now) (stmts_of (plain_stmts c.args.turn.now.body.now))) (c.loop-turn.at +ℤ pos 1) c.args.to)) (sym (c.in_ok-assign_local.ensures ∙ ap (λ a. assigned c.loop-turn.vars c.args.turn.now.name.0 (value.Int a)) c.loop-turn.at-is)) ∙ ap (λ e. next_turn e (over_numbers ((c.from-limit.result + 1 - c.loop-turn._turn) - 1) c.args.turn.now.name.0 (all_of (site_of c.args.site.now) (stmts_of (plain_stmts c.args.turn.now.body.now))) (c.loop-turn.at +ℤ pos 1) c.args.to)) (subst (λ f. EndsIn (Ok f) c.execute_all.new.vars (seen c.args.site.now c.execute_all.new.run) c.execute_all.new.run.steps ((all_of (site_of c.args.site.now) (stmts_of (plain_stmts c.args.turn.now.body.now))) c.assign_local.new.vars (seen c.args.site.now c.loop-turn.run) c.take_step.new.steps)) c.in-Gave.is c.in_ok-execute_all.ensures)
+over_numbers-returns-in-Gave t c = sym ((λ i. over_numbers (c.from-limit.result + 1 - c.loop-turn._turn) c.args.turn.now.name.0 (all_of (site_of c.args.site.now) (stmts_of (plain_stmts c.args.turn.now.body.now))) (sym c.loop-turn.at-is i) (sym (to_z-of_z w128 c.args.to (record { sfits = c.ranges.to.sfits })) i) c.loop-turn.vars (seen c.args.site.now c.loop-turn.run) c.loop-turn.run.steps) ∙ c.loop-turn.invariant ∙ (λ i. over_numbers (suc c.args.run.now.steps) c.args.turn.now.name.0 (all_of (site_of c.args.site.now) (stmts_of (plain_stmts c.args.turn.now.body.now))) ((to_z-of_z w128 c.args.from (record { sfits = c.ranges.from.sfits })) i) ((to_z-of_z w128 c.args.to (record { sfits = c.ranges.to.sfits })) i) c.args.vars.now (seen c.args.site.now c.args.run.now) c.args.run.now.steps)) ∙ numbers_turn c.loop-turn.vars (seen c.args.site.now c.loop-turn.run) c.loop-turn.run.steps (c.from-limit.result + 1 - c.loop-turn._turn) c.args.turn.now.name.0 (all_of (site_of c.args.site.now) (stmts_of (plain_stmts c.args.turn.now.body.now))) c.loop-turn.at c.args.to (omega arith) c.take_step.new.steps (is_before c.loop-turn.at c.args.to ((λ i. le_z (sym (to_z-of_z w128 c.args.to (record { sfits = c.ranges.to.sfits })) i) (sym c.loop-turn.at-is i)) ∙ c.if-at-to.false)) c.in_ok-take_step.ensures.taken (next_there c.loop-turn.at c.args.to (subst (SFits w128) c.loop-turn.at-is (sfits_to_z c.loop-turn.auto.at-fits)) (record { sfits = c.ranges.to.sfits }) ((λ i. le_z (sym (to_z-of_z w128 c.args.to (record { sfits = c.ranges.to.sfits })) i) (sym c.loop-turn.at-is i)) ∙ c.if-at-to.false)) ∙ ap (λ vs. next_turn ((all_of (site_of c.args.site.now) (stmts_of (plain_stmts c.args.turn.now.body.now))) vs (seen c.args.site.now c.loop-turn.run) c.take_step.new.steps) (over_numbers ((c.from-limit.result + 1 - c.loop-turn._turn) - 1) c.args.turn.now.name.0 (all_of (site_of c.args.site.now) (stmts_of (plain_stmts c.args.turn.now.body.now))) (c.loop-turn.at +ℤ pos 1) c.args.to)) (sym (c.in_ok-assign_local.ensures ∙ ap (λ a. assigned c.loop-turn.vars c.args.turn.now.name.0 (value.Int a)) c.loop-turn.at-is)) ∙ ap (λ e. next_turn e (over_numbers ((c.from-limit.result + 1 - c.loop-turn._turn) - 1) c.args.turn.now.name.0 (all_of (site_of c.args.site.now) (stmts_of (plain_stmts c.args.turn.now.body.now))) (c.loop-turn.at +ℤ pos 1) c.args.to)) (subst (λ f. EndsIn (Ok f) c.execute_all.new.vars (seen c.args.site.now c.execute_all.new.run) c.execute_all.new.run.steps ((all_of (site_of c.args.site.now) (stmts_of (plain_stmts c.args.turn.now.body.now))) c.assign_local.new.vars (seen c.args.site.now c.loop-turn.run) c.take_step.new.steps)) c.in-Gave.is c.in_ok-execute_all.ensures)
 
 pub over_numbers-loop-turn-preserved : goal.over_numbers-loop-turn-preserved
-over_numbers-loop-turn-preserved t c = let less : (c.from-limit.result + 1 - (c.loop-turn._turn + 1)) ≡ (c.from-limit.result + 1 - c.loop-turn._turn) - 1 = omega arith in let kept : over_numbers (c.from-limit.result + 1 - (c.loop-turn._turn + 1)) c.args.turn.now.name.0 (all_of (site_of c.args.site.now) (stmts_of (plain_stmts c.args.turn.now.body.now))) (c.loop-turn.at +ℤ pos 1) c.args.to c.execute_all.new.vars (seen c.args.site.now c.execute_all.new.run) c.execute_all.new.run.steps ≡ over_numbers (suc c.args.run.now.steps) c.args.turn.now.name.0 (all_of (site_of c.args.site.now) (stmts_of (plain_stmts c.args.turn.now.body.now))) c.args.from c.args.to c.args.vars.now (seen c.args.site.now c.args.run.now) c.args.run.now.steps = ap (λ k. over_numbers k c.args.turn.now.name.0 (all_of (site_of c.args.site.now) (stmts_of (plain_stmts c.args.turn.now.body.now))) (c.loop-turn.at +ℤ pos 1) c.args.to c.execute_all.new.vars (seen c.args.site.now c.execute_all.new.run) c.execute_all.new.run.steps) less ∙ sym (numbers_turn c.loop-turn.vars (seen c.args.site.now c.loop-turn.run) c.loop-turn.run.steps (c.from-limit.result + 1 - c.loop-turn._turn) c.args.turn.now.name.0 (all_of (site_of c.args.site.now) (stmts_of (plain_stmts c.args.turn.now.body.now))) c.loop-turn.at c.args.to (omega arith) c.take_step.new.steps (is_before c.loop-turn.at c.args.to ((λ i. le_z (sym (to_z-of_z w128 c.args.to (record { sfits = c.ranges.to.sfits })) i) (sym c.loop-turn.at-is i)) ∙ c.if-at-to.false)) c.in_ok-take_step.ensures.taken ∙ ap (λ vs. next_turn ((all_of (site_of c.args.site.now) (stmts_of (plain_stmts c.args.turn.now.body.now))) vs (seen c.args.site.now c.loop-turn.run) c.take_step.new.steps) (over_numbers ((c.from-limit.result + 1 - c.loop-turn._turn) - 1) c.args.turn.now.name.0 (all_of (site_of c.args.site.now) (stmts_of (plain_stmts c.args.turn.now.body.now))) (c.loop-turn.at +ℤ pos 1) c.args.to)) (sym (c.in_ok-assign_local.ensures ∙ ap (λ a. assigned c.loop-turn.vars c.args.turn.now.name.0 (value.Int a)) c.loop-turn.at-is)) ∙ turn_goes c.in_ok-execute_all.field-0 c.execute_all.new.vars (seen c.args.site.now c.execute_all.new.run) c.execute_all.new.run.steps _ (over_numbers ((c.from-limit.result + 1 - c.loop-turn._turn) - 1) c.args.turn.now.name.0 (all_of (site_of c.args.site.now) (stmts_of (plain_stmts c.args.turn.now.body.now))) (c.loop-turn.at +ℤ pos 1) c.args.to) c.in-On.is c.in_ok-execute_all.ensures) ∙ ((λ i. over_numbers (c.from-limit.result + 1 - c.loop-turn._turn) c.args.turn.now.name.0 (all_of (site_of c.args.site.now) (stmts_of (plain_stmts c.args.turn.now.body.now))) (sym c.loop-turn.at-is i) (sym (to_z-of_z w128 c.args.to (record { sfits = c.ranges.to.sfits })) i) c.loop-turn.vars (seen c.args.site.now c.loop-turn.run) c.loop-turn.run.steps) ∙ c.loop-turn.invariant ∙ (λ i. over_numbers (suc c.args.run.now.steps) c.args.turn.now.name.0 (all_of (site_of c.args.site.now) (stmts_of (plain_stmts c.args.turn.now.body.now))) ((to_z-of_z w128 c.args.from (record { sfits = c.ranges.from.sfits })) i) ((to_z-of_z w128 c.args.to (record { sfits = c.ranges.to.sfits })) i) c.args.vars.now (seen c.args.site.now c.args.run.now) c.args.run.now.steps)) in (λ i. over_numbers (c.from-limit.result + 1 - (c.loop-turn._turn + 1)) c.args.turn.now.name.0 (all_of (site_of c.args.site.now) (stmts_of (plain_stmts c.args.turn.now.body.now))) ((ap (λ a. to_z w128 (of_z w128 (a +ℤ pos 1))) c.loop-turn.at-is ∙ to_z-of_z w128 (c.loop-turn.at +ℤ pos 1) (next_fits c.loop-turn.at c.args.to (subst (SFits w128) c.loop-turn.at-is (sfits_to_z c.loop-turn.auto.at-fits)) (record { sfits = c.ranges.to.sfits }) ((λ i. le_z (sym (to_z-of_z w128 c.args.to (record { sfits = c.ranges.to.sfits })) i) (sym c.loop-turn.at-is i)) ∙ c.if-at-to.false))) i) ((to_z-of_z w128 c.args.to (record { sfits = c.ranges.to.sfits })) i) c.execute_all.new.vars (seen c.args.site.now c.execute_all.new.run) c.execute_all.new.run.steps) ∙ kept ∙ (λ i. over_numbers (suc c.args.run.now.steps) c.args.turn.now.name.0 (all_of (site_of c.args.site.now) (stmts_of (plain_stmts c.args.turn.now.body.now))) (sym (to_z-of_z w128 c.args.from (record { sfits = c.ranges.from.sfits })) i) (sym (to_z-of_z w128 c.args.to (record { sfits = c.ranges.to.sfits })) i) c.args.vars.now (seen c.args.site.now c.args.run.now) c.args.run.now.steps)
+over_numbers-loop-turn-preserved t c = let less : (c.from-limit.result + 1 - (c.loop-turn._turn + 1)) ≡ (c.from-limit.result + 1 - c.loop-turn._turn) - 1 = omega arith in let kept : over_numbers (c.from-limit.result + 1 - (c.loop-turn._turn + 1)) c.args.turn.now.name.0 (all_of (site_of c.args.site.now) (stmts_of (plain_stmts c.args.turn.now.body.now))) (c.loop-turn.at +ℤ pos 1) c.args.to c.execute_all.new.vars (seen c.args.site.now c.execute_all.new.run) c.execute_all.new.run.steps ≡ over_numbers (suc c.args.run.now.steps) c.args.turn.now.name.0 (all_of (site_of c.args.site.now) (stmts_of (plain_stmts c.args.turn.now.body.now))) c.args.from c.args.to c.args.vars.now (seen c.args.site.now c.args.run.now) c.args.run.now.steps = ap (λ k. over_numbers k c.args.turn.now.name.0 (all_of (site_of c.args.site.now) (stmts_of (plain_stmts c.args.turn.now.body.now))) (c.loop-turn.at +ℤ pos 1) c.args.to c.execute_all.new.vars (seen c.args.site.now c.execute_all.new.run) c.execute_all.new.run.steps) less ∙ sym (numbers_turn c.loop-turn.vars (seen c.args.site.now c.loop-turn.run) c.loop-turn.run.steps (c.from-limit.result + 1 - c.loop-turn._turn) c.args.turn.now.name.0 (all_of (site_of c.args.site.now) (stmts_of (plain_stmts c.args.turn.now.body.now))) c.loop-turn.at c.args.to (omega arith) c.take_step.new.steps (is_before c.loop-turn.at c.args.to ((λ i. le_z (sym (to_z-of_z w128 c.args.to (record { sfits = c.ranges.to.sfits })) i) (sym c.loop-turn.at-is i)) ∙ c.if-at-to.false)) c.in_ok-take_step.ensures.taken (next_there c.loop-turn.at c.args.to (subst (SFits w128) c.loop-turn.at-is (sfits_to_z c.loop-turn.auto.at-fits)) (record { sfits = c.ranges.to.sfits }) ((λ i. le_z (sym (to_z-of_z w128 c.args.to (record { sfits = c.ranges.to.sfits })) i) (sym c.loop-turn.at-is i)) ∙ c.if-at-to.false)) ∙ ap (λ vs. next_turn ((all_of (site_of c.args.site.now) (stmts_of (plain_stmts c.args.turn.now.body.now))) vs (seen c.args.site.now c.loop-turn.run) c.take_step.new.steps) (over_numbers ((c.from-limit.result + 1 - c.loop-turn._turn) - 1) c.args.turn.now.name.0 (all_of (site_of c.args.site.now) (stmts_of (plain_stmts c.args.turn.now.body.now))) (c.loop-turn.at +ℤ pos 1) c.args.to)) (sym (c.in_ok-assign_local.ensures ∙ ap (λ a. assigned c.loop-turn.vars c.args.turn.now.name.0 (value.Int a)) c.loop-turn.at-is)) ∙ turn_goes c.in_ok-execute_all.field-0 c.execute_all.new.vars (seen c.args.site.now c.execute_all.new.run) c.execute_all.new.run.steps _ (over_numbers ((c.from-limit.result + 1 - c.loop-turn._turn) - 1) c.args.turn.now.name.0 (all_of (site_of c.args.site.now) (stmts_of (plain_stmts c.args.turn.now.body.now))) (c.loop-turn.at +ℤ pos 1) c.args.to) c.in-On.is c.in_ok-execute_all.ensures) ∙ ((λ i. over_numbers (c.from-limit.result + 1 - c.loop-turn._turn) c.args.turn.now.name.0 (all_of (site_of c.args.site.now) (stmts_of (plain_stmts c.args.turn.now.body.now))) (sym c.loop-turn.at-is i) (sym (to_z-of_z w128 c.args.to (record { sfits = c.ranges.to.sfits })) i) c.loop-turn.vars (seen c.args.site.now c.loop-turn.run) c.loop-turn.run.steps) ∙ c.loop-turn.invariant ∙ (λ i. over_numbers (suc c.args.run.now.steps) c.args.turn.now.name.0 (all_of (site_of c.args.site.now) (stmts_of (plain_stmts c.args.turn.now.body.now))) ((to_z-of_z w128 c.args.from (record { sfits = c.ranges.from.sfits })) i) ((to_z-of_z w128 c.args.to (record { sfits = c.ranges.to.sfits })) i) c.args.vars.now (seen c.args.site.now c.args.run.now) c.args.run.now.steps)) in (λ i. over_numbers (c.from-limit.result + 1 - (c.loop-turn._turn + 1)) c.args.turn.now.name.0 (all_of (site_of c.args.site.now) (stmts_of (plain_stmts c.args.turn.now.body.now))) ((ap (λ a. to_z w128 (of_z w128 (a +ℤ pos 1))) c.loop-turn.at-is ∙ to_z-of_z w128 (c.loop-turn.at +ℤ pos 1) (next_fits c.loop-turn.at c.args.to (subst (SFits w128) c.loop-turn.at-is (sfits_to_z c.loop-turn.auto.at-fits)) (record { sfits = c.ranges.to.sfits }) ((λ i. le_z (sym (to_z-of_z w128 c.args.to (record { sfits = c.ranges.to.sfits })) i) (sym c.loop-turn.at-is i)) ∙ c.if-at-to.false))) i) ((to_z-of_z w128 c.args.to (record { sfits = c.ranges.to.sfits })) i) c.execute_all.new.vars (seen c.args.site.now c.execute_all.new.run) c.execute_all.new.run.steps) ∙ kept ∙ (λ i. over_numbers (suc c.args.run.now.steps) c.args.turn.now.name.0 (all_of (site_of c.args.site.now) (stmts_of (plain_stmts c.args.turn.now.body.now))) (sym (to_z-of_z w128 c.args.from (record { sfits = c.ranges.from.sfits })) i) (sym (to_z-of_z w128 c.args.to (record { sfits = c.ranges.to.sfits })) i) c.args.vars.now (seen c.args.site.now c.args.run.now) c.args.run.now.steps)
 
 pub over_numbers-returns : goal.over_numbers-returns
 over_numbers-returns t c = let none : (c.from-limit.result + 1 - c.loop-turn._turn) ≡ 0 = omega arith in fails_as c.fail.result step_limit c.loop-turn.vars (seen c.args.site.now c.loop-turn.run) c.loop-turn.run.steps _ c.fail.ensures (sym ((λ i. over_numbers (c.from-limit.result + 1 - c.loop-turn._turn) c.args.turn.now.name.0 (all_of (site_of c.args.site.now) (stmts_of (plain_stmts c.args.turn.now.body.now))) (sym c.loop-turn.at-is i) (sym (to_z-of_z w128 c.args.to (record { sfits = c.ranges.to.sfits })) i) c.loop-turn.vars (seen c.args.site.now c.loop-turn.run) c.loop-turn.run.steps) ∙ c.loop-turn.invariant ∙ (λ i. over_numbers (suc c.args.run.now.steps) c.args.turn.now.name.0 (all_of (site_of c.args.site.now) (stmts_of (plain_stmts c.args.turn.now.body.now))) ((to_z-of_z w128 c.args.from (record { sfits = c.ranges.from.sfits })) i) ((to_z-of_z w128 c.args.to (record { sfits = c.ranges.to.sfits })) i) c.args.vars.now (seen c.args.site.now c.args.run.now) c.args.run.now.steps)) ∙ numbers_over c.loop-turn.vars (seen c.args.site.now c.loop-turn.run) c.loop-turn.run.steps (c.from-limit.result + 1 - c.loop-turn._turn) c.args.turn.now.name.0 (all_of (site_of c.args.site.now) (stmts_of (plain_stmts c.args.turn.now.body.now))) c.loop-turn.at c.args.to none)

@@ -5,15 +5,16 @@ use Rattle.py_tree.specs.PlainProgram.{plain_method}
 use Rattle.py_tree.specs.ClassRules.{body_of}
 use Rattle.py_tree.specs.Bounded.{of_option, expr_size, exprs_size, links_size, stmt_size, stmts_size, arms_size, over_size}
 use Rattle.sf_value.specs.Keys.{key_of}
-use Rattle.source_meaning.specs.World.{Got}
-use Rattle.source_meaning.specs.Evaluation.{each_is}
-use Rattle.source_meaning.specs.Execution.{act_arms, while_turns, over_items, over_numbers}
-use Rattle.source_meaning.specs.Calls.{declare_all}
+use Rattle.program_meaning.specs.World.{Got}
+use Rattle.program_meaning.specs.Evaluation.{each_is}
+use Rattle.program_meaning.specs.Execution.{act_arms, while_turns, over_items, over_numbers}
+use Rattle.program_meaning.specs.Calls.{declare_all}
 use Rattle.source_meaning.specs.Sites.{site_of}
-use Rattle.source_meaning.specs.Trailers.{plain_trailer, trailer_size, all_followed}
+use Rattle.program_meaning.specs.Trailers.{trailer_size, all_followed}
+use Rattle.source_meaning.specs.TrailerViews.{plain_trailer}
 use Rattle.source_meaning.specs.Walks.{seen, record_seen, program_of, value_of, values_of, linked_by, runs}
 use Rattle.source_meaning.proofs.Measures.{rank, left}
-use Rattle.source_meaning.proofs.TrailerLaws.{all_sizes}
+use Rattle.program_meaning.proofs.TrailerLaws.{all_sizes}
 use Rattle.source_meaning.proofs.walk.+walk.Given as goal
 
 abbrev pub decreases-evaluate : goal.decreases-evaluate

@@ -1,7 +1,7 @@
 use Rattle.std.proofs.Common.{◌≡◌, [], ◌∷◌, ◌∙◌, ap, sym, subst, Ok, Err}
 use Rattle.std.proofs.lemmas.Result.{err_from_is_err_and}
 use Rattle.sf_outside.specs.Gains.{Wrote}
-use Rattle.source_meaning.specs.Sources.{source_of}
+use Rattle.program_meaning.specs.Sources.{source_of}
 use Rattle.session.specs.OutputText.{replies, reply, step}
 use Rattle.session.specs.Standings.{standing_of, line_of}
 use Rattle.session.proofs.LineLaws.{replies-one, after-one}

@@ -1,6 +1,6 @@
 use Rattle.std.proofs.Common.{◌∙◌, ap, sym, subst, Err, [], ◌∷◌}
 use Rattle.std.proofs.lemmas.Result.{err_from_is_err_and}
-use Rattle.source_meaning.specs.Sources.{source_of}
+use Rattle.program_meaning.specs.Sources.{source_of}
 use Rattle.session.specs.Feeds.{Feeds}
 use Rattle.session.proofs.FeedLaws.{Feeds-no_memory, Feeds-lf, Feeds-byte}
 use Rattle.session.proofs.feeding.Session.take_byte.Goals as goal

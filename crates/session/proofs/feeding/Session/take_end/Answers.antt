@@ -1,7 +1,7 @@
 use Rattle.std.proofs.Common.{◌≡◌, ap, arith, length}
 use Rattle.std.proofs.lemmas.List.{nil_from_length}
 use Rattle.std.proofs.lemmas.Bool.Decides.{nat_tests}
-use Rattle.source_meaning.specs.Sources.{source_of}
+use Rattle.program_meaning.specs.Sources.{source_of}
 use Rattle.session.proofs.FeedLaws.{end-none, end-line}
 use Rattle.session.proofs.feeding.Session.take_end.Goals as goal
 

@@ -1,7 +1,7 @@
 use Rattle.std.proofs.Common.{◌≡◌, ◌++◌, ◌∙◌, ap, sym, Err, length, take, drop, arith}
 use Rattle.std.proofs.lemmas.List.{length-take}
 use Rattle.std.proofs.lemmas.Result.{err_from_is_err_and}
-use Rattle.source_meaning.specs.Sources.{source_of}
+use Rattle.program_meaning.specs.Sources.{source_of}
 use Rattle.session.proofs.TakeLaws.{Going-none, Going-step, Went-over, Takes-stopped, front_of_buffer}
 use Rattle.session.proofs.feeding.Session.take_input.Goals as goal
 

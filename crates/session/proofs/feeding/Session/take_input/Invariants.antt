@@ -1,5 +1,5 @@
 use Rattle.std.proofs.Common.{◌≤◌, ◌-◌, length}
-use Rattle.source_meaning.specs.Sources.{source_of}
+use Rattle.program_meaning.specs.Sources.{source_of}
 use Rattle.session.proofs.TakeLaws.{Going}
 use Rattle.session.proofs.feeding.Session.take_input.Given as goal
 

@@ -1,6 +1,6 @@
 use Rattle.std.proofs.Common.{◌∙◌, ◌+◌, ap, Err, Ok, is_err, arith, subst}
 use Rattle.std.proofs.lemmas.Result.{err_from_is_err_and}
-use Rattle.source_meaning.specs.Sources.{source_of}
+use Rattle.program_meaning.specs.Sources.{source_of}
 use Rattle.std.proofs.lemmas.List.{take_all}
 use Rattle.session.specs.Feeds.{Feeds}
 use Rattle.session.proofs.FeedLaws.{Feeds-none, Feeds-next, Feeds-stop, Feeds-passed}

@@ -1,5 +1,5 @@
 use Rattle.std.proofs.Common.{◌≤◌, ◌+◌, ℕ, List, length, take, Ok}
-use Rattle.source_meaning.specs.Sources.{source_of}
+use Rattle.program_meaning.specs.Sources.{source_of}
 use Rattle.session.specs.Feeds.{IsStart, Feeds}
 use Rattle.session.proofs.feeding.Session.take_piece.Given as goal
 

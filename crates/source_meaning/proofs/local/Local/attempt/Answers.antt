@@ -1,11 +1,11 @@
 use Rattle.std.proofs.Common.{◌≡◌, ◌∙◌, sym, ap, subst, IfOk}
 use Rattle.sf_value.specs.declared.Outcome.TheVariants as outcome
-use Rattle.source_meaning.specs.RequestRun.{begin, ended}
+use Rattle.program_meaning.specs.RequestRun.{begin, ended}
 use Rattle.source_meaning.specs.Agrees.{FallsIn}
 use Rattle.source_meaning.specs.Attempts.{ran_of}
-use Rattle.source_meaning.specs.Sources.{source_of}
+use Rattle.program_meaning.specs.Sources.{source_of}
 use Rattle.source_meaning.specs.Transactions.{world_of, with_records, keys_of, entities_of}
-use Rattle.source_meaning.proofs.RunLaws.{run_heavy, run_light}
+use Rattle.program_meaning.proofs.RunLaws.{run_heavy, run_light}
 use Rattle.source_meaning.proofs.local.Local.attempt.Goals as goal
 
 pub returns-then-is_heavy : goal.returns-then-is_heavy

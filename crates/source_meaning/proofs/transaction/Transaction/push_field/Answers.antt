@@ -1,7 +1,7 @@
 use Rattle.std.proofs.Common.{◌∙◌, sym, ap, [], ◌∷◌, ◌++◌}
 use Rattle.std.specs.Prelude.{unwrap_or}
 use Rattle.sf_value.specs.Keys.{key_of}
-use Rattle.source_meaning.specs.World.{writing}
+use Rattle.program_meaning.specs.World.{writing}
 use Rattle.source_meaning.specs.Transactions.{world_of, keys_of}
 use Rattle.source_meaning.proofs.TransactionLaws.{changed_record, world_written, in_place}
 use Rattle.source_meaning.proofs.transaction.Transaction.push_field.Goals as goal

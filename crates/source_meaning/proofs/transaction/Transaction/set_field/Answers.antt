@@ -2,7 +2,7 @@ use Rattle.std.proofs.Common.{◌∙◌, sym, ap, map, []}
 use Rattle.std.specs.Prelude.{unwrap_or}
 use Rattle.py_tree.specs.declared.names.Name.{Name}
 use Rattle.sf_value.specs.Keys.{key_of}
-use Rattle.source_meaning.specs.World.{writing, with_field}
+use Rattle.program_meaning.specs.World.{writing, with_field}
 use Rattle.source_meaning.specs.Transactions.{world_of, keys_of}
 use Rattle.source_meaning.proofs.TransactionLaws.{changed_record, world_written, in_place}
 use Rattle.source_meaning.proofs.transaction.Transaction.set_field.Goals as goal

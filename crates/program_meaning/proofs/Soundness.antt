@@ -1,0 +1,92 @@
+-- Nothing goes wrong, within a method and over a whole run.
+use Rattle.std.proofs.Common.{◌≡◌, ℕ, suc, Some, List, [], ◌∷◌, refl, sym, ◌∙◌}
+use Rattle.std.specs.Prelude.{slice_get}
+use Rattle.std.specs.FinMap as map
+use Rattle.std.specs.FinMap.{get-empty}
+use Rattle.std.proofs.lemmas.Option.{none-some}
+use Rattle.py_tree.specs.PlainStatements.{PlainStmts}
+use Rattle.py_tree.specs.ClassRules.{PlainTable, tables_of}
+use Rattle.py_tree.specs.FlowEnvironment.{PlainLocal}
+use Rattle.py_tree.specs.Reachability.{all_go_on, break_in}
+use Rattle.py_tree.specs.Flow.{Context, Way, result_at}
+use Rattle.py_tree.specs.PlainProgram.{PlainProgram}
+use Rattle.program_meaning.specs.NothingGoesWrong.{IsKnownAccepted}
+use Rattle.sf_value.specs.Keys.{Key, key_cmp}
+use Rattle.sf_value.specs.declared.value.Value.{Value}
+use Rattle.program_meaning.specs.World.{State, World, Gives, Got, Fell, Ends, Goes, Returns, Breaks, Continues, Fails}
+use Rattle.program_meaning.specs.Calls.{in_state}
+use Rattle.program_meaning.specs.Fits.{HasTable, RecordFits, StateFits}
+use Rattle.program_meaning.specs.RequestRun.{run}
+use Rattle.program_meaning.specs.Serial.{no_state, serial_state}
+use Rattle.sf_value.specs.declared.Act.{Act}
+use Rattle.program_meaning.specs.PointFits as point
+use Rattle.program_meaning.specs.PointFits.{VarsFit, no_local, CallsFit, Since, OneType, EndsFit}
+use Rattle.program_meaning.specs.NothingGoesWrong.{FirstFits, HistoriesFit, ActsFit, no_act, one_act, RunsFit, ExpressionsFit, StatementsFit, CallsKeepFit, MakesFit, InitsFit, CheckedAreKnown}
+use Rattle.program_meaning.proofs.EvalFits.{Anywhere, eval_fits}
+use Rattle.program_meaning.proofs.LocalShapes.{type_found, Shape, shapes, type_in, Within, all_in, one_in, Sound, settled_fits}
+use Rattle.program_meaning.proofs.AssignedFits.{no_more}
+use Rattle.program_meaning.proofs.ActFits.{EndFits, goes, returns, leaves, turns, fails, stmts_fit}
+use Rattle.program_meaning.proofs.InitFits.{Makes, makes, breaks_off}
+use Rattle.program_meaning.proofs.CallsFit.{around_method, puts_fit, calls_keep, record_made_fits}
+use Rattle.program_meaning.proofs.RunFits.{run_fits}
+
+each_within : (ss : List Shape) (locals : List PlainLocal) → ((k : ℕ) (l : PlainLocal) → slice_get locals k ≡ Some l → type_in ss l.name ≡ Some l.ty) → Within (shapes locals) ss
+each_within ss [] h = all_in
+each_within ss (l ∷ locals) h = one_in (h 0 l refl) (each_within ss locals (λ k m e. h (suc k) m e))
+
+one_type_sound : (locals : List PlainLocal) → OneType locals → Sound (shapes locals)
+one_type_sound locals one = each_within (shapes locals) locals (λ k l e. sym (type_found locals l.name) ∙ one.each k l e)
+
+-- the end of statements, without what stays beside them
+end_told : (tables : List PlainTable) {W : Type 0} (WorldFits : W → Type 0) (c : Context) (xs : PlainStmts) (after : Way) (kept : List PlainLocal) (e : Ends W) → EndFits tables WorldFits (result_at c) (all_go_on xs) (break_in xs) c.in_loop after kept e → EndsFit tables WorldFits c xs after e
+end_told tables WorldFits c xs after kept (Goes vars w n) (goes g v h p) = point.goes g v p
+end_told tables WorldFits c xs after kept (Returns v w n) (returns f p) = point.returns f p
+end_told tables WorldFits c xs after kept (Breaks vars w n) (leaves i b m h p) = point.leaves m.known i b m.is (settled_fits tables vars after.locals m.known m.fit) p
+end_told tables WorldFits c xs after kept (Continues vars w n) (turns i h p) = point.turns i p
+end_told tables WorldFits c xs after kept (Fails f vars w n) (fails g p) = point.fails g p
+
+record_there : (tables : List PlainTable) (s : State) (me : Key) (fields : List Value) (w : World) → map.get s me ≡ Some fields → Since tables s w → (table : PlainTable) × HasTable tables me.0 table
+record_there tables s me fields w e p =
+    let b : (b : List Value) × (map.get w.state me ≡ Some b) = p.kept me fields e in
+    let r : RecordFits tables me.0 b.0 = p.fits.each me b.0 b.1 in
+    (r.table, r.has_table)
+
+pub first_fits : FirstFits
+first_fits names program = record { each = λ at fields e. absurd (none-some fields (sym (get-empty key_cmp at) ∙ e)) }
+
+pub runs_fit : RunsFit
+runs_fit names program accepted s asked fit h = run_fits names program accepted s asked fit h
+
+serial_fits : (names : List (List ℕ)) (program : PlainProgram) → IsKnownAccepted names program → (acts : List Act) (s : State) → StateFits (tables_of names program) s → ActsFit (tables_of names program) acts → StateFits (tables_of names program) (serial_state (record { program = program; names = names }) s acts)
+unfolding serial_state
+serial_fits names program accepted [] s fit no_act = fit
+serial_fits names program accepted (asked ∷ acts) s fit (one_act f fs) = serial_fits names program accepted acts (run (record { program = program; names = names }) s asked).state (run_fits names program accepted s asked fit f).0 fs
+
+pub histories_fit : HistoriesFit
+histories_fit names program accepted acts fit = serial_fits names program accepted acts no_state (first_fits names program) fit
+
+pub expressions_fit : ExpressionsFit
+expressions_fit names program accepted s calls calls_fit me fields there method locals wanted e ty vars w n h v p =
+    let t : (table : PlainTable) × HasTable (tables_of names program) me.0 table = record_there (tables_of names program) s me fields w there p in
+    eval_fits (tables_of names program) (in_state (record { program = program; names = names }) calls me) Anywhere (Since (tables_of names program) s) method (around_method names program accepted s calls calls_fit me fields there t.0 t.1) e locals wanted ty vars w n h refl v p
+
+pub statements_fit : StatementsFit
+unfolding result_at
+statements_fit names program accepted s calls calls_fit me fields there method in_loop xs before after vars w n h raises one v p =
+    let t : (table : PlainTable) × HasTable (tables_of names program) me.0 table = record_there (tables_of names program) s me fields w there p in
+    end_told (tables_of names program) (Since (tables_of names program) s) (record { tables = tables_of names program; class = me.0; method = Some method; in_loop = in_loop }) xs after [] _
+    (stmts_fit (tables_of names program) (in_state (record { program = program; names = names }) calls me) (Since (tables_of names program) s) method (around_method names program accepted s calls calls_fit me fields there t.0 t.1) (puts_fit names program accepted s calls calls_fit me fields there t.0 t.1)
+    xs in_loop before after [] vars w n h raises (record { sound = one_type_sound before.locals one; within = all_in; forgets = no_more; fit = v; held = no_local }) p)
+
+pub calls_keep_fit : CallsKeepFit
+calls_keep_fit names program accepted s d = calls_keep names program accepted d s
+
+made_told : (tables : List PlainTable) (class : ℕ) (Told : Type 0) (g : Gives (List Value) Value) → Makes (λ fields. RecordFits tables class fields × Told) g → MakesFit tables class g
+made_told tables class Told (Got v fields n) (makes p) = p.0
+made_told tables class Told (Fell f fields n) (breaks_off c) = c
+
+pub inits_fit : InitsFit
+inits_fit names program accepted at args n fit = made_told (tables_of names program) at.0 _ _ (record_made_fits names program accepted at args n fit)
+
+pub checked_are_known : CheckedAreKnown
+checked_are_known c = record { bounded = c.bounded; rules = c.rules }

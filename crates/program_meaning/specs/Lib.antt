@@ -1,0 +1,15 @@
+pub mod ClassTables
+pub mod World
+pub mod Operations
+pub mod Evaluation
+pub mod Execution
+pub mod Calls
+pub mod RequestRun
+pub mod Serial
+pub mod Sources
+pub mod Trailers
+pub mod Purity
+pub mod Fits
+pub mod PointFits
+pub mod NothingGoesWrong
+pub mod Here

@@ -1,0 +1,20 @@
+//! What the meaning says by itself.
+
+ghost use Rattle.program_meaning.specs.NothingGoesWrong.{FirstFits, RunsFit, HistoriesFit, ExpressionsFit, StatementsFit, CallsKeepFit, InitsFit, CheckedAreKnown};
+
+/// Nothing goes wrong in an accepted program. In its methods what an expression gives fits the
+/// type that the rules found, and statements come to what fits the way behind them. A run on a
+/// state and a request that fit leaves a state that fits, and comes to a failure or a value that
+/// fits the request. The empty state fits, and so does the state after any requests that fit.
+/// Calls and creations keep what fits, and `__init__` makes records that fit. What holds of accepted
+/// programs here holds of each that was checked.
+pub fn nothing_goes_wrong()
+    ensures first { FirstFits }
+    ensures runs { RunsFit }
+    ensures histories { HistoriesFit }
+    ensures expressions { ExpressionsFit }
+    ensures statements { StatementsFit }
+    ensures calls { CallsKeepFit }
+    ensures inits { InitsFit }
+    ensures checked { CheckedAreKnown }
+{}

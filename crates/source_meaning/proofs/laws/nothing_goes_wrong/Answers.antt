@@ -1,5 +1,0 @@
-use Rattle.source_meaning.proofs.Soundness.{first_fits, runs_fit, histories_fit, expressions_fit, statements_fit}
-use Rattle.source_meaning.proofs.laws.nothing_goes_wrong.Goals as goal
-
-pub returns : goal.returns
-returns c = record { first = first_fits; runs = runs_fit; histories = histories_fit; expressions = expressions_fit; statements = statements_fit }
