@@ -2,6 +2,7 @@
 use Rattle.std.specs.Prelude.{ℕ, List, [], Some, None, slice_get, option_map}
 use Rattle.std.specs.declared.option.Option.{Option}
 use Rattle.py_tree.specs.PlainProgram.{PlainMethod, PlainClass, PlainProgram}
+pub use Rattle.py_tree.specs.Acceptance.{members_of}
 use Rattle.py_tree.specs.ClassRules.{init_of as init_among, methods_of as methods_among, key_of, field_names, body_of}
 
 -- a program, and the texts of its names by their numbers
@@ -10,10 +11,6 @@ pub record Source : Type 0 where
   pub names : List (List ℕ)
 
 -- what the class of a number defines
-abbrev pub members_of : Option PlainClass → List PlainMethod
-members_of None = []
-members_of (Some c) = c.members
-
 abbrev pub members_at : Source → ℕ → List PlainMethod
 members_at src class = members_of (slice_get src.program class)
 

@@ -3,7 +3,6 @@ use Rattle.std.proofs.Common.{◌≡◌, ℕ, zero, suc, arith, ◌+◌, ◌<◌
 use Rattle.std.specs.Prelude.{◌==◌, slice_get, option_map, option_and_then, find, ⊤}
 use Rattle.std.specs.Borrow.{Bor}
 use Rattle.std.specs.Slice.{IsItemAt}
-use Rattle.std.specs.Option.{option_map_or}
 use Rattle.std.specs.List.{position_from}
 use Rattle.std.proofs.lemmas.List.{map-append, drop_all}
 use Rattle.std.proofs.lemmas.Option.{slice_get-map, slice_get-get_or, slice_get_within, slice_get_past, slice_get_cases}
@@ -13,7 +12,7 @@ use Rattle.py_tree.specs.declared.program.Method.{Method}
 use Rattle.py_tree.specs.declared.class_index.ClassIndex.{ClassIndex}
 use Rattle.py_tree.specs.PlainProgram.{PlainMethod, PlainClass, PlainProgram, plain_method, plain_methods, plain_classes}
 use Rattle.py_tree.specs.ClassRules.{is_called, is_init, methods_of, init_of, key_of, key_method, body_of, field_names}
-use Rattle.py_tree.specs.Acceptance.{KeepsRules, members_of}
+use Rattle.py_tree.specs.Acceptance.{KeepsRules, members_of, members_at}
 use Rattle.py_tree.specs.ClassViews.{numbers_of}
 use Rattle.py_tree.specs.ClassIndices.{HasPlaces, called_places, IsIndex, AreIndices, Keeps}
 use Rattle.indexmap.specs.IndexMap.{IndexMap, get}
@@ -152,13 +151,13 @@ past_end xs i none = by (slice_get_cases xs i).1
 
 -- what is kept of a class, by its number
 module _ (names : List (List ℕ)) (program : PlainProgram) (indices : List ClassIndex) (are : AreIndices names program indices) where
-  kept_of : (class : ℕ) (a : Option PlainClass) (b : Option (Bor ClassIndex)) → slice_get program class ≡ a → slice_get indices class ≡ option_map (λ x. x.now) b → Keeps names (option_map_or (λ c. c.members) a []) b
+  kept_of : (class : ℕ) (a : Option PlainClass) (b : Option (Bor ClassIndex)) → slice_get program class ≡ a → slice_get indices class ≡ option_map (λ x. x.now) b → Keeps names (members_of a) b
   kept_of class None None has kept = refl
   kept_of class (Some c) (Some x) has kept = are.each class c x.now has kept
   kept_of class None (Some x) has kept = absurd (omega (arith, slice_get_within indices class x.now kept, past_end program class has, are.count))
   kept_of class (Some c) None has kept = absurd (omega (arith, slice_get_within program class c has, past_end indices class kept, are.count))
 
-  pub index_kept : (class : ℕ) (b : Option (Bor ClassIndex)) → slice_get indices class ≡ option_map (λ x. x.now) b → Keeps names (members_of program class) b
+  pub index_kept : (class : ℕ) (b : Option (Bor ClassIndex)) → slice_get indices class ≡ option_map (λ x. x.now) b → Keeps names (members_at program class) b
   index_kept class b kept = kept_of class (slice_get program class) b refl kept
 
 -- the item with which the rest of a list begins
@@ -225,10 +224,10 @@ module _ {S : Type 0} (names : List (List ℕ)) (program : PlainProgram) (classe
   class_fits k keeps is = omega (arith, few_classes names program keeps.classes, place_within (λ c. c.name == name) 0 program k (sym (class_found (Some k) is)))
 
 -- a class has few methods
-pub few_in : (names : List (List ℕ)) (program : PlainProgram) (class : ℕ) → KeepsRules names program → length (methods_of names (members_of program class)) ≤ 256
+pub few_in : (names : List (List ℕ)) (program : PlainProgram) (class : ℕ) → KeepsRules names program → length (methods_of names (members_at program class)) ≤ 256
 few_in names program class keeps = by (slice_get program class) refl
   where
-    by : (o : Option PlainClass) → slice_get program class ≡ o → length (methods_of names (option_map_or (λ c. c.members) o [])) ≤ 256
+    by : (o : Option PlainClass) → slice_get program class ≡ o → length (methods_of names (members_of o)) ≤ 256
     by None is = omega (arith, ap length (no_methods names))
     by (Some c) is = few_methods names program class c keeps.classes is
 

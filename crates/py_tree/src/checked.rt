@@ -35,7 +35,7 @@ impl Checked {
     ghost use Rattle.std.specs.Option.{option_map};
     ghost use Rattle.py_tree.specs.ClassRules.{init_of, methods_of, field_names, body_of, key_of};
     ghost use Rattle.py_tree.specs.ClassViews.{numbers_of};
-    ghost use Rattle.py_tree.specs.Acceptance.{IsAccepted, class_number, members_of, method_named, method_number};
+    ghost use Rattle.py_tree.specs.Acceptance.{IsAccepted, class_number, members_at, method_named, method_number};
     ghost use Rattle.py_tree.specs.CheckedViews.{checked_program, checked_names};
 
     /// An accepted program. The two are kept as they are.
@@ -69,7 +69,7 @@ impl Checked {
 
     /// What is kept of a class.
     fn index(&self, class: u32) -> Option<&ClassIndex>
-        ensures { Keeps (checked_names self.now) (members_of (checked_program self.now) class) result }
+        ensures { Keeps (checked_names self.now) (members_at (checked_program self.now) class) result }
     {
         self.indices.get(class as usize)
     }
@@ -109,7 +109,7 @@ impl Checked {
 
     /// A member of a class, by its place among what the class defines.
     fn member(&self, class: u32, place: usize) -> Option<&Method>
-        ensures { option_map (λ m. plain_method m.now) result ≡ slice_get (members_of (checked_program self.now) class) place }
+        ensures { option_map (λ m. plain_method m.now) result ≡ slice_get (members_at (checked_program self.now) class) place }
     {
         let class = self.program.classes.get(class as usize)?;
         class.members.get(place)
@@ -117,7 +117,7 @@ impl Checked {
 
     /// The method of a class with this number, counted without `__init__` and `__key__`.
     pub fn method(&self, class: u32, number: u32) -> Option<&Method>
-        ensures { option_map (λ m. plain_method m.now) result ≡ slice_get (methods_of (checked_names self.now) (members_of (checked_program self.now) class)) number }
+        ensures { option_map (λ m. plain_method m.now) result ≡ slice_get (methods_of (checked_names self.now) (members_at (checked_program self.now) class)) number }
     {
         let index = self.index(class)?;
         let place = index.methods.get(number as usize)?;
@@ -126,7 +126,7 @@ impl Checked {
 
     /// The `__init__` of a class.
     pub fn init(&self, class: u32) -> Option<&Method>
-        ensures { option_map (λ m. plain_method m.now) result ≡ init_of (checked_names self.now) (members_of (checked_program self.now) class) }
+        ensures { option_map (λ m. plain_method m.now) result ≡ init_of (checked_names self.now) (members_at (checked_program self.now) class) }
     {
         let index = self.index(class)?;
         self.member(class, index.init?)
@@ -134,7 +134,7 @@ impl Checked {
 
     /// The names of the fields of a class, in the order of its records.
     pub fn fields(&self, class: u32) -> &[Name]
-        ensures { numbers_of result.now ≡ field_names (body_of (init_of (checked_names self.now) (members_of (checked_program self.now) class))) }
+        ensures { numbers_of result.now ≡ field_names (body_of (init_of (checked_names self.now) (members_at (checked_program self.now) class))) }
     {
         match self.index(class) {
             Some(index) => index.fields.as_slice(),
@@ -144,7 +144,7 @@ impl Checked {
 
     /// The place of the parameter of `__init__` that gives the key of a class.
     pub fn key_param(&self, class: u32) -> Option<usize>
-        ensures { result ≡ option_map (λ k. k.param) (key_of (checked_names self.now) (members_of (checked_program self.now) class)) }
+        ensures { result ≡ option_map (λ k. k.param) (key_of (checked_names self.now) (members_at (checked_program self.now) class)) }
     {
         self.index(class)?.key_param
     }

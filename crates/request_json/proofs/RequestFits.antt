@@ -12,6 +12,7 @@ use Rattle.serde_json.specs.Data.{Data, Items, no_items, item}
 use Rattle.serde_json.specs.Find.{as_null, as_bool, as_str, as_array}
 use Rattle.py_tree.specs.NameTable.{place_of}
 use Rattle.py_tree.specs.Acceptance.{class_number, method_named, method_number}
+use Rattle.py_tree.proofs.CheckedLaws.{named_class}
 use Rattle.py_tree.specs.PlainTypes.{PlainTy, TInt, TBool, TStr, TNil, TList, TOptional, TEntity, PlainWritten, type_of}
 use Rattle.py_tree.specs.PlainProgram.{PlainParam, PlainMethod, PlainClass, PlainProgram}
 use Rattle.py_tree.specs.ClassRules.{PlainTable, methods_of as methods_among, init_of as init_among, params_of, written_or_none, sig_params, sig_of, table_of, tables_of}
@@ -138,7 +139,7 @@ module _ (names : List (List ℕ)) (program : PlainProgram) where
   unfolding table_of
   call_fits class number text ds vs named args =
       let name = then_found (λ name. method_named names program class name) (place_of names text) number named in
-      let c = then_found (λ (c : PlainClass). position_from (λ m. m.name == name.0) 0 (methods_among names c.members)) (slice_get program class) number name.2 in
+      let c = named_class names program class name.0 number name.2 in
       let m = stands_from (λ (m : PlainMethod). m.name == name.0) (methods_among names c.0.members) number c.2 in
       let at : slice_get (methods_of src class) number ≡ Some m.0 = ap (λ o. slice_get (methods_among names (members_of o)) number) c.1 ∙ m.1 in
       record {

@@ -1,12 +1,11 @@
 //! Requests, read from lines.
 
-ghost use Rattle.std.specs.Prelude.{◌≡◌, ◌<◌, length, is_some, IfOk};
+ghost use Rattle.std.specs.Prelude.{◌≡◌, is_some, IfOk};
 ghost use Rattle.std.specs.Option.{option_map};
 ghost use Rattle.std.specs.List.{list_all};
 ghost use Rattle.std.specs.Str.{chars};
 ghost use Rattle.serde_json.specs.Find.{get};
 ghost use Rattle.serde_json.specs.View.{view, items_view};
-ghost use Rattle.py_tree.specs.CheckedViews.{checked_program};
 ghost use Rattle.program_meaning.specs.Sources.{source_of};
 ghost use Rattle.request_json.specs.RequestLines as spec;
 ghost use Rattle.request_json.specs.Answers.{Gives, Shows};
@@ -104,10 +103,8 @@ fn id_in(alloc: Global, value: &Json) -> Result<Text, LineError>
     Ok(Text::of(alloc, text)?)
 }
 
-#[tactic(auto, using(crate::proofs::ClassLaws::class_laws))]
 fn class_of(program: &Checked, name: &str) -> Result<u32, LineFault>
-    ensures class { result ≡ spec.class_of (source_of program.now) name.now }
-    ensures within { IfOk result (λ class. class < length (checked_program program.now)) }
+    ensures { result ≡ spec.class_of (source_of program.now) name.now }
 {
     match program.class_of(name) {
         Some(class) => Ok(class),
@@ -116,7 +113,6 @@ fn class_of(program: &Checked, name: &str) -> Result<u32, LineFault>
 }
 
 fn method_of(program: &Checked, class: u32, name: &str) -> Result<u32, LineFault>
-    requires { class < length (checked_program program.now) }
     ensures { result ≡ spec.method_of (source_of program.now) class name.now }
 {
     match program.method_of(class, name) {

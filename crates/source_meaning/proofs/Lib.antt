@@ -2,7 +2,6 @@ pub mod AgreeLaws
 pub mod CloneLaws
 pub mod VarLaws
 pub mod BindLaws
-pub mod TableLaws
 pub mod OperationLaws
 pub mod TransactionLaws
 pub mod TrailerViews

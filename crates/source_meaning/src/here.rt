@@ -20,7 +20,6 @@ use crate::Stop;
 use crate::local::Local;
 use crate::run::Run;
 use crate::site::{DEPTH_LIMIT, Room, Site};
-use crate::tables::class_fields;
 use crate::transaction::begin;
 use crate::walk::{Flow, evaluate, execute_all};
 use program_meaning::Vars;
@@ -61,14 +60,13 @@ pub fn run_here(
 ) -> Result<Ended, AllocError>
     ensures { IfOk result (λ ended. EndsHere ended vars.new (the_held held.new wrote.new) steps.new (act_all (on_record (source_of program.now) (key_of me.now) (depth_limit - depth)) (stmts_of (plain_stmts code.now)) vars.old (the_held held.old wrote.old) steps.old)) }
 {
-    let fields = class_fields(alloc, program, me.class)?;
     let state = take_out(alloc, held, me)?;
     let site = Site {
         alloc,
         program,
         state: &state,
         me,
-        fields: fields.as_slice(),
+        fields: program.fields(me.class),
         room: Room::Within(DEPTH_LIMIT.saturating_sub(depth)),
     };
     let mut run = Run {
@@ -104,14 +102,13 @@ pub fn eval_here(
 ) -> Result<Outcome, AllocError>
     ensures { IfOk result (λ outcome. GivesHere outcome (the_held held.new wrote.new) steps.new (eval (on_record (source_of program.now) (key_of me.now) (depth_limit - depth)) (plain_expr expr.now) vars.now (the_held held.old wrote.old) steps.old)) }
 {
-    let fields = class_fields(alloc, program, me.class)?;
     let state = take_out(alloc, held, me)?;
     let site = Site {
         alloc,
         program,
         state: &state,
         me,
-        fields: fields.as_slice(),
+        fields: program.fields(me.class),
         room: Room::Within(DEPTH_LIMIT.saturating_sub(depth)),
     };
     let mut run = Run {

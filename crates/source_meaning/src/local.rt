@@ -18,7 +18,6 @@ use crate::Stop;
 use crate::failures::{SIZE_LIMIT, empty_text};
 use crate::run::Run;
 use crate::site::{DEPTH_LIMIT, Room, Site};
-use crate::tables::class_fields;
 use crate::transaction::begin;
 use crate::walk::{call_entity, make_entity};
 use indexmap::{IndexMap, IndexSet};
@@ -152,17 +151,15 @@ impl Local {
             class: OUTSIDE,
             key: empty_text(alloc)?,
         };
-        let fields = class_fields(alloc, program, OUTSIDE)?;
         let site = Site {
             alloc,
             program,
             state: self,
             me: &outside,
-            fields: fields.as_slice(),
+            fields: program.fields(OUTSIDE),
             room: Room::Open(DEPTH_LIMIT),
         };
         let given = ask(&site, asked, run);
-        drop(fields);
         drop(outside);
         given
     }

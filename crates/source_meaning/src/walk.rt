@@ -43,7 +43,7 @@ use crate::purity::is_pure;
 use crate::run::{NESTING_LIMIT, Run};
 use crate::site::{Room, Site};
 use crate::tables::{
-    body, class_fields, class_number, init, method_at, method_number, new_entity, params,
+    body, class_number, init, method_at, method_number, new_entity, params,
 };
 use crate::trailers::{Chain, Trailer, chain_of, last_trailer};
 use crate::transaction::begin;
@@ -536,19 +536,16 @@ fn enter(
     if !run.tx.contains(site.state, at) {
         return Err(fail(site.alloc, NO_ENTITY));
     }
-    let fields = class_fields(site.alloc, site.program, at.class)?;
     let inside = Site {
         alloc: site.alloc,
         program: site.program,
         state: site.state,
         me: at,
-        fields: fields.as_slice(),
+        fields: site.program.fields(at.class),
         room: Room::Open(left),
     };
     let method = method_at(site.program, at.class, number);
-    let given = run_body(&inside, method, args, run);
-    drop(fields);
-    given
+    run_body(&inside, method, args, run)
 }
 
 /// Runs the body of a method. One that falls off its end gives None.
@@ -682,7 +679,6 @@ fn init_record(
     ensures record { GivesRecord result run.new.steps (record_made site.now at.now init.entry vars.now run.old.steps) }
     ensures kept { run.new.tx ≡ run.old.tx }
 {
-    let fields = class_fields(site.alloc, site.program, at.class)?;
     let empty = Local::new(site.alloc);
     let mut apart = Run {
         tx: begin(site.alloc),
@@ -694,14 +690,13 @@ fn init_record(
         program: site.program,
         state: &empty,
         me: at,
-        fields: fields.as_slice(),
+        fields: site.program.fields(at.class),
         room: Room::Closed,
     };
     let made = declared_record(&inside, body(init), vars, &mut apart);
     run.steps = apart.steps;
     drop(apart);
     drop(empty);
-    drop(fields);
     made
 }
 
