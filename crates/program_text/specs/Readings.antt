@@ -21,7 +21,7 @@ use Rattle.entity_tables.specs.declared.fault.RuleError.{RuleError}
 use Rattle.entity_tables.specs.declared.fault.RuleError.TheVariants as rule
 use Rattle.entity_tables.specs.declared.table.ClassTable.{ClassTable}
 use Rattle.entity_tables.specs.Views.{plain_tables}
-use Rattle.program_text.specs.declared.accept.Accepted.{Accepted}
+use Rattle.program_text.specs.declared.acceptance.Accepted.{Accepted}
 use Rattle.program_text.specs.declared.fault.ProgramFault.{ProgramFault}
 use Rattle.program_text.specs.declared.fault.ProgramFault.TheVariants.{Lex, Syntax, Rule}
 use Rattle.program_text.specs.declared.fault.ProgramError.{ProgramError}

@@ -4,10 +4,10 @@
 //! rules, those on classes before those on types and statements.
 #![tactic(auto)]
 
-mod accept;
+mod acceptance;
 mod fault;
 mod laws;
 
-pub use accept::{Accepted, accept};
+pub use acceptance::{Accepted, accept};
 pub use fault::{ProgramError, ProgramFault};
 pub use laws::has_one_reading;

@@ -12,7 +12,7 @@ use Rattle.py_tree.specs.CheckedViews.{checked_program, checked_names}
 use Rattle.py_tree.specs.PlainProgram.{PlainProgram}
 use Rattle.py_lexer.specs.declared.fault.LexFault.{LexFault}
 use Rattle.py_lexer.specs.LogicalLines.{has_lines, has_fault, IsText, text_too_long, text_stops, text_lines}
-use Rattle.program_text.specs.declared.accept.Accepted.{Accepted}
+use Rattle.program_text.specs.declared.acceptance.Accepted.{Accepted}
 use Rattle.program_text.specs.declared.fault.ProgramFault.{ProgramFault}
 use Rattle.program_text.specs.declared.fault.ProgramFault.TheVariants.{Lex}
 use Rattle.program_text.specs.declared.fault.ProgramError.{ProgramError}

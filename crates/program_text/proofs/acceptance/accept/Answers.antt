@@ -1,6 +1,6 @@
 use Rattle.std.proofs.lemmas.Result.{err_from_is_err_and}
 use Rattle.program_text.proofs.ReadLaws.{reads_no_lines, reads_no_tree, reads_broken, reads_no_memory, reads_accepted}
-use Rattle.program_text.proofs.accept.accept.Goals as goal
+use Rattle.program_text.proofs.acceptance.accept.Goals as goal
 
 pub returns-in_err-lines : goal.returns-in_err-lines
 returns-in_err-lines c =
