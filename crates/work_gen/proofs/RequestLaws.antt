@@ -1,5 +1,5 @@
 -- Lines that are added in pieces, and lines behind lines.
-use Rattle.std.proofs.Common.{◌≡◌, ℕ, zero, suc, arith, ◌+◌, ◌-◌, ◌<◌, ◌≤◌, true, false, List, [], ◌∷◌, ◌++◌, length, map, take, get_or, append_assoc, append-nil, Ok, Err, OnOk, refl, sym, ap, ◌∙◌}
+use Rattle.std.proofs.Common.{◌≡◌, ℕ, suc, arith, ◌+◌, ◌-◌, ◌<◌, ◌≤◌, true, false, List, [], ◌∷◌, ◌++◌, length, map, take, get_or, append_assoc, append-nil, Ok, Err, OnOk, sym, ap, ◌∙◌}
 use Rattle.std.specs.declared.result.Result.{Result}
 use Rattle.std.specs.List.{concat}
 use Rattle.std.specs.Prelude.{nat_lt, if◌then◌else◌}
@@ -18,7 +18,7 @@ pub pieces_more : (before old new : List ℕ) (pieces : List (Bor (List ℕ))) (
 pieces_more before old new pieces i d within so_far more =
     let piece = get_or pieces i d in
     let cut : map (λ (p : Bor (List ℕ)). p.now) (take (i + 1) pieces) ≡ map (λ p. p.now) (take i pieces) ++ piece.now ∷ [] =
-      ap (map (λ p. p.now)) (take_more pieces i d within) ∙ map-append (λ p. p.now) (take i pieces) (piece ∷ []) in
+    ap (map (λ p. p.now)) (take_more pieces i d within) ∙ map-append (λ p. p.now) (take i pieces) (piece ∷ []) in
     more ∙ ap (λ bytes. bytes ++ piece.now) so_far ∙ append_assoc before (concat (map (λ p. p.now) (take i pieces))) piece.now
     ∙ ap (λ rest. before ++ rest) (sym (ap concat cut ∙ concat_more (map (λ p. p.now) (take i pieces)) piece.now))
 

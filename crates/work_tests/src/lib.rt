@@ -1,0 +1,5 @@
+//! Tests of generated work.
+#![tactic(auto)]
+
+#[cfg(test)]
+mod generated;
