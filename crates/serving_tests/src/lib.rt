@@ -23,3 +23,5 @@ mod repeats;
 mod request_lines;
 #[cfg(test)]
 mod shop;
+#[cfg(test)]
+mod system_files;

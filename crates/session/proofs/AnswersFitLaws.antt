@@ -1,25 +1,19 @@
 -- In a session over an accepted program nothing goes wrong.
-use Rattle.std.proofs.Common.{◌≡◌, ℕ, Bool, true, false, List, [], ◌∷◌, ◌++◌, drop, get_or, if◌then◌else◌, Ok, Err, refl, sym, ap, subst}
-use Rattle.std.specs.declared.result.Result.{Result}
-use Rattle.std.specs.Prelude.{nat_le}
+use Rattle.std.proofs.Common.{◌≡◌, ℕ, List, [], ◌∷◌, ◌++◌, drop, get_or, sym, ap, subst}
 use Rattle.py_tree.specs.PlainProgram.{PlainProgram}
 use Rattle.py_tree.specs.ClassRules.{PlainTable, tables_of}
 use Rattle.program_meaning.specs.NothingGoesWrong.{IsKnownAccepted}
 use Rattle.sf_value.specs.declared.Entry.{Entry}
-use Rattle.sf_value.specs.declared.Request.{Request}
 use Rattle.program_meaning.specs.ClassTables.{Source}
 use Rattle.program_meaning.specs.World.{State}
 use Rattle.program_meaning.specs.RequestRun.{run}
 use Rattle.program_meaning.specs.Serial.{no_state, serial_outcomes, serial_state, acts_of, outcomes_of}
 use Rattle.program_meaning.specs.Fits.{StateFits, OutcomeFits}
 use Rattle.program_meaning.proofs.Soundness.{first_fits, runs_fit}
-use Rattle.request_json.specs.declared.fault.LineFault.{LineFault}
-use Rattle.request_json.specs.RequestLines.{longest, reading_of}
-use Rattle.request_json.specs.Actions.{Line, Refuse, LineTooLong, Ask, asking, used, content_of, action_of}
-use Rattle.request_json.specs.LinesFit.{RequestFits}
-use Rattle.request_json.proofs.RequestFits.{reading_fits}
+use Rattle.request_json.specs.Actions.{Line}
 use Rattle.session.specs.SerialOutput.{Printed, Nothing, Refused, Reply, Again, Fits}
 use Rattle.session.specs.AnswersFit.{EntriesFit, AnswersFit}
+use Rattle.session.proofs.RequestLaws.{ask_fits}
 
 module _ (names : List (List ℕ)) (program : PlainProgram) where
   abbrev src : Source
@@ -27,20 +21,6 @@ module _ (names : List (List ℕ)) (program : PlainProgram) where
 
   abbrev tables : List PlainTable
   tables = tables_of names program
-
-  -- a line that asks something asks what fits
-  ask_fits : (line : Line) (r : Request) → action_of src line ≡ Ask r → RequestFits tables r
-  unfolding action_of
-  ask_fits line r = by (nat_le _ longest) (content_of line)
-    where
-      asks : (text : List ℕ) (told : Result Request LineFault) → reading_of src text ≡ told → asking told ≡ Ask r → RequestFits tables r
-      asks text (Err fault) told is = absurd cc
-      asks text (Ok q) told is = let same : q ≡ r = cc in subst (RequestFits tables) same (reading_fits names program text q told)
-
-      by : (short : Bool) (text : List ℕ) → (if short then used src text else Refuse LineTooLong) ≡ Ask r → RequestFits tables r
-      by true [] is = absurd cc
-      by true (b ∷ bs) is = asks (b ∷ bs) (reading_of src (b ∷ bs)) refl is
-      by false text is = absurd cc
 
   module _ (accepted : IsKnownAccepted names program) where
     entries_fit : (before : List Entry) (lines : List Line) (printed : List Printed) (added : List Entry) (s : State) → StateFits tables s → Fits src before lines printed added → outcomes_of added ≡ serial_outcomes src s (acts_of added)
@@ -55,7 +35,7 @@ module _ (names : List (List ℕ)) (program : PlainProgram) where
     entries_fit before (line ∷ lines) (Again place ∷ printed) added s fit told same = entries_fit before lines printed added s fit told.1 same
     entries_fit before (line ∷ lines) (Reply place ∷ printed) [] s fit told same = absurd told
     entries_fit before (line ∷ lines) (Reply place ∷ printed) (e ∷ added) s fit told same =
-        let asked = ask_fits line e.request told.0 in
+        let asked = ask_fits src line e.request told.0 in
         let ran = runs_fit names program accepted s e.request.act fit asked.act in
         let here : e.outcome ≡ (run src s e.request.act).outcome = ap (λ os. get_or os 0 e.outcome) same in
         let rest = entries_fit (before ++ e ∷ []) lines printed added (run src s e.request.act).state ran.0 told.1 (ap (drop 1) same) in
@@ -63,5 +43,5 @@ module _ (names : List (List ℕ)) (program : PlainProgram) where
 
 pub answers_fit : AnswersFit
 answers_fit names program accepted lines serial =
-    let fit = entries_fit names program accepted [] lines serial.printed serial.core.history no_state (first_fits names program) serial.fits serial.sound.outcomes in
-    (fit.0, subst (StateFits (tables_of names program)) (sym serial.sound.state) fit.1)
+    let fit = entries_fit names program accepted [] lines serial.printed serial.core.history no_state (first_fits names program) serial.fits serial.sound.run.outcomes in
+    (fit.0, subst (StateFits (tables_of names program)) (sym serial.sound.run.state) fit.1)

@@ -22,9 +22,10 @@ use Rattle.session.specs.declared.feeding.InputEnd.{InputEnd}
 use Rattle.session.specs.declared.feeding.InputEnd.TheVariants.{End, ReadFault, TooLong}
 use Rattle.session.specs.OutputText.{Standing, replies, after, step, start, commit, entry_of, reused, after_ask, answer_to, after_action, reply_to}
 use Rattle.session.specs.Repeats.{Kept, kept_of, same_act, line_of_kept}
-use Rattle.session.specs.Served.{Served}
+use Rattle.session.specs.Served.{OfWhole, OfAll, OfLimit, Served}
 use Rattle.session.specs.SerialOutput.{Printed, Nothing, Refused, Reply, Again, entry_at, text_of_entry, printed_text, printed_texts, places, IsNumbered, IsRefused, Fits, SerialLines, SerialRun}
 use Rattle.session.proofs.RepeatLaws.{Stands, stands, still_at, not_committed, same_act-Decides}
+use Rattle.session.proofs.RequestLaws.{requests_fit}
 use Rattle.session.proofs.ServeLaws.{whole_prefix}
 
 -- the look-up of the entry that stands behind these
@@ -146,12 +147,13 @@ module _ (src : Source) where
   pub SerialLines-all : (lines : List Line) → SerialLines src lines
   SerialLines-all lines =
       let g = goes lines start (IsSound-empty src) in
+      let fits : Fits src [] lines g.printed (after src start lines).core.history = subst (Fits src [] lines g.printed) (sym g.history) g.fits in
       record {
         core = (after src start lines).core;
-        sound = g.sound;
+        sound = record { run = g.sound; requests = requests_fit src [] lines g.printed (after src start lines).core.history fits };
         printed = g.printed;
         report = record { counted = g.counted ∙ ap (λ h. range_with_len 1 (length h)) (sym g.history); numbered = g.numbered };
-        fits = subst (Fits src [] lines g.printed) (sym g.history) g.fits;
+        fits = fits;
         texts = g.printed_are;
       }
 
@@ -177,4 +179,6 @@ module _ (src : Source) where
   Served-serial limit left left' held held' (Ok End) p = run_of {T = InputEnd} (Ok End) held held' _ p.0.wrote
   Served-serial limit left left' held held' (Ok ReadFault) p = run_of {T = InputEnd} (Ok ReadFault) held held' _ p.wrote
   Served-serial limit left left' held held' (Ok TooLong) p = run_of {T = InputEnd} (Ok TooLong) held held' _ p.answered.wrote
-  Served-serial limit left left' held held' (Err stop) p = run_of {T = InputEnd} (Err stop) held held' _ p.answered.wrote
+  Served-serial limit left left' held held' (Err stop) (OfWhole a) = run_of {T = InputEnd} (Err stop) held held' _ a.wrote
+  Served-serial limit left left' held held' (Err stop) (OfAll a end) = run_of {T = InputEnd} (Err stop) held held' _ a.wrote
+  Served-serial limit left left' held held' (Err stop) (OfLimit fault over) = run_of {T = InputEnd} (Err stop) held held' _ over.answered.wrote

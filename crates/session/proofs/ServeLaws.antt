@@ -1,5 +1,5 @@
 -- From what was taken to what is served.
-use Rattle.std.proofs.Common.{◌≡◌, ℕ, List, [], ◌++◌, length, take, Some, None, Ok, Err, IsErr, refl, sym, ap, ◌∙◌, subst, append-nil}
+use Rattle.std.proofs.Common.{◌≡◌, ℕ, List, [], ◌++◌, length, take, Some, None, Ok, Err, refl, sym, ap, ◌∙◌, subst, append-nil}
 use Rattle.std.proofs.lemmas.List.{take_at}
 use Rattle.std.specs.declared.option.Option.{Option}
 use Rattle.std.specs.declared.result.Result.{Result}
@@ -8,7 +8,7 @@ use Rattle.sf_outside.specs.Bytes.{AppendsPrefix}
 use Rattle.sf_outside.specs.Gains.{Wrote, joined}
 use Rattle.sf_outside.specs.declared.gains.WriteStop.{WriteStop}
 use Rattle.sf_outside.specs.declared.gains.WriteStop.TheVariants.{WriteFault}
-use Rattle.sf_outside.proofs.GainLaws.{Wrote-after, Wrote-more, Wrote-passed}
+use Rattle.sf_outside.proofs.GainLaws.{Wrote-after, Wrote-passed}
 use Rattle.program_meaning.specs.ClassTables.{Source}
 use Rattle.request_json.specs.Actions.{Line, whole_lines, all_lines, last_line, rest_from}
 use Rattle.session.specs.declared.feeding.Session.{Session}
@@ -17,7 +17,7 @@ use Rattle.session.specs.declared.feeding.InputEnd.TheVariants.{End, ReadFault, 
 use Rattle.session.specs.Standings.{standing_of}
 use Rattle.session.specs.OutputText.{replies, after, start}
 use Rattle.session.specs.Takes.{Went, WentOver}
-use Rattle.session.specs.Served.{Answered, AnsweredPart, Served}
+use Rattle.session.specs.Served.{Answered, AnsweredPart, OfWhole, OfAll, OfLimit, Served}
 use Rattle.session.proofs.LineLaws.{replies-append}
 
 pub Appends-kept : (a b c : Option (List ℕ)) (bs : List ℕ) → Appends a b bs → Keeps b c → Appends a c bs
@@ -34,25 +34,18 @@ module _ (src : Source) where
   lines_of : (taken : List ℕ) → replies src start (all_lines taken) ≡ replies src start (whole_lines taken) ++ replies src (after src start (whole_lines taken)) (last_line (rest_from [] taken))
   lines_of taken = replies-append src (whole_lines taken) (last_line (rest_from [] taken)) start
 
-  -- a stop among the whole lines is a stop among all
-  stop_of_all : {T : Type 0} (r : Result T WriteStop) (a b : Option (List ℕ)) (taken : List ℕ) → IsErr r → Wrote r a b (replies src start (whole_lines taken)) → Wrote r a b (replies src start (all_lines taken))
-  stop_of_all r a b taken e p = subst (Wrote r a b) (sym (lines_of taken)) (Wrote-more r a b (replies src start (whole_lines taken)) (replies src (after src start (whole_lines taken)) (last_line (rest_from [] taken))) e p)
-
   from_start : {T : Type 0} (r : Result T WriteStop) (a b : Option (List ℕ)) (s : Session) (taken : List ℕ) → standing_of s.standing ≡ start → Wrote r a b (replies src (standing_of s.standing) (whole_lines taken)) → Wrote r a b (replies src start (whole_lines taken))
   from_start r a b s taken z p = subst (λ t. Wrote r a b (replies src t (whole_lines taken))) z p
 
   -- the session stopped before the end of the input
   pub Served-stopped : (e : WriteStop) (r : Result InputEnd WriteStop) (limit : ℕ) (left left' held held' : Option (List ℕ)) (s₀ s₁ : Session) → standing_of s₀.standing ≡ start → r ≡ Err e
       → Went {T = InputEnd} src (Err e) limit left left' held held' s₀ s₁ → Served src limit left left' held held' r
-  Served-stopped e r limit left left' held held' s₀ s₁ z k w = subst (Served src limit left left' held held') (sym k) (record {
-    behind = left';
-    answered = record {
-      taken = w.taken;
-      consumed = w.consumed;
-      within = w.within;
-      wrote = stop_of_all {T = InputEnd} (Err e) held held' w.taken refl (from_start {T = InputEnd} (Err e) held held' s₀ w.taken z w.fed.wrote);
-    };
-  })
+  Served-stopped e r limit left left' held held' s₀ s₁ z k w = subst (Served src limit left left' held held') (sym k) (OfWhole (record {
+    taken = w.taken;
+    consumed = w.consumed;
+    within = w.within;
+    wrote = from_start {T = InputEnd} (Err e) held held' s₀ w.taken z w.fed.wrote;
+  }))
 
   -- the last line, and then the end
   ending : {T : Type 0} (r : Result T WriteStop) (limit : ℕ) (left left' held h₁ h₂ : Option (List ℕ)) (s₀ s₁ : Session) → standing_of s₀.standing ≡ start
@@ -72,11 +65,11 @@ module _ (src : Source) where
   Served-end limit left left' held h₁ h₂ s₀ s₁ z w at p = (ending (Ok End) limit left left' held h₁ h₂ s₀ s₁ z w p, at)
 
   pub Served-unended : (V : Type 0) (e : WriteStop) (r : Result InputEnd WriteStop) (limit : ℕ) (left left' held h₁ h₂ : Option (List ℕ)) (s₀ s₁ : Session) → standing_of s₀.standing ≡ start → r ≡ Err e
-      → (w : Went {T = InputEnd} src (Ok End) limit left left' held h₁ s₀ s₁) → Wrote {T = V} (Err e) h₁ h₂ (replies src (standing_of s₁.standing) (last_line (rest_from [] w.taken)))
+      → (w : Went {T = InputEnd} src (Ok End) limit left left' held h₁ s₀ s₁) → IsAtEnd left' → Wrote {T = V} (Err e) h₁ h₂ (replies src (standing_of s₁.standing) (last_line (rest_from [] w.taken)))
       → Served src limit left left' held h₂ r
-  Served-unended V e r limit left left' held h₁ h₂ s₀ s₁ z k w p =
+  Served-unended V e r limit left left' held h₁ h₂ s₀ s₁ z k w at p =
       let same : ◌≡◌ {A = Result InputEnd WriteStop} (Err e) (Err e) = refl in
-      subst (Served src limit left left' held h₂) (sym k) (record { behind = left'; answered = ending {T = InputEnd} (Err e) limit left left' held h₁ h₂ s₀ s₁ z w (Wrote-passed V {T = InputEnd} e (Err e) h₁ h₂ _ same p) })
+      subst (Served src limit left left' held h₂) (sym k) (OfAll (ending {T = InputEnd} (Err e) limit left left' held h₁ h₂ s₀ s₁ z w (Wrote-passed V {T = InputEnd} e (Err e) h₁ h₂ _ same p)) at)
 
   pub Served-fault : (limit : ℕ) (left left' held held' : Option (List ℕ)) (s₀ s₁ : Session) → standing_of s₀.standing ≡ start
       → Went {T = InputEnd} src (Ok ReadFault) limit left left' held held' s₀ s₁ → Served src limit left left' held held' (Ok ReadFault)
@@ -88,8 +81,7 @@ module _ (src : Source) where
     before = w.before;
     answered = record { taken = w.went.taken; consumed = w.went.consumed; within = w.went.within; wrote = from_start (Ok TooLong) held held' s₀ w.went.taken z w.went.fed.wrote };
     full = w.full;
-    more = w.more;
-    some = w.some;
+    next = w.next;
     beyond = w.beyond;
   }
 
@@ -102,19 +94,19 @@ module _ (src : Source) where
   unfolding kept_answer
   Served-flushed End limit left left' held h₁ h₂ p k = (kept_answer End limit all_lines left left' held h₁ h₂ p.0 k, p.1)
   Served-flushed ReadFault limit left left' held h₁ h₂ p k = kept_answer ReadFault limit whole_lines left left' held h₁ h₂ p k
-  Served-flushed TooLong limit left left' held h₁ h₂ p k = record { before = p.before; answered = kept_answer TooLong limit whole_lines left p.before held h₁ h₂ p.answered k; full = p.full; more = p.more; some = p.some; beyond = p.beyond }
+  Served-flushed TooLong limit left left' held h₁ h₂ p k = record { before = p.before; answered = kept_answer TooLong limit whole_lines left p.before held h₁ h₂ p.answered k; full = p.full; next = p.next; beyond = p.beyond }
 
-  unflushed : {T : Type 0} (lines : List ℕ → List Line) (u : T) (limit : ℕ) (left left' held h₁ h₂ : Option (List ℕ)) → ((a b : Option (List ℕ)) (taken : List ℕ) → Wrote {T = InputEnd} (Err WriteFault) a b (replies src start (lines taken)) → Wrote {T = InputEnd} (Err WriteFault) a b (replies src start (all_lines taken)))
-      → Answered src limit lines (Ok u) left left' held h₁ → Keeps h₁ h₂ → AnsweredPart src limit WriteFault left held h₂
-  unflushed lines u limit left left' held h₁ h₂ more a k = record {
-    behind = left';
-    answered = record { taken = a.taken; consumed = a.consumed; within = a.within; wrote = more held h₂ a.taken (whole_prefix held h₂ (joined (replies src start (lines a.taken))) (Appends-kept held h₁ h₂ _ a.wrote k)) };
-  }
+  unflushed : (e : InputEnd) (limit : ℕ) (lines : List ℕ → List Line) (left left' held h₁ h₂ : Option (List ℕ)) → Answered {T = InputEnd} src limit lines (Ok e) left left' held h₁ → Keeps h₁ h₂ → Answered {T = InputEnd} src limit lines (Err WriteFault) left left' held h₂
+  unflushed e limit lines left left' held h₁ h₂ a k = record { taken = a.taken; consumed = a.consumed; within = a.within; wrote = whole_prefix held h₂ (joined (replies src start (lines a.taken))) (Appends-kept held h₁ h₂ _ a.wrote k) }
+
+  unflushed_part : (e : InputEnd) (limit : ℕ) (left left' held h₁ h₂ : Option (List ℕ)) → Served src limit left left' held h₁ (Ok e) → Keeps h₁ h₂ → AnsweredPart src limit WriteFault left left' held h₂
+  unfolding unflushed
+  unflushed_part End limit left left' held h₁ h₂ p k = OfAll (unflushed End limit all_lines left left' held h₁ h₂ p.0 k) p.1
+  unflushed_part ReadFault limit left left' held h₁ h₂ p k = OfWhole (unflushed ReadFault limit whole_lines left left' held h₁ h₂ p k)
+  unflushed_part TooLong limit left left' held h₁ h₂ p k = OfLimit refl (record { before = p.before; answered = unflushed TooLong limit whole_lines left p.before held h₁ h₂ p.answered k; full = p.full; next = p.next; beyond = p.beyond })
 
   pub Served-unflushed : (e : InputEnd) (r : Result InputEnd WriteStop) (limit : ℕ) (left left' held h₁ h₂ : Option (List ℕ)) → r ≡ Err WriteFault → Served src limit left left' held h₁ (Ok e) → Keeps h₁ h₂ → Served src limit left left' held h₂ r
-  Served-unflushed End r limit left left' held h₁ h₂ z p k = subst (Served src limit left left' held h₂) (sym z) (unflushed all_lines End limit left left' held h₁ h₂ (λ a b taken w. w) p.0 k)
-  Served-unflushed ReadFault r limit left left' held h₁ h₂ z p k = subst (Served src limit left left' held h₂) (sym z) (unflushed whole_lines ReadFault limit left left' held h₁ h₂ (λ a b taken w. stop_of_all {T = InputEnd} (Err WriteFault) a b taken refl w) p k)
-  Served-unflushed TooLong r limit left left' held h₁ h₂ z p k = subst (Served src limit left left' held h₂) (sym z) (unflushed whole_lines TooLong limit left p.before held h₁ h₂ (λ a b taken w. stop_of_all {T = InputEnd} (Err WriteFault) a b taken refl w) p.answered k)
+  Served-unflushed e r limit left left' held h₁ h₂ z p k = subst (Served src limit left left' held h₂) (sym z) (unflushed_part e limit left left' held h₁ h₂ p k)
 
   -- a session that stopped stops the whole
   pub Served-passed : (e : WriteStop) (r : Result InputEnd WriteStop) (limit : ℕ) (left left' held held' : Option (List ℕ)) → r ≡ Err e → Served src limit left left' held held' (Err e) → Served src limit left left' held held' r

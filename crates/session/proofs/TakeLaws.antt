@@ -1,5 +1,5 @@
 -- Taking the input piece by piece.
-use Rattle.std.proofs.Common.{◌≡◌, ℕ, ◌+◌, ◌≤◌, ◌<◌, List, [], ◌++◌, length, take, Some, None, Ok, Err, refl, sym, ◌∙◌, subst, arith}
+use Rattle.std.proofs.Common.{◌≡◌, ℕ, ◌+◌, ◌≤◌, List, [], ◌∷◌, ◌++◌, length, take, Some, None, Ok, Err, refl, sym, ◌∙◌, subst, arith}
 use Rattle.std.proofs.lemmas.List.{take-append-le, length-append}
 use Rattle.std.specs.declared.option.Option.{Option}
 use Rattle.std.specs.declared.result.Result.{Result}
@@ -24,6 +24,12 @@ pub record Going (src : Source) (count : ℕ) (left left' held held' : Option (L
 -- the bytes that a read gave are the front of the buffer
 pub front_of_buffer : (n : ℕ) (got rest : List ℕ) → n ≤ length got → take n (got ++ rest) ≡ take n got
 front_of_buffer n got rest h = take-append-le n got rest h
+
+-- a list of one byte
+only_byte : (more : List ℕ) → length more ≡ 1 → (byte : ℕ) × (more ≡ byte ∷ [])
+only_byte [] n = absurd (omega (arith, n))
+only_byte (b ∷ []) n = (b, refl)
+only_byte (b ∷ c ∷ bs) n = absurd (omega (arith, n))
 
 module _ (src : Source) where
   pub Going-none : (left held : Option (List ℕ)) (s : Session) → IsStart s.kept.items [] → Going src 0 left left held held s s
@@ -66,8 +72,8 @@ module _ (src : Source) where
   Consumes-none (Some x) (Some y) p = sym p
 
   pub Went-over : {U : Type 0} (u : U) (limit count : ℕ) (left l₁ l₂ held h₁ : Option (List ℕ)) (s₀ s₁ : Session) (more : List ℕ)
-      → Going src count left l₁ held h₁ s₀ s₁ → count ≡ limit → 0 < length more → Consumes l₁ l₂ more → WentOver src (Ok u) limit left l₂ held h₁ s₀ s₁
-  Went-over u limit count left l₁ l₂ held h₁ s₀ s₁ more w e n m = record {
+      → Going src count left l₁ held h₁ s₀ s₁ → count ≡ limit → length more ≡ 1 → Consumes l₁ l₂ more → WentOver src (Ok u) limit left l₂ held h₁ s₀ s₁
+  Went-over u limit count left l₁ l₂ held h₁ s₀ s₁ more w e n m = let one = only_byte more n in record {
     before = l₁;
     went = record {
       taken = w.taken;
@@ -76,9 +82,8 @@ module _ (src : Source) where
       fed = record { wrote = w.fed.wrote; standing = w.fed.standing; kept = w.fed.kept };
     };
     full = w.counted ∙ e;
-    more = more;
-    some = n;
-    beyond = m;
+    next = one.0;
+    beyond = subst (Consumes l₁ l₂) one.1 m;
   }
 
   -- the session stopped while it answered the lines of a piece

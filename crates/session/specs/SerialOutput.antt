@@ -2,6 +2,7 @@
 use Rattle.std.specs.Prelude.{◌≡◌, ℕ, zero, suc, ◌+◌, List, [], ◌∷◌, ◌++◌, map, length, ⊤, None, Some}
 use Rattle.std.specs.List.{slice_get, range_with_len}
 use Rattle.std.specs.declared.option.Option.{Option}
+use Rattle.py_tree.specs.ClassRules.{PlainTable, tables_of}
 use Rattle.sf_value.specs.declared.Entry.{Entry}
 use Rattle.sf_value.specs.declared.Request.{Request}
 use Rattle.sf_outside.specs.Bytes.{AppendsPrefix}
@@ -9,6 +10,7 @@ use Rattle.sf_outside.specs.Gains.{joined}
 use Rattle.program_meaning.specs.ClassTables.{Source}
 use Rattle.program_meaning.specs.Serial.{Core, IsSound}
 use Rattle.request_json.specs.Actions.{Line, Action, Skip, Refuse, Ask, cause_text, action_of}
+use Rattle.request_json.specs.LinesFit.{RequestFits}
 use Rattle.request_json.specs.ReplyLines.{reply_line, bad_line}
 use Rattle.session.specs.OutputText.{reused, replies, start}
 
@@ -93,11 +95,21 @@ Fits src before (line ∷ lines) (Reply place ∷ printed) (entry ∷ added) = (
 Fits src before (line ∷ lines) (Again place ∷ printed) added = IsRepeated before (action_of src line) place × Fits src before lines printed added
 Fits src before lines printed added = ⊥
 
+-- each request fits the program, its id too
+abbrev pub RequestsFit : List PlainTable → List Entry → Type 0
+RequestsFit tables [] = ⊤
+RequestsFit tables (e ∷ es) = RequestFits tables e.request × RequestsFit tables es
+
+-- a history of a program is sound: it is the serial run of its requests, each id once, and each request fits the program
+pub record IsSoundHistory (src : Source) (core : Core) : Type 0 where
+  pub run : IsSound src core
+  pub requests : RequestsFit (tables_of src.names src.program) core.history
+
 -- what these lines are answered is what a serial run prints: the replies to the requests of a sound history, which
 -- the lines asked, each at its place, and refusals between them
 pub record SerialLines (src : Source) (lines : List Line) : Type 0 where
   pub core : Core
-  pub sound : IsSound src core
+  pub sound : IsSoundHistory src core
   pub printed : List Printed
   pub report : IsReport core.history printed
   pub fits : Fits src [] lines printed core.history
@@ -106,7 +118,7 @@ pub record SerialLines (src : Source) (lines : List Line) : Type 0 where
 -- known bytes grew by what a serial run prints, or by a prefix of it
 pub record SerialRun (src : Source) (old new : Option (List ℕ)) : Type 0 where
   pub core : Core
-  pub sound : IsSound src core
+  pub sound : IsSoundHistory src core
   pub printed : List Printed
   pub report : IsReport core.history printed
   pub wrote : AppendsPrefix old new (joined (printed_texts core.history printed))

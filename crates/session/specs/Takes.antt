@@ -1,5 +1,5 @@
 -- What a session does with its input.
-use Rattle.std.specs.Prelude.{◌≡◌, ℕ, ◌<◌, ◌≤◌, List, [], length, Ok, Err}
+use Rattle.std.specs.Prelude.{◌≡◌, ℕ, ◌≤◌, List, [], ◌∷◌, length, Ok, Err}
 use Rattle.std.specs.declared.option.Option.{Option}
 use Rattle.std.specs.declared.result.Result.{Result}
 use Rattle.std.specs.Io.KnownBytes.{Consumes, IsAtEnd}
@@ -17,14 +17,13 @@ pub record Went {T : Type 0} (src : Source) (result : Result T WriteStop) (limit
   pub within : length taken ≤ limit
   pub fed : Feeds src result old new held held' [] taken
 
--- more bytes than the limit came: so many were fed, and at least one more was taken
+-- more bytes than the limit came: so many were fed, and exactly one more was taken
 pub record WentOver {T : Type 0} (src : Source) (result : Result T WriteStop) (limit : ℕ) (left left' held held' : Option (List ℕ)) (old new : Session) : Type 0 where
   pub before : Option (List ℕ)
   pub went : Went src result limit left before held held' old new
   pub full : length went.taken ≡ limit
-  pub more : List ℕ
-  pub some : 0 < length more
-  pub beyond : Consumes before left' more
+  pub next : ℕ
+  pub beyond : Consumes before left' (next ∷ [])
 
 -- the input ended, could not be read, or was too long; or the session stopped
 abbrev pub Takes : Source → ℕ → Option (List ℕ) → Option (List ℕ) → Option (List ℕ) → Option (List ℕ) → Session → Session → Result InputEnd WriteStop → Type 0

@@ -8,7 +8,7 @@ ghost use Rattle.sf_outside.specs.declared.gains.WriteStop.{WriteStop};
 ghost use Rattle.program_meaning.specs.ClassTables.{Source};
 ghost use Rattle.request_json.specs.Actions.{Line};
 ghost use Rattle.session.specs.declared.feeding.InputEnd.{InputEnd};
-ghost use Rattle.session.specs.Served.{Served};
+ghost use Rattle.session.specs.Served.{Served, AnswersWhatWasTaken};
 ghost use Rattle.session.specs.SerialOutput.{SerialLines, SerialRun};
 ghost use Rattle.session.specs.AnswersFit.{AnswersFit};
 
@@ -21,6 +21,12 @@ pub fn replies_are_serial()
 /// Whatever the result, a session wrote what one serial run prints, or a prefix of it.
 pub fn serves_serially()
     ensures { (src : Source) (limit : ℕ) (left left' held held' : Option (List ℕ)) (result : Result InputEnd WriteStop) → Served src limit left left' held held' result → SerialRun src held held' }
+{}
+
+/// Whatever the result, what a session wrote answers what it took: a prefix of the replies to the
+/// whole lines, or to all lines where the input had ended.
+pub fn answers_what_was_taken()
+    ensures { AnswersWhatWasTaken }
 {}
 
 /// In a session over an accepted program nothing goes wrong: each request that a line asks fits the

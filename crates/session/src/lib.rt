@@ -11,5 +11,5 @@ mod serving;
 pub use answering::Standing;
 pub use feeding::{InputEnd, Session};
 pub use history::{Committed, History};
-pub use laws::{answers_fit, replies_are_serial, serves_serially};
+pub use laws::{answers_fit, answers_what_was_taken, replies_are_serial, serves_serially};
 pub use serving::serve;

@@ -5,13 +5,13 @@ use Rattle.std.specs.Io.KnownBytes.{Appends}
 use Rattle.sf_outside.specs.Causes.{Rose}
 use Rattle.stateflow_cli.proofs.PrintLaws.{keeps_itself}
 use Rattle.stateflow_cli.proofs.CheckEndings.{check_completes, check_refused, check_misused, check_unread, check_unwritten, check_in_bounds, check_prints, check_left, check_silent, check_done, check_told, checks_whole}
-use Rattle.stateflow_cli.proofs.RunEndings.{run_completes, run_fits, run_text, run_refused, run_misused, run_unread, run_unwritten, run_exceeds, run_prints, runs_whole}
+use Rattle.stateflow_cli.proofs.RunEndings.{run_completes, run_fits, run_text, run_refused, run_misused, run_unread, run_unwritten, run_exceeds, run_prints, run_takes, runs_whole}
 use Rattle.stateflow_cli.specs.Words.{Asked, Check, Local, Run, file_of}
 use Rattle.stateflow_cli.specs.Devices.{Devices, Untouched}
 use Rattle.stateflow_cli.specs.Endings.{EndsOn, Ends}
 use Rattle.stateflow_cli.specs.StatusLines.{status_of, line_of}
 use Rattle.stateflow_cli.specs.Telling.{Told, Whole, Part}
-use Rattle.stateflow_cli.specs.Answers.{Answers, Completes, GivesText, ChecksText, PrintsSerially, IsRefused, ReadRose, IsLonger, IsWithin, HasCauses, IsComplete}
+use Rattle.stateflow_cli.specs.Answers.{Answers, Completes, GivesText, ChecksText, PrintsSerially, TakesInput, IsRefused, ReadRose, IsLonger, IsWithin, HasCauses, IsComplete}
 use Rattle.stateflow_cli.specs.declared.ending.Ending.{Ending}
 use Rattle.stateflow_cli.specs.declared.ending.Ending.TheVariants.{Misused}
 
@@ -81,6 +81,12 @@ module _ (limit : ℕ) (before after : Devices) where
   prints_serially (Some (Local file)) e ends = run_prints limit before after file e ends
   prints_serially (Some (Run file)) e ends = run_prints limit before after file e ends
 
+  takes_input : (asked : Option Asked) (e : Ending) → Ends limit asked before after e → TakesInput limit asked before after
+  takes_input None e ends = ends.1
+  takes_input (Some (Check file)) e ends = check_left before after file e ends
+  takes_input (Some (Local file)) e ends = run_takes limit before after file e ends
+  takes_input (Some (Run file)) e ends = run_takes limit before after file e ends
+
   module _ (errors errors' status : ℕ) where
     -- the status of a call whose error stream stayed as it was is the ending's
     still_status : (line : List ℕ) (own : ℕ) (said said' : Option (List ℕ)) → Told line own said said' errors errors' status → (Rose errors errors' → ⊥) → status ≡ own
@@ -126,6 +132,9 @@ module _ (limit : ℕ) (before after : Devices) where
 
       pub Answers-serial : PrintsSerially asked before after
       Answers-serial = prints_serially asked a.ending a.ends
+
+      pub Answers-taken : TakesInput limit asked before after
+      Answers-taken = takes_input asked a.ending a.ends
 
       unwritten : (line : List ℕ) → Told line (status_of a.ending) said said' errors errors' status → status ≡ 4 → Rose before.out_faults after.out_faults ⊎ Rose errors errors'
       unwritten line (Whole is wrote) s = inl (out_rose asked a.ending a.ends (sym is ∙ s))

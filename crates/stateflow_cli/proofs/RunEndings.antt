@@ -1,5 +1,5 @@
 -- How a run ends, by its status.
-use Rattle.std.proofs.Common.{◌≡◌, ℕ, ◌<◌, ◌⊎◌, inl, inr, List, ◌++◌, length, Some, None, Ok, Err, refl, sym, ap, ◌∙◌, subst, append-nil, arith}
+use Rattle.std.proofs.Common.{◌≡◌, ℕ, ◌<◌, ◌⊎◌, inl, inr, List, [], ◌∷◌, ◌++◌, length, Some, None, Ok, Err, refl, sym, ap, ◌∙◌, subst, append-nil, arith}
 use Rattle.std.proofs.lemmas.List.{length-append}
 use Rattle.std.specs.declared.option.Option.{Option}
 use Rattle.std.specs.Io.KnownBytes.{Appends, Consumes, IsAtEnd, Keeps}
@@ -14,6 +14,7 @@ use Rattle.session.specs.declared.feeding.InputEnd.TheVariants as input
 use Rattle.session.specs.OutputText.{output_text}
 use Rattle.session.specs.Served.{Answered, AnsweredOver}
 use Rattle.session.proofs.SerialOutputLaws.{Served-serial}
+use Rattle.session.proofs.TakenLaws.{Served-taken}
 use Rattle.stateflow_cli.proofs.OneReading.{never_refused, never_held}
 use Rattle.stateflow_cli.specs.Words.{Run}
 use Rattle.stateflow_cli.specs.Devices.{Devices, Untouched}
@@ -21,7 +22,7 @@ use Rattle.program_text.specs.Readings.{IsAcceptedText, HasFault}
 use Rattle.stateflow_cli.specs.Loading.{source_in}
 use Rattle.stateflow_cli.specs.Endings.{RunEnds, Ran}
 use Rattle.stateflow_cli.specs.StatusLines.{status_of}
-use Rattle.stateflow_cli.specs.Answers.{WritesText, PrintsRun, IsRefused, ServedRose, Exceeds, Fits, IsUndisturbed, RunsWhole}
+use Rattle.stateflow_cli.specs.Answers.{WritesText, PrintsRun, AnswersInput, IsRefused, ServedRose, Exceeds, Fits, IsUndisturbed, RunsWhole}
 use Rattle.program_text.specs.declared.fault.ProgramFault.{ProgramFault}
 use Rattle.stateflow_cli.specs.declared.ending.Ending.{Ending}
 use Rattle.stateflow_cli.specs.declared.ending.Ending.TheVariants.{Misused, Refused, FileFault, NoMemory, Printed, Unprinted, Served, Stopped}
@@ -37,15 +38,15 @@ no_stopped stop.WriteFault n a b s = a s
 no_stopped stop.NoMemory n a b s = b s
 
 -- more came than the limit
-exceeds : (src : Source) (limit : ℕ) (left left' held held' : Option (List ℕ)) → AnsweredOver src limit left left' held held' → Exceeds limit left
+exceeds : (src : Source) (limit : ℕ) (left left' held held' : Option (List ℕ)) → AnsweredOver src limit (Ok input.TooLong) left left' held held' → Exceeds limit left
 exceeds src limit None left' held held' a = tt
 exceeds src limit (Some all) left' held held' a = past a.before a.answered.consumed a.beyond where
-  past : (before : Option (List ℕ)) → Consumes (Some all) before a.answered.taken → Consumes before left' a.more → limit < length all
+  past : (before : Option (List ℕ)) → Consumes (Some all) before a.answered.taken → Consumes before left' (a.next ∷ []) → limit < length all
   past None c d = absurd c
   past (Some rest) c d = rest_past left' d where
-    rest_past : (l : Option (List ℕ)) → Consumes (Some rest) l a.more → limit < length all
+    rest_past : (l : Option (List ℕ)) → Consumes (Some rest) l (a.next ∷ []) → limit < length all
     rest_past None d = absurd d
-    rest_past (Some last) d = omega (arith, a.full, a.some, ap length c, length-append a.answered.taken rest, ap length d, length-append a.more last)
+    rest_past (Some last) d = omega (arith, a.full, ap length c, length-append a.answered.taken rest, ap length d)
 
 -- all that came is within the limit
 fits : (src : Source) (limit : ℕ) (left left' held held' : Option (List ℕ)) → Answered {T = InputEnd} src limit all_lines (Ok input.End) left left' held held' → IsAtEnd left' → Fits limit left
@@ -116,6 +117,17 @@ module _ (limit : ℕ) (before after : Devices) (file : List ℕ) where
   run_prints Unprinted ends = absurd ends
   run_prints (Served end) ends = inr (record { holds = ends.holds; serial = Served-serial (source_in (before.content file) ends.holds) limit before.left after.left before.held after.held (Ok end) ends.served })
   run_prints (Stopped stopped) ends = inr (record { holds = ends.holds; serial = Served-serial (source_in (before.content file) ends.holds) limit before.left after.left before.held after.held (Err stopped) ends.served })
+
+  -- and that answers what it took
+  pub run_takes : (e : Ending) → RunEnds limit file before after e → Untouched before after ⊎ AnswersInput limit file before after
+  run_takes Misused ends = absurd ends
+  run_takes (Refused f) ends = inl ends.untouched
+  run_takes FileFault ends = inl ends.untouched
+  run_takes NoMemory ends = inl ends
+  run_takes Printed ends = absurd ends
+  run_takes Unprinted ends = absurd ends
+  run_takes (Served end) ends = inr (record { holds = ends.holds; answered = Served-taken (source_in (before.content file) ends.holds) limit before.left after.left before.held after.held (Ok end) ends.served })
+  run_takes (Stopped stopped) ends = inr (record { holds = ends.holds; answered = Served-taken (source_in (before.content file) ends.holds) limit before.left after.left before.held after.held (Err stopped) ends.served })
 
 -- what an undisturbed run ends with
 module _ (limit : ℕ) (before after : Devices) (file text : List ℕ) (errors errors' status : ℕ) (u : IsUndisturbed file text before after errors errors') where

@@ -8,6 +8,7 @@ use Rattle.py_tree.specs.PlainProgram.{PlainProgram}
 use Rattle.session.specs.declared.feeding.InputEnd.TheVariants.{End}
 use Rattle.session.specs.OutputText.{output_text}
 use Rattle.session.specs.SerialOutput.{SerialRun}
+use Rattle.session.specs.Served.{AnsweredTaken}
 use Rattle.stateflow_cli.specs.Words.{Asked, Check, Local, Run, file_of}
 use Rattle.stateflow_cli.specs.CheckLine.{check_line}
 use Rattle.stateflow_cli.specs.Devices.{Devices, Untouched}
@@ -86,6 +87,18 @@ PrintsSerially None before after = Keeps before.held after.held
 PrintsSerially (Some (Check file)) before after = Keeps before.held after.held ⊎ PrintsFront file before after
 PrintsSerially (Some (Local file)) before after = Keeps before.held after.held ⊎ PrintsRun file before after
 PrintsSerially (Some (Run file)) before after = Keeps before.held after.held ⊎ PrintsRun file before after
+
+-- what was written answers what was taken
+pub record AnswersInput (limit : ℕ) (file : List ℕ) (before after : Devices) : Type 0 where
+  pub holds : Holds (before.content file)
+  pub answered : AnsweredTaken (source_in (before.content file) holds) limit before.left after.left before.held after.held
+
+-- a check takes nothing; what serves the input took and wrote nothing, or answers what it took
+abbrev pub TakesInput : ℕ → Option Asked → Devices → Devices → Type 0
+TakesInput limit None before after = Untouched before after
+TakesInput limit (Some (Check file)) before after = Keeps before.left after.left
+TakesInput limit (Some (Local file)) before after = Untouched before after ⊎ AnswersInput limit file before after
+TakesInput limit (Some (Run file)) before after = Untouched before after ⊎ AnswersInput limit file before after
 
 -- the text of the file that is asked for has a fault
 abbrev pub IsRefused : Option Asked → Devices → Type 0

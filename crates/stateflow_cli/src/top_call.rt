@@ -4,7 +4,7 @@ ghost use Rattle.std.specs.Prelude.{ℕ, ◌≡◌, map, string_bytes};
 ghost use Rattle.stateflow_cli.specs.Words.{asked, asked_by};
 ghost use Rattle.stateflow_cli.specs.Devices.{devices};
 ghost use Rattle.stateflow_cli.specs.Endings.{EndsOn, longest_input};
-ghost use Rattle.stateflow_cli.specs.Answers.{Answers, Completes, PrintsSerially, HasCauses, IsComplete, ChecksText, GivesText};
+ghost use Rattle.stateflow_cli.specs.Answers.{Answers, Completes, PrintsSerially, TakesInput, HasCauses, IsComplete, ChecksText, GivesText};
 
 use crate::checking::check_file;
 use crate::ending::Ending;
@@ -82,6 +82,9 @@ pub fn stateflow<F: Files, S: Source, K: Sink, E: Sink>(
         (devices (F.content files.old) (F.faults files.old) (S.left input.old) (S.faults input.old) (K.held out.old) (K.faults out.old))
         (devices (F.content files.new) (F.faults files.new) (S.left input.new) (S.faults input.new) (K.held out.new) (K.faults out.new)) }
     ensures serial { PrintsSerially (asked (map string_bytes words.now))
+        (devices (F.content files.old) (F.faults files.old) (S.left input.old) (S.faults input.old) (K.held out.old) (K.faults out.old))
+        (devices (F.content files.new) (F.faults files.new) (S.left input.new) (S.faults input.new) (K.held out.new) (K.faults out.new)) }
+    ensures taken { TakesInput longest_input (asked (map string_bytes words.now))
         (devices (F.content files.old) (F.faults files.old) (S.left input.old) (S.faults input.old) (K.held out.old) (K.faults out.old))
         (devices (F.content files.new) (F.faults files.new) (S.left input.new) (S.faults input.new) (K.held out.new) (K.faults out.new)) }
     ensures causes { HasCauses longest_input (asked (map string_bytes words.now))

@@ -13,7 +13,7 @@ pub returns-in_err-take_end-in-End-clause-served : goal.returns-in_err-take_end-
 returns-in_err-take_end-in-End-clause-served g c =
     let p = err_from_is_err_and c.from_residual-in_err-take_end-in-End.result c.from_residual-in_err-take_end-in-End.ensures.1 in
     let t = rw c.in-End.is at c.in_ok-take_input.ensures.takes in
-    Served-unended (source_of c.args.program.now) (Unit {0}) _ _ _ _ _ _ _ _ _ _ c.new-session.ensures.standing (p.1 ∙ ap Err p.2) t.0 (c.in_err-take_end-in-End.ensures.wrote _ t.0.fed.kept)
+    Served-unended (source_of c.args.program.now) (Unit {0}) _ _ _ _ _ _ _ _ _ _ c.new-session.ensures.standing (p.1 ∙ ap Err p.2) t.0 t.1 (c.in_err-take_end-in-End.ensures.wrote _ t.0.fed.kept)
 
 pub returns-in-End-clause-served : goal.returns-in-End-clause-served
 returns-in-End-clause-served g c =

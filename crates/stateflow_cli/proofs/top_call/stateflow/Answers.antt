@@ -1,4 +1,4 @@
-use Rattle.stateflow_cli.proofs.AnswerLaws.{Answers-complete, Answers-check, Answers-local, Answers-serial, Answers-causes, Answers-undisturbed}
+use Rattle.stateflow_cli.proofs.AnswerLaws.{Answers-complete, Answers-check, Answers-local, Answers-serial, Answers-taken, Answers-causes, Answers-undisturbed}
 use Rattle.stateflow_cli.proofs.top_call.stateflow.Goals as goal
 
 pub returns-clause-text : goal.returns-clause-text
@@ -12,6 +12,9 @@ returns-clause-local_text g c = Answers-local _ _ _ _ _ _ _ _ _ c.run_words.ensu
 
 pub returns-clause-serial : goal.returns-clause-serial
 returns-clause-serial g c = Answers-serial _ _ _ _ _ _ _ _ _ c.run_words.ensures.answers
+
+pub returns-clause-taken : goal.returns-clause-taken
+returns-clause-taken g c = Answers-taken _ _ _ _ _ _ _ _ _ c.run_words.ensures.answers
 
 pub returns-clause-causes : goal.returns-clause-causes
 returns-clause-causes g c = Answers-causes _ _ _ _ _ _ _ _ _ c.run_words.ensures.answers

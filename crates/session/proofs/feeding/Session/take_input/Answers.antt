@@ -37,4 +37,5 @@ returns-in-Ok-read-clause-takes g c =
     let w = c.loop-taken.invariant.going in
     let bytes = c.in-Ok-read.ensures.bytes in
     let bound = c.in-Ok-read.ensures.bound in
-    Went-over (source_of c.args.program.now) _ _ c.loop-taken.taken _ _ _ _ _ _ _ (take c.in-Ok-read.field-0 c.read-2.new.buf) w (omega (arith, c.loop-taken.invariant.within)) (omega (arith, bound.1, c.in-Ok-read.field-0-test.1)) bytes.0
+    Went-over (source_of c.args.program.now) _ _ c.loop-taken.taken _ _ _ _ _ _ _ (take c.in-Ok-read.field-0 c.read-2.new.buf) w (omega (arith, c.loop-taken.invariant.within))
+    (omega (arith, bound.0, bound.1, c.in-Ok-read.field-0-test.1, c.read-2.auto.buf, length-take 1 c.loop-taken.buf)) bytes.0
