@@ -2,7 +2,7 @@
 
 use memory_calls::{Answer, Faults, NO_FAULTS, call};
 use std::alloc::{AllocError, Global};
-use test_support::rows;
+use test_support::{Setting, rows, text_in};
 
 /// Checks a text as this file. The input fails wherever it is read.
 pub fn check(
@@ -18,23 +18,18 @@ pub fn check(
     call(alloc, &["check", file], file, text, b"", faults)
 }
 
-/// The front of a program, and how deep the lines of a row stand behind it.
-#[derive(Clone, Copy)]
-pub struct Front {
-    text: &'static str,
-    indent: &'static str,
-}
-
 /// A row is a whole program.
-pub const PROGRAM: Front = Front {
-    text: "",
+pub const PROGRAM: Setting = Setting {
+    head: "",
     indent: "",
+    tail: "",
 };
 
 /// A row has the members of the class A, from line 3 on.
-pub const CLASS: Front = Front {
-    text: "@entity\nclass A:\n",
+pub const CLASS: Setting = Setting {
+    head: "@entity\nclass A:\n",
     indent: "    ",
+    tail: "",
 };
 
 const KEYED: &str = "@entity
@@ -46,20 +41,22 @@ class A:
 ";
 
 /// A row has more members of the class A with the key k, from line 7 on.
-pub const MEMBERS: Front = Front {
-    text: KEYED,
+pub const MEMBERS: Setting = Setting {
+    head: KEYED,
     indent: "    ",
+    tail: "",
 };
 
 /// A row has what stands behind the members of the class A with the key k, from line 7 on.
-pub const BEHIND_A_CLASS: Front = Front {
-    text: KEYED,
+pub const BEHIND_A_CLASS: Setting = Setting {
+    head: KEYED,
     indent: "",
+    tail: "",
 };
 
 /// A row has the statements of a method f of the class A, from line 17 on.
-pub const STATEMENTS: Front = Front {
-    text: "@entity
+pub const STATEMENTS: Setting = Setting {
+    head: "@entity
 class A:
     def __init__(self, k: str, n: int):
         self.k: str = k
@@ -77,18 +74,8 @@ class A:
     def f(self, x: int, o: Optional[int], xs: List[int], s: str, b: bool, a: 'A', oa: Optional['A']) -> None:
 ",
     indent: "        ",
+    tail: "",
 };
-
-/// A front with these lines behind it.
-fn text_of(alloc: Global, front: Front, lines: &str) -> Result<Vec<u8>, AllocError> {
-    let mut text = Vec::from_slice(alloc, front.text.as_bytes())?;
-    for line in lines.lines() {
-        text.extend_from_slice(front.indent.as_bytes())?;
-        text.extend_from_slice(line.as_bytes())?;
-        text.push(b'\n')?;
-    }
-    Ok(text)
-}
 
 /// What a check says of a text: the line that it prints, or the place and kind that it tells,
 /// without the line's end.
@@ -102,11 +89,16 @@ fn verdict(alloc: Global, text: &[u8]) -> Result<Vec<u8>, AllocError> {
 
 /// The label of the first row of which something else is said, or nothing where a table of so many
 /// rows has none.
-pub fn other(alloc: Global, front: Front, table: &str, count: usize) -> Result<String, AllocError> {
+pub fn other(
+    alloc: Global,
+    setting: Setting,
+    table: &str,
+    count: usize,
+) -> Result<String, AllocError> {
     let rows = rows(alloc, table)?;
     for row in &rows {
-        let text = text_of(alloc, front, row.text.as_str())?;
-        if verdict(alloc, &text)?.as_slice() != row.wanted.as_bytes() {
+        let text = text_in(alloc, setting, row.text.as_str())?;
+        if verdict(alloc, text.as_bytes())?.as_slice() != row.wanted.as_bytes() {
             return String::from_str(alloc, row.label);
         }
     }

@@ -2,12 +2,12 @@
 #![tactic(auto)]
 
 #[cfg(test)]
-mod accepted;
-#[cfg(test)]
 mod one_record;
 #[cfg(test)]
 mod replies;
 #[cfg(test)]
 mod requests;
+#[cfg(test)]
+mod served;
 #[cfg(test)]
 mod values;

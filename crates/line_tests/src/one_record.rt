@@ -1,31 +1,40 @@
-//! Code on one record, in a program without a class.
+//! Code and expressions on one record.
 
-ghost use Rattle.std.specs.Prelude.{◌≡◌, ◌+◌, ◌≤◌, IfOk};
-ghost use Rattle.py_tree.specs.PlainExpressions.{plain_expr};
-ghost use Rattle.py_tree.specs.PlainStatements.{plain_stmt, plain_stmts, stmts_of};
-ghost use Rattle.py_tree.specs.Bounded.{expr_size, stmt_size, stmts_size, most_nodes};
-
-use crate::accepted::accepted;
+use crate::served::accepted;
 use program_meaning::Vars;
-use py_tree::nodes::{
-    apply_of, assert_of, assignment, bool_of, break_of, call_of, int_of, pass_of, self_of,
-};
-use py_tree::{Expr, Name, Place, PlacedName, Stmt, Stmts, Target};
+use py_tree::{Checked, Expr, Names, StmtKind, Stmts, name_text};
 use sf_list::Sequence;
 use sf_value::{Outcome, Record, Ref, Text, Value};
 use source_meaning::{Ended, eval_here, run_here};
 use std::alloc::{AllocError, Global};
 use std::test::Fail;
+use test_support::{Setting, rows, text_in};
+use text_trees::{last_method, tree_in, written};
+use value_texts::{failure_told, outcome_told, value_told, values_told};
 
-const AT: Place = Place { line: 1, col: 1 };
-
-/// A name that isn't reserved.
-const X: PlacedName = PlacedName {
-    name: Name(18),
-    place: AT,
+/// A row has the lines of a method f of the class A, whose other method is g. They need not keep the
+/// rules.
+const METHOD: Setting = Setting {
+    head: "@entity
+class A:
+    def __init__(self, k: str, x: int): self.k: str = k; self.x: int = x
+    def __key__(self): return self.k
+    def g(self) -> None: pass
+    def f(self) -> None:
+",
+    indent: "        ",
+    tail: "",
 };
 
 const STEPS: u32 = 10;
+
+/// The program with another body of f. Its names have the numbers that they have with each row.
+fn program(alloc: Global) -> Result<Checked, Fail> {
+    let text = text_in(alloc, METHOD, "pass")?;
+    let program = accepted(alloc, text.as_str());
+    drop(text);
+    program
+}
 
 fn me(alloc: Global) -> Result<Ref, AllocError> {
     Ok(Ref {
@@ -34,223 +43,264 @@ fn me(alloc: Global) -> Result<Ref, AllocError> {
     })
 }
 
-/// A record whose only field is 5.
-fn five(alloc: Global) -> Result<Record, AllocError> {
+/// The record of the key a and the number 5.
+fn record(alloc: Global) -> Result<Record, AllocError> {
     let mut fields = Sequence::new(alloc);
+    fields.push(alloc, Value::Str(Text::of(alloc, "a")?))?;
     fields.push(alloc, Value::Int(5))?;
     Ok(Record { fields })
 }
 
-/// `x = n`, for a local or a field x.
-#[tactic(auto, unfolding(py_tree::specs::Bounded::stmt_size, py_tree::specs::Bounded::expr_size))]
-fn assigned(target: Target, n: i128) -> Stmt
-    ensures { stmt_size (plain_stmt result) ≡ 2 }
-{
-    assignment(AT, target, None, int_of(AT, n))
-}
-
-#[tactic(auto, unfolding(py_tree::specs::Bounded::stmt_size))]
-fn pass() -> Stmt
-    ensures { stmt_size (plain_stmt result) ≡ 1 }
-{
-    pass_of(AT)
-}
-
-#[tactic(auto, unfolding(py_tree::specs::Bounded::stmt_size))]
-fn leaves() -> Stmt
-    ensures { stmt_size (plain_stmt result) ≡ 1 }
-{
-    break_of(AT)
-}
-
-/// `assert False`.
-#[tactic(auto, unfolding(py_tree::specs::Bounded::stmt_size, py_tree::specs::Bounded::expr_size, py_tree::specs::Bounded::of_option))]
-fn refuses() -> Stmt
-    ensures { stmt_size (plain_stmt result) ≡ 2 }
-{
-    assert_of(AT, bool_of(AT, false), None)
-}
-
-#[tactic(auto, unfolding(py_tree::specs::Bounded::stmts_size))]
-fn two(alloc: Global, first: Stmt, second: Stmt) -> Result<Stmts, AllocError>
-    ensures { IfOk result (λ code. stmts_size (stmts_of (plain_stmts code)) ≡ stmt_size (plain_stmt first) + stmt_size (plain_stmt second)) }
-{
-    let mut code = Sequence::new(alloc);
-    code.push(alloc, first)?;
-    code.push(alloc, second)?;
-    Ok(code)
-}
-
-/// `self.x()`.
-#[tactic(auto, unfolding(py_tree::specs::Bounded::expr_size))]
-fn calls(alloc: Global) -> Result<Expr, AllocError>
-    ensures { IfOk result (λ made. expr_size (plain_expr made) ≡ 2) }
-{
-    call_of(alloc, AT, self_of(AT), X, Sequence::new(alloc))
-}
-
-/// `x()`, which makes an entity.
-#[tactic(auto, unfolding(py_tree::specs::Bounded::expr_size))]
-fn makes(alloc: Global) -> Expr
-    ensures { expr_size (plain_expr result) ≡ 1 }
-{
-    apply_of(AT, X.name, Sequence::new(alloc))
-}
-
-/// How code ended, and what it left.
+/// What code left on the record, and the steps that are left.
 #[derive(Drop)]
 struct Left {
-    ended: Ended,
     held: Record,
     vars: Vars,
     wrote: bool,
     steps: u32,
 }
 
-/// Runs code on the record, with one call open, where a field was assigned before or not.
-fn ran(alloc: Global, code: &Stmts, wrote: bool) -> Result<Left, Fail>
-    requires { stmts_size (stmts_of (plain_stmts code.now)) ≤ most_nodes }
-{
-    let program = accepted(alloc, "")?;
-    let mut left = Left {
-        ended: Ended::On,
-        held: five(alloc)?,
+/// Before any code, where a field was assigned or not.
+fn before(alloc: Global, wrote: bool) -> Result<Left, AllocError> {
+    Ok(Left {
+        held: record(alloc)?,
         vars: Sequence::new(alloc),
         wrote,
         steps: STEPS,
-    };
-    left.ended = run_here(
+    })
+}
+
+/// Locals with their values.
+fn vars_told(alloc: Global, names: &Names, vars: &Vars) -> Result<String, AllocError> {
+    let mut told = String::new(alloc);
+    for var in vars.as_slice() {
+        let value = value_told(alloc, &var.value)?;
+        let name = name_text(names, var.name);
+        let var = format!(in alloc; ", {name} {value}")?;
+        told.push_str(var.as_str())?;
+    }
+    Ok(told)
+}
+
+/// The fields, whether one was assigned, the locals and the steps.
+fn left_told(alloc: Global, names: &Names, left: &Left) -> Result<String, AllocError> {
+    let fields = values_told(alloc, left.held.fields.as_slice())?;
+    let wrote = if left.wrote { "written" } else { "as it was" };
+    let vars = vars_told(alloc, names, &left.vars)?;
+    format!(in alloc; "{fields} {wrote}{vars}, leaves {}", left.steps)
+}
+
+fn ended_told(alloc: Global, ended: &Ended) -> Result<String, AllocError> {
+    match ended {
+        Ended::On => String::from_str(alloc, "on"),
+        Ended::Returned(value) => value_told(alloc, value),
+        Ended::Failed(failure) => failure_told(alloc, failure),
+    }
+}
+
+/// Runs code with one call open, and gives how it ended.
+fn ran(
+    alloc: Global,
+    program: &Checked,
+    left: &mut Left,
+    code: &Stmts,
+) -> Result<String, AllocError> {
+    let me = me(alloc)?;
+    let ended = run_here(
         alloc,
-        &program,
+        program,
         &mut left.held,
         &mut left.vars,
-        &me(alloc)?,
+        &me,
         code,
         &mut left.wrote,
         &mut left.steps,
         1,
     )?;
-    Ok(left)
+    let told = ended_told(alloc, &ended);
+    drop(ended);
+    told
 }
 
-/// What an expression came to, and what it left.
-#[derive(Drop)]
-struct Came {
-    outcome: Outcome,
-    held: Record,
+/// How code ends, and what it leaves.
+fn code_told(
+    alloc: Global,
+    program: &Checked,
+    code: &Stmts,
     wrote: bool,
-    steps: u32,
+) -> Result<String, AllocError> {
+    let mut left = before(alloc, wrote)?;
+    let ended = ran(alloc, program, &mut left, code);
+    let told = left_told(alloc, program.names(), &left);
+    drop(left);
+    format!(in alloc; "{}: {}", ended?, told?)
 }
 
-/// Computes an expression on the record, with so many calls open.
-fn computed(alloc: Global, expr: &Expr, depth: u32) -> Result<Came, Fail>
-    requires { expr_size (plain_expr expr.now) ≤ most_nodes }
-{
-    let program = accepted(alloc, "")?;
-    let mut came = Came {
-        outcome: Outcome::Value(Value::Nil),
-        held: five(alloc)?,
-        wrote: false,
-        steps: STEPS,
+/// The same of the lines of a row.
+fn lines_told(alloc: Global, program: &Checked, text: &str, wrote: bool) -> Result<String, Fail> {
+    let tree = tree_in(alloc, METHOD, text)?;
+    let told = match last_method(&tree) {
+        Some(method) => code_told(alloc, program, &method.body, wrote),
+        None => Err(AllocError),
     };
-    came.outcome = eval_here(
-        alloc,
-        &program,
-        &mut came.held,
-        &Sequence::new(alloc),
-        &me(alloc)?,
-        expr,
-        &mut came.wrote,
-        &mut came.steps,
-        depth,
-    )?;
-    Ok(came)
+    drop(tree);
+    Ok(told?)
 }
 
-/// The number that a local is, or 0.
-fn number(vars: &Vars, at: usize) -> i128 {
-    match vars.get(at) {
-        Some(var) => match &var.value {
-            Value::Int(n) => *n,
-            _ => 0,
-        },
-        None => 0,
+/// The first row that ends otherwise or leaves something else, or nothing.
+fn other_in(alloc: Global, program: &Checked, table: &str, wrote: bool) -> Result<String, Fail> {
+    let rows = rows(alloc, table)?;
+    for row in &rows {
+        let told = lines_told(alloc, program, row.text.as_str(), wrote)?;
+        if told.as_str() != row.wanted {
+            return Ok(format!(in alloc; "{}: {told}", row.label)?);
+        }
     }
+    Ok(String::new(alloc))
 }
 
-/// What the kind of a failure is, and 0 of a value.
-fn kind(outcome: &Outcome) -> u8 {
-    match outcome {
-        Outcome::Value(_) => 0,
-        Outcome::Failed(failure) => failure.kind,
-    }
+/// The same in the program of the class A.
+fn other(alloc: Global, table: &str, wrote: bool) -> Result<String, Fail> {
+    let program = program(alloc)?;
+    let other = other_in(alloc, &program, table, wrote);
+    drop(program);
+    other
 }
+
+const UNWRITTEN: &str = "
+    a field is assigned what it is | self.x = 5↵pass    | on: 'a', 5 written, leaves 8
+    a local is assigned            | x = 7↵pass         | on: 'a', 5 as it was, x 7, leaves 8
+    a break of a loop outside      | break↵assert False | on: 'a', 5 as it was, leaves 9
+";
 
 #[test]
-fn a_record_that_stays_equal_is_written_where_a_field_is_assigned(
-    rt: HostRuntime,
-) -> Result<(), Fail> {
-    let code = two(rt.alloc(), assigned(Target::Field(X), 5), pass())?;
-    let left = ran(rt.alloc(), &code, false)?;
-    assert!(rt; matches!(left.ended, Ended::On));
-    assert!(rt; left.wrote);
-    assert_eq!(rt; left.held.fields.len(), 1);
-    assert_eq!(rt; left.steps, STEPS - 2);
+fn a_record_is_written_where_a_field_is_assigned(rt: HostRuntime) -> Result<(), Fail> {
+    let other = other(rt.alloc(), UNWRITTEN, false)?;
+    assert_eq!(rt; other.as_str(), "");
     Ok(())
 }
 
-#[test]
-fn code_that_assigns_no_field_writes_nothing(rt: HostRuntime) -> Result<(), Fail> {
-    let code = two(rt.alloc(), assigned(Target::Local(X), 7), pass())?;
-    let left = ran(rt.alloc(), &code, false)?;
-    assert!(rt; matches!(left.ended, Ended::On));
-    assert!(rt; !left.wrote);
-    assert_eq!(rt; left.held.fields.len(), 1);
-    assert_eq!(rt; number(&left.vars, 0), 7);
-    Ok(())
-}
+const WRITTEN: &str = "
+    the second statement fails | x = 7↵assert False | AssertionError: 'a', 5 written, x 7, leaves 8
+";
 
 #[test]
 fn a_failing_statement_leaves_the_locals_and_the_steps_of_that_moment(
     rt: HostRuntime,
 ) -> Result<(), Fail> {
-    let code = two(rt.alloc(), assigned(Target::Local(X), 7), refuses())?;
-    let left = ran(rt.alloc(), &code, true)?;
-    let Ended::Failed(failure) = &left.ended else {
-        return Err(Fail::from("it didn't fail"));
-    };
-    assert_eq!(rt; failure.kind, 3);
-    assert!(rt; left.wrote);
-    assert_eq!(rt; number(&left.vars, 0), 7);
-    assert_eq!(rt; left.steps, STEPS - 2);
+    let other = other(rt.alloc(), WRITTEN, true)?;
+    assert_eq!(rt; other.as_str(), "");
     Ok(())
 }
 
-#[test]
-fn a_break_of_a_loop_outside_ends_the_code(rt: HostRuntime) -> Result<(), Fail> {
-    let code = two(rt.alloc(), leaves(), refuses())?;
-    let left = ran(rt.alloc(), &code, false)?;
-    assert!(rt; matches!(left.ended, Ended::On));
-    assert_eq!(rt; left.steps, STEPS - 1);
-    Ok(())
+/// Computes an expression with so many calls open, and gives what it comes to.
+fn computed(
+    alloc: Global,
+    program: &Checked,
+    left: &mut Left,
+    expr: &Expr,
+    depth: u32,
+) -> Result<Outcome, AllocError> {
+    let me = me(alloc)?;
+    eval_here(
+        alloc,
+        program,
+        &mut left.held,
+        &left.vars,
+        &me,
+        expr,
+        &mut left.wrote,
+        &mut left.steps,
+        depth,
+    )
+}
+
+/// What an expression comes to, and what it leaves.
+fn value_here(
+    alloc: Global,
+    program: &Checked,
+    expr: &Expr,
+    depth: u32,
+) -> Result<String, AllocError> {
+    let mut left = before(alloc, false)?;
+    let outcome = computed(alloc, program, &mut left, expr, depth);
+    let left_behind = left_told(alloc, program.names(), &left);
+    drop(left);
+    let outcome = outcome?;
+    let told = outcome_told(alloc, &outcome);
+    drop(outcome);
+    format!(in alloc; "{}: {}", told?, left_behind?)
+}
+
+/// The same of the expression that is a row.
+fn expr_told(alloc: Global, program: &Checked, text: &str, depth: u32) -> Result<String, Fail> {
+    let tree = tree_in(alloc, METHOD, text)?;
+    let told = match written(&tree) {
+        [line] => match &line.kind {
+            StmtKind::Expr(expr) => value_here(alloc, program, expr, depth),
+            _ => Err(AllocError),
+        },
+        _ => Err(AllocError),
+    };
+    drop(tree);
+    Ok(told?)
+}
+
+/// A text, how many calls are open, and what it comes to and leaves.
+type Row<'a> = (&'a str, u32, &'a str);
+
+/// The first row that comes to something else, or nothing.
+fn other_expr(alloc: Global, program: &Checked, rows: &[Row<'_>]) -> Result<String, Fail> {
+    for (text, depth, wanted) in rows {
+        let told = expr_told(alloc, program, text, *depth)?;
+        if told.as_str() != *wanted {
+            return Ok(format!(in alloc; "{text} at {depth}: {told}")?);
+        }
+    }
+    Ok(String::new(alloc))
 }
 
 #[test]
 fn a_call_fails_where_64_are_open(rt: HostRuntime) -> Result<(), Fail> {
-    for (depth, want) in [(63, 0), (64, 4), (65, 4)] {
-        let came = computed(rt.alloc(), &calls(rt.alloc())?, depth)?;
-        assert_eq!(rt; kind(&came.outcome), want, "at {depth}");
-        assert_eq!(rt; came.steps, STEPS - 1);
-        assert_eq!(rt; came.held.fields.len(), 1);
-    }
+    let rows = [
+        ("self.g()", 63, "None: 'a', 5 as it was, leaves 8"),
+        ("self.g()", 64, "RecursionError: 'a', 5 as it was, leaves 9"),
+        ("self.g()", 65, "RecursionError: 'a', 5 as it was, leaves 9"),
+    ];
+    let program = program(rt.alloc())?;
+    let other = other_expr(rt.alloc(), &program, &rows);
+    drop(program);
+    assert_eq!(rt; other?.as_str(), "");
+    Ok(())
+}
+
+#[test]
+fn a_call_of_no_method_gives_none_or_fails_where_64_are_open(rt: HostRuntime) -> Result<(), Fail> {
+    let rows = [
+        ("self.x()", 63, "None: 'a', 5 as it was, leaves 9"),
+        ("self.x()", 64, "RecursionError: 'a', 5 as it was, leaves 9"),
+        ("self.x()", 65, "RecursionError: 'a', 5 as it was, leaves 9"),
+    ];
+    let program = accepted(rt.alloc(), "")?;
+    let other = other_expr(rt.alloc(), &program, &rows);
+    drop(program);
+    assert_eq!(rt; other?.as_str(), "");
     Ok(())
 }
 
 #[test]
 fn a_creation_fails_without_a_step(rt: HostRuntime) -> Result<(), Fail> {
-    let came = computed(rt.alloc(), &makes(rt.alloc()), 1)?;
-    assert_eq!(rt; kind(&came.outcome), 4);
-    assert_eq!(rt; came.steps, STEPS);
-    assert!(rt; !came.wrote);
+    let rows = [
+        ("x()", 1, "RecursionError: 'a', 5 as it was, leaves 10"),
+        (
+            "A(self.k, 1)",
+            1,
+            "RecursionError: 'a', 5 as it was, leaves 10",
+        ),
+    ];
+    let program = program(rt.alloc())?;
+    let other = other_expr(rt.alloc(), &program, &rows);
+    drop(program);
+    assert_eq!(rt; other?.as_str(), "");
     Ok(())
 }

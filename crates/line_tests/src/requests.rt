@@ -1,293 +1,190 @@
-//! Requests of every kind on the state: what each comes to, what it reads and writes, and what it leaves.
+//! Requests of every kind on the state: what each comes to, what it reads and writes, and the steps that it leaves.
 
-use crate::accepted::accepted;
+use crate::served::{accepted, request_of, served};
 use py_tree::Checked;
-use sf_list::Sequence;
-use sf_value::{Act, Outcome, Ref, Request, Text, Value, Values};
+use sf_value::Ref;
 use source_meaning::{Attempt, Local};
 use std::alloc::{AllocError, Global};
 use std::test::Fail;
+use test_support::{NUM, rows};
+use value_texts::outcome_told;
 
-/// Numbers, with a method for each kind of failure. The methods are numbered from `get` on.
-const NUM: &str = "from stateflow import entity
-
-
-@entity
-class Num:
-    def __init__(self, k: str, n: int):
-        self.k: str = k
-        self.n: int = n
-
-    def __key__(self): return self.k
-
-    def get(self) -> int: return self.n
-
-    def put(self, v: int) -> None: self.n = v
-
-    def div(self, a: int, b: int) -> int: return a // b
-
-    def mod(self, a: int, b: int) -> int: return a % b
-
-    def big(self) -> int: return 170141183460469231731687303715884105727
-
-    def over(self) -> int: return self.big() + 1
-
-    def both(self, other: 'Num') -> int:
-        self.n = 7
-        other.put(8)
-        return 1 // 0
-
-    def spin(self) -> None:
-        while True: pass
-
-    def down(self, n: int) -> int:
-        if n == 1: return 1
-        return self.down(n - 1) + 1
-
-    def at(self, xs: list[int], i: int) -> int: return xs[i]
-
-    def twice(self, s: str) -> str: return s + s
-
-    def check_it(self, n: int) -> None:
-        assert n > 0, \"not positive\"
-";
-
-const PUT: u32 = 1;
-
-const DIV: u32 = 2;
-
-const MOD: u32 = 3;
-
-const BIG: u32 = 4;
-
-const OVER: u32 = 5;
-
-const BOTH: u32 = 6;
-
-const SPIN: u32 = 7;
-
-const DOWN: u32 = 8;
-
-const AT: u32 = 9;
-
-const TWICE: u32 = 10;
-
-const CHECK_IT: u32 = 11;
-
-const ZERO_DIVISION_ERROR: u8 = 1;
-
-const INDEX_ERROR: u8 = 2;
-
-const ASSERTION_ERROR: u8 = 3;
-
-const RECURSION_ERROR: u8 = 4;
-
-const OVERFLOW_ERROR: u8 = 5;
-
-const NO_ENTITY: u8 = 9;
-
-const ALREADY_EXISTS: u8 = 10;
-
-const SIZE_LIMIT: u8 = 11;
-
-const STEP_LIMIT: u8 = 12;
-
-/// The kind of a failure, 0 for a value, and the number that the value is, for a text its code points.
-fn told(outcome: &Outcome) -> (u8, i128) {
-    match outcome {
-        Outcome::Value(Value::Int(n)) => (0, *n),
-        Outcome::Value(Value::Str(text)) => (0, text.as_str().chars().count() as i128),
-        Outcome::Value(_) => (0, 0),
-        Outcome::Failed(failure) => (failure.kind, 0),
+/// The line of a request that is told as a key, a method and its arguments, or as `new` and what the
+/// class takes.
+fn line_of(alloc: Global, told: &str) -> Result<String, AllocError> {
+    let (key, rest) = told.split_once(' ').unwrap_or((told, "[]"));
+    match rest.split_once(' ') {
+        Some((method, args)) => format!(in alloc;
+            "{{\"id\":\"r\",\"class\":\"Num\",\"key\":\"{key}\",\"method\":\"{method}\",\"args\":{args}}}"
+        ),
+        None => format!(in alloc; "{{\"id\":\"r\",\"class\":\"Num\",\"new\":{rest}}}"),
     }
 }
 
-fn entity(alloc: Global, key: &str) -> Result<Ref, AllocError> {
-    Ok(Ref {
-        class: 0,
-        key: Text::of(alloc, key)?,
-    })
-}
-
-fn numbers(alloc: Global, given: &[i128]) -> Result<Values, AllocError> {
-    let mut values = Sequence::new(alloc);
-    for n in given {
-        values.push(alloc, Value::Int(*n))?;
-    }
-    Ok(values)
-}
-
-fn creation(alloc: Global, key: &str, n: i128) -> Result<Act, AllocError> {
-    let mut args = Sequence::new(alloc);
-    args.push(alloc, Value::Str(Text::of(alloc, key)?))?;
-    args.push(alloc, Value::Int(n))?;
-    Ok(Act::New { class: 0, args })
-}
-
-fn call_of(alloc: Global, key: &str, method: u32, args: Values) -> Result<Act, AllocError> {
-    Ok(Act::Call {
-        class: 0,
-        key: Text::of(alloc, key)?,
-        method,
-        args,
-    })
+/// Runs the request that is told.
+fn run(alloc: Global, program: &Checked, state: &mut Local, told: &str) -> Result<(), Fail> {
+    let line = line_of(alloc, told)?;
+    drop(served(alloc, program, state, line.as_str())?);
+    Ok(())
 }
 
 /// The state after `p` is made with 1 and `q` with 2.
-fn two_numbers(alloc: Global, program: &Checked) -> Result<Local, AllocError> {
+fn two_numbers(alloc: Global, program: &Checked) -> Result<Local, Fail> {
     let mut state = Local::new(alloc);
-    for (key, n) in [("p", 1), ("q", 2)] {
-        let request = Request {
-            id: Text::of(alloc, key)?,
-            act: creation(alloc, key, n)?,
-        };
-        state.run(alloc, program, &request)?;
-    }
+    run(alloc, program, &mut state, "new [\"p\",1]")?;
+    run(alloc, program, &mut state, "new [\"q\",2]")?;
     Ok(state)
 }
 
-/// What a call of a method of `p` comes to after `p` and `q` are made.
-fn attempted(alloc: Global, method: u32, args: Values) -> Result<Attempt, Fail> {
-    let program = accepted(alloc, NUM)?;
-    let state = two_numbers(alloc, &program)?;
-    let made = state.attempt(alloc, &program, &call_of(alloc, "p", method, args)?)?;
-    Ok(made)
+/// The keys of entities.
+fn keys_told(alloc: Global, entities: &[Ref]) -> Result<String, AllocError> {
+    let mut told = String::new(alloc);
+    for at in entities {
+        if !told.is_empty() {
+            told.push(',')?;
+        }
+        told.push_str(at.key.as_str())?;
+    }
+    if told.is_empty() {
+        told.push_str("none")?;
+    }
+    Ok(told)
 }
 
-const MOST: i128 = 170141183460469231731687303715884105727;
+/// What a request came to, what it read and wrote, and the steps that it left.
+fn attempt_told(alloc: Global, made: &Attempt) -> Result<String, AllocError> {
+    let outcome = outcome_told(alloc, &made.outcome)?;
+    let reads = keys_told(alloc, made.reads.as_slice())?;
+    let writes = keys_told(alloc, made.changed.keys().as_slice())?;
+    format!(in alloc;
+        "{outcome} reads {reads} writes {writes} leaves {}",
+        made.steps
+    )
+}
 
-const LEAST: i128 = -MOST - 1;
+/// What the request that is told comes to on a state.
+fn attempted(alloc: Global, program: &Checked, state: &Local, told: &str) -> Result<Attempt, Fail> {
+    let line = line_of(alloc, told)?;
+    let request = request_of(alloc, program, line.as_str())?;
+    let made = state.attempt(alloc, program, &request.act);
+    drop(request);
+    Ok(made?)
+}
+
+/// The same after `p` and `q` are made, as a text.
+fn told_with(alloc: Global, program: &Checked, told: &str) -> Result<String, Fail> {
+    let state = two_numbers(alloc, program)?;
+    let made = attempted(alloc, program, &state, told);
+    drop(state);
+    let made = made?;
+    let told = attempt_told(alloc, &made);
+    drop(made);
+    Ok(told?)
+}
+
+/// The same of the program of numbers.
+fn told(alloc: Global, request: &str) -> Result<String, Fail> {
+    let program = accepted(alloc, NUM)?;
+    let told = told_with(alloc, &program, request);
+    drop(program);
+    told
+}
+
+/// The first row whose request comes to something else, or nothing.
+fn other(alloc: Global, table: &str) -> Result<String, Fail> {
+    let rows = rows(alloc, table)?;
+    for row in &rows {
+        let told = told(alloc, row.text.as_str())?;
+        if told.as_str() != row.wanted {
+            return Ok(format!(in alloc; "{}: {told}", row.label)?);
+        }
+    }
+    Ok(String::new(alloc))
+}
+
+const ARITHMETIC: &str = r#"
+    a quotient below 0        | p div [-7,2]                                          | -4 reads p writes none leaves 99998
+    a rest of what is below 0 | p mod [-7,2]                                          | 1 reads p writes none leaves 99998
+    a rest by what is below 0 | p mod [7,-2]                                          | -1 reads p writes none leaves 99998
+    by 0                      | p div [1,0]                                           | ZeroDivisionError reads p writes none leaves 99998
+    the greatest literal      | p big []                                              | 170141183460469231731687303715884105727 reads p writes none leaves 99998
+    one above it              | p over []                                             | OverflowError reads p writes none leaves 99996
+    the least by -1           | p div ["-170141183460469231731687303715884105728",-1] | OverflowError reads p writes none leaves 99998
+    the most of 64 bits       | p div [9223372036854775807,1]                         | 9223372036854775807 reads p writes none leaves 99998
+"#;
 
 #[test]
 fn arithmetic_is_floored_and_stays_in_range(rt: HostRuntime) -> Result<(), Fail> {
-    const WIDE: i128 = i64::MAX as i128;
-    let rows: [(&str, u32, &[i128], (u8, i128)); 8] = [
-        ("a quotient below 0", DIV, &[-7, 2], (0, -4)),
-        ("a rest of what is below 0", MOD, &[-7, 2], (0, 1)),
-        ("a rest by what is below 0", MOD, &[7, -2], (0, -1)),
-        ("by 0", DIV, &[1, 0], (ZERO_DIVISION_ERROR, 0)),
-        ("the greatest literal", BIG, &[], (0, MOST)),
-        ("one above it", OVER, &[], (OVERFLOW_ERROR, 0)),
-        ("least by -1", DIV, &[LEAST, -1], (OVERFLOW_ERROR, 0)),
-        ("most of 64 bits", DIV, &[WIDE, 1], (0, WIDE)),
-    ];
-    for (label, method, args, wanted) in rows {
-        let args = numbers(rt.alloc(), args)?;
-        let made = attempted(rt.alloc(), method, args)?;
-        assert_eq!(rt; told(&made.outcome), wanted, "{label}");
-    }
+    let other = other(rt.alloc(), ARITHMETIC)?;
+    assert_eq!(rt; other.as_str(), "");
     Ok(())
 }
+
+const LIMITS: &str = "
+    no end   | p spin []   | StepLimit reads p writes none leaves 0
+    one call | p down [1]  | 1 reads p writes none leaves 99997
+    64 calls | p down [64] | 64 reads p writes none leaves 99808
+    65 calls | p down [65] | RecursionError reads p writes none leaves 99807
+";
 
 #[test]
 fn steps_and_depth_have_limits(rt: HostRuntime) -> Result<(), Fail> {
-    let rows: [(&str, u32, &[i128], (u8, i128), u32); 4] = [
-        ("no end", SPIN, &[], (STEP_LIMIT, 0), 0),
-        ("one call", DOWN, &[1], (0, 1), 99_997),
-        ("64 calls", DOWN, &[64], (0, 64), 99_808),
-        ("65 calls", DOWN, &[65], (RECURSION_ERROR, 0), 99_807),
-    ];
-    for (label, method, args, wanted, steps) in rows {
-        let args = numbers(rt.alloc(), args)?;
-        let made = attempted(rt.alloc(), method, args)?;
-        assert_eq!(rt; told(&made.outcome), wanted, "{label}");
-        assert_eq!(rt; made.steps, steps, "{label}");
-    }
+    let other = other(rt.alloc(), LIMITS)?;
+    assert_eq!(rt; other.as_str(), "");
     Ok(())
 }
+
+const INDEXES: &str = "
+    the last         | p at [[1,2,3],-1] | 3 reads p writes none leaves 99998
+    before the first | p at [[1,2,3],-4] | IndexError reads p writes none leaves 99998
+    behind the last  | p at [[1,2,3],3]  | IndexError reads p writes none leaves 99998
+    of no element    | p at [[],0]       | IndexError reads p writes none leaves 99998
+";
 
 #[test]
 fn index_counts_from_either_end_within_the_list(rt: HostRuntime) -> Result<(), Fail> {
-    let rows: [(&str, &[i128], i128, (u8, i128)); 4] = [
-        ("the last", &[1, 2, 3], -1, (0, 3)),
-        ("before the first", &[1, 2, 3], -4, (INDEX_ERROR, 0)),
-        ("behind the last", &[1, 2, 3], 3, (INDEX_ERROR, 0)),
-        ("of no element", &[], 0, (INDEX_ERROR, 0)),
-    ];
-    for (label, list, index, wanted) in rows {
-        let mut args = Sequence::new(rt.alloc());
-        args.push(rt.alloc(), Value::List(numbers(rt.alloc(), list)?))?;
-        args.push(rt.alloc(), Value::Int(index))?;
-        let made = attempted(rt.alloc(), AT, args)?;
-        assert_eq!(rt; told(&made.outcome), wanted, "{label}");
-    }
+    let other = other(rt.alloc(), INDEXES)?;
+    assert_eq!(rt; other.as_str(), "");
     Ok(())
 }
 
-/// A text of so many letters.
-fn letters(alloc: Global, count: usize) -> Result<Text, AllocError> {
-    let mut text = String::new(alloc);
+/// What a call comes to that is to double a text of so many letters.
+fn doubled(alloc: Global, count: usize) -> Result<String, Fail> {
+    let mut request = String::from_str(alloc, "p twice [\"")?;
     for _ in 0..count {
-        text.push('a')?;
+        request.push('a')?;
     }
-    Text::of(alloc, text.as_str())
+    request.push_str("\"]")?;
+    told(alloc, request.as_str())
 }
 
 #[test]
 fn values_weigh_at_most_so_much(rt: HostRuntime) -> Result<(), Fail> {
-    let rows = [
-        (32_767, (0, 65_534)),
-        (32_768, (SIZE_LIMIT, 0)),
-        (65_536, (SIZE_LIMIT, 0)),
-    ];
-    for (count, wanted) in rows {
-        let mut args = Sequence::new(rt.alloc());
-        args.push(rt.alloc(), Value::Str(letters(rt.alloc(), count)?))?;
-        let made = attempted(rt.alloc(), TWICE, args)?;
-        assert_eq!(rt; told(&made.outcome), wanted, "{count}");
+    for (count, wanted) in [
+        (
+            32_767,
+            "a text of 65534 bytes reads p writes none leaves 99998",
+        ),
+        (32_768, "SizeLimit reads p writes none leaves 99998"),
+        (65_536, "SizeLimit reads none writes none leaves 100000"),
+    ] {
+        let told = doubled(rt.alloc(), count)?;
+        assert_eq!(rt; told.as_str(), wanted, "{count}");
     }
     Ok(())
 }
 
-#[test]
-fn assert_fails_with_its_message(rt: HostRuntime) -> Result<(), Fail> {
-    let made = attempted(rt.alloc(), CHECK_IT, numbers(rt.alloc(), &[0])?)?;
-    assert_eq!(rt; told(&made.outcome), (ASSERTION_ERROR, 0));
-    let Outcome::Failed(failure) = &made.outcome else {
-        return Err(Fail::new("the call fails"));
-    };
-    assert_eq!(rt; failure.message.as_str(), "not positive");
-    Ok(())
-}
+const EFFECTS: &str = r#"
+    an assert fails with its message | p check_it [0] | AssertionError: not positive reads p writes none leaves 99998
+    a failure keeps its reads        | p both ["q"]   | ZeroDivisionError reads p,q writes none leaves 99994
+    a value keeps what it assigned   | p put [7]      | None reads p writes p leaves 99998
+    a missing entity is read         | r big []       | NoEntity reads r writes none leaves 99999
+    one that is there is not made    | new ["q",5]    | AlreadyExists reads q writes none leaves 99999
+"#;
 
 #[test]
-fn failed_request_writes_nothing_and_keeps_its_reads(rt: HostRuntime) -> Result<(), Fail> {
-    let alloc = rt.alloc();
-    let mut args = Sequence::new(alloc);
-    args.push(alloc, Value::Entity(entity(alloc, "q")?))?;
-    let made = attempted(alloc, BOTH, args)?;
-    assert_eq!(rt; told(&made.outcome), (ZERO_DIVISION_ERROR, 0));
-    assert_eq!(rt; made.changed.len(), 0);
-    assert_eq!(rt; made.reads.len(), 2);
-    assert_eq!(rt; made.reads.contains(&entity(alloc, "q")?), true);
-    Ok(())
-}
-
-#[test]
-fn request_that_gives_a_value_writes_what_it_assigned(rt: HostRuntime) -> Result<(), Fail> {
-    let made = attempted(rt.alloc(), PUT, numbers(rt.alloc(), &[7])?)?;
-    assert_eq!(rt; told(&made.outcome), (0, 0));
-    assert_eq!(rt; made.changed.contains_key(&entity(rt.alloc(), "p")?), true);
-    assert_eq!(rt; made.changed.len(), 1);
-    assert_eq!(rt; made.reads.len(), 1);
-    assert_eq!(rt; made.steps, 99_998);
-    Ok(())
-}
-
-#[test]
-fn missing_entity_is_read_and_one_that_is_there_is_not_made(rt: HostRuntime) -> Result<(), Fail> {
-    let alloc = rt.alloc();
-    let program = accepted(alloc, NUM)?;
-    let state = two_numbers(alloc, &program)?;
-    let missing = call_of(alloc, "r", BIG, numbers(alloc, &[])?)?;
-    let made = state.attempt(alloc, &program, &missing)?;
-    assert_eq!(rt; told(&made.outcome), (NO_ENTITY, 0));
-    assert_eq!(rt; made.reads.contains(&entity(alloc, "r")?), true);
-    assert_eq!(rt; made.steps, 99_999);
-    let again = creation(alloc, "q", 5)?;
-    let made = state.attempt(alloc, &program, &again)?;
-    assert_eq!(rt; told(&made.outcome), (ALREADY_EXISTS, 0));
-    assert_eq!(rt; made.reads.contains(&entity(alloc, "q")?), true);
-    assert_eq!(rt; made.changed.len(), 0);
+fn failed_requests_write_nothing_and_keep_their_reads(rt: HostRuntime) -> Result<(), Fail> {
+    let other = other(rt.alloc(), EFFECTS)?;
+    assert_eq!(rt; other.as_str(), "");
     Ok(())
 }

@@ -13,19 +13,46 @@ fn pair(alloc: Global, text: &str) -> Result<Value, AllocError> {
     Ok(Value::List(items))
 }
 
+/// How much the list of a text and 1 weighs.
+fn pair_weight(alloc: Global, text: &str) -> Result<u64, AllocError> {
+    let pair = pair(alloc, text)?;
+    let weight = weight(&pair);
+    drop(pair);
+    Ok(weight)
+}
+
 #[test]
 fn a_list_weighs_one_and_its_elements(rt: HostRuntime) -> Result<(), Fail> {
-    assert_eq!(rt; weight(&pair(rt.alloc(), "ab")?), 5);
+    assert_eq!(rt; pair_weight(rt.alloc(), "ab")?, 5);
     assert_eq!(rt; text_weight("ab"), 3);
     Ok(())
 }
 
+/// Whether the lists of these texts and 1 are the same.
+fn are_same_pairs(alloc: Global, first: &str, second: &str) -> Result<bool, AllocError> {
+    let first = pair(alloc, first)?;
+    let second = pair(alloc, second)?;
+    let are_same = first.same(&second);
+    drop(first);
+    drop(second);
+    Ok(are_same)
+}
+
+/// Whether the list of a text and 1 is the same as its copy.
+fn is_same_as_its_copy(alloc: Global, text: &str) -> Result<bool, AllocError> {
+    let pair = pair(alloc, text)?;
+    let copy = pair.try_clone(alloc)?;
+    let are_same = pair.same(&copy);
+    drop(pair);
+    drop(copy);
+    Ok(are_same)
+}
+
 #[test]
 fn lists_with_equal_elements_are_the_same(rt: HostRuntime) -> Result<(), Fail> {
-    let one = pair(rt.alloc(), "ab")?;
-    assert!(rt; one.same(&pair(rt.alloc(), "ab")?));
-    assert!(rt; !one.same(&pair(rt.alloc(), "ba")?));
-    assert!(rt; one.same(&one.try_clone(rt.alloc())?));
+    assert_eq!(rt; are_same_pairs(rt.alloc(), "ab", "ab")?, true);
+    assert_eq!(rt; are_same_pairs(rt.alloc(), "ab", "ba")?, false);
+    assert_eq!(rt; is_same_as_its_copy(rt.alloc(), "ab")?, true);
     Ok(())
 }
 
@@ -42,11 +69,20 @@ fn call_of(alloc: Global, method: u32) -> Result<Request, AllocError> {
     })
 }
 
+/// Whether a copy of a call is the same as a call of the method of another number.
+fn are_same_calls(alloc: Global, first: u32, second: u32) -> Result<bool, AllocError> {
+    let first = call_of(alloc, first)?.try_clone(alloc)?;
+    let second = call_of(alloc, second)?;
+    let are_same = first.same(&second);
+    drop(first);
+    drop(second);
+    Ok(are_same)
+}
+
 #[test]
 fn a_request_differs_from_one_of_another_method(rt: HostRuntime) -> Result<(), Fail> {
-    let first = call_of(rt.alloc(), 0)?;
-    assert!(rt; first.same(&first.try_clone(rt.alloc())?));
-    assert!(rt; !first.same(&call_of(rt.alloc(), 1)?));
+    assert_eq!(rt; are_same_calls(rt.alloc(), 0, 0)?, true);
+    assert_eq!(rt; are_same_calls(rt.alloc(), 0, 1)?, false);
     Ok(())
 }
 

@@ -1,497 +1,375 @@
 //! Each rule on types kept and broken, pairs of which the earlier is told, and what tests show.
 
-use crate::lists::{none, one, two};
-use entity_tables::{ClassTable, Field, RuleError, Sig, SigParam};
-use entity_types::types::{join, list_of as list_ty};
-use entity_types::{FlowEnv, Local, Locals, Tables, condition, narrow, narrow_here, type_expr};
-use py_tree::nodes::{
-    and_of, apply_of, attribute, bool_of, call_of, chain, comparison_of, cond_of, index_of, int_of,
-    is_none_of, link_of, list_of, neg_of, nil_of, not_of, or_of, self_of, str_of, var_of,
-};
-use py_tree::{BinOp, Cmp, Expr, Exprs, Name, Names, Place, PlacedName, Rule, Ty};
-use std::alloc::{AllocError, Global};
+use crate::points::{Point, point};
+use crate::telling::{refused, sure_names, type_told};
+use entity_tables::type_of;
+use entity_types::{FlowEnv, Tables, condition, narrow, narrow_here, type_expr};
+use py_parser::Parsed;
+use py_tree::{Expr, Stmt, StmtKind, Ty};
+use std::alloc::Global;
 use std::test::Fail;
+use test_support::{Setting, rows};
+use text_trees::written;
 
-const STR: Name = Name(3);
+/// A row has the lines of a method f, from line 10 on. Of its parameters `sure` stands for a local that
+/// is surely not None, and `late` for one that isn't surely assigned.
+const METHOD: Setting = Setting {
+    head: "@entity
+class Item:
+    def __init__(self, text: str):
+        self.key: str = text
+        self.cost: int = 0
+    def __key__(self): return self.key
+    def add(self, n: int, maybe: Optional[int]) -> int: return n
+    def peer(self) -> Optional['Item']: return self
+    def f(self, n: int, maybe: Optional[int], sure: Optional[int], text: str, flag: bool, ints: List[int], item: 'Item', other: Optional['Item'], late: int) -> None:
+",
+    indent: "        ",
+    tail: "",
+};
 
-const LEN: Name = Name(7);
-
-const MIN: Name = Name(9);
-
-const MAX: Name = Name(10);
-
-const ITEM: Name = Name(18);
-
-const COST: Name = Name(19);
-
-const ADD: Name = Name(20);
-
-const PEER: Name = Name(21);
-
-const NOPE: Name = Name(22);
-
-/// Of int.
-const N: Name = Name(30);
-
-/// Of Optional[int].
-const MAYBE: Name = Name(31);
-
-/// Of Optional[int], and surely not None.
-const SURE: Name = Name(32);
-
-/// Of str.
-const TEXT: Name = Name(33);
-
-/// Of bool.
-const FLAG: Name = Name(34);
-
-/// Of List[int].
-const LIST: Name = Name(35);
-
-/// Of Item.
-const THING: Name = Name(36);
-
-/// Of Optional[Item].
-const OTHER: Name = Name(37);
-
-/// Of int, and not surely assigned.
-const LATE: Name = Name(38);
-
-fn at(col: u32) -> Place {
-    Place { line: 5, col }
-}
-
-fn placed(name: Name, col: u32) -> PlacedName {
-    PlacedName {
-        name,
-        place: at(col),
+/// The type of an expression, where this type is wanted, or the rule that it breaks.
+fn typed(alloc: Global, point: &Point, wanted: Option<&Ty>, expr: &Expr) -> Result<String, Fail> {
+    let names = &point.tree.names;
+    match type_expr(alloc, &point.tables, names, &point.env, wanted, expr) {
+        Ok(ty) => {
+            let told = type_told(alloc, names, &ty);
+            drop(ty);
+            Ok(told?)
+        }
+        Err(error) => Ok(refused(alloc, error)?),
     }
 }
 
-fn var(name: Name, col: u32) -> Expr {
-    var_of(at(col), name)
-}
-
-fn optional(alloc: Global, inner: Ty) -> Result<Ty, Fail> {
-    match join(alloc, inner, Ty::Nil)? {
-        None => Err(Fail::from("no Optional")),
-        Some(ty) => Ok(ty),
+/// The same of an expression that is a line, or of one that a line gives a name of a type.
+fn typed_line(alloc: Global, point: &Point, line: &Stmt) -> Result<String, Fail> {
+    match &line.kind {
+        StmtKind::Expr(expr) => typed(alloc, point, None, expr),
+        StmtKind::Assign {
+            ty: Some(ty),
+            value,
+            ..
+        } => {
+            let wanted = type_of(alloc, ty)?;
+            let told = typed(alloc, point, Some(&wanted), value);
+            drop(wanted);
+            told
+        }
+        _ => Err(Fail::from("no expression")),
     }
 }
 
-fn param(name: Name, ty: Ty) -> SigParam {
-    SigParam { name, ty }
-}
-
-/// The class Item: a field `cost: int`, the methods `add(self, n: int, maybe: Optional[int]) -> int`
-/// and `peer(self) -> Optional[Item]`, and `Item(text: str)`.
-fn tables(alloc: Global) -> Result<Tables, Fail> {
-    let cost = Field {
-        name: COST,
-        ty: Ty::Int,
+/// The same of the last line of a row.
+fn told(alloc: Global, text: &str) -> Result<String, Fail> {
+    let point = point(alloc, METHOD, text)?;
+    let told = match written(&point.tree).last() {
+        Some(line) => typed_line(alloc, &point, line),
+        None => Err(Fail::from("no line")),
     };
-    let maybe = param(MAYBE, optional(alloc, Ty::Int)?);
-    let add = Sig {
-        name: ADD,
-        params: two(alloc, param(N, Ty::Int), maybe)?,
-        result: Ty::Int,
-    };
-    let peer = Sig {
-        name: PEER,
-        params: none(alloc),
-        result: optional(alloc, Ty::Entity(ITEM))?,
-    };
-    let item = ClassTable {
-        name: ITEM,
-        key_field: 0,
-        key_param: 0,
-        fields: one(alloc, cost)?,
-        methods: two(alloc, add, peer)?,
-        init: one(alloc, param(TEXT, Ty::Str))?,
-    };
-    Ok(one(alloc, item)?)
+    drop(point);
+    told
 }
 
-fn local(name: Name, ty: Ty) -> Local {
-    Local {
-        name,
-        ty,
-        assigned: true,
-        not_none: false,
+/// The first row that has another type or breaks another rule, or nothing.
+fn other(alloc: Global, table: &str) -> Result<String, Fail> {
+    let rows = rows(alloc, table)?;
+    for row in &rows {
+        let told = told(alloc, row.text.as_str())?;
+        if told.as_str() != row.wanted {
+            return Ok(format!(in alloc; "{}: {told}", row.label)?);
+        }
     }
+    Ok(String::new(alloc))
 }
 
-fn locals(alloc: Global) -> Result<Locals, Fail> {
-    let mut locals = two(
-        alloc,
-        local(N, Ty::Int),
-        local(MAYBE, optional(alloc, Ty::Int)?),
-    )?;
-    let mut sure = local(SURE, optional(alloc, Ty::Int)?);
-    sure.not_none = true;
-    locals.push(alloc, sure)?;
-    locals.push(alloc, local(TEXT, Ty::Str))?;
-    locals.push(alloc, local(FLAG, Ty::Bool))?;
-    locals.push(alloc, local(LIST, list_ty(alloc, Ty::Int)?))?;
-    locals.push(alloc, local(THING, Ty::Entity(ITEM)))?;
-    locals.push(alloc, local(OTHER, optional(alloc, Ty::Entity(ITEM))?))?;
-    let mut late = local(LATE, Ty::Int);
-    late.assigned = false;
-    locals.push(alloc, late)?;
-    Ok(locals)
-}
-
-fn env(alloc: Global) -> Result<FlowEnv, Fail> {
-    Ok(FlowEnv {
-        class: 0,
-        method: Some(0),
-        locals: locals(alloc)?,
-    })
-}
-
-/// The type of an expression, where this type is wanted.
-fn wanting(alloc: Global, wanted: &Ty, expr: Expr) -> Result<Ty, Fail> {
-    let env = env(alloc)?;
-    let names = Names::new(alloc);
-    match type_expr(alloc, &tables(alloc)?, &names, &env, Some(wanted), &expr) {
-        Ok(ty) => Ok(ty),
-        Err(_) => Err(Fail::from("refused")),
-    }
-}
-
-/// The type of an expression.
-fn typed(alloc: Global, expr: Expr) -> Result<Ty, Fail> {
-    let env = env(alloc)?;
-    let names = Names::new(alloc);
-    match type_expr(alloc, &tables(alloc)?, &names, &env, None, &expr) {
-        Ok(ty) => Ok(ty),
-        Err(_) => Err(Fail::from("refused")),
-    }
-}
-
-/// The first rule that an expression breaks, and the column.
-fn broken(alloc: Global, expr: Expr) -> Result<(Rule, u32), Fail> {
-    let env = env(alloc)?;
-    let names = Names::new(alloc);
-    match type_expr(alloc, &tables(alloc)?, &names, &env, None, &expr) {
-        Ok(_) => Err(Fail::from("accepted")),
-        Err(RuleError::Fault(fault)) => Ok((fault.rule, fault.place.col)),
-        Err(RuleError::NoMemory) => Err(Fail::from("no memory")),
-    }
-}
+const NAMES: &str = "
+    a number                | 5        | int
+    None                    | None     | None
+    a text                  | pass↵'a' | str
+    self                    | self     | Item
+    a local                 | n        | int
+    what may be None        | maybe    | Optional[int]
+    what is surely not None | sure     | int
+    no local                | nope     | UnknownName 10:9
+    a function              | len      | UnknownName 10:9
+    not surely assigned     | late     | Unassigned 10:9
+";
 
 #[test]
 fn a_name_is_a_local_that_is_assigned(rt: HostRuntime) -> Result<(), Fail> {
-    let alloc = rt.alloc();
-    assert!(rt; typed(alloc, int_of(at(1), 5))?.same(&Ty::Int));
-    assert!(rt; typed(alloc, nil_of(at(1)))?.same(&Ty::Nil));
-    assert!(rt; typed(alloc, str_of(at(1), TEXT))?.same(&Ty::Str));
-    assert!(rt; typed(alloc, self_of(at(1)))?.same(&Ty::Entity(ITEM)));
-    assert!(rt; typed(alloc, var(N, 1))?.same(&Ty::Int));
-    let maybe = optional(alloc, Ty::Int)?;
-    assert!(rt; typed(alloc, var(MAYBE, 1))?.same(&maybe));
-    assert!(rt; typed(alloc, var(SURE, 1))?.same(&Ty::Int));
-    assert_eq!(rt; broken(alloc, var(NOPE, 4))?, (Rule::UnknownName, 4));
-    assert_eq!(rt; broken(alloc, var(LEN, 4))?, (Rule::UnknownName, 4));
-    assert_eq!(rt; broken(alloc, var(LATE, 4))?, (Rule::Unassigned, 4));
+    let other = other(rt.alloc(), NAMES)?;
+    assert_eq!(rt; other.as_str(), "");
     Ok(())
 }
+
+const FIELDS: &str = "
+    an own field      | self.cost | int
+    no field          | self.nope | UnknownField 10:14
+    of another entity | item.cost | RemoteField 10:14
+    of no local       | nope.cost | RemoteField 10:14
+";
 
 #[test]
 fn a_field_is_one_of_self(rt: HostRuntime) -> Result<(), Fail> {
-    let alloc = rt.alloc();
-    let own = attribute(alloc, at(1), self_of(at(1)), placed(COST, 6))?;
-    assert!(rt; typed(alloc, own)?.same(&Ty::Int));
-    let unknown = attribute(alloc, at(1), self_of(at(1)), placed(NOPE, 6))?;
-    assert_eq!(rt; broken(alloc, unknown)?, (Rule::UnknownField, 6));
-    let remote = attribute(alloc, at(1), var(THING, 1), placed(COST, 7))?;
-    assert_eq!(rt; broken(alloc, remote)?, (Rule::RemoteField, 7));
-    let untyped = attribute(alloc, at(1), var(NOPE, 1), placed(COST, 6))?;
-    assert_eq!(rt; broken(alloc, untyped)?, (Rule::RemoteField, 6));
+    let other = other(rt.alloc(), FIELDS)?;
+    assert_eq!(rt; other.as_str(), "");
     Ok(())
 }
 
-/// `on.name(args)`, with `on` at column 1 and the name at column 6.
-fn calling(alloc: Global, on: Name, name: Name, args: Exprs) -> Result<Expr, AllocError> {
-    call_of(alloc, at(1), var(on, 1), placed(name, 6), args)
-}
+const CALLS: &str = "
+    of an entity        | item.peer()    | Optional[Item]
+    of what may be None | other.peer()   | NoneUse 10:9
+    of a number         | n.peer()       | Operand 10:9
+    of no method        | item.nope()    | UnknownMethod 10:14
+    an argument too few | item.add(text) | ArgCount 10:14
+";
 
 #[test]
 fn a_call_is_of_a_method_of_an_entity(rt: HostRuntime) -> Result<(), Fail> {
-    let alloc = rt.alloc();
-    let peer = calling(alloc, THING, PEER, none(alloc))?;
-    let other = optional(alloc, Ty::Entity(ITEM))?;
-    assert!(rt; typed(alloc, peer)?.same(&other));
-    let maybe = calling(alloc, OTHER, PEER, none(alloc))?;
-    assert_eq!(rt; broken(alloc, maybe)?, (Rule::NoneUse, 1));
-    let of_int = calling(alloc, N, PEER, none(alloc))?;
-    assert_eq!(rt; broken(alloc, of_int)?, (Rule::Operand, 1));
-    let unknown = calling(alloc, THING, NOPE, none(alloc))?;
-    assert_eq!(rt; broken(alloc, unknown)?, (Rule::UnknownMethod, 6));
-    let few = calling(alloc, THING, ADD, one(alloc, var(TEXT, 10))?)?;
-    assert_eq!(rt; broken(alloc, few)?, (Rule::ArgCount, 6));
+    let other = other(rt.alloc(), CALLS)?;
+    assert_eq!(rt; other.as_str(), "");
     Ok(())
 }
+
+const ARGUMENTS: &str = "
+    both fit               | item.add(n, None)    | int
+    the first doesn't fit  | item.add(text, late) | Mismatch 10:18
+    the second doesn't fit | item.add(n, text)    | Mismatch 10:21
+    the first is no value  | item.add(late, text) | Unassigned 10:18
+";
 
 #[test]
 fn arguments_are_told_one_by_one(rt: HostRuntime) -> Result<(), Fail> {
-    let alloc = rt.alloc();
-    let args = two(alloc, var(N, 10), nil_of(at(13)))?;
-    let fit = calling(alloc, THING, ADD, args)?;
-    assert!(rt; typed(alloc, fit)?.same(&Ty::Int));
-    let args = two(alloc, var(TEXT, 10), var(LATE, 13))?;
-    let first = calling(alloc, THING, ADD, args)?;
-    assert_eq!(rt; broken(alloc, first)?, (Rule::Mismatch, 10));
-    let args = two(alloc, var(N, 10), var(TEXT, 13))?;
-    let second = calling(alloc, THING, ADD, args)?;
-    assert_eq!(rt; broken(alloc, second)?, (Rule::Mismatch, 13));
-    let args = two(alloc, var(LATE, 10), var(TEXT, 13))?;
-    let fault = calling(alloc, THING, ADD, args)?;
-    assert_eq!(rt; broken(alloc, fault)?, (Rule::Unassigned, 10));
+    let other = other(rt.alloc(), ARGUMENTS)?;
+    assert_eq!(rt; other.as_str(), "");
     Ok(())
 }
+
+const CREATIONS: &str = "
+    of a class   | Item(text) | Item
+    of no class  | Nope(late) | UnknownName 10:9
+    no argument  | Item()     | ArgCount 10:9
+    another type | Item(n)    | Mismatch 10:14
+";
 
 #[test]
 fn a_creation_takes_what_init_takes(rt: HostRuntime) -> Result<(), Fail> {
-    let alloc = rt.alloc();
-    let made = apply_of(at(1), ITEM, one(alloc, var(TEXT, 6))?);
-    assert!(rt; typed(alloc, made)?.same(&Ty::Entity(ITEM)));
-    let unknown = apply_of(at(1), NOPE, one(alloc, var(LATE, 6))?);
-    assert_eq!(rt; broken(alloc, unknown)?, (Rule::UnknownName, 1));
-    let empty = apply_of(at(1), ITEM, none(alloc));
-    assert_eq!(rt; broken(alloc, empty)?, (Rule::ArgCount, 1));
-    let other = apply_of(at(1), ITEM, one(alloc, var(N, 6))?);
-    assert_eq!(rt; broken(alloc, other)?, (Rule::Mismatch, 6));
+    let other = other(rt.alloc(), CREATIONS)?;
+    assert_eq!(rt; other.as_str(), "");
     Ok(())
 }
+
+const FUNCTIONS: &str = "
+    the length of a text             | len(text)        | int
+    the length of a list             | len(ints)        | int
+    the length of a number           | len(n)           | Operand 10:13
+    a number as text                 | str(n)           | str
+    the least of one                 | min(n)           | ArgCount 10:9
+    the greatest of what may be None | max(n, maybe)    | NoneUse 10:16
+    the greatest of a text           | max(text, maybe) | Operand 10:13
+";
 
 #[test]
 fn functions_ask_for_their_operands(rt: HostRuntime) -> Result<(), Fail> {
-    let alloc = rt.alloc();
-    let of_text = apply_of(at(1), LEN, one(alloc, var(TEXT, 5))?);
-    assert!(rt; typed(alloc, of_text)?.same(&Ty::Int));
-    let of_list = apply_of(at(1), LEN, one(alloc, var(LIST, 5))?);
-    assert!(rt; typed(alloc, of_list)?.same(&Ty::Int));
-    let of_int = apply_of(at(1), LEN, one(alloc, var(N, 5))?);
-    assert_eq!(rt; broken(alloc, of_int)?, (Rule::Operand, 5));
-    let text = apply_of(at(1), STR, one(alloc, var(N, 5))?);
-    assert!(rt; typed(alloc, text)?.same(&Ty::Str));
-    let few = apply_of(at(1), MIN, one(alloc, var(N, 5))?);
-    assert_eq!(rt; broken(alloc, few)?, (Rule::ArgCount, 1));
-    let maybe = apply_of(at(1), MAX, two(alloc, var(N, 5), var(MAYBE, 8))?);
-    assert_eq!(rt; broken(alloc, maybe)?, (Rule::NoneUse, 8));
-    let first = apply_of(at(1), MAX, two(alloc, var(TEXT, 5), var(MAYBE, 8))?);
-    assert_eq!(rt; broken(alloc, first)?, (Rule::Operand, 5));
+    let other = other(rt.alloc(), FUNCTIONS)?;
+    assert_eq!(rt; other.as_str(), "");
     Ok(())
 }
 
-/// `on[index]`.
-fn indexing(alloc: Global, on: Name, index: Name) -> Result<Expr, AllocError> {
-    index_of(alloc, at(1), var(on, 1), var(index, 6))
-}
+const INDEXES: &str = "
+    into a list           | ints[n]     | int
+    into a text           | text[late]  | Operand 10:9
+    into what may be None | maybe[n]    | NoneUse 10:9
+    by what may be None   | ints[maybe] | Operand 10:14
+";
 
 #[test]
 fn an_index_is_an_int_into_a_list(rt: HostRuntime) -> Result<(), Fail> {
-    let alloc = rt.alloc();
-    assert!(rt; typed(alloc, indexing(alloc, LIST, N)?)?.same(&Ty::Int));
-    let of_text = indexing(alloc, TEXT, LATE)?;
-    assert_eq!(rt; broken(alloc, of_text)?, (Rule::Operand, 1));
-    let of_maybe = indexing(alloc, MAYBE, N)?;
-    assert_eq!(rt; broken(alloc, of_maybe)?, (Rule::NoneUse, 1));
-    let by_maybe = indexing(alloc, LIST, MAYBE)?;
-    assert_eq!(rt; broken(alloc, by_maybe)?, (Rule::Operand, 6));
+    let other = other(rt.alloc(), INDEXES)?;
+    assert_eq!(rt; other.as_str(), "");
     Ok(())
 }
+
+const LISTS: &str = "
+    empty                           | []                                 | EmptyListType 10:9
+    empty for a list                | x: List[int] = []                  | List[int]
+    empty for what may be a list    | x: Optional[List[int]] = []        | List[int]
+    None for an element that may be | x: List[Optional[int]] = [n, None] | List[Optional[int]]
+    None behind a number            | [n, None]                          | Mismatch 10:13
+";
 
 #[test]
 fn a_list_has_a_type_for_its_elements(rt: HostRuntime) -> Result<(), Fail> {
-    let alloc = rt.alloc();
-    let ints = list_ty(alloc, Ty::Int)?;
-    let empty = list_of(at(1), none(alloc));
-    assert_eq!(rt; broken(alloc, empty)?, (Rule::EmptyListType, 1));
-    let empty = list_of(at(1), none(alloc));
-    assert!(rt; wanting(alloc, &ints, empty)?.same(&ints));
-    let maybe_ints = optional(alloc, list_ty(alloc, Ty::Int)?)?;
-    let empty = list_of(at(1), none(alloc));
-    assert!(rt; wanting(alloc, &maybe_ints, empty)?.same(&ints));
-    let maybes = list_ty(alloc, optional(alloc, Ty::Int)?)?;
-    let mixed = list_of(at(1), two(alloc, var(N, 2), nil_of(at(5)))?);
-    assert!(rt; wanting(alloc, &maybes, mixed)?.same(&maybes));
-    let mixed = list_of(at(1), two(alloc, var(N, 2), nil_of(at(5)))?);
-    assert_eq!(rt; broken(alloc, mixed)?, (Rule::Mismatch, 5));
+    let other = other(rt.alloc(), LISTS)?;
+    assert_eq!(rt; other.as_str(), "");
     Ok(())
 }
 
-/// `left op right`, with the operator at column 4.
-fn joined(alloc: Global, left: Expr, op: BinOp, right: Expr) -> Result<Expr, AllocError> {
-    chain(alloc, at(1), left, one(alloc, link_of(op, at(4), right))?)
-}
+const OPERATORS: &str = "
+    a sum                   | n + sure     | int
+    texts                   | text + text  | str
+    a list and an empty one | ints + []    | List[int]
+    what may be None        | maybe + text | NoneUse 10:15
+    texts multiplied        | text * text  | Operand 10:14
+    a bool                  | True + n     | Operand 10:14
+    minus what may be None  | -maybe       | NoneUse 10:10
+";
 
 #[test]
 fn an_operator_has_two_sides_of_one_type(rt: HostRuntime) -> Result<(), Fail> {
-    let alloc = rt.alloc();
-    let sum = joined(alloc, var(N, 1), BinOp::Add, var(SURE, 6))?;
-    assert!(rt; typed(alloc, sum)?.same(&Ty::Int));
-    let text = joined(alloc, var(TEXT, 1), BinOp::Add, var(TEXT, 6))?;
-    assert!(rt; typed(alloc, text)?.same(&Ty::Str));
-    let longer = joined(alloc, var(LIST, 1), BinOp::Add, list_of(at(6), none(alloc)))?;
-    let ints = list_ty(alloc, Ty::Int)?;
-    assert!(rt; typed(alloc, longer)?.same(&ints));
-    let maybe = joined(alloc, var(MAYBE, 1), BinOp::Add, var(TEXT, 6))?;
-    assert_eq!(rt; broken(alloc, maybe)?, (Rule::NoneUse, 4));
-    let twice = joined(alloc, var(TEXT, 1), BinOp::Mul, var(TEXT, 6))?;
-    assert_eq!(rt; broken(alloc, twice)?, (Rule::Operand, 4));
-    let flag = joined(alloc, bool_of(at(1), true), BinOp::Add, var(N, 6))?;
-    assert_eq!(rt; broken(alloc, flag)?, (Rule::Operand, 4));
-    let minus = neg_of(alloc, at(1), var(MAYBE, 2))?;
-    assert_eq!(rt; broken(alloc, minus)?, (Rule::NoneUse, 2));
+    let other = other(rt.alloc(), OPERATORS)?;
+    assert_eq!(rt; other.as_str(), "");
     Ok(())
 }
 
-/// `name is not None` where so, else `name is None`.
-fn known(alloc: Global, name: Name, so: bool) -> Result<Expr, AllocError> {
-    is_none_of(alloc, at(1), var(name, 1), !so)
-}
-
-/// `maybe < 5`, with the operator at column 40.
-fn maybe_below(alloc: Global) -> Result<Expr, AllocError> {
-    comparison_of(
-        alloc,
-        at(34),
-        Cmp::Lt,
-        at(40),
-        var(MAYBE, 34),
-        int_of(at(42), 5),
-    )
-}
+const TRUTHS: &str = "
+    and shows what is not None | maybe is not None and maybe < 5 | bool
+    and shows what is None     | maybe is None and maybe < 5     | NoneUse 10:33
+    or shows what is not None  | maybe is None or maybe < 5      | bool
+    or shows what is None      | maybe is not None or maybe < 5  | NoneUse 10:36
+    shown too late             | maybe < 5 and maybe is not None | NoneUse 10:15
+    a number as a truth        | flag or n                       | Operand 10:17
+    not of a text              | not text                        | Operand 10:13
+";
 
 #[test]
 fn operands_know_what_those_before_show(rt: HostRuntime) -> Result<(), Fail> {
-    let alloc = rt.alloc();
-    let so = and_of(
-        at(1),
-        two(alloc, known(alloc, MAYBE, true)?, maybe_below(alloc)?)?,
-    );
-    assert!(rt; typed(alloc, so)?.same(&Ty::Bool));
-    let not_so = and_of(
-        at(1),
-        two(alloc, known(alloc, MAYBE, false)?, maybe_below(alloc)?)?,
-    );
-    assert_eq!(rt; broken(alloc, not_so)?, (Rule::NoneUse, 40));
-    let or_so = or_of(
-        at(1),
-        two(alloc, known(alloc, MAYBE, false)?, maybe_below(alloc)?)?,
-    );
-    assert!(rt; typed(alloc, or_so)?.same(&Ty::Bool));
-    let or_not = or_of(
-        at(1),
-        two(alloc, known(alloc, MAYBE, true)?, maybe_below(alloc)?)?,
-    );
-    assert_eq!(rt; broken(alloc, or_not)?, (Rule::NoneUse, 40));
-    let swapped = and_of(
-        at(1),
-        two(alloc, maybe_below(alloc)?, known(alloc, MAYBE, true)?)?,
-    );
-    assert_eq!(rt; broken(alloc, swapped)?, (Rule::NoneUse, 40));
-    let of_int = or_of(at(1), two(alloc, var(FLAG, 1), var(N, 9))?);
-    assert_eq!(rt; broken(alloc, of_int)?, (Rule::Operand, 9));
-    let of_text = not_of(alloc, at(1), var(TEXT, 5))?;
-    assert_eq!(rt; broken(alloc, of_text)?, (Rule::Operand, 5));
+    let other = other(rt.alloc(), TRUTHS)?;
+    assert_eq!(rt; other.as_str(), "");
     Ok(())
 }
 
-/// `left op right`, with the operator at column 4.
-fn compared(alloc: Global, left: Name, op: Cmp, right: Name) -> Result<Expr, AllocError> {
-    comparison_of(alloc, at(1), op, at(4), var(left, 1), var(right, 7))
-}
+const COMPARISONS: &str = "
+    equal to what may be None | n == maybe   | bool
+    texts in order            | text >= text | bool
+    a number and a text       | n != text    | Mismatch 10:14
+    truths in order           | flag < flag  | Operand 10:14
+    what may be None in order | n <= maybe   | NoneUse 10:11
+    the right side first      | text < late  | Unassigned 10:16
+";
 
 #[test]
 fn a_comparison_has_sides_that_compare(rt: HostRuntime) -> Result<(), Fail> {
-    let alloc = rt.alloc();
-    assert!(rt; typed(alloc, compared(alloc, N, Cmp::Eq, MAYBE)?)?.same(&Ty::Bool));
-    assert!(rt; typed(alloc, compared(alloc, TEXT, Cmp::Ge, TEXT)?)?.same(&Ty::Bool));
-    let apart = compared(alloc, N, Cmp::Ne, TEXT)?;
-    assert_eq!(rt; broken(alloc, apart)?, (Rule::Mismatch, 7));
-    let flags = compared(alloc, FLAG, Cmp::Lt, FLAG)?;
-    assert_eq!(rt; broken(alloc, flags)?, (Rule::Operand, 4));
-    let maybe = compared(alloc, N, Cmp::Le, MAYBE)?;
-    assert_eq!(rt; broken(alloc, maybe)?, (Rule::NoneUse, 4));
-    let right = compared(alloc, TEXT, Cmp::Lt, LATE)?;
-    assert_eq!(rt; broken(alloc, right)?, (Rule::Unassigned, 7));
+    let other = other(rt.alloc(), COMPARISONS)?;
+    assert_eq!(rt; other.as_str(), "");
     Ok(())
 }
+
+const CONDITIONALS: &str = "
+    the test shows            | maybe if maybe is not None else 0 | int
+    a number or None          | n if flag else None               | Optional[int]
+    a number or a text        | n if flag else text               | Mismatch 10:24
+    the last part is no value | n if flag else late               | Unassigned 10:24
+    the test comes first      | late if n else text               | Operand 10:17
+";
 
 #[test]
 fn a_conditional_joins_its_parts(rt: HostRuntime) -> Result<(), Fail> {
-    let alloc = rt.alloc();
-    let test = known(alloc, MAYBE, true)?;
-    let narrowed = cond_of(alloc, at(1), test, var(MAYBE, 20), int_of(at(30), 0))?;
-    assert!(rt; typed(alloc, narrowed)?.same(&Ty::Int));
-    let maybe = optional(alloc, Ty::Int)?;
-    let with_none = cond_of(alloc, at(1), var(FLAG, 1), var(N, 20), nil_of(at(30)))?;
-    assert!(rt; typed(alloc, with_none)?.same(&maybe));
-    let apart = cond_of(alloc, at(1), var(FLAG, 1), var(N, 20), var(TEXT, 30))?;
-    assert_eq!(rt; broken(alloc, apart)?, (Rule::Mismatch, 30));
-    let late = cond_of(alloc, at(1), var(FLAG, 1), var(N, 20), var(LATE, 30))?;
-    assert_eq!(rt; broken(alloc, late)?, (Rule::Unassigned, 30));
-    let tested = cond_of(alloc, at(1), var(N, 1), var(LATE, 20), var(TEXT, 30))?;
-    assert_eq!(rt; broken(alloc, tested)?, (Rule::Operand, 1));
+    let other = other(rt.alloc(), CONDITIONALS)?;
+    assert_eq!(rt; other.as_str(), "");
     Ok(())
 }
 
-/// Whether the local MAYBE, the second one, is surely not None.
-fn maybe_is_sure(env: &FlowEnv) -> bool {
-    match env.locals.get(1) {
-        None => false,
-        Some(local) => local.not_none,
+/// The test that is the row's line of this number.
+fn test_at(tree: &Parsed, number: usize) -> Option<&Expr> {
+    match &written(tree).get(number)?.kind {
+        StmtKind::Expr(test) => Some(test),
+        _ => None,
     }
 }
 
-/// `not (maybe is None)`.
-fn not_none(alloc: Global) -> Result<Expr, AllocError> {
-    not_of(alloc, at(1), known(alloc, MAYBE, false)?)
+/// The names that are surely not None where a test comes to this.
+fn sure_where(alloc: Global, point: &Point, test: &Expr, truth: bool) -> Result<String, Fail> {
+    let env = narrow(alloc, &point.env, test, truth)?;
+    let told = sure_names(alloc, &point.tree.names, &env);
+    drop(env);
+    Ok(told?)
 }
+
+/// The names that are surely not None where a test holds, where it doesn't, and still.
+fn narrowed(alloc: Global, point: &Point) -> Result<String, Fail> {
+    let test = test_at(&point.tree, 0).ok_or("no test")?;
+    let so = sure_where(alloc, point, test, true)?;
+    let not_so = sure_where(alloc, point, test, false)?;
+    let still = sure_names(alloc, &point.tree.names, &point.env)?;
+    Ok(format!(in alloc; "{so}; {not_so}; {still}")?)
+}
+
+const NARROWED: &str = "
+    not None | not (maybe is None) | maybe,sure; sure; sure
+";
 
 #[test]
 fn a_test_narrows_a_copy(rt: HostRuntime) -> Result<(), Fail> {
-    let alloc = rt.alloc();
-    let env = env(alloc)?;
-    let so = narrow(alloc, &env, &not_none(alloc)?, true)?;
-    assert!(rt; maybe_is_sure(&so));
-    let not_so = narrow(alloc, &env, &not_none(alloc)?, false)?;
-    assert!(rt; !maybe_is_sure(&not_so));
-    assert!(rt; !maybe_is_sure(&env));
+    let rows = rows(rt.alloc(), NARROWED)?;
+    for row in &rows {
+        let point = point(rt.alloc(), METHOD, row.text.as_str())?;
+        let told = narrowed(rt.alloc(), &point);
+        drop(point);
+        assert_eq!(rt; told?.as_str(), row.wanted, "{}", row.label);
+    }
     Ok(())
 }
+
+/// The names that are surely not None once a test holds, and once it doesn't either.
+fn narrowed_here(alloc: Global, tree: &Parsed, env: &mut FlowEnv) -> Result<String, Fail> {
+    let test = test_at(tree, 0).ok_or("no test")?;
+    narrow_here(env, test, true);
+    let so = sure_names(alloc, &tree.names, env)?;
+    narrow_here(env, test, false);
+    let then = sure_names(alloc, &tree.names, env)?;
+    Ok(format!(in alloc; "{so}; {then}")?)
+}
+
+const NARROWED_HERE: &str = "
+    or shows where it doesn't hold | flag or maybe is None | sure; maybe,sure
+";
 
 #[test]
 fn a_test_narrows_in_place(rt: HostRuntime) -> Result<(), Fail> {
-    let alloc = rt.alloc();
-    let mut env = env(alloc)?;
-    let test = or_of(
-        at(1),
-        two(alloc, var(FLAG, 1), known(alloc, MAYBE, false)?)?,
-    );
-    narrow_here(&mut env, &test, true);
-    assert!(rt; !maybe_is_sure(&env));
-    narrow_here(&mut env, &test, false);
-    assert!(rt; maybe_is_sure(&env));
+    let rows = rows(rt.alloc(), NARROWED_HERE)?;
+    for row in &rows {
+        let mut point = point(rt.alloc(), METHOD, row.text.as_str())?;
+        let told = narrowed_here(rt.alloc(), &point.tree, &mut point.env);
+        drop(point);
+        assert_eq!(rt; told?.as_str(), row.wanted, "{}", row.label);
+    }
     Ok(())
 }
 
-/// Whether `maybe < 5` is a condition here.
-fn is_condition(alloc: Global, env: &FlowEnv) -> Result<bool, Fail> {
-    let names = Names::new(alloc);
-    let test = maybe_below(alloc)?;
-    Ok(condition(alloc, &tables(alloc)?, &names, env, &test).is_ok())
+/// Whether the last line is a condition where those before hold, or the rule that it breaks.
+fn judged(
+    alloc: Global,
+    tree: &Parsed,
+    tables: &Tables,
+    env: &mut FlowEnv,
+) -> Result<String, Fail> {
+    let mut answered = Ok(());
+    for number in 0..written(tree).len() {
+        let test = test_at(tree, number).ok_or("no test")?;
+        answered = condition(alloc, tables, &tree.names, env, test);
+        narrow_here(env, test, true);
+    }
+    match answered {
+        Ok(()) => Ok(String::from_str(alloc, "a condition")?),
+        Err(error) => Ok(refused(alloc, error)?),
+    }
 }
+
+const CONDITIONS: &str = "
+    what may be None     | maybe < 5                     | NoneUse 10:15
+    what is shown before | not (maybe is None)↵maybe < 5 | a condition
+    a number             | n                             | Operand 10:9
+";
 
 #[test]
 fn a_condition_is_bool(rt: HostRuntime) -> Result<(), Fail> {
-    let alloc = rt.alloc();
-    let mut env = env(alloc)?;
-    assert!(rt; !is_condition(alloc, &env)?);
-    narrow_here(&mut env, &not_none(alloc)?, true);
-    assert!(rt; is_condition(alloc, &env)?);
+    let rows = rows(rt.alloc(), CONDITIONS)?;
+    for row in &rows {
+        let mut point = point(rt.alloc(), METHOD, row.text.as_str())?;
+        let told = judged(rt.alloc(), &point.tree, &point.tables, &mut point.env);
+        drop(point);
+        assert_eq!(rt; told?.as_str(), row.wanted, "{}", row.label);
+    }
     Ok(())
 }

@@ -1,4 +1,4 @@
-//! Tests of the rules of the language on trees: class tables, types of expressions, and flow.
+//! Tests of the rules of the language on texts: class tables, types of expressions, and flow.
 #![tactic(auto)]
 
 #[cfg(test)]
@@ -8,6 +8,6 @@ mod expression_types;
 #[cfg(test)]
 mod flow;
 #[cfg(test)]
-mod lists;
+mod points;
 #[cfg(test)]
-mod names;
+mod telling;

@@ -1,149 +1,200 @@
 //! The bytes of values, requests, outcomes, batches and snapshots.
 
+use crate::hexes::bytes_of;
 use crate::kept::BATCH;
 use sf_bytes::{
     read_batch, read_outcome, read_request, read_snapshot, read_value, write_batch, write_outcome,
     write_request, write_snapshot, write_value,
 };
-use sf_value::{Act, BatchRecord, Value};
+use sf_value::{Act, BatchRecord};
 use std::alloc::{AllocError, Global};
 use std::test::Fail;
+use test_support::rows;
+use value_texts::{outcome_told, value_told, values_told};
 
-/// Whether a batch makes one entity of class 0 by the request `a`, and commits it.
-fn is_of_one_creation(batch: &BatchRecord) -> bool {
-    let Some(request) = batch.news.get(0) else {
-        return false;
+/// That bytes are read as this, and whether these are the bytes behind it, and it is written so again.
+fn reading(
+    alloc: Global,
+    bytes: &[u8],
+    told: &str,
+    written: &[u8],
+    taken: usize,
+) -> Result<String, AllocError> {
+    let rest = bytes.len().saturating_sub(taken);
+    if bytes.starts_with(written) && written.len() == taken {
+        return format!(in alloc; "{told}, {rest} left");
+    }
+    format!(in alloc; "{told}, written otherwise")
+}
+
+/// The value that bytes begin with.
+fn value_of(alloc: Global, bytes: &[u8]) -> Result<String, AllocError> {
+    let Some((item, taken)) = read_value(alloc, bytes)? else {
+        return String::from_str(alloc, "none");
     };
-    let is_first = batch.committed.as_slice() == [0].as_slice();
-    is_first && request.id.as_str() == "a" && matches!(request.act, Act::New { class: 0, .. })
+    let told = value_told(alloc, &item);
+    let written = write_value(alloc, &item);
+    drop(item);
+    reading(alloc, bytes, told?.as_str(), written?.as_slice(), taken)
+}
+
+/// What a request asks for.
+fn act_told(alloc: Global, act: &Act) -> Result<String, AllocError> {
+    match act {
+        Act::Call {
+            class,
+            key,
+            method,
+            args,
+        } => {
+            let args = values_told(alloc, args.as_slice())?;
+            format!(in alloc; "{class}:{}.{method}({args})", key.as_str())
+        }
+        Act::New { class, args } => {
+            let args = values_told(alloc, args.as_slice())?;
+            format!(in alloc; "new {class}({args})")
+        }
+    }
+}
+
+/// The request that bytes begin with.
+fn request_of(alloc: Global, bytes: &[u8]) -> Result<String, AllocError> {
+    let Some((item, taken)) = read_request(alloc, bytes)? else {
+        return String::from_str(alloc, "none");
+    };
+    let told = act_told(alloc, &item.act);
+    let written = write_request(alloc, &item);
+    drop(item);
+    reading(alloc, bytes, told?.as_str(), written?.as_slice(), taken)
+}
+
+/// The outcome that bytes begin with.
+fn outcome_of(alloc: Global, bytes: &[u8]) -> Result<String, AllocError> {
+    let Some((item, taken)) = read_outcome(alloc, bytes)? else {
+        return String::from_str(alloc, "none");
+    };
+    let told = outcome_told(alloc, &item);
+    let written = write_outcome(alloc, &item);
+    drop(item);
+    reading(alloc, bytes, told?.as_str(), written?.as_slice(), taken)
+}
+
+/// The new requests of a batch, and the places that it commits.
+fn batch_told(alloc: Global, batch: &BatchRecord) -> Result<String, AllocError> {
+    let mut told = String::new(alloc);
+    for request in batch.news.as_slice() {
+        let act = act_told(alloc, &request.act)?;
+        told.push_str(request.id.as_str())?;
+        told.push_str(": ")?;
+        told.push_str(act.as_str())?;
+        told.push_str(", ")?;
+    }
+    format!(in alloc; "{told}commits {:?}", batch.committed.as_slice())
+}
+
+/// The batch that bytes begin with.
+fn batch_of(alloc: Global, bytes: &[u8]) -> Result<String, AllocError> {
+    let Some((item, taken)) = read_batch(alloc, bytes)? else {
+        return String::from_str(alloc, "none");
+    };
+    let told = batch_told(alloc, &item);
+    let written = write_batch(alloc, &item);
+    drop(item);
+    reading(alloc, bytes, told?.as_str(), written?.as_slice(), taken)
+}
+
+/// The snapshot that bytes begin with, as the numbers of what it has.
+fn snapshot_of(alloc: Global, bytes: &[u8]) -> Result<String, AllocError> {
+    let Some((item, taken)) = read_snapshot(alloc, bytes)? else {
+        return String::from_str(alloc, "none");
+    };
+    let told = format!(in alloc;
+        "'{}' {} {} {}",
+        item.program.as_str(),
+        item.history.len(),
+        item.records.len(),
+        item.pending.len()
+    );
+    let written = write_snapshot(alloc, &item);
+    drop(item);
+    reading(alloc, bytes, told?.as_str(), written?.as_slice(), taken)
+}
+
+/// What bytes are that begin with the name of a thing.
+fn told(alloc: Global, text: &str) -> Result<String, Fail> {
+    let (thing, digits) = text.split_once(' ').ok_or("no bytes")?;
+    let bytes = bytes_of(alloc, digits)?;
+    let told = match thing {
+        "value" => value_of(alloc, bytes.as_slice()),
+        "request" => request_of(alloc, bytes.as_slice()),
+        "outcome" => outcome_of(alloc, bytes.as_slice()),
+        "batch" => batch_of(alloc, bytes.as_slice()),
+        "snapshot" => snapshot_of(alloc, bytes.as_slice()),
+        _ => String::from_str(alloc, "no thing"),
+    };
+    drop(bytes);
+    Ok(told?)
+}
+
+/// The first row whose bytes are something else, or nothing.
+fn other(alloc: Global, table: &str) -> Result<String, Fail> {
+    let rows = rows(alloc, table)?;
+    for row in &rows {
+        let told = told(alloc, row.text.as_str())?;
+        if told.as_str() != row.wanted {
+            return Ok(format!(in alloc; "{}: {told}", row.label)?);
+        }
+    }
+    Ok(String::new(alloc))
+}
+
+const THINGS: &str = "
+    None                                  | value 00                                                | None, 0 left
+    a list of a list of -1, and an entity | value 05 00000002 05 00000001 03 ffffffffffffffffffffffffffffffff 06 00000001 00000001 6b | [[-1], 1:k], 0 left
+    a call with an empty id and key       | request 00000000 00 00000001 00000000 00000000 00000000 | 1:.0(), 0 left
+    a creation with an empty id           | request 00000000 01 00000000 00000000                   | new 0(), 0 left
+    the value None                        | outcome 00 00                                           | None, 0 left
+    a failure of kind 12                  | outcome 01 0c 00000000                                  | StepLimit, 0 left
+    an empty batch                        | batch 00000000 00000000                                 | commits [], 0 left
+    a creation that is committed          | batch 00000001 00000001 61 01 00000000 00000002 04 00000005 6170706c65 03 00000000000000000000000000000003 00000001 00000000 | a: new 0('apple', 3), commits [0], 0 left
+    an empty snapshot                     | snapshot 00000000 00000000 0000000000000000 00000000    | '' 0 0 0, 0 left
+    bytes behind a value                  | value 02 09 09                                          | True, 2 left
+";
+
+#[test]
+fn each_thing_is_read_and_written_again(rt: HostRuntime) -> Result<(), Fail> {
+    let other = other(rt.alloc(), THINGS)?;
+    assert_eq!(rt; other.as_str(), "");
+    Ok(())
+}
+
+const NO_THINGS: &str = "
+    items that aren't there | value 05 ffffffff 00   | none
+    a text that is no UTF-8 | value 04 00000001 ff   | none
+    a tag too high          | value 07               | none
+    a failure of kind 13    | outcome 01 0d 00000000 | none
+    a failure of kind 0     | outcome 01 00 00000000 | none
+";
+
+#[test]
+fn what_is_no_value_is_none(rt: HostRuntime) -> Result<(), Fail> {
+    let other = other(rt.alloc(), NO_THINGS)?;
+    assert_eq!(rt; other.as_str(), "");
+    Ok(())
 }
 
 #[test]
 fn a_batch_is_read(rt: HostRuntime) -> Result<(), Fail> {
-    let (batch, taken) = read_batch(rt.alloc(), &BATCH)?.ok_or("no batch")?;
-    let is_right = is_of_one_creation(&batch);
-    drop(batch);
-    assert!(rt; is_right);
-    assert_eq!(rt; taken, 53);
+    let told = batch_of(rt.alloc(), &BATCH)?;
+    assert_eq!(rt; told.as_str(), "a: new 0('apple', 3), commits [0], 0 left");
     Ok(())
 }
 
 #[test]
 fn a_batch_that_is_cut_is_none(rt: HostRuntime) -> Result<(), Fail> {
     for length in 0..BATCH.len() {
-        assert!(rt; !is_batch(rt.alloc(), &BATCH[..length])?, "{length}");
+        let told = batch_of(rt.alloc(), &BATCH[..length])?;
+        assert_eq!(rt; told.as_str(), "none", "{length}");
     }
-    Ok(())
-}
-
-/// Whether these are the bytes of a value, and are written again.
-fn is_value(alloc: Global, bytes: &[u8]) -> Result<bool, AllocError> {
-    let Some((item, taken)) = read_value(alloc, bytes)? else {
-        return Ok(false);
-    };
-    let written = write_value(alloc, &item);
-    drop(item);
-    Ok(taken == bytes.len() && written?.as_slice() == bytes)
-}
-
-/// Whether these are the bytes of a request, and are written again.
-fn is_request(alloc: Global, bytes: &[u8]) -> Result<bool, AllocError> {
-    let Some((item, taken)) = read_request(alloc, bytes)? else {
-        return Ok(false);
-    };
-    let written = write_request(alloc, &item);
-    drop(item);
-    Ok(taken == bytes.len() && written?.as_slice() == bytes)
-}
-
-/// Whether these are the bytes of an outcome, and are written again.
-fn is_outcome(alloc: Global, bytes: &[u8]) -> Result<bool, AllocError> {
-    let Some((item, taken)) = read_outcome(alloc, bytes)? else {
-        return Ok(false);
-    };
-    let written = write_outcome(alloc, &item);
-    drop(item);
-    Ok(taken == bytes.len() && written?.as_slice() == bytes)
-}
-
-/// Whether these are the bytes of a batch, and are written again.
-fn is_batch(alloc: Global, bytes: &[u8]) -> Result<bool, AllocError> {
-    let Some((item, taken)) = read_batch(alloc, bytes)? else {
-        return Ok(false);
-    };
-    let written = write_batch(alloc, &item);
-    drop(item);
-    Ok(taken == bytes.len() && written?.as_slice() == bytes)
-}
-
-/// Whether these are the bytes of a snapshot, and are written again.
-fn is_snapshot(alloc: Global, bytes: &[u8]) -> Result<bool, AllocError> {
-    let Some((item, taken)) = read_snapshot(alloc, bytes)? else {
-        return Ok(false);
-    };
-    let written = write_snapshot(alloc, &item);
-    drop(item);
-    Ok(taken == bytes.len() && written?.as_slice() == bytes)
-}
-
-/// The list of the list of -1, and of the entity of class 1 with the key `k`.
-const NESTED: [u8; 37] = [
-    5, 0, 0, 0, 2, 5, 0, 0, 0, 1, 3, 255, 255, 255, 255, 255, 255, 255, 255, 255, 255, 255, 255,
-    255, 255, 255, 255, 6, 0, 0, 0, 1, 0, 0, 0, 1, b'k',
-];
-
-#[test]
-fn each_thing_is_read_and_written_again(rt: HostRuntime) -> Result<(), Fail> {
-    let alloc = rt.alloc();
-    assert!(rt; is_value(alloc, &[0])?, "None");
-    assert!(rt;
-        is_value(alloc, &NESTED)?,
-        "a list of a list of -1, and an entity"
-    );
-    assert!(rt;
-        is_request(alloc, &[0, 0, 0, 0, 1, 0, 0, 0, 0, 0, 0, 0, 0])?,
-        "an empty id"
-    );
-    assert!(rt; is_outcome(alloc, &[0, 0])?, "the value None");
-    assert!(rt;
-        is_outcome(alloc, &[1, 12, 0, 0, 0, 0])?,
-        "a failure of kind 12"
-    );
-    assert!(rt; is_batch(alloc, &[0; 8])?, "an empty batch");
-    assert!(rt; is_batch(alloc, &BATCH)?, "a creation that is committed");
-    assert!(rt; is_snapshot(alloc, &[0; 20])?, "an empty snapshot");
-    Ok(())
-}
-
-#[test]
-fn what_is_no_value_is_none(rt: HostRuntime) -> Result<(), Fail> {
-    let alloc = rt.alloc();
-    assert!(rt;
-        !is_value(alloc, &[5, 255, 255, 255, 255, 0])?,
-        "items that aren't there"
-    );
-    assert!(rt;
-        !is_value(alloc, &[4, 0, 0, 0, 1, 255])?,
-        "a text that is no UTF-8"
-    );
-    assert!(rt; !is_value(alloc, &[7])?, "a tag too high");
-    assert!(rt;
-        !is_outcome(alloc, &[1, 13, 0, 0, 0, 0])?,
-        "a failure of kind 13"
-    );
-    assert!(rt;
-        !is_outcome(alloc, &[1, 0, 0, 0, 0, 0])?,
-        "a failure of kind 0"
-    );
-    Ok(())
-}
-
-#[test]
-fn bytes_after_a_value_stay(rt: HostRuntime) -> Result<(), Fail> {
-    let (value, taken) = read_value(rt.alloc(), &[2, 9, 9])?.ok_or("no value")?;
-    let is_true = matches!(&value, Value::Bool(true));
-    drop(value);
-    assert!(rt; is_true);
-    assert_eq!(rt; taken, 1);
     Ok(())
 }

@@ -57,6 +57,17 @@ pub fn put<D: Disk>(disk: &mut D, file: StoreFile, bytes: &[u8]) -> Result<(), F
     disk.write_at(file, 0, &bytes[..bytes.len().min(64)])
 }
 
+/// The bytes of a file, of which there are at most 64.
+pub fn content<D: Disk>(
+    alloc: Global,
+    disk: &mut D,
+    file: StoreFile,
+) -> Result<Vec<u8>, SnapFault> {
+    let mut buf = [0; 64];
+    let count = disk.read_at(file, 0, &mut buf)?;
+    Ok(Vec::from_slice(alloc, &buf[..count.min(64)])?)
+}
+
 /// Keeps a snapshot where these are the bytes of one.
 pub fn keep<D: Disk>(alloc: Global, disk: &mut D, epoch: u64, body: &[u8]) -> Result<(), SnapFault>
     requires epoch { IsEpoch epoch }

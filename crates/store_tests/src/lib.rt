@@ -6,6 +6,8 @@ mod bytes;
 #[cfg(test)]
 mod devices;
 #[cfg(test)]
+mod hexes;
+#[cfg(test)]
 mod kept;
 #[cfg(test)]
 mod logs;

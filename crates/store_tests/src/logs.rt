@@ -1,19 +1,30 @@
 //! The bytes of a record, added and read on a disk in memory.
 
-use crate::kept::{RECORD, keep_and_add, new_disk, put};
+use crate::kept::{RECORD, content, keep_and_add, new_disk, put};
 use request_log::{LogFault, next};
-use sf_outside::{Disk, StoreFile};
-use std::alloc::Global;
+use sf_outside::StoreFile;
+use std::alloc::{AllocError, Global};
 use std::test::Fail;
+
+/// The place of the next gate, and the log of epoch 1, after a snapshot is kept and a batch is added.
+fn added(alloc: Global) -> Result<(u64, Vec<u8>), LogFault> {
+    let Ok(mut disk) = new_disk(alloc) else {
+        return Err(LogFault::Failed);
+    };
+    let next = keep_and_add(alloc, &mut disk);
+    let log = content(alloc, &mut disk, StoreFile::Log1);
+    drop(disk);
+    match log {
+        Ok(log) => Ok((next?, log)),
+        Err(_) => Err(LogFault::Failed),
+    }
+}
 
 #[test]
 fn a_record_is_added(rt: HostRuntime) -> Result<(), Fail> {
-    let alloc = rt.alloc();
-    let mut disk = new_disk(alloc)?;
-    assert_eq!(rt; keep_and_add(alloc, &mut disk), Ok(58));
-    let mut bytes = [9; 60];
-    assert_eq!(rt; disk.read_at(StoreFile::Log1, 0, &mut bytes), Ok(59));
-    assert_eq!(rt; &bytes[..59], RECORD.as_slice());
+    let (next, log) = added(rt.alloc())?;
+    assert_eq!(rt; next, 58);
+    assert_eq!(rt; log.as_slice(), RECORD.as_slice());
     Ok(())
 }
 
@@ -23,39 +34,45 @@ fn next_gate(alloc: Global, log: &[u8], at: u64) -> Result<Option<u64>, LogFault
         return Err(LogFault::Failed);
     };
     put(&mut disk, StoreFile::Log1, log)?;
-    Ok(next(alloc, &mut disk, StoreFile::Log1, at)?.map(|found| found.next))
+    let found = next(alloc, &mut disk, StoreFile::Log1, at);
+    drop(disk);
+    Ok(found?.map(|found| found.next))
 }
 
-#[test]
-fn a_log_that_is_cut_is_bad_where_a_gate_or_a_record_is_cut(rt: HostRuntime) {
-    for (label, length, at, wanted) in [
-        ("the whole record", 59, 0, Ok(Some(58))),
-        ("the gate behind it", 59, 58, Ok(None)),
-        ("the record without a gate behind it", 58, 0, Ok(Some(58))),
-        (
-            "the gate that is cut off",
-            58,
-            58,
-            Err(LogFault::Bad { at: 58 }),
-        ),
-        (
-            "a body without its last byte",
-            57,
-            0,
-            Err(LogFault::Bad { at: 0 }),
-        ),
-        ("half a body", 30, 0, Err(LogFault::Bad { at: 0 })),
-        ("half a length", 3, 0, Err(LogFault::Bad { at: 0 })),
-        ("a gate alone", 1, 0, Err(LogFault::Bad { at: 0 })),
-        ("no byte", 0, 0, Err(LogFault::Bad { at: 0 })),
-    ] {
-        let log = &RECORD[..RECORD.len().min(length)];
-        assert_eq!(rt; next_gate(rt.alloc(), log, at), wanted, "{label}");
+/// The same as a text.
+fn gate_told(alloc: Global, log: &[u8], at: u64) -> Result<String, AllocError> {
+    match next_gate(alloc, log, at) {
+        Ok(Some(next)) => format!(in alloc; "a record up to {next}"),
+        Ok(None) => String::from_str(alloc, "the end"),
+        Err(LogFault::Bad { at }) => format!(in alloc; "bad at {at}"),
+        Err(LogFault::Failed) => String::from_str(alloc, "failed"),
+        Err(LogFault::NoMemory) => Err(AllocError),
     }
 }
 
 #[test]
-fn a_record_that_claims_more_than_there_is_is_bad(rt: HostRuntime) {
-    let found = next_gate(rt.alloc(), &[0xA5, 255, 255, 255, 255, 0], 0);
-    assert_eq!(rt; found, Err(LogFault::Bad { at: 0 }));
+fn a_log_that_is_cut_is_bad_where_a_gate_or_a_record_is_cut(rt: HostRuntime) -> Result<(), Fail> {
+    for (label, length, at, wanted) in [
+        ("the whole record", 59, 0, "a record up to 58"),
+        ("the gate behind it", 59, 58, "the end"),
+        ("no gate behind it", 58, 0, "a record up to 58"),
+        ("the gate that is cut off", 58, 58, "bad at 58"),
+        ("a body without its last byte", 57, 0, "bad at 0"),
+        ("half a body", 30, 0, "bad at 0"),
+        ("half a length", 3, 0, "bad at 0"),
+        ("a gate alone", 1, 0, "bad at 0"),
+        ("no byte", 0, 0, "bad at 0"),
+    ] {
+        let log = &RECORD[..RECORD.len().min(length)];
+        let told = gate_told(rt.alloc(), log, at)?;
+        assert_eq!(rt; told.as_str(), wanted, "{label}");
+    }
+    Ok(())
+}
+
+#[test]
+fn a_record_that_claims_more_than_there_is_is_bad(rt: HostRuntime) -> Result<(), Fail> {
+    let told = gate_told(rt.alloc(), &[0xA5, 255, 255, 255, 255, 0], 0)?;
+    assert_eq!(rt; told.as_str(), "bad at 0");
+    Ok(())
 }

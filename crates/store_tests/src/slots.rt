@@ -3,33 +3,52 @@
 ghost use Rattle.sf_outside.specs.DiskModel.{Image};
 ghost use Rattle.snapshot_store.specs.SlotFile.{IsNew};
 
-use crate::kept::{NO_PROGRAM, PROGRAM_A, keep, keep_first, new_disk, put};
+use crate::hexes::bytes_of;
+use crate::kept::{NO_PROGRAM, PROGRAM_A, content, keep, keep_first, new_disk, put};
 use sf_outside::{Disk, StoreFile};
 use snapshot_store::{SnapFault, newest};
-use std::alloc::Global;
+use std::alloc::{AllocError, Global};
 use std::test::Fail;
+use test_support::rows;
 
 /// The epoch of the newest snapshot, or none where there is none.
 fn newest_epoch<D: Disk>(alloc: Global, disk: &mut D) -> Result<Option<u64>, SnapFault> {
     Ok(newest(alloc, disk)?.map(|found| found.epoch))
 }
 
+/// The same as a text.
+fn epoch_told(alloc: Global, found: Result<Option<u64>, SnapFault>) -> Result<String, AllocError> {
+    match found {
+        Ok(Some(epoch)) => format!(in alloc; "epoch {epoch}"),
+        Ok(None) => String::from_str(alloc, "no snapshot"),
+        Err(SnapFault::Bad { slot }) => format!(in alloc; "slot {slot} is bad"),
+        Err(SnapFault::Failed) => String::from_str(alloc, "failed"),
+        Err(SnapFault::NoMemory) => Err(AllocError),
+    }
+}
+
+/// The bytes of slot 1 and of the log of odd epochs, and the newest epoch, after a snapshot is kept.
+fn first_kept(alloc: Global) -> Result<(Vec<u8>, Vec<u8>, Option<u64>), SnapFault> {
+    let mut disk = new_disk(alloc)?;
+    keep_first(alloc, &mut disk, &PROGRAM_A)?;
+    let slot = content(alloc, &mut disk, StoreFile::Snap1)?;
+    let log = content(alloc, &mut disk, StoreFile::Log1);
+    let epoch = newest_epoch(alloc, &mut disk);
+    drop(disk);
+    Ok((slot, log?, epoch?))
+}
+
+/// An open gate, epoch 1, the length 21, and a body with the program `a`.
+const FIRST_SLOT: &str =
+    "a5 0000000000000001 0000000000000015 00000001 61 00000000 0000000000000000 00000000";
+
 #[test]
 fn the_first_snapshot_takes_slot_1(rt: HostRuntime) -> Result<(), Fail> {
-    let alloc = rt.alloc();
-    let mut disk = new_disk(alloc)?;
-    assert_eq!(rt; keep_first(alloc, &mut disk, &PROGRAM_A), Ok(()));
-    let mut slot = [9; 40];
-    assert_eq!(rt; disk.read_at(StoreFile::Snap1, 0, &mut slot), Ok(38));
-    assert_eq!(rt;
-        &slot[..17],
-        [0xA5, 0, 0, 0, 0, 0, 0, 0, 1, 0, 0, 0, 0, 0, 0, 0, 21].as_slice()
-    );
-    assert_eq!(rt; &slot[17..38], PROGRAM_A.as_slice());
-    let mut log = [9; 2];
-    assert_eq!(rt; disk.read_at(StoreFile::Log1, 0, &mut log), Ok(1));
-    assert_eq!(rt; log[0], 0);
-    assert_eq!(rt; newest_epoch(alloc, &mut disk), Ok(Some(1)));
+    let wanted = bytes_of(rt.alloc(), FIRST_SLOT)?;
+    let (slot, log, epoch) = first_kept(rt.alloc())?;
+    assert_eq!(rt; slot.as_slice(), wanted.as_slice());
+    assert_eq!(rt; log.as_slice(), [0].as_slice());
+    assert_eq!(rt; epoch, Some(1));
     Ok(())
 }
 
@@ -41,13 +60,20 @@ fn keep_two<D: Disk>(alloc: Global, disk: &mut D) -> Result<(), SnapFault>
     keep(alloc, disk, 2, &NO_PROGRAM)
 }
 
+/// How long slot 0 is, and the newest epoch, after two snapshots are kept.
+fn two_kept(alloc: Global) -> Result<(u64, Option<u64>), SnapFault> {
+    let mut disk = new_disk(alloc)?;
+    keep_two(alloc, &mut disk)?;
+    let length = disk.len(StoreFile::Snap0);
+    let epoch = newest_epoch(alloc, &mut disk);
+    drop(disk);
+    Ok((length?, epoch?))
+}
+
 #[test]
 fn the_second_takes_slot_0(rt: HostRuntime) -> Result<(), Fail> {
-    let alloc = rt.alloc();
-    let mut disk = new_disk(alloc)?;
-    assert_eq!(rt; keep_two(alloc, &mut disk), Ok(()));
-    assert_eq!(rt; disk.len(StoreFile::Snap0), Ok(37));
-    assert_eq!(rt; newest_epoch(alloc, &mut disk), Ok(Some(2)));
+    let kept = two_kept(rt.alloc())?;
+    assert_eq!(rt; kept, (37, Some(2)));
     Ok(())
 }
 
@@ -56,43 +82,35 @@ fn found_in(alloc: Global, first: &[u8], second: &[u8]) -> Result<Option<u64>, S
     let mut disk = new_disk(alloc)?;
     put(&mut disk, StoreFile::Snap0, first)?;
     put(&mut disk, StoreFile::Snap1, second)?;
-    newest_epoch(alloc, &mut disk)
+    let epoch = newest_epoch(alloc, &mut disk);
+    drop(disk);
+    epoch
 }
 
-/// The slot of epoch 1 up to the first byte of the length of its body.
-const CLAIM: [u8; 9] = [0xA5, 0, 0, 0, 0, 0, 0, 0, 1];
+/// The same of two slots whose bytes a text tells with a comma between them.
+fn told(alloc: Global, text: &str) -> Result<String, Fail> {
+    let (first, second) = text.split_once(',').ok_or("no two slots")?;
+    let first = bytes_of(alloc, first)?;
+    let second = bytes_of(alloc, second)?;
+    let found = found_in(alloc, first.as_slice(), second.as_slice());
+    Ok(epoch_told(alloc, found)?)
+}
+
+const SLOTS: &str = "
+    empty files          | ,                                      | no snapshot
+    gates alone          | a5, a5                                 | no snapshot
+    closed gates         | 00 07, 01 07                           | no snapshot
+    zeros in slot 1      | , a5 0000000000                        | slot 1 is bad
+    zeros in both        | a5 0000000000, a5 0000000000           | slot 0 is bad
+    a body of 2^62 bytes | , a5 0000000000000001 4000000000000000 | slot 1 is bad
+";
 
 #[test]
 fn a_slot_is_closed_or_bad(rt: HostRuntime) -> Result<(), Fail> {
-    let alloc = rt.alloc();
-    let zeros = [0xA5, 0, 0, 0, 0, 0];
-    let mut huge = [0; 17];
-    huge[..9].copy_from_slice(&CLAIM);
-    huge[9] = 0x40;
-    for (label, first, second, wanted) in [
-        ("empty files", [].as_slice(), [].as_slice(), Ok(None)),
-        ("gates alone", &[0xA5], &[0xA5], Ok(None)),
-        ("closed gates", &[0, 7], &[1, 7], Ok(None)),
-        (
-            "zeros in slot 1",
-            &[],
-            &zeros,
-            Err(SnapFault::Bad { slot: 1 }),
-        ),
-        (
-            "zeros in both",
-            &zeros,
-            &zeros,
-            Err(SnapFault::Bad { slot: 0 }),
-        ),
-        (
-            "a body of 2^62 bytes",
-            &[],
-            &huge,
-            Err(SnapFault::Bad { slot: 1 }),
-        ),
-    ] {
-        assert_eq!(rt; found_in(alloc, first, second), wanted, "{label}");
+    let rows = rows(rt.alloc(), SLOTS)?;
+    for row in &rows {
+        let told = told(rt.alloc(), row.text.as_str())?;
+        assert_eq!(rt; told.as_str(), row.wanted, "{}", row.label);
     }
     Ok(())
 }

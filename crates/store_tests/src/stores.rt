@@ -1,97 +1,118 @@
 //! A store that is found again, on a disk in memory.
 
+use crate::hexes::bytes_of;
 use crate::kept::{NO_PROGRAM, RECORD, failing_disk, keep_and_add, keep_first, new_disk, put};
 use recovery::{OpenFault, Opened, reopen};
-use sf_outside::{Disk, StoreFile};
+use sf_outside::{MemDisk, StoreFile};
 use snapshot_store::SnapFault;
-use std::alloc::Global;
+use std::alloc::{AllocError, Global};
 use std::test::Fail;
+use test_support::rows;
 
-/// The epoch, how many batches there are and where the first is, and where the log ends.
-fn summary(opened: &Opened) -> Option<(u64, usize, u64, u64)> {
+/// That a store is new, or its epoch, how many batches it has and from where, and where the log ends.
+fn opened_told(alloc: Global, opened: &Opened) -> Result<String, AllocError> {
     match opened {
-        Opened::New => None,
+        Opened::New => String::from_str(alloc, "new"),
         Opened::Old {
             epoch,
             batches,
             at,
             ..
         } => {
-            let first = batches.get(0)?;
-            Some((*epoch, batches.len(), first.at, *at))
+            let from = batches.get(0).map(|first| first.at).unwrap_or(*at);
+            format!(in alloc;
+                "epoch {epoch}, {} batches from {from} to {at}",
+                batches.len()
+            )
         }
     }
 }
 
-#[test]
-fn two_gates_alone_are_a_new_store(rt: HostRuntime) -> Result<(), Fail> {
-    let alloc = rt.alloc();
+/// What a disk has when it is found again, or where it is bad.
+fn reopened(alloc: Global, disk: &mut MemDisk) -> Result<String, AllocError> {
+    match reopen(alloc, disk) {
+        Ok(opened) => {
+            let told = opened_told(alloc, &opened);
+            drop(opened);
+            told
+        }
+        Err(OpenFault::Bad { file, at }) => format!(in alloc; "{file:?} is bad at {at}"),
+        Err(OpenFault::Failed) => String::from_str(alloc, "failed"),
+        Err(OpenFault::NoMemory) => Err(AllocError),
+    }
+}
+
+/// What a store is whose slots begin with these bytes.
+fn told_of_slots(alloc: Global, first: &[u8], second: &[u8]) -> Result<String, SnapFault> {
     let mut disk = new_disk(alloc)?;
-    assert_eq!(rt; disk.write_at(StoreFile::Snap0, 0, &[0xA5]), Ok(()));
-    assert_eq!(rt; disk.write_at(StoreFile::Snap1, 0, &[0xA5]), Ok(()));
-    let opened = reopen(alloc, &mut disk);
-    assert!(rt; matches!(opened, Ok(Opened::New)));
+    put(&mut disk, StoreFile::Snap0, first)?;
+    put(&mut disk, StoreFile::Snap1, second)?;
+    let told = reopened(alloc, &mut disk);
+    drop(disk);
+    Ok(told?)
+}
+
+/// The same of two slots whose bytes a text tells with a comma between them.
+fn told(alloc: Global, text: &str) -> Result<String, Fail> {
+    let (first, second) = text.split_once(',').ok_or("no two slots")?;
+    let first = bytes_of(alloc, first)?;
+    let second = bytes_of(alloc, second)?;
+    Ok(told_of_slots(alloc, first.as_slice(), second.as_slice())?)
+}
+
+const SLOTS: &str = "
+    two gates alone       | a5, a5          | new
+    an open slot of zeros | , a5 0000000000 | Snap1 is bad at 0
+";
+
+#[test]
+fn a_store_without_a_snapshot_is_new_or_bad(rt: HostRuntime) -> Result<(), Fail> {
+    let rows = rows(rt.alloc(), SLOTS)?;
+    for row in &rows {
+        let told = told(rt.alloc(), row.text.as_str())?;
+        assert_eq!(rt; told.as_str(), row.wanted, "{}", row.label);
+    }
     Ok(())
+}
+
+/// Where a record that is added ends, and what the store then is.
+fn added(alloc: Global) -> Result<String, SnapFault> {
+    let mut disk = new_disk(alloc)?;
+    let end = keep_and_add(alloc, &mut disk);
+    let told = reopened(alloc, &mut disk);
+    drop(disk);
+    Ok(format!(in alloc; "{end:?}: {}", told?)?)
 }
 
 #[test]
 fn a_snapshot_and_a_batch_are_found(rt: HostRuntime) -> Result<(), Fail> {
-    let alloc = rt.alloc();
-    let mut disk = new_disk(alloc)?;
-    assert_eq!(rt; keep_and_add(alloc, &mut disk), Ok(58));
-    let opened = reopen(alloc, &mut disk)?;
-    assert_eq!(rt; summary(&opened), Some((1, 1, 0, 58)));
+    let told = added(rt.alloc())?;
+    assert_eq!(rt; told.as_str(), "Ok(58): epoch 1, 1 batches from 0 to 58");
     Ok(())
 }
 
-/// Where a store is bad whose log of epoch 1 has these bytes.
-fn bad_place(alloc: Global, log: &[u8]) -> Result<Option<u64>, SnapFault> {
+/// What a store is that keeps a snapshot, and whose log has these bytes.
+fn told_of_log(alloc: Global, log: &[u8]) -> Result<String, SnapFault> {
     let mut disk = new_disk(alloc)?;
     keep_first(alloc, &mut disk, &NO_PROGRAM)?;
     put(&mut disk, StoreFile::Log1, log)?;
-    match reopen(alloc, &mut disk) {
-        Err(
-            OpenFault::Bad {
-                file: StoreFile::Log1,
-                at,
-            },
-        ) => Ok(Some(at)),
-        _ => Ok(None),
-    }
+    let told = reopened(alloc, &mut disk);
+    drop(disk);
+    Ok(told?)
 }
 
 #[test]
 fn a_log_that_is_cut_is_bad_at_a_gate(rt: HostRuntime) -> Result<(), Fail> {
     for (label, length, wanted) in [
-        ("the whole record", 59, None),
-        ("no gate behind the body", 58, Some(58)),
-        ("a body without its last byte", 57, Some(0)),
-        ("half a body", 30, Some(0)),
+        ("the whole record", 59, "epoch 1, 1 batches from 0 to 58"),
+        ("no gate behind the body", 58, "Log1 is bad at 58"),
+        ("a body without its last byte", 57, "Log1 is bad at 0"),
+        ("half a body", 30, "Log1 is bad at 0"),
     ] {
         let log = &RECORD[..RECORD.len().min(length)];
-        assert_eq!(rt; bad_place(rt.alloc(), log)?, wanted, "{label}");
+        let told = told_of_log(rt.alloc(), log)?;
+        assert_eq!(rt; told.as_str(), wanted, "{label}");
     }
-    Ok(())
-}
-
-#[test]
-fn an_open_slot_of_zeros_is_bad(rt: HostRuntime) -> Result<(), Fail> {
-    let alloc = rt.alloc();
-    let mut disk = new_disk(alloc)?;
-    assert_eq!(rt;
-        disk.write_at(StoreFile::Snap1, 0, &[0xA5, 0, 0, 0, 0, 0]),
-        Ok(())
-    );
-    let opened = reopen(alloc, &mut disk);
-    assert!(rt;
-        matches!(
-            opened,
-            Err(OpenFault::Bad {
-                file: StoreFile::Snap1,
-                at: 0
-            })
-        )
-    );
     Ok(())
 }
 
@@ -107,8 +128,14 @@ fn is_before_or_after(opened: &Opened, added: bool) -> bool {
 fn is_found_after_a_fault(alloc: Global, call: u64) -> Result<bool, SnapFault> {
     let mut disk = failing_disk(alloc, &[call])?;
     let added = keep_and_add(alloc, &mut disk).is_ok();
-    match reopen(alloc, &mut disk) {
-        Ok(opened) => Ok(is_before_or_after(&opened, added)),
+    let found = reopen(alloc, &mut disk);
+    drop(disk);
+    match found {
+        Ok(opened) => {
+            let is_found = is_before_or_after(&opened, added);
+            drop(opened);
+            Ok(is_found)
+        }
         Err(OpenFault::Failed) => Ok(added),
         Err(_) => Ok(false),
     }

@@ -1,8 +1,10 @@
-//! What several crates of tests share: tables of rows, and sample programs.
+//! What several crates of tests share: tables of rows, settings of their lines, and sample programs.
 #![tactic(auto)]
 
 mod programs;
+mod settings;
 mod tables;
 
 pub use programs::{COUNTER, NUM, SHOP};
+pub use settings::{Setting, text_in};
 pub use tables::{Row, rows};
