@@ -9,7 +9,9 @@ use Rattle.py_tree.specs.Reachability.{assigned_in}
 use Rattle.py_tree.specs.FlowEnvironment.{PlainLocal}
 use Rattle.py_tree.specs.Flow.{Known, Context, Way}
 use Rattle.entity_types.specs.declared.env.FlowEnv.{FlowEnv}
+use Rattle.entity_tables.specs.Views.{plain_tables}
 use Rattle.entity_types.specs.Views.{plain_locals}
+use Rattle.flow_types.specs.declared.context.Context.{Context as Standpoint}
 use Rattle.flow_types.specs.declared.known.Standing.{Standing}
 
 abbrev pub plain_standing : Standing → Known
@@ -24,6 +26,10 @@ plain_breaks = option_map plain_standings
 -- where the code of an environment stands
 abbrev pub context_of : List PlainTable → FlowEnv → Bool → Context
 context_of tables env in_loop = record { tables = tables; class = env.class; method = env.method; in_loop = in_loop }
+
+-- and where a statement stands, in a context, before what is known of the locals there
+abbrev pub seen_at : Standpoint → FlowEnv → Context
+seen_at here env = context_of (plain_tables here.tables.now) env here.in_loop
 
 abbrev pub way_of : FlowEnv → Option (List Standing) → Way
 way_of env breaks = record { locals = plain_locals env.locals; breaks = plain_breaks breaks }

@@ -5,10 +5,9 @@ ghost use Rattle.py_tree.specs.PlainTypes.{plain_ty, plain_written, type_of as t
 ghost use Rattle.py_tree.specs.PlainExpressions.{plain_expr};
 ghost use Rattle.py_tree.specs.PlainStatements.{plain_option};
 ghost use Rattle.py_tree.specs.Flow as spec;
-ghost use Rattle.entity_tables.specs.Views.{plain_tables};
 ghost use Rattle.entity_types.specs.Answers.{Types};
 ghost use Rattle.entity_types.specs.Views.{plain_locals};
-ghost use Rattle.flow_types.specs.Views.{context_of};
+ghost use Rattle.flow_types.specs.Views.{seen_at};
 ghost use Rattle.flow_types.specs.Answers.{Locates};
 
 use crate::context::Context;
@@ -33,7 +32,7 @@ fn assign_plainly(
     name: PlacedName,
     value: &Expr,
 ) -> Result<(), RuleError>
-    ensures { Locates (spec.plainly_assigned (context_of (plain_tables context.now.tables.now) env.old context.now.in_loop) (plain_locals env.old.locals) name (plain_expr value.now)) env.old env.new result }
+    ensures { Locates (spec.plainly_assigned (seen_at context.now env.old) (plain_locals env.old.locals) name (plain_expr value.now)) env.old env.new result }
 {
     let wanted = type_before(env.locals.as_slice(), name.name);
     let ty = type_at(alloc, context, env, wanted, value)?;
@@ -50,7 +49,7 @@ fn assign_first(
     ty: Ty,
     value: &Expr,
 ) -> Result<(), RuleError>
-    ensures { Locates (spec.assigned_as (context_of (plain_tables context.now.tables.now) env.old context.now.in_loop) (plain_locals env.old.locals) name (plain_ty ty) (plain_expr value.now) None) env.old env.new result }
+    ensures { Locates (spec.assigned_as (seen_at context.now env.old) (plain_locals env.old.locals) name (plain_ty ty) (plain_expr value.now) None) env.old env.new result }
 {
     let given = value_as(alloc, context, env, &ty, value)?;
     let may_be_none = has_none(&given);
@@ -68,7 +67,7 @@ fn assign_as(
     ty: Ty,
     value: &Expr,
 ) -> Result<(), RuleError>
-    ensures { Locates (spec.assigned_as (context_of (plain_tables context.now.tables.now) env.old context.now.in_loop) (plain_locals env.old.locals) name (plain_ty ty) (plain_expr value.now) (spec.earlier (plain_locals env.old.locals) name)) env.old env.new result }
+    ensures { Locates (spec.assigned_as (seen_at context.now env.old) (plain_locals env.old.locals) name (plain_ty ty) (plain_expr value.now) (spec.earlier (plain_locals env.old.locals) name)) env.old env.new result }
 {
     match type_before(env.locals.as_slice(), name.name) {
         None => assign_first(alloc, context, env, name, ty, value),
@@ -88,7 +87,7 @@ fn assign_to_local(
     ty: &Option<WrittenTy>,
     value: &Expr,
 ) -> Result<(), RuleError>
-    ensures { Locates (spec.local_assigned (context_of (plain_tables context.now.tables.now) env.old context.now.in_loop) (plain_locals env.old.locals) name (plain_option plain_written ty.now) (plain_expr value.now)) env.old env.new result }
+    ensures { Locates (spec.local_assigned (seen_at context.now env.old) (plain_locals env.old.locals) name (plain_option plain_written ty.now) (plain_expr value.now)) env.old env.new result }
 {
     check_local(context.tables, env.locals.as_slice(), name)?;
     match ty {
@@ -104,7 +103,7 @@ fn assign_to_local(
 /// Whether a field holds the key.
 #[tactic(auto, unfolding(py_tree::specs::Flow::is_key_field))]
 fn is_key_field(context: &Context<'_>, env: &FlowEnv, name: Name) -> bool
-    ensures { result ≡ spec.is_key_field (context_of (plain_tables context.now.tables.now) env.now context.now.in_loop) name.0 }
+    ensures { result ≡ spec.is_key_field (seen_at context.now env.now) name.0 }
 {
     match context.tables.get(env.class as usize) {
         None => false,
@@ -125,7 +124,7 @@ fn check_field(
     field: PlacedName,
     value: &Expr,
 ) -> Result<(), RuleError>
-    ensures { Types (λ done. plain_locals env.now.locals) (spec.field_assigned (context_of (plain_tables context.now.tables.now) env.now context.now.in_loop) (plain_locals env.now.locals) place field (plain_expr value.now)) result }
+    ensures { Types (λ done. plain_locals env.now.locals) (spec.field_assigned (seen_at context.now env.now) (plain_locals env.now.locals) place field (plain_expr value.now)) result }
 {
     let Some(ty) = field_of(context.tables.as_slice(), env.class, field.name) else {
         return Err(told(Rule::UnknownField, field.place));
@@ -146,7 +145,7 @@ fn check_declaration(
     ty: &WrittenTy,
     value: &Expr,
 ) -> Result<(), RuleError>
-    ensures { Types (λ done. plain_locals env.now.locals) (spec.field_declared (context_of (plain_tables context.now.tables.now) env.now context.now.in_loop) (plain_locals env.now.locals) place (type_written (plain_written ty.now)) (plain_expr value.now)) result }
+    ensures { Types (λ done. plain_locals env.now.locals) (spec.field_declared (seen_at context.now env.now) (plain_locals env.now.locals) place (type_written (plain_written ty.now)) (plain_expr value.now)) result }
 {
     refuse(env.method.is_some(), Rule::InitForm, place)?;
     let ty = type_of(alloc, ty)?;
@@ -165,7 +164,7 @@ pub fn assign(
     ty: &Option<WrittenTy>,
     value: &Expr,
 ) -> Result<(), RuleError>
-    ensures { Locates (spec.assigned (context_of (plain_tables context.now.tables.now) env.old context.now.in_loop) (plain_locals env.old.locals) place target (plain_option plain_written ty.now) (plain_expr value.now)) env.old env.new result }
+    ensures { Locates (spec.assigned (seen_at context.now env.old) (plain_locals env.old.locals) place target (plain_option plain_written ty.now) (plain_expr value.now)) env.old env.new result }
 {
     match target {
         Target::Local(name) => assign_to_local(alloc, context, env, name, ty, value),
@@ -202,7 +201,7 @@ fn check_augmented(op: BinOp, place: Place, left: &Ty, right: &Ty) -> Result<(),
 }
 
 fn is_key_target(context: &Context<'_>, env: &FlowEnv, target: Target) -> bool
-    ensures { result ≡ spec.is_key_target (context_of (plain_tables context.now.tables.now) env.now context.now.in_loop) target }
+    ensures { result ≡ spec.is_key_target (seen_at context.now env.now) target }
 {
     match target {
         Target::Local(_) => false,
@@ -219,7 +218,7 @@ fn store_combined(
     target: Target,
     ty: Ty,
 ) -> Result<(), RuleError>
-    ensures { Locates (spec.combined_stored (context_of (plain_tables context.now.tables.now) env.old context.now.in_loop) (plain_locals env.old.locals) target (plain_ty ty)) env.old env.new result }
+    ensures { Locates (spec.combined_stored (seen_at context.now env.old) (plain_locals env.old.locals) target (plain_ty ty)) env.old env.new result }
 {
     match target {
         Target::Local(name) => {
@@ -242,7 +241,7 @@ pub fn augment(
     op_place: Place,
     value: &Expr,
 ) -> Result<(), RuleError>
-    ensures { Locates (spec.augmentation (context_of (plain_tables context.now.tables.now) env.old context.now.in_loop) (plain_locals env.old.locals) place target op op_place (plain_expr value.now)) env.old env.new result }
+    ensures { Locates (spec.augmentation (seen_at context.now env.old) (plain_locals env.old.locals) place target op op_place (plain_expr value.now)) env.old env.new result }
 {
     let read = target_read(alloc, place, target)?;
     let left = type_at(alloc, context, env, None, &read)?;

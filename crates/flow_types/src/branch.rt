@@ -4,9 +4,8 @@ ghost use Rattle.std.specs.Prelude.{◌≡◌, [], ◌∷◌, true, false, List,
 ghost use Rattle.py_tree.specs.PlainExpressions.{plain_expr};
 ghost use Rattle.py_tree.specs.FlowEnvironment.{PlainLocal, shown, narrowed};
 ghost use Rattle.py_tree.specs.Flow as spec;
-ghost use Rattle.entity_tables.specs.Views.{plain_tables};
 ghost use Rattle.entity_types.specs.Views.{plain_local, plain_locals};
-ghost use Rattle.flow_types.specs.Views.{context_of, plain_standing, plain_standings, plain_breaks};
+ghost use Rattle.flow_types.specs.Views.{plain_standing, plain_standings, plain_breaks, seen_at};
 ghost use Rattle.flow_types.specs.Answers.{Splits};
 
 use crate::context::Context;
@@ -57,7 +56,7 @@ pub fn go_where_true(
     env: &mut FlowEnv,
     test: &Expr,
 ) -> Result<Standings, RuleError>
-    ensures { Splits (spec.condition_at (context_of (plain_tables context.now.tables.now) env.old context.now.in_loop) (plain_locals env.old.locals) (plain_expr test.now)) (plain_expr test.now) env.old env.new result }
+    ensures { Splits (spec.condition_at (seen_at context.now env.old) (plain_locals env.old.locals) (plain_expr test.now)) (plain_expr test.now) env.old env.new result }
 {
     check_condition(alloc, context, env, test)?;
     let otherwise = known_where_false(alloc, env.locals.as_slice(), test)?;

@@ -6,9 +6,8 @@ ghost use Rattle.py_tree.specs.PlainStatements.{plain_over, plain_stmts, stmts_o
 ghost use Rattle.py_tree.specs.Reachability.{assigned_in};
 ghost use Rattle.py_tree.specs.ExpressionTypes.{with_found};
 ghost use Rattle.py_tree.specs.Flow as spec;
-ghost use Rattle.entity_tables.specs.Views.{plain_tables};
 ghost use Rattle.entity_types.specs.Views.{plain_locals};
-ghost use Rattle.flow_types.specs.Views.{context_of};
+ghost use Rattle.flow_types.specs.Views.{seen_at};
 ghost use Rattle.flow_types.specs.Answers.{Locates, Enters};
 ghost use Rattle.flow_types.specs.Parts.{for_entry};
 
@@ -60,7 +59,7 @@ pub fn enter_for(
     over: &Over,
     body: &[Stmt],
 ) -> Result<Standings, RuleError>
-    ensures { Enters (for_entry (context_of (plain_tables context.now.tables.now) env.old context.now.in_loop) (plain_locals env.old.locals) name (plain_over over.now) (stmts_of (plain_stmts body.now))) env.old env.new result }
+    ensures { Enters (for_entry (seen_at context.now env.old) (plain_locals env.old.locals) name (plain_over over.now) (stmts_of (plain_stmts body.now))) env.old env.new result }
 {
     let item = item_of(alloc, context, env, over)?;
     check_local(context.tables, env.locals.as_slice(), name)?;

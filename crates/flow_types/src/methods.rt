@@ -9,7 +9,7 @@ ghost use Rattle.entity_tables.specs.Answers.{Finds};
 ghost use Rattle.entity_tables.specs.Views.{plain_sig_param, plain_sig, plain_tables};
 ghost use Rattle.entity_types.specs.Answers.{Types};
 ghost use Rattle.entity_types.specs.Views.{plain_local, plain_locals};
-ghost use Rattle.flow_types.specs.Views.{context_of};
+ghost use Rattle.flow_types.specs.Views.{seen_at};
 
 use crate::context::Context;
 use crate::known::{known_at, settle};
@@ -78,7 +78,7 @@ fn init_locals(alloc: Global, tables: &Tables, class: u32) -> Result<Locals, All
 
 /// Whether None belongs to the result type of a method.
 fn may_give_none(context: &Context<'_>, env: &FlowEnv) -> bool
-    ensures { result ≡ none_in (spec.result_at (context_of (plain_tables context.now.tables.now) env.now context.now.in_loop)) }
+    ensures { result ≡ none_in (spec.result_at (seen_at context.now env.now)) }
 {
     match result_at(context, env) {
         None => true,

@@ -7,9 +7,8 @@ ghost use Rattle.py_tree.specs.PlainTypes.{plain_written};
 ghost use Rattle.py_tree.specs.PlainExpressions.{plain_expr};
 ghost use Rattle.py_tree.specs.PlainStatements.{PBreak, PContinue, PDo, PReturn, PRaise, PAssert, PAssign, PAugment, plain_option};
 ghost use Rattle.py_tree.specs.Flow as spec;
-ghost use Rattle.entity_tables.specs.Views.{plain_tables};
 ghost use Rattle.flow_types.specs.declared.known.Standing.{Standing as Stands};
-ghost use Rattle.flow_types.specs.Views.{context_of, way_of};
+ghost use Rattle.flow_types.specs.Views.{way_of, seen_at};
 ghost use Rattle.flow_types.specs.Answers.{Flows};
 
 use crate::assign::{assign, augment};
@@ -30,7 +29,7 @@ pub fn break_off(
     breaks: &mut Option<Standings>,
     place: Place,
 ) -> Result<bool, RuleError>
-    ensures { Flows (spec.flow (context_of (plain_tables context.now.tables.now) env.now context.now.in_loop) (way_of env.now breaks.old) (PBreak place)) false env.now env.now breaks.new result }
+    ensures { Flows (spec.flow (seen_at context.now env.now) (way_of env.now breaks.old) (PBreak place)) false env.now env.now breaks.new result }
 {
     refuse(!context.in_loop, Rule::LoopWord, place)?;
     join_way(alloc, breaks, true, env.locals.as_slice())?;
@@ -40,7 +39,7 @@ pub fn break_off(
 /// `continue`.
 #[tactic(auto, unfolding(py_tree::specs::Flow::flow))]
 pub fn go_to_head(context: &Context<'_>, env: &FlowEnv, place: Place) -> Result<bool, RuleError>
-    ensures { (breaks : Perhaps (List Stands)) → Flows (spec.flow (context_of (plain_tables context.now.tables.now) env.now context.now.in_loop) (way_of env.now breaks) (PContinue place)) false env.now env.now breaks result }
+    ensures { (breaks : Perhaps (List Stands)) → Flows (spec.flow (seen_at context.now env.now) (way_of env.now breaks) (PContinue place)) false env.now env.now breaks result }
 {
     refuse(!context.in_loop, Rule::LoopWord, place)?;
     Ok(false)
@@ -54,7 +53,7 @@ pub fn evaluate(
     env: &FlowEnv,
     value: &Expr,
 ) -> Result<bool, RuleError>
-    ensures { (at : At) (breaks : Perhaps (List Stands)) → Flows (spec.flow (context_of (plain_tables context.now.tables.now) env.now context.now.in_loop) (way_of env.now breaks) (PDo at (plain_expr value.now))) true env.now env.now breaks result }
+    ensures { (at : At) (breaks : Perhaps (List Stands)) → Flows (spec.flow (seen_at context.now env.now) (way_of env.now breaks) (PDo at (plain_expr value.now))) true env.now env.now breaks result }
 {
     type_at(alloc, context, env, None, value)?;
     Ok(true)
@@ -69,7 +68,7 @@ pub fn return_here(
     place: Place,
     value: &Option<Expr>,
 ) -> Result<bool, RuleError>
-    ensures { (breaks : Perhaps (List Stands)) → Flows (spec.flow (context_of (plain_tables context.now.tables.now) env.now context.now.in_loop) (way_of env.now breaks) (PReturn place (plain_option plain_expr value.now))) false env.now env.now breaks result }
+    ensures { (breaks : Perhaps (List Stands)) → Flows (spec.flow (seen_at context.now env.now) (way_of env.now breaks) (PReturn place (plain_option plain_expr value.now))) false env.now env.now breaks result }
 {
     check_return(alloc, context, env, place, value)?;
     Ok(false)
@@ -83,7 +82,7 @@ pub fn raise_here(
     env: &FlowEnv,
     message: &Option<Expr>,
 ) -> Result<bool, RuleError>
-    ensures { (at : At) (kind : ℕ) (breaks : Perhaps (List Stands)) → Flows (spec.flow (context_of (plain_tables context.now.tables.now) env.now context.now.in_loop) (way_of env.now breaks) (PRaise at kind (plain_option plain_expr message.now))) false env.now env.now breaks result }
+    ensures { (at : At) (kind : ℕ) (breaks : Perhaps (List Stands)) → Flows (spec.flow (seen_at context.now env.now) (way_of env.now breaks) (PRaise at kind (plain_option plain_expr message.now))) false env.now env.now breaks result }
 {
     check_message(alloc, context, env, message)?;
     Ok(false)
@@ -98,7 +97,7 @@ pub fn assert_here(
     test: &Expr,
     message: &Option<Expr>,
 ) -> Result<bool, RuleError>
-    ensures { (at : At) (breaks : Perhaps (List Stands)) → Flows (spec.flow (context_of (plain_tables context.now.tables.now) env.old context.now.in_loop) (way_of env.old breaks) (PAssert at (plain_expr test.now) (plain_option plain_expr message.now))) true env.old env.new breaks result }
+    ensures { (at : At) (breaks : Perhaps (List Stands)) → Flows (spec.flow (seen_at context.now env.old) (way_of env.old breaks) (PAssert at (plain_expr test.now) (plain_option plain_expr message.now))) true env.old env.new breaks result }
 {
     check_condition(alloc, context, env, test)?;
     check_message(alloc, context, env, message)?;
@@ -117,7 +116,7 @@ pub fn assign_here(
     ty: &Option<WrittenTy>,
     value: &Expr,
 ) -> Result<bool, RuleError>
-    ensures { (breaks : Perhaps (List Stands)) → Flows (spec.flow (context_of (plain_tables context.now.tables.now) env.old context.now.in_loop) (way_of env.old breaks) (PAssign place target (plain_option plain_written ty.now) (plain_expr value.now))) true env.old env.new breaks result }
+    ensures { (breaks : Perhaps (List Stands)) → Flows (spec.flow (seen_at context.now env.old) (way_of env.old breaks) (PAssign place target (plain_option plain_written ty.now) (plain_expr value.now))) true env.old env.new breaks result }
 {
     assign(alloc, context, env, place, target, ty, value)?;
     Ok(true)
@@ -135,7 +134,7 @@ pub fn augment_here(
     op_place: Place,
     value: &Expr,
 ) -> Result<bool, RuleError>
-    ensures { (breaks : Perhaps (List Stands)) → Flows (spec.flow (context_of (plain_tables context.now.tables.now) env.old context.now.in_loop) (way_of env.old breaks) (PAugment place target op op_place (plain_expr value.now))) true env.old env.new breaks result }
+    ensures { (breaks : Perhaps (List Stands)) → Flows (spec.flow (seen_at context.now env.old) (way_of env.old breaks) (PAugment place target op op_place (plain_expr value.now))) true env.old env.new breaks result }
 {
     augment(alloc, context, env, place, target, op, op_place, value)?;
     Ok(true)

@@ -9,10 +9,9 @@ ghost use Rattle.py_tree.specs.ClassRules.{broken};
 ghost use Rattle.py_tree.specs.ExpressionTypes.{assignable as assigns};
 ghost use Rattle.py_tree.specs.Flow as spec;
 ghost use Rattle.entity_tables.specs.Answers.{Finds};
-ghost use Rattle.entity_tables.specs.Views.{plain_tables};
 ghost use Rattle.entity_types.specs.Answers.{Types, Checks};
 ghost use Rattle.entity_types.specs.Views.{plain_locals, plain_wanted};
-ghost use Rattle.flow_types.specs.Views.{context_of};
+ghost use Rattle.flow_types.specs.Views.{seen_at};
 
 use crate::context::Context;
 use entity_types::types::{assignable, element_of, has_none, is_int, is_str};
@@ -29,7 +28,7 @@ pub fn type_at(
     wanted: Option<&Ty>,
     expr: &Expr,
 ) -> Result<Ty, RuleError>
-    ensures { Types plain_ty (spec.type_at (context_of (plain_tables context.now.tables.now) env.now context.now.in_loop) (plain_locals env.now.locals) (plain_wanted wanted.entry) (plain_expr expr.now)) result }
+    ensures { Types plain_ty (spec.type_at (seen_at context.now env.now) (plain_locals env.now.locals) (plain_wanted wanted.entry) (plain_expr expr.now)) result }
 {
     type_expr(alloc, context.tables, context.names, env, wanted, expr)
 }
@@ -41,7 +40,7 @@ pub fn check_condition(
     env: &FlowEnv,
     test: &Expr,
 ) -> Result<(), RuleError>
-    ensures { Checks (spec.condition_at (context_of (plain_tables context.now.tables.now) env.now context.now.in_loop) (plain_locals env.now.locals) (plain_expr test.now)) result }
+    ensures { Checks (spec.condition_at (seen_at context.now env.now) (plain_locals env.now.locals) (plain_expr test.now)) result }
 {
     condition(alloc, context.tables, context.names, env, test)
 }
@@ -55,7 +54,7 @@ pub fn value_as(
     wanted: &Ty,
     value: &Expr,
 ) -> Result<Ty, RuleError>
-    ensures { Types plain_ty (spec.value_as (context_of (plain_tables context.now.tables.now) env.now context.now.in_loop) (plain_locals env.now.locals) (plain_ty wanted.now) (plain_expr value.now)) result }
+    ensures { Types plain_ty (spec.value_as (seen_at context.now env.now) (plain_locals env.now.locals) (plain_ty wanted.now) (plain_expr value.now)) result }
 {
     let ty = type_at(alloc, context, env, Some(wanted), value)?;
     refuse(!assignable(&ty, wanted), Rule::Mismatch, value.place)?;
@@ -70,7 +69,7 @@ fn number_at(
     env: &FlowEnv,
     expr: &Expr,
 ) -> Result<Ty, RuleError>
-    ensures { Types plain_ty (spec.number_at (context_of (plain_tables context.now.tables.now) env.now context.now.in_loop) (plain_locals env.now.locals) (plain_expr expr.now)) result }
+    ensures { Types plain_ty (spec.number_at (seen_at context.now env.now) (plain_locals env.now.locals) (plain_expr expr.now)) result }
 {
     let ty = type_at(alloc, context, env, None, expr)?;
     refuse(has_none(&ty), Rule::NoneUse, expr.place)?;
@@ -86,7 +85,7 @@ fn item_in(
     env: &FlowEnv,
     items: &Expr,
 ) -> Result<Ty, RuleError>
-    ensures { Types plain_ty (spec.item_of (context_of (plain_tables context.now.tables.now) env.now context.now.in_loop) (plain_locals env.now.locals) (PItems (plain_expr items.now))) result }
+    ensures { Types plain_ty (spec.item_of (seen_at context.now env.now) (plain_locals env.now.locals) (PItems (plain_expr items.now))) result }
 {
     let ty = type_at(alloc, context, env, None, items)?;
     refuse(has_none(&ty), Rule::NoneUse, items.place)?;
@@ -104,7 +103,7 @@ pub fn item_of(
     env: &FlowEnv,
     over: &Over,
 ) -> Result<Ty, RuleError>
-    ensures { Types plain_ty (spec.item_of (context_of (plain_tables context.now.tables.now) env.now context.now.in_loop) (plain_locals env.now.locals) (plain_over over.now)) result }
+    ensures { Types plain_ty (spec.item_of (seen_at context.now env.now) (plain_locals env.now.locals) (plain_over over.now)) result }
 {
     match over {
         Over::Items(items) => item_in(alloc, context, env, items),
@@ -119,7 +118,7 @@ pub fn item_of(
 /// The result type of the method, which `__init__` hasn't.
 #[tactic(auto, unfolding(py_tree::specs::Flow::result_at))]
 pub fn result_at<'a>(context: &Context<'a>, env: &FlowEnv) -> Option<&'a Ty>
-    ensures { unwrap_or (plain_wanted result) TNil ≡ spec.result_at (context_of (plain_tables context.now.tables.now) env.now context.now.in_loop) }
+    ensures { unwrap_or (plain_wanted result) TNil ≡ spec.result_at (seen_at context.now env.now) }
 {
     let table = context.tables.get(env.class as usize)?;
     let number = env.method?;
@@ -144,7 +143,7 @@ pub fn check_return(
     place: Place,
     value: &Option<Expr>,
 ) -> Result<(), RuleError>
-    ensures { Finds (spec.return_fault (context_of (plain_tables context.now.tables.now) env.now context.now.in_loop) (plain_locals env.now.locals) place (plain_option plain_expr value.now)) result }
+    ensures { Finds (spec.return_fault (seen_at context.now env.now) (plain_locals env.now.locals) place (plain_option plain_expr value.now)) result }
 {
     let nothing = Ty::Nil;
     let wanted = result_at(context, env).unwrap_or(&nothing);
@@ -165,7 +164,7 @@ pub fn check_message(
     env: &FlowEnv,
     message: &Option<Expr>,
 ) -> Result<(), RuleError>
-    ensures { Finds (spec.message_fault (context_of (plain_tables context.now.tables.now) env.now context.now.in_loop) (plain_locals env.now.locals) (plain_option plain_expr message.now)) result }
+    ensures { Finds (spec.message_fault (seen_at context.now env.now) (plain_locals env.now.locals) (plain_option plain_expr message.now)) result }
 {
     match message {
         None => Ok(()),
