@@ -30,3 +30,7 @@ pub mod Soundness
 mod FitsExamples
 pub mod HereLaws
 pub mod PurityLaws
+pub mod LightOperations
+pub mod LightExpressions
+pub mod Traversal
+pub mod LightCalls

@@ -13,3 +13,4 @@ pub mod Fits
 pub mod PointFits
 pub mod NothingGoesWrong
 pub mod Here
+pub mod LightValues

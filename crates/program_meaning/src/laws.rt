@@ -1,5 +1,7 @@
 //! What the meaning says by itself.
 
+ghost use Rattle.program_meaning.specs.Calls.{InEachWorld};
+ghost use Rattle.program_meaning.specs.LightValues.{ExpressionsAreLight, ItemsAreLight, BodiesAreLight, CallsAreLight, OwnCallsAreLight, RunsAreLight};
 ghost use Rattle.program_meaning.specs.NothingGoesWrong.{FirstFits, RunsFit, HistoriesFit, ExpressionsFit, StatementsFit, CallsKeepFit, InitsFit, CheckedAreKnown};
 
 /// Nothing goes wrong in an accepted program. In its methods what an expression gives fits the
@@ -17,4 +19,16 @@ pub fn nothing_goes_wrong()
     ensures calls { CallsKeepFit }
     ensures inits { InitsFit }
     ensures checked { CheckedAreKnown }
+{}
+
+/// Values are light: what an expression gives weighs no more than a value may, where calls give
+/// such values; so do the bodies of methods, the calls of the source, on the state and within one
+/// record, and requests.
+pub fn values_are_light()
+    ensures expressions { InEachWorld ExpressionsAreLight }
+    ensures items { InEachWorld ItemsAreLight }
+    ensures bodies { InEachWorld BodiesAreLight }
+    ensures calls { CallsAreLight }
+    ensures own_calls { InEachWorld OwnCallsAreLight }
+    ensures runs { RunsAreLight }
 {}
