@@ -34,3 +34,5 @@ pub mod LightOperations
 pub mod LightExpressions
 pub mod Traversal
 pub mod LightCalls
+pub mod StepsTaken
+pub mod TurnsEnough

@@ -152,7 +152,7 @@ module _ {W : Type 0} (P : (A : Type 0) → (W → ℕ → Gives W A) → Type 0
   store_keeps (target.Local x) v vars = k.goes (assigned vars x.name.0 v)
   store_keeps (target.Field x) v vars = k.writes vars (λ fields. with_field (fields_of s.src s.me.0) fields x.name.0 v)
 
-  message_keeps : (e : Option PlainExpr) (vars : List Var) → P (List ℕ) (message s e vars)
+  pub message_keeps : (e : Option PlainExpr) (vars : List Var) → P (List ℕ) (message s e vars)
   unfolding message
   message_keeps None vars = k.gives []
   message_keeps (Some e) vars = k.follows (eval s e vars) _ (eval_keeps e vars) (λ v. k.gives (text_of v))

@@ -14,3 +14,4 @@ pub mod PointFits
 pub mod NothingGoesWrong
 pub mod Here
 pub mod LightValues
+pub mod StepsLeft

@@ -2,6 +2,7 @@
 
 ghost use Rattle.program_meaning.specs.Calls.{InEachWorld};
 ghost use Rattle.program_meaning.specs.LightValues.{ExpressionsAreLight, ItemsAreLight, BodiesAreLight, CallsAreLight, OwnCallsAreLight, RunsAreLight};
+ghost use Rattle.program_meaning.specs.StepsLeft.{ExpressionsTakeSteps, StatementsTakeSteps, SourceTakesSteps, OwnCallsTakeSteps, TurnsAreEnough, NumbersAreEnough};
 ghost use Rattle.program_meaning.specs.NothingGoesWrong.{FirstFits, RunsFit, HistoriesFit, ExpressionsFit, StatementsFit, CallsKeepFit, InitsFit, CheckedAreKnown};
 
 /// Nothing goes wrong in an accepted program. In its methods what an expression gives fits the
@@ -31,4 +32,15 @@ pub fn values_are_light()
     ensures calls { CallsAreLight }
     ensures own_calls { InEachWorld OwnCallsAreLight }
     ensures runs { RunsAreLight }
+{}
+
+/// Steps never grow, where calls give none back; the calls of the source don't. A loop has turns
+/// enough where it has more than there are steps.
+pub fn steps_never_grow()
+    ensures expressions { InEachWorld ExpressionsTakeSteps }
+    ensures statements { InEachWorld StatementsTakeSteps }
+    ensures calls { SourceTakesSteps }
+    ensures own_calls { InEachWorld OwnCallsTakeSteps }
+    ensures turns { InEachWorld TurnsAreEnough }
+    ensures numbers { InEachWorld NumbersAreEnough }
 {}
