@@ -36,3 +36,4 @@ pub mod Traversal
 pub mod LightCalls
 pub mod StepsTaken
 pub mod TurnsEnough
+pub mod NotReached

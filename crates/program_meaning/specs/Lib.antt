@@ -15,3 +15,4 @@ pub mod NothingGoesWrong
 pub mod Here
 pub mod LightValues
 pub mod StepsLeft
+pub mod Reached

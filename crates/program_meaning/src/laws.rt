@@ -2,6 +2,7 @@
 
 ghost use Rattle.program_meaning.specs.Calls.{InEachWorld};
 ghost use Rattle.program_meaning.specs.LightValues.{ExpressionsAreLight, ItemsAreLight, BodiesAreLight, CallsAreLight, OwnCallsAreLight, RunsAreLight};
+ghost use Rattle.program_meaning.specs.Reached.{PointsAreReached};
 ghost use Rattle.program_meaning.specs.StepsLeft.{ExpressionsTakeSteps, StatementsTakeSteps, SourceTakesSteps, OwnCallsTakeSteps, TurnsAreEnough, NumbersAreEnough};
 ghost use Rattle.program_meaning.specs.NothingGoesWrong.{FirstFits, RunsFit, HistoriesFit, ExpressionsFit, StatementsFit, CallsKeepFit, InitsFit, CheckedAreKnown};
 
@@ -43,4 +44,10 @@ pub fn steps_never_grow()
     ensures own_calls { InEachWorld OwnCallsTakeSteps }
     ensures turns { InEachWorld TurnsAreEnough }
     ensures numbers { InEachWorld NumbersAreEnough }
+{}
+
+/// A point that can't be reached never is, whatever the program: statements go on, and leave the
+/// loop around them, only where they may.
+pub fn points_are_reached()
+    ensures { InEachWorld PointsAreReached }
 {}
