@@ -37,3 +37,5 @@ pub mod LightCalls
 pub mod StepsTaken
 pub mod TurnsEnough
 pub mod NotReached
+pub mod QuietViews
+pub mod HereInState

@@ -16,3 +16,4 @@ pub mod Here
 pub mod LightValues
 pub mod StepsLeft
 pub mod Reached
+pub mod HereInState

@@ -1,6 +1,7 @@
 //! What the meaning says by itself.
 
 ghost use Rattle.program_meaning.specs.Calls.{InEachWorld};
+ghost use Rattle.program_meaning.specs.HereInState.{ExpressionsAlike, StatementsAlike};
 ghost use Rattle.program_meaning.specs.LightValues.{ExpressionsAreLight, ItemsAreLight, BodiesAreLight, CallsAreLight, OwnCallsAreLight, RunsAreLight};
 ghost use Rattle.program_meaning.specs.Reached.{PointsAreReached};
 ghost use Rattle.program_meaning.specs.StepsLeft.{ExpressionsTakeSteps, StatementsTakeSteps, SourceTakesSteps, OwnCallsTakeSteps, TurnsAreEnough, NumbersAreEnough};
@@ -50,4 +51,12 @@ pub fn steps_never_grow()
 /// loop around them, only where they may.
 pub fn points_are_reached()
     ensures { InEachWorld PointsAreReached }
+{}
+
+/// Code that doesn't suspend does the same on the whole state and on the record of its entity,
+/// where that is there and was read: what it gives, how it ends, the locals and the steps that it
+/// leaves, and the record. Nothing else of the world changes.
+pub fn code_here_is_in_state()
+    ensures expressions { ExpressionsAlike }
+    ensures statements { StatementsAlike }
 {}
