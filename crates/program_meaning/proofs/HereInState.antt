@@ -35,7 +35,7 @@ cond_twice : {A : Type 0} (c : Bool) (x y z : A) → cond c x (cond c y z) ≡ c
 cond_twice true x y z = refl
 cond_twice false x y z = refl
 
-added_twice : (s : Keys) (k : Key) → set.insert (set.insert s k) k ≡ set.insert s k
+pub added_twice : (s : Keys) (k : Key) → set.insert (set.insert s k) k ≡ set.insert s k
 added_twice s k = set.same_set key_total key_exact _ _ (λ q.
     set.contains-insert key_total (set.insert s k) k q
     ∙ ap (λ b. eq_by_cmp key_cmp q k || b) (set.contains-insert key_total s k q)
@@ -52,13 +52,13 @@ put_twice s k x y = map.same_map key_total key_exact _ _ (λ q.
 written_twice : (w : World) (me : Key) (x y : List Value) → writing (writing w me x) me y ≡ writing w me y
 written_twice w me x y = λ i. record { state = put_twice w.state me x y i; reads = w.reads; writes = added_twice w.writes me i }
 
-written_there : (w : World) (me : Key) (x : List Value) → map.get (writing w me x).state me ≡ Some x
+pub written_there : (w : World) (me : Key) (x : List Value) → map.get (writing w me x).state me ≡ Some x
 written_there w me x = map.get-insert key_total w.state me x me ∙ ap (λ b. cond b (Some x) (map.get w.state me)) (same_tie me)
 
 abbrev reads_of : World → Keys
 reads_of w = w.reads
 
-written_read : (w : World) (me : Key) (x : List Value) → reading w me ≡ w → reading (writing w me x) me ≡ writing w me x
+pub written_read : (w : World) (me : Key) (x : List Value) → reading w me ≡ w → reading (writing w me x) me ≡ writing w me x
 written_read w me x read = ap (λ keys. record { state = map.insert w.state me x; reads = keys; writes = set.insert w.writes me }) (ap reads_of read)
 
 left_again : (wrote : Bool) (start : World) (me : Key) (x y : List Value) → writing (left_by me start (record { fields = x; wrote = wrote })) me y ≡ writing start me y

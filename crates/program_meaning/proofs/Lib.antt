@@ -39,3 +39,4 @@ pub mod TurnsEnough
 pub mod NotReached
 pub mod QuietViews
 pub mod HereInState
+pub mod HereFits

@@ -17,3 +17,4 @@ pub mod LightValues
 pub mod StepsLeft
 pub mod Reached
 pub mod HereInState
+pub mod HereFits

@@ -1,6 +1,7 @@
 //! What the meaning says by itself.
 
 ghost use Rattle.program_meaning.specs.Calls.{InEachWorld};
+ghost use Rattle.program_meaning.specs.HereFits.{ExpressionsHereFit, StatementsHereFit};
 ghost use Rattle.program_meaning.specs.HereInState.{ExpressionsAlike, StatementsAlike};
 ghost use Rattle.program_meaning.specs.LightValues.{ExpressionsAreLight, ItemsAreLight, BodiesAreLight, CallsAreLight, OwnCallsAreLight, RunsAreLight};
 ghost use Rattle.program_meaning.specs.Reached.{PointsAreReached};
@@ -11,8 +12,9 @@ ghost use Rattle.program_meaning.specs.NothingGoesWrong.{FirstFits, RunsFit, His
 /// type that the rules found, and statements come to what fits the way behind them. A run on a
 /// state and a request that fit leaves a state that fits, and comes to a failure or a value that
 /// fits the request. The empty state fits, and so does the state after any requests that fit.
-/// Calls and creations keep what fits, and `__init__` makes records that fit. What holds of accepted
-/// programs here holds of each that was checked.
+/// Calls and creations keep what fits, `__init__` makes records that fit, and so does code that
+/// runs on one record and doesn't suspend. What holds of accepted programs here holds of each that
+/// was checked.
 pub fn nothing_goes_wrong()
     ensures first { FirstFits }
     ensures runs { RunsFit }
@@ -21,6 +23,8 @@ pub fn nothing_goes_wrong()
     ensures statements { StatementsFit }
     ensures calls { CallsKeepFit }
     ensures inits { InitsFit }
+    ensures here_expressions { ExpressionsHereFit }
+    ensures here_statements { StatementsHereFit }
     ensures checked { CheckedAreKnown }
 {}
 
