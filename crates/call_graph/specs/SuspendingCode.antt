@@ -33,7 +33,7 @@ unfoldable mutual
   expr_suspends leaves (PSelf at) = false
   -- what stands before the dot isn't evaluated
   expr_suspends leaves (PAttr at on x x_at) = false
-  expr_suspends leaves (PCall at on m m_at args) = expr_suspends leaves on || (exprs_suspend leaves args || leaves on m)
+  expr_suspends leaves (PCall at on m m_at args) = (expr_suspends leaves on || exprs_suspend leaves args) || leaves on m
   expr_suspends leaves (PApply at f args) = exprs_suspend leaves args || is_none (function_of f)
   expr_suspends leaves (PIndex at on index) = expr_suspends leaves on || expr_suspends leaves index
   expr_suspends leaves (PList at items) = exprs_suspend leaves items

@@ -82,10 +82,10 @@ module _ {V W : Type 0} (f : W → V) (leaves : Leaving) (src : Source) (me : Ke
         ap (λ fs. told (weighed (field_value (fields_of src me.0) fs x)) (f w) n) (fields w)
         ∙ told_viewed f (weighed (own_field s x w)) w n
     eval_quiet (PCall at on name name_at args) q vars w n =
-        let rest : (exprs_suspend leaves args || leaves on name) ≡ false = not_second (expr_suspends leaves on) (exprs_suspend leaves args || leaves on name) q in
-        let stays : leaves on name ≡ false = not_second (exprs_suspend leaves args) (leaves on name) rest in
+        let parts : (expr_suspends leaves on || exprs_suspend leaves args) ≡ false = not_first (expr_suspends leaves on || exprs_suspend leaves args) (leaves on name) q in
+        let stays : leaves on name ≡ false = not_second (expr_suspends leaves on || exprs_suspend leaves args) (leaves on name) q in
         self_quiet on (selves on name stays) _ _ (λ w n.
-        then_viewed f (eval_all s args [] vars w n) _ (λ vs w n. calls.call me (method_of src me.0 name) vs w n) _ (all_quiet args (not_first (exprs_suspend leaves args) (leaves on name) rest) [] vars w n) (λ vs w n. call on name stays vs w n)) vars w n
+        then_viewed f (eval_all s args [] vars w n) _ (λ vs w n. calls.call me (method_of src me.0 name) vs w n) _ (all_quiet args (not_second (expr_suspends leaves on) (exprs_suspend leaves args) parts) [] vars w n) (λ vs w n. call on name stays vs w n)) vars w n
     eval_quiet (PApply at g args) q vars w n =
         then_viewed f (eval_all s args [] vars w n) _ (λ vs w n. applied s (function_of g) g vs w n) _ (all_quiet args (not_first (exprs_suspend leaves args) (is_none (function_of g)) q) [] vars w n)
         (λ vs w n. applied_quiet (function_of g) (not_second (exprs_suspend leaves args) (is_none (function_of g)) q) g vs w n)
