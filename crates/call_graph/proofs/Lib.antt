@@ -5,3 +5,4 @@ pub mod MethodLaws
 pub mod ClosureLaws
 pub mod GraphLaws
 pub mod Examples
+pub mod CodeRules

@@ -1,2 +1,3 @@
 pub mod Suspending
 pub mod Marks
+pub mod SuspendingCode

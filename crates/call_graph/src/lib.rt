@@ -7,6 +7,7 @@ mod exprs;
 mod program;
 mod sites;
 mod stmts;
+mod suspending;
 #[cfg(test)]
 mod tests;
 

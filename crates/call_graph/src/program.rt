@@ -6,12 +6,16 @@ ghost use Rattle.py_tree.specs.ClassRules.{methods_of};
 ghost use Rattle.py_tree.specs.CheckedViews.{checked_program, checked_names};
 ghost use Rattle.call_graph.specs.Suspending as suspending;
 ghost use Rattle.call_graph.specs.Marks as spec;
+ghost use Rattle.call_graph.specs.SuspendingCode as code;
+ghost use Rattle.py_tree.specs.PlainExpressions.{plain_expr};
+ghost use Rattle.py_tree.specs.PlainStatements.{plain_stmts, stmts_of};
 ghost use Rattle.py_tree.specs.ClassViews.{numbers_of};
 
 use crate::closure::{Marks, marks_of};
 use crate::sites::Sites;
 use crate::stmts::find_in_body;
-use py_tree::{Checked, Class, Method, Name, Names, Program, is_called_by_name};
+use crate::suspending::{expr_suspends, stmts_suspend};
+use py_tree::{Checked, Class, Expr, Method, Name, Names, Program, Stmt, is_called_by_name};
 use sf_list::Sequence;
 use std::alloc::{AllocError, Global};
 use std::marker::Model;
@@ -43,6 +47,37 @@ impl CallGraph {
     {
         self.classes.as_slice()[class as usize].as_slice()[method as usize]
     }
+
+    /// Whether the method of this number, in the class of that number, has a mark.
+    pub(crate) fn is_marked(&self, class: u32, method: u32) -> bool
+        ensures { result ≡ spec.is_marked self.now class method }
+    {
+        let class = class as usize;
+        class < self.classes.len() && has_mark(self.classes.as_slice()[class].as_slice(), method)
+    }
+
+    /// Whether an expression may suspend, in a method of the class of this number.
+    pub fn expr_suspends(&self, program: &Checked, class: u32, expr: &Expr) -> bool
+        requires { class < length (checked_program program.now) }
+        ensures { result ≡ code.expr_suspends (code.leaving (checked_names program.now) (checked_program program.now) self.now class) (plain_expr expr.now) }
+    {
+        expr_suspends(self, program, class, expr)
+    }
+
+    /// Whether statements may suspend, in a method of the class of this number.
+    pub fn stmts_suspend(&self, program: &Checked, class: u32, stmts: &[Stmt]) -> bool
+        requires { class < length (checked_program program.now) }
+        ensures { result ≡ code.stmts_suspend (code.leaving (checked_names program.now) (checked_program program.now) self.now class) (stmts_of (plain_stmts stmts.now)) }
+    {
+        stmts_suspend(self, program, class, stmts)
+    }
+}
+
+fn has_mark(marks: &[bool], method: u32) -> bool
+    ensures { result ≡ spec.marked marks.now method }
+{
+    let method = method as usize;
+    method < marks.len() && marks[method]
 }
 
 /// Adds the name of a member, where it is called by name.

@@ -48,7 +48,7 @@ makes_so P Q (Fell f fields n) h (breaks_off c) = breaks_off c
 -- States
 
 module _ (tables : List PlainTable) where
-  insert_fits : (s : State) (at : Key) (fields : List Value) → StateFits tables s → RecordFits tables at.0 fields → StateFits tables (map.insert s at fields)
+  pub insert_fits : (s : State) (at : Key) (fields : List Value) → StateFits tables s → RecordFits tables at.0 fields → StateFits tables (map.insert s at fields)
   insert_fits s at fields fit new = record { each = λ q a e. by q a (eq_by_cmp key_cmp q at) refl (sym (get-insert key_total s at fields q) ∙ e) }
     where
       by : (q : Key) (a : List Value) (b : Bool) → eq_by_cmp key_cmp q at ≡ b → cond b (Some fields) (map.get s q) ≡ Some a → RecordFits tables q.0 a

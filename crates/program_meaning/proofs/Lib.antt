@@ -30,3 +30,13 @@ pub mod Soundness
 mod FitsExamples
 pub mod HereLaws
 pub mod PurityLaws
+pub mod LightOperations
+pub mod LightExpressions
+pub mod Traversal
+pub mod LightCalls
+pub mod StepsTaken
+pub mod TurnsEnough
+pub mod NotReached
+pub mod QuietViews
+pub mod HereInState
+pub mod HereFits

@@ -42,17 +42,17 @@ module _ {V W : Type 0} (f : W → V) where
   then_viewed (Got x w n) h k l same step = ap (λ y. y >>= l) same ∙ step x w n
   then_viewed (Fell e w n) h k l same step = ap (λ y. y >>= l) same
 
-  if_viewed : {A : Type 0} (b : Bool) (g h : Gives W A) (k l : Gives V A) → k ≡ viewed f g → l ≡ viewed f h → (if b then k else l) ≡ viewed f (if b then g else h)
+  pub if_viewed : {A : Type 0} (b : Bool) (g h : Gives W A) (k l : Gives V A) → k ≡ viewed f g → l ≡ viewed f h → (if b then k else l) ≡ viewed f (if b then g else h)
   if_viewed true g h k l same other = same
   if_viewed false g h k l same other = other
 
   -- Statements part by part
 
-  given_viewed : {A : Type 0} (vars : List Var) (g : Gives W A) (h : Gives V A) (k : A → W → ℕ → Ends W) (l : A → V → ℕ → Ends V) → h ≡ viewed f g → ((x : A) (w : W) (n : ℕ) → l x (f w) n ≡ viewed_end f (k x w n)) → with_given vars h l ≡ viewed_end f (with_given vars g k)
+  pub given_viewed : {A : Type 0} (vars : List Var) (g : Gives W A) (h : Gives V A) (k : A → W → ℕ → Ends W) (l : A → V → ℕ → Ends V) → h ≡ viewed f g → ((x : A) (w : W) (n : ℕ) → l x (f w) n ≡ viewed_end f (k x w n)) → with_given vars h l ≡ viewed_end f (with_given vars g k)
   given_viewed vars (Got x w n) h k l same later = ap (λ y. with_given vars y l) same ∙ later x w n
   given_viewed vars (Fell e w n) h k l same later = ap (λ y. with_given vars y l) same
 
-  next_viewed : (e : Ends W) (h : Ends V) (k : List Var → W → ℕ → Ends W) (l : List Var → V → ℕ → Ends V) → h ≡ viewed_end f e → ((vars : List Var) (w : W) (n : ℕ) → l vars (f w) n ≡ viewed_end f (k vars w n)) → next h l ≡ viewed_end f (next e k)
+  pub next_viewed : (e : Ends W) (h : Ends V) (k : List Var → W → ℕ → Ends W) (l : List Var → V → ℕ → Ends V) → h ≡ viewed_end f e → ((vars : List Var) (w : W) (n : ℕ) → l vars (f w) n ≡ viewed_end f (k vars w n)) → next h l ≡ viewed_end f (next e k)
   next_viewed (Goes vars w n) h k l same later = ap (λ y. next y l) same ∙ later vars w n
   next_viewed (Returns v w n) h k l same later = ap (λ y. next y l) same
   next_viewed (Breaks vars w n) h k l same later = ap (λ y. next y l) same
@@ -66,15 +66,15 @@ module _ {V W : Type 0} (f : W → V) where
   next_turn_viewed (Continues vars w n) h k l same later = ap (λ y. next_turn y l) same ∙ later vars w n
   next_turn_viewed (Fails e vars w n) h k l same later = ap (λ y. next_turn y l) same
 
-  choice_viewed : (b : Bool) (e h : Ends W) (k l : Ends V) → k ≡ viewed_end f e → l ≡ viewed_end f h → (if b then k else l) ≡ viewed_end f (if b then e else h)
+  pub choice_viewed : (b : Bool) (e h : Ends W) (k l : Ends V) → k ≡ viewed_end f e → l ≡ viewed_end f h → (if b then k else l) ≡ viewed_end f (if b then e else h)
   choice_viewed true e h k l same other = same
   choice_viewed false e h k l same other = other
 
-  stepping_viewed : (vars : List Var) (w : W) (n : ℕ) (k : ℕ → Ends W) (l : ℕ → Ends V) → ((n : ℕ) → l n ≡ viewed_end f (k n)) → stepping vars (f w) n l ≡ viewed_end f (stepping vars w n k)
+  pub stepping_viewed : (vars : List Var) (w : W) (n : ℕ) (k : ℕ → Ends W) (l : ℕ → Ends V) → ((n : ℕ) → l n ≡ viewed_end f (k n)) → stepping vars (f w) n l ≡ viewed_end f (stepping vars w n k)
   stepping_viewed vars w zero k l later = refl
   stepping_viewed vars w (suc n) k l later = later n
 
-  result_viewed : (e : Ends W) (h : Ends V) → h ≡ viewed_end f e → result_of h ≡ viewed f (result_of e)
+  pub result_viewed : (e : Ends W) (h : Ends V) → h ≡ viewed_end f e → result_of h ≡ viewed f (result_of e)
   result_viewed (Goes vars w n) h same = ap result_of same
   result_viewed (Returns v w n) h same = ap result_of same
   result_viewed (Breaks vars w n) h same = ap result_of same
@@ -105,11 +105,11 @@ module _ {V W : Type 0} (f : W → V) where
         (next_turn_viewed (turn name (counting from body) (value.Int from) vars w n) _ (over_numbers most name body (from +ℤ pos 1) to) (over_numbers most name shown (from +ℤ pos 1) to) (counted_viewed name from vars w n) (λ vars w n. numbers_viewed most name (from +ℤ pos 1) to vars w n))
         refl
 
-    over_viewed : (name : ℕ) (turns : Turns) (vars : List Var) (w : W) (n : ℕ) → over_turns name shown turns vars (f w) n ≡ viewed_end f (over_turns name body turns vars w n)
+    pub over_viewed : (name : ℕ) (turns : Turns) (vars : List Var) (w : W) (n : ℕ) → over_turns name shown turns vars (f w) n ≡ viewed_end f (over_turns name body turns vars w n)
     over_viewed name (Items items) vars w n = items_viewed name items vars w n
     over_viewed name (Numbers from to) vars w n = numbers_viewed (suc n) name from to vars w n
 
-    while_viewed : (test : List Var → W → ℕ → Gives W Value) (seen : List Var → V → ℕ → Gives V Value) → ((vars : List Var) (w : W) (n : ℕ) → seen vars (f w) n ≡ viewed f (test vars w n)) → (most : ℕ) (vars : List Var) (w : W) (n : ℕ) → while_turns most seen shown vars (f w) n ≡ viewed_end f (while_turns most test body vars w n)
+    pub while_viewed : (test : List Var → W → ℕ → Gives W Value) (seen : List Var → V → ℕ → Gives V Value) → ((vars : List Var) (w : W) (n : ℕ) → seen vars (f w) n ≡ viewed f (test vars w n)) → (most : ℕ) (vars : List Var) (w : W) (n : ℕ) → while_turns most seen shown vars (f w) n ≡ viewed_end f (while_turns most test body vars w n)
     unfolding while_turns
     while_viewed test seen tested zero vars w n = refl
     while_viewed test seen tested (suc most) vars w n =

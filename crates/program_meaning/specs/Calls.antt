@@ -124,3 +124,7 @@ calls_within own src me (suc d) = record {
 
 abbrev pub on_record : Source → Key → ℕ → Site Held
 on_record src me d = record { src = src; own = own_held; calls = calls_within own_held src me d; me = me }
+
+-- what holds of code on the whole state, on one record, and on one that is being made
+abbrev pub InEachWorld : (Type 0 → Type 0) → Type 0
+InEachWorld P = P World × P Held × P (List Value)

@@ -13,3 +13,8 @@ pub mod Fits
 pub mod PointFits
 pub mod NothingGoesWrong
 pub mod Here
+pub mod LightValues
+pub mod StepsLeft
+pub mod Reached
+pub mod HereInState
+pub mod HereFits
