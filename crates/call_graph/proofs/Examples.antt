@@ -114,7 +114,7 @@ b_may_not may =
     let marked = complete rows marks closed 1 within in
     cc
 
--- where calls on anything but self leave: `other.a()` suspends, and neither `self.a()` nor `len()` does
+-- where calls on anything but self leave: `other.a()` suspends, and `self.a()` doesn't
 abbrev away : Leaving
 away on name = not (is_self on)
 
