@@ -6,11 +6,9 @@ use Rattle.py_tree.specs.declared.expr.BinOp.TheVariants as op
 use Rattle.py_tree.specs.declared.expr.Cmp.TheVariants as cmp
 use Rattle.py_tree.specs.PlainExpressions.{PBool, PVar, PAnd, PExpr, PNoExpr}
 use Rattle.py_tree.specs.PlainStatements.{PWhile, PBreak, PNoStmt, PStmt}
-use Rattle.py_tree.specs.ExpressionTypes.{Text}
-use Rattle.sf_value.specs.Weight.{weight_of}
 use Rattle.sf_value.specs.declared.value.Value.TheVariants as value
 use Rattle.program_meaning.specs.World.{Got, Goes, Fails, assigned, index_error, overflow_error, zero_division_error, step_limit}
-use Rattle.program_meaning.specs.Operations.{combined, element, holds, in_range, weighed, given_by}
+use Rattle.program_meaning.specs.Operations.{combined, element, holds, in_range}
 use Rattle.program_meaning.specs.Evaluation.{Site, eval}
 use Rattle.program_meaning.specs.Execution.{act, over_numbers, while_turns}
 
@@ -72,8 +70,3 @@ last_turn w = refl
 past_the_ints : {W : Type 0} (w : W) → over_numbers 5 9 (λ vars w n. Goes [] w n) (pos (2 ^ 127 - 1)) (pos (2 ^ 127)) [] w 4 ≡ Fails overflow_error (assigned [] 9 (value.Int (pos (2 ^ 127 - 1)))) w 3
 unfolding over_numbers in_range
 past_the_ints w = refl
-
--- `str(7)` is "7"
-digits : given_by Text (value.Int (pos 7) ∷ []) ≡ Ok (value.Str (codes "7"))
-unfolding given_by weighed weight_of
-digits = refl
