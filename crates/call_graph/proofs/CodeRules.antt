@@ -157,7 +157,7 @@ module _ (leaves : Leaving) (at : Place) where
 
 or_of_true : (a b : Bool) → a ≡ true → a ≡ (a || b)
 or_of_true true b e = refl
-or_of_true false b e = e
+or_of_true false b e = absurd (true≢false (sym e))
 
 or_of_false : (a b : Bool) → a ≡ false → b ≡ (a || b)
 or_of_false true b e = absurd (true≢false e)

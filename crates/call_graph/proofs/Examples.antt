@@ -1,16 +1,17 @@
 -- Which methods may suspend, read by the definitions on small trees.
-use Rattle.std.proofs.Common.{◌≡◌, ℕ, zero, suc, Bool, true, false, List, [], ◌∷◌, None, refl, ap, subst, lit<}
+use Rattle.std.proofs.Common.{◌≡◌, ℕ, zero, suc, Bool, true, false, not, List, [], ◌∷◌, None, refl, ap, subst, lit<}
 use Rattle.std.specs.Prelude.{codes, slice_get}
 use Rattle.py_tree.specs.declared.names.Place.{Place}
 use Rattle.py_tree.specs.PlainExpressions.{PlainExpr, PBool, PVar, PSelf, PAttr, PCall, PApply, PAnd, PNoExpr, PExpr}
 use Rattle.py_tree.specs.PlainStatements.{PPass, PDo, PReturn, PIf, PWhile, PNoStmt, PStmt, PArm, PNoArm, PMoreArms}
 use Rattle.py_tree.specs.PlainProgram.{PlainMethod, PlainClass, PlainProgram}
-use Rattle.py_tree.specs.ClassRules.{is_init, is_key, is_called, text_of, is_class, methods_of}
+use Rattle.py_tree.specs.ClassRules.{is_init, is_key, is_called, is_self, text_of, is_class, methods_of}
 use Rattle.py_tree.specs.Reachability.{goes_on}
 use Rattle.call_graph.specs.declared.sites.Site.{Site}
 use Rattle.call_graph.specs.declared.sites.Site.TheVariants.{Own, Away}
 use Rattle.call_graph.specs.Suspending.{call, creation, sites, stmt_sites, sites_in_body, class_sites, MaySuspend, leaves, calls}
 use Rattle.call_graph.specs.Marks.{MayLeave, IsClosed}
+use Rattle.call_graph.specs.SuspendingCode.{Leaving, expr_suspends, stmts_suspend}
 use Rattle.call_graph.proofs.ClosureLaws.{complete}
 use Rattle.call_graph.proofs.GraphLaws.{to_class}
 
@@ -112,3 +113,20 @@ b_may_not may =
     let within = subst (λ rows. MayLeave rows 1) each_method_holds_its_call (to_class names program 0 1 may item refl) in
     let marked = complete rows marks closed 1 within in
     cc
+
+-- where calls on anything but self leave: `other.a()` suspends, and `self.a()` doesn't
+abbrev away : Leaving
+away on name = not (is_self on)
+
+other_suspends : expr_suspends away (on_other 2) ≡ true
+unfolding expr_suspends
+other_suspends = refl
+
+self_stays : expr_suspends away (on_self 2) ≡ false
+unfolding expr_suspends
+self_stays = refl
+
+-- `return` and then a call that leaves: no point behind the `return` can be reached
+not_reached : stmts_suspend away (PStmt (PReturn at None) (PStmt (PDo at (on_other 2)) PNoStmt)) ≡ false
+unfolding stmts_suspend goes_on
+not_reached = refl

@@ -1,5 +1,5 @@
 -- Small parts of programs by the meaning of the whole language, with what Python gives for them.
-use Rattle.std.proofs.Common.{◌≡◌, pos, negsuc, true, false, [], ◌∷◌, Ok, Err, refl}
+use Rattle.std.proofs.Common.{◌≡◌, ◌-◌, ◌^◌, pos, negsuc, true, false, [], ◌∷◌, Ok, Err, refl}
 use Rattle.std.specs.Prelude.{codes}
 use Rattle.py_tree.specs.declared.names.Place.{Place}
 use Rattle.py_tree.specs.declared.expr.BinOp.TheVariants as op
@@ -7,10 +7,10 @@ use Rattle.py_tree.specs.declared.expr.Cmp.TheVariants as cmp
 use Rattle.py_tree.specs.PlainExpressions.{PBool, PVar, PAnd, PExpr, PNoExpr}
 use Rattle.py_tree.specs.PlainStatements.{PWhile, PBreak, PNoStmt, PStmt}
 use Rattle.sf_value.specs.declared.value.Value.TheVariants as value
-use Rattle.program_meaning.specs.World.{Got, Goes, Fails, index_error, zero_division_error, step_limit}
+use Rattle.program_meaning.specs.World.{Got, Goes, Fails, assigned, index_error, overflow_error, zero_division_error, step_limit}
 use Rattle.program_meaning.specs.Operations.{combined, element, holds, in_range}
 use Rattle.program_meaning.specs.Evaluation.{Site, eval}
-use Rattle.program_meaning.specs.Execution.{act, while_turns}
+use Rattle.program_meaning.specs.Execution.{act, over_numbers, while_turns}
 
 abbrev at : Place
 at = record { line = 1; col = 1 }
@@ -61,3 +61,12 @@ spins s w = refl
 breaks_off : {W : Type 0} (s : Site W) (w : W) → act s (PWhile at (PBool at true) (PStmt (PBreak at) PNoStmt)) [] w 9 ≡ Goes [] w 6
 unfolding act while_turns eval
 breaks_off s w = refl
+
+-- a range that ends at the greatest int has its last turn, and would fail in a turn from there
+last_turn : {W : Type 0} (w : W) → over_numbers 5 9 (λ vars w n. Goes [] w n) (pos 3) (pos 4) [] w 4 ≡ Goes [] w 3
+unfolding over_numbers in_range
+last_turn w = refl
+
+past_the_ints : {W : Type 0} (w : W) → over_numbers 5 9 (λ vars w n. Goes [] w n) (pos (2 ^ 127 - 1)) (pos (2 ^ 127)) [] w 4 ≡ Fails overflow_error (assigned [] 9 (value.Int (pos (2 ^ 127 - 1)))) w 3
+unfolding over_numbers in_range
+past_the_ints w = refl
