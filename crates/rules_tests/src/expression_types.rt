@@ -1,6 +1,6 @@
 //! Each rule on types kept and broken, pairs of which the earlier is told, and what tests show.
 
-use crate::points::{Point, point};
+use crate::points::{Point, point_of};
 use crate::telling::{refused, sure_names, type_told};
 use entity_tables::type_of;
 use entity_types::{FlowEnv, Tables, condition, narrow, narrow_here, type_expr};
@@ -61,7 +61,7 @@ fn typed_line(alloc: Global, point: &Point, line: &Stmt) -> Result<String, Fail>
 
 /// The same of the last line of a row.
 fn told(alloc: Global, text: &str) -> Result<String, Fail> {
-    let point = point(alloc, METHOD, text)?;
+    let point = point_of(alloc, METHOD, text)?;
     let told = match written(&point.tree).last() {
         Some(line) => typed_line(alloc, &point, line),
         None => Err(Fail::from("no line")),
@@ -303,7 +303,7 @@ const NARROWED: &str = "
 fn a_test_narrows_a_copy(rt: HostRuntime) -> Result<(), Fail> {
     let rows = rows(rt.alloc(), NARROWED)?;
     for row in &rows {
-        let point = point(rt.alloc(), METHOD, row.text.as_str())?;
+        let point = point_of(rt.alloc(), METHOD, row.text.as_str())?;
         let told = narrowed(rt.alloc(), &point);
         drop(point);
         assert_eq!(rt; told?.as_str(), row.wanted, "{}", row.label);
@@ -329,7 +329,7 @@ const NARROWED_HERE: &str = "
 fn a_test_narrows_in_place(rt: HostRuntime) -> Result<(), Fail> {
     let rows = rows(rt.alloc(), NARROWED_HERE)?;
     for row in &rows {
-        let mut point = point(rt.alloc(), METHOD, row.text.as_str())?;
+        let mut point = point_of(rt.alloc(), METHOD, row.text.as_str())?;
         let told = narrowed_here(rt.alloc(), &point.tree, &mut point.env);
         drop(point);
         assert_eq!(rt; told?.as_str(), row.wanted, "{}", row.label);
@@ -366,7 +366,7 @@ const CONDITIONS: &str = "
 fn a_condition_is_bool(rt: HostRuntime) -> Result<(), Fail> {
     let rows = rows(rt.alloc(), CONDITIONS)?;
     for row in &rows {
-        let mut point = point(rt.alloc(), METHOD, row.text.as_str())?;
+        let mut point = point_of(rt.alloc(), METHOD, row.text.as_str())?;
         let told = judged(rt.alloc(), &point.tree, &point.tables, &mut point.env);
         drop(point);
         assert_eq!(rt; told?.as_str(), row.wanted, "{}", row.label);

@@ -5,7 +5,7 @@ ghost use Rattle.std.specs.Option.{IsSome};
 ghost use Rattle.py_tree.specs.PlainProgram.{plain_program};
 ghost use Rattle.flow_types.specs.Views.{method_at};
 
-use crate::points::{Point, point};
+use crate::points::{Point, point_of};
 use crate::telling::{assigned_names, locals_told, refused, sure_names};
 use entity_tables::tables;
 use flow_types::{
@@ -106,7 +106,7 @@ fn told_of(alloc: Global, point: &Point) -> Result<String, Fail> {
 }
 
 fn told(alloc: Global, setting: Setting, text: &str) -> Result<String, Fail> {
-    let point = point(alloc, setting, text)?;
+    let point = point_of(alloc, setting, text)?;
     let told = told_of(alloc, &point);
     drop(point);
     told
@@ -380,7 +380,7 @@ const WALKED: &str = "
 fn a_body_is_walked_step_by_step(rt: HostRuntime) -> Result<(), Fail> {
     let rows = rows(rt.alloc(), WALKED)?;
     for row in &rows {
-        let mut point = point(rt.alloc(), KNOWING, row.text.as_str())?;
+        let mut point = point_of(rt.alloc(), KNOWING, row.text.as_str())?;
         let told = walked(rt.alloc(), &point.tree, &point.tables, &mut point.env);
         drop(point);
         assert_eq!(rt; told?.as_str(), row.wanted, "{}", row.label);
@@ -416,7 +416,7 @@ const LOOP_HEADS: &str = "
 fn a_loop_begins_with_what_stays_known(rt: HostRuntime) -> Result<(), Fail> {
     let rows = rows(rt.alloc(), LOOP_HEADS)?;
     for row in &rows {
-        let point = point(rt.alloc(), KNOWING, row.text.as_str())?;
+        let point = point_of(rt.alloc(), KNOWING, row.text.as_str())?;
         let told = head_told(rt.alloc(), &point);
         drop(point);
         assert_eq!(rt; told?.as_str(), row.wanted, "{}", row.label);

@@ -60,7 +60,7 @@ fn env_of(alloc: Global, names: &Names, tables: &Tables) -> Result<FlowEnv, Fail
 }
 
 /// The point of a row in its setting.
-pub fn point(alloc: Global, setting: Setting, lines: &str) -> Result<Point, Fail> {
+pub fn point_of(alloc: Global, setting: Setting, lines: &str) -> Result<Point, Fail> {
     let tree = tree_in(alloc, setting, lines)?;
     let tables = tables_of(alloc, &tree)?;
     let env = env_of(alloc, &tree.names, &tables)?;

@@ -3,20 +3,19 @@
 use crate::kept::{RECORD, content, keep_and_add, new_disk, put};
 use request_log::{LogFault, next};
 use sf_outside::StoreFile;
+use snapshot_store::SnapFault;
 use std::alloc::{AllocError, Global};
 use std::test::Fail;
 
 /// The place of the next gate, and the log of epoch 1, after a snapshot is kept and a batch is added.
-fn added(alloc: Global) -> Result<(u64, Vec<u8>), LogFault> {
-    let Ok(mut disk) = new_disk(alloc) else {
-        return Err(LogFault::Failed);
-    };
+fn added(alloc: Global) -> Result<(u64, Vec<u8>), SnapFault> {
+    let mut disk = new_disk(alloc)?;
     let next = keep_and_add(alloc, &mut disk);
     let log = content(alloc, &mut disk, StoreFile::Log1);
     drop(disk);
-    match log {
-        Ok(log) => Ok((next?, log)),
-        Err(_) => Err(LogFault::Failed),
+    match next {
+        Ok(next) => Ok((next, log?)),
+        Err(_) => Err(SnapFault::Failed),
     }
 }
 
