@@ -191,7 +191,7 @@ pub enter-returns-then-not-contains : goal.enter-returns-then-not-contains
 enter-returns-then-not-contains t c = let none : is_some (get (world_of c.args.site.now.state.now c.mark_read.new.self).state (key_of c.args.at.now)) ≡ false = sym c.contains.ensures ∙ c.if-not-contains.true in falls_as c.fail.result no_entity _ _ _ c.fail.ensures (enter_missing (program_of c.args.site.now) (key_of c.args.at.now) c.args.args.now (seen c.args.site.now c.args.run.now) (world_of c.args.site.now.state.now c.mark_read.new.self) c.args.run.now.steps (c.in_ok-mark_read.ensures c.args.site.now.state.now ∙ ap (λ r. reading (seen c.args.site.now c.args.run.now) (key_of r)) c.in_ok-try_clone.ensures) (calls_at (program_of c.args.site.now) c.args.left) c.args.number none)
 
 pub enter-returns : goal.enter-returns
-enter-returns t c = let there : is_some (get (world_of c.args.site.now.state.now c.mark_read.new.self).state (key_of c.args.at.now)) ≡ true = sym c.contains.ensures ∙ c.if-not-contains.false in agrees_by c.run_body-given.result _ _ _ _ (enter_found (program_of c.args.site.now) (key_of c.args.at.now) c.args.args.now (seen c.args.site.now c.args.run.now) (world_of c.args.site.now.state.now c.mark_read.new.self) c.args.run.now.steps (c.in_ok-mark_read.ensures c.args.site.now.state.now ∙ ap (λ r. reading (seen c.args.site.now c.args.run.now) (key_of r)) c.in_ok-try_clone.ensures) (calls_at (program_of c.args.site.now) c.args.left) c.args.number there ∙ ap (λ m. run_body (in_state (program_of c.args.site.now) (calls_at (program_of c.args.site.now) c.args.left) (key_of c.args.at.now)) m c.args.args.now (world_of c.args.site.now.state.now c.mark_read.new.self) c.args.run.now.steps) (sym c.method_at-method.ensures.method)) c.run_body-given.ensures
+enter-returns t c = let there : is_some (get (world_of c.args.site.now.state.now c.mark_read.new.self).state (key_of c.args.at.now)) ≡ true = sym c.contains.ensures ∙ c.if-not-contains.false in agrees_by c.run_body.result _ _ _ _ (enter_found (program_of c.args.site.now) (key_of c.args.at.now) c.args.args.now (seen c.args.site.now c.args.run.now) (world_of c.args.site.now.state.now c.mark_read.new.self) c.args.run.now.steps (c.in_ok-mark_read.ensures c.args.site.now.state.now ∙ ap (λ r. reading (seen c.args.site.now c.args.run.now) (key_of r)) c.in_ok-try_clone.ensures) (calls_at (program_of c.args.site.now) c.args.left) c.args.number there ∙ ap (λ m. run_body (in_state (program_of c.args.site.now) (calls_at (program_of c.args.site.now) c.args.left) (key_of c.args.at.now)) m c.args.args.now (world_of c.args.site.now.state.now c.mark_read.new.self) c.args.run.now.steps) (sym c.method_at-method.ensures.method)) c.run_body.ensures
 
 pub make-returns-in-Closed : goal.make-returns-in-Closed
 make-returns-in-Closed t c = elim c.in-Closed.is [ inl e ↦ falls_as c.fail.result recursion_error _ _ _ c.fail.ensures (ap (λ r. (calls_of (program_of c.args.site.now) (key_of c.args.site.now.me.now) r).make c.args.class c.args.args.now (seen c.args.site.now c.args.run.now) c.args.run.now.steps) e) | inr h ↦ falls_as c.fail.result recursion_error _ _ _ c.fail.ensures (ap (λ r. (calls_of (program_of c.args.site.now) (key_of c.args.site.now.me.now) r).make c.args.class c.args.args.now (seen c.args.site.now c.args.run.now) c.args.run.now.steps) h.1 ∙ nothing_made (own_at (key_of c.args.site.now.me.now)) (program_of c.args.site.now) (key_of c.args.site.now.me.now) h.0 c.args.class c.args.args.now (seen c.args.site.now c.args.run.now) c.args.run.now.steps) ]
