@@ -1,19 +1,17 @@
 -- Locals that agree by name give runs that agree.
-use Rattle.std.proofs.Common.{◌≡◌, ◌≤◌, ◌<◌, ◌∙◌, ℕ, zero, suc, ℤ, pos, ◌-ℤ◌, ◌+ℤ◌, arith, Bool, true, false, not, cond, nat_eq, List, [], ◌∷◌, ◌++◌, Option, Some, None, Ok, Err, Result, if◌then◌else◌, refl, sym, ap, subst}
+use Rattle.std.proofs.Common.{◌≡◌, ◌∙◌, ℕ, zero, suc, ℤ, pos, ◌+ℤ◌, Bool, true, false, not, cond, List, [], ◌∷◌, ◌++◌, Option, Some, None, if◌then◌else◌, refl, sym, ap, subst}
 use Rattle.std.specs.Prelude.{find, position, option_map, unwrap_or, ◌==◌}
 use Rattle.std.specs.Ordering.{int_cmp, is_lt}
 use Rattle.py_tree.specs.declared.expr.BinOp.{BinOp}
 use Rattle.py_tree.specs.declared.stmt.Target.{Target}
 use Rattle.py_tree.specs.declared.stmt.Target.TheVariants as target
-use Rattle.py_tree.specs.ExpressionTypes.{function_of}
 use Rattle.py_tree.specs.PlainExpressions.{PlainExpr, PInt, PBool, PStr, PNil, PVar, PSelf, PAttr, PCall, PApply, PIndex, PList, PNeg, PPos, PNot, PChain, PAnd, POr, PCompare, PIsNone, PCond, PlainExprs, PNoExpr, PExpr, PLink, PlainLinks, PNoLink, PMoreLinks}
 use Rattle.py_tree.specs.PlainStatements.{PlainOver, PRange, PItems, PlainStmt, PPass, PBreak, PContinue, PDo, PReturn, PRaise, PAssert, PAssign, PAugment, PIf, PWhile, PFor, PlainStmts, PNoStmt, PStmt, PArm, PlainArms, PNoArm, PMoreArms}
-use Rattle.sf_value.specs.declared.Failure.{Failure}
 use Rattle.sf_value.specs.declared.value.Value.{Value}
 use Rattle.sf_value.specs.declared.value.Value.TheVariants as value
 use Rattle.program_meaning.specs.declared.vars.Var.{Var}
-use Rattle.program_meaning.specs.World.{Gives, Got, Fell, ◌>>=◌, Ends, Goes, Returns, Breaks, Continues, Fails, told, step_limit, assertion_error, with_given, next, next_turn, is_named, value_of_var, var_at, local_value, placed, assigned}
-use Rattle.program_meaning.specs.Operations.{in_range, weighed, int_of, is_true, items_of, text_of, combined}
+use Rattle.program_meaning.specs.World.{Gives, Got, Fell, ◌>>=◌, Ends, told, with_given, next, next_turn, is_named, var_at, local_value, assigned}
+use Rattle.program_meaning.specs.Operations.{in_range, weighed, is_true, combined}
 use Rattle.program_meaning.specs.Evaluation.{Site, eval, eval_all, linked, each_is, same_truth}
 use Rattle.program_meaning.specs.Execution.{message, stepping, store, target_value, augmented, value_or_none, start_of, turns_of, Turns, Items, Numbers, turn, over_items, over_numbers, over_turns, counting, while_turns, checked, act, act_all, act_arms}
 use Rattle.program_meaning.specs.SameLocals.{AgreeByName, EndsAgree, go, return, break, continue, fail}
