@@ -8,6 +8,8 @@ use Rattle.py_tree.specs.ClassRules.{is_self}
 use Rattle.py_tree.specs.ExpressionTypes.{function_of}
 use Rattle.py_tree.specs.Reachability.{goes_on}
 use Rattle.py_tree.specs.Acceptance.{method_named}
+use Rattle.py_tree.specs.declared.checked.Checked.{Checked}
+use Rattle.py_tree.specs.CheckedViews.{checked_program, checked_names}
 use Rattle.call_graph.specs.Marks.{is_marked}
 
 -- which calls suspend, by the receiver and the name of the method
@@ -21,6 +23,10 @@ method_leaves graph class (Some method) = is_marked graph class method
 -- by the marks of a program: a call on `self` of a method without a mark stays, and any other leaves
 abbrev pub leaving : List (List ℕ) → PlainProgram → List (List Bool) → ℕ → Leaving
 leaving names program graph class on name = not (is_self on) || method_leaves graph class (method_named names program class name)
+
+-- as an accepted program has them
+abbrev pub leaving_in : Checked → List (List Bool) → ℕ → Leaving
+leaving_in program graph class = leaving (checked_names program) (checked_program program) graph class
 
 unfoldable mutual
   -- a creation suspends always

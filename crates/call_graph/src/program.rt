@@ -59,7 +59,7 @@ impl CallGraph {
     /// Whether an expression may suspend, in a method of the class of this number.
     pub fn expr_suspends(&self, program: &Checked, class: u32, expr: &Expr) -> bool
         requires { class < length (checked_program program.now) }
-        ensures { result ≡ code.expr_suspends (code.leaving (checked_names program.now) (checked_program program.now) self.now class) (plain_expr expr.now) }
+        ensures { result ≡ code.expr_suspends (code.leaving_in program.now self.now class) (plain_expr expr.now) }
     {
         expr_suspends(self, program, class, expr)
     }
@@ -67,7 +67,7 @@ impl CallGraph {
     /// Whether statements may suspend, in a method of the class of this number.
     pub fn stmts_suspend(&self, program: &Checked, class: u32, stmts: &[Stmt]) -> bool
         requires { class < length (checked_program program.now) }
-        ensures { result ≡ code.stmts_suspend (code.leaving (checked_names program.now) (checked_program program.now) self.now class) (stmts_of (plain_stmts stmts.now)) }
+        ensures { result ≡ code.stmts_suspend (code.leaving_in program.now self.now class) (stmts_of (plain_stmts stmts.now)) }
     {
         stmts_suspend(self, program, class, stmts)
     }

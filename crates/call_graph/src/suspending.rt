@@ -7,7 +7,7 @@ ghost use Rattle.py_tree.specs.Acceptance.{method_named};
 ghost use Rattle.py_tree.specs.CheckedViews.{checked_program, checked_names};
 ghost use Rattle.call_graph.specs.Marks.{is_marked};
 ghost use Rattle.call_graph.specs.SuspendingCode as spec;
-ghost use Rattle.call_graph.specs.SuspendingCode.{leaving};
+ghost use Rattle.call_graph.specs.SuspendingCode.{leaving_in};
 
 use crate::program::CallGraph;
 use py_tree::{
@@ -27,7 +27,7 @@ fn method_leaves(graph: &CallGraph, class: u32, method: Option<u32>) -> bool
 /// Whether a call of the method of this name on this receiver leaves, in a method of this class.
 fn leaves(graph: &CallGraph, program: &Checked, class: u32, on: &Expr, name: Name) -> bool
     requires { class < length (checked_program program.now) }
-    ensures { result ≡ leaving (checked_names program.now) (checked_program program.now) graph.now class (plain_expr on.now) name.0 }
+    ensures { result ≡ leaving_in program.now graph.now class (plain_expr on.now) name.0 }
 {
     !is_self(on) || method_leaves(graph, class, program.method_by_name(class, name))
 }
@@ -36,7 +36,7 @@ fn leaves(graph: &CallGraph, program: &Checked, class: u32, on: &Expr, name: Nam
 #[tactic(auto, using(crate::proofs::CodeRules::expr_asks))]
 pub(crate) fn expr_suspends(graph: &CallGraph, program: &Checked, class: u32, expr: &Expr) -> bool
     requires { class < length (checked_program program.now) }
-    ensures { result ≡ spec.expr_suspends (leaving (checked_names program.now) (checked_program program.now) graph.now class) (plain_expr expr.now) }
+    ensures { result ≡ spec.expr_suspends (leaving_in program.now graph.now class) (plain_expr expr.now) }
 {
     match &expr.kind {
         ExprKind::Int(_)
@@ -79,7 +79,7 @@ pub(crate) fn expr_suspends(graph: &CallGraph, program: &Checked, class: u32, ex
 #[tactic(auto, using(crate::proofs::CodeRules::list_asks))]
 fn exprs_suspend(graph: &CallGraph, program: &Checked, class: u32, exprs: &Exprs) -> bool
     requires { class < length (checked_program program.now) }
-    ensures { result ≡ spec.exprs_suspend (leaving (checked_names program.now) (checked_program program.now) graph.now class) (exprs_of (plain_exprs exprs.now)) }
+    ensures { result ≡ spec.exprs_suspend (leaving_in program.now graph.now class) (exprs_of (plain_exprs exprs.now)) }
 {
     for expr in exprs.as_slice() {
         if expr_suspends(graph, program, class, expr) {
@@ -93,7 +93,7 @@ fn exprs_suspend(graph: &CallGraph, program: &Checked, class: u32, exprs: &Exprs
 #[tactic(auto, using(crate::proofs::CodeRules::link_asks))]
 fn links_suspend(graph: &CallGraph, program: &Checked, class: u32, links: &Links) -> bool
     requires { class < length (checked_program program.now) }
-    ensures { result ≡ spec.links_suspend (leaving (checked_names program.now) (checked_program program.now) graph.now class) (links_of (plain_links links.now)) }
+    ensures { result ≡ spec.links_suspend (leaving_in program.now graph.now class) (links_of (plain_links links.now)) }
 {
     for link in links.as_slice() {
         if expr_suspends(graph, program, class, &link.right) {
@@ -105,7 +105,7 @@ fn links_suspend(graph: &CallGraph, program: &Checked, class: u32, links: &Links
 
 fn some_suspends(graph: &CallGraph, program: &Checked, class: u32, expr: &Option<Expr>) -> bool
     requires { class < length (checked_program program.now) }
-    ensures { result ≡ spec.some_suspends (leaving (checked_names program.now) (checked_program program.now) graph.now class) (plain_option plain_expr expr.now) }
+    ensures { result ≡ spec.some_suspends (leaving_in program.now graph.now class) (plain_option plain_expr expr.now) }
 {
     match expr {
         Some(expr) => expr_suspends(graph, program, class, expr),
@@ -115,7 +115,7 @@ fn some_suspends(graph: &CallGraph, program: &Checked, class: u32, expr: &Option
 
 fn over_suspends(graph: &CallGraph, program: &Checked, class: u32, over: &Over) -> bool
     requires { class < length (checked_program program.now) }
-    ensures { result ≡ spec.over_suspends (leaving (checked_names program.now) (checked_program program.now) graph.now class) (plain_over over.now) }
+    ensures { result ≡ spec.over_suspends (leaving_in program.now graph.now class) (plain_over over.now) }
 {
     match over {
         Over::Range(start, end) => {
@@ -129,7 +129,7 @@ fn over_suspends(graph: &CallGraph, program: &Checked, class: u32, over: &Over) 
 #[tactic(auto, using(crate::proofs::CodeRules::stmt_does))]
 fn stmt_suspends(graph: &CallGraph, program: &Checked, class: u32, stmt: &Stmt) -> bool
     requires { class < length (checked_program program.now) }
-    ensures { result ≡ spec.stmt_suspends (leaving (checked_names program.now) (checked_program program.now) graph.now class) (plain_stmt stmt.now) }
+    ensures { result ≡ spec.stmt_suspends (leaving_in program.now graph.now class) (plain_stmt stmt.now) }
 {
     match &stmt.kind {
         StmtKind::Pass | StmtKind::Break | StmtKind::Continue => false,
@@ -166,7 +166,7 @@ pub(crate) fn stmts_suspend(
     stmts: &[Stmt],
 ) -> bool
     requires { class < length (checked_program program.now) }
-    ensures { result ≡ spec.stmts_suspend (leaving (checked_names program.now) (checked_program program.now) graph.now class) (stmts_of (plain_stmts stmts.now)) }
+    ensures { result ≡ spec.stmts_suspend (leaving_in program.now graph.now class) (stmts_of (plain_stmts stmts.now)) }
 {
     for stmt in stmts {
         if stmt_suspends(graph, program, class, stmt) {
@@ -183,7 +183,7 @@ pub(crate) fn stmts_suspend(
 #[tactic(auto, using(crate::proofs::CodeRules::arm_does))]
 fn arms_suspend(graph: &CallGraph, program: &Checked, class: u32, arms: &[Arm]) -> bool
     requires { class < length (checked_program program.now) }
-    ensures { result ≡ spec.arms_suspend (leaving (checked_names program.now) (checked_program program.now) graph.now class) (arms_of (plain_arms arms.now)) }
+    ensures { result ≡ spec.arms_suspend (leaving_in program.now graph.now class) (arms_of (plain_arms arms.now)) }
 {
     for arm in arms {
         if expr_suspends(graph, program, class, &arm.test) {

@@ -36,7 +36,7 @@ use Rattle.program_meaning.proofs.ShownLaws as shown'
 use Rattle.program_meaning.proofs.ShownLaws.{Only}
 use Rattle.program_meaning.proofs.LocalsFit.{narrowed_fits, name_fits}
 use Rattle.program_meaning.proofs.TypedParts.{done, same_ok, found_ok, refuse_ok, not_false, condition_ok, typed_attr, Joins}
-use Rattle.program_meaning.proofs.ValuesFit.{ToldFits, ok, err, failure_fits, told_fits, range_fits, weighed_fits, items_are, combined_fits}
+use Rattle.program_meaning.proofs.ValuesFit.{ToldFits, err, failure_fits, told_fits, range_fits, weighed_fits, items_are, combined_fits}
 use Rattle.program_meaning.proofs.EvalFits.{Anywhere, Around, Tests, fit_then, fit_more, fit_both, eval_fits, test_fits}
 use Rattle.program_meaning.proofs.LocalShapes.{shapes, type_in, Within, Sound, within_more, within_both, Grows, alike_grows, grows_on, grows_same, keeps_named, shapes_behind, earlier_is, shapes_narrowed, shapes_at_head, shapes_settled, shapes_more, local_grows, MetFits, met_left, met_right, met_grown, met_here, behind_fits, fits_both, fits_first, fits_second}
 use Rattle.program_meaning.proofs.AssignedFits.{or_left, or_right, Forgets, forgets_first, forgets_second, forgets_both, forgets_at_head, head_fits, kept_fits, local_given}

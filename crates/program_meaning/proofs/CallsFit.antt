@@ -39,7 +39,7 @@ use Rattle.program_meaning.proofs.AssignedFits.{no_more}
 use Rattle.program_meaning.proofs.ActFits.{EndFits, goes, returns, leaves, turns, fails, Ready, stmts_fit}
 use Rattle.program_meaning.proofs.TableFacts.{matches, class_at, table_methods, methods_here, mapped_at, read_fits, written_fits}
 use Rattle.program_meaning.proofs.MethodFacts.{bound_fits, bound_sound, init_flows, params_kept, body_kept, method_member, raises_kept, BodyFlows, body_flows}
-use Rattle.program_meaning.proofs.InitFits.{Makes, makes, breaks_off, declared_types, declared_fit}
+use Rattle.program_meaning.proofs.InitFits.{Makes, makes, breaks_off, declared_fit}
 
 makes_so : (P Q : List Value → Type 0) (g : Gives (List Value) Value) → ((fields : List Value) → P fields → Q fields) → Makes P g → Makes Q g
 makes_so P Q (Got v fields n) h (makes p) = makes (h fields p)

@@ -1,5 +1,5 @@
 -- Nothing goes wrong on one record: it is the record of an entity in a state that holds this entity alone.
-use Rattle.std.proofs.Common.{◌≡◌, ◌∙◌, ℕ, Bool, true, false, ◌||◌, List, [], Some, refl, sym, ap, subst}
+use Rattle.std.proofs.Common.{◌≡◌, Bool, true, false, List, Some, refl, ap}
 use Rattle.std.specs.FinMap as map
 use Rattle.std.specs.FinSet as set
 use Rattle.py_tree.specs.PlainStatements.{PlainStmts}
@@ -7,7 +7,7 @@ use Rattle.py_tree.specs.ClassRules.{PlainTable, tables_of}
 use Rattle.py_tree.specs.Flow.{Context, Way}
 use Rattle.sf_value.specs.Keys.{Key}
 use Rattle.sf_value.specs.declared.value.Value.{Value}
-use Rattle.program_meaning.specs.World.{State, World, Gives, Got, Fell, Ends, Goes, Returns, Breaks, Continues, Fails, reading, writing}
+use Rattle.program_meaning.specs.World.{State, World, Gives, Ends, reading}
 use Rattle.program_meaning.specs.Calls.{Held, calls_at}
 use Rattle.program_meaning.specs.Serial.{no_state}
 use Rattle.program_meaning.specs.Fits.{RecordFits, StateFits}

@@ -1,20 +1,19 @@
 -- Code that doesn't suspend, on the whole state and on the record of its entity.
-use Rattle.std.proofs.Common.{◌≡◌, ◌∙◌, ℕ, zero, suc, Bool, true, false, ◌||◌, cond, List, [], Option, Some, None, if◌then◌else◌, refl, sym, ap, subst}
+use Rattle.std.proofs.Common.{◌≡◌, ◌∙◌, ℕ, zero, suc, Bool, true, false, ◌||◌, cond, List, [], Some, refl, sym, ap, subst}
 use Rattle.std.specs.Prelude.{slice_get, unwrap_or}
 use Rattle.std.specs.FinMap as map
 use Rattle.std.specs.FinSet as set
 use Rattle.std.specs.Ordering.{eq_by_cmp}
 use Rattle.std.specs.Cmp.{eq_by_cmp_equiv}
 use Rattle.py_tree.specs.PlainExpressions.{PlainExpr}
-use Rattle.py_tree.specs.PlainStatements.{PlainStmts, stmts_of}
-use Rattle.py_tree.specs.ClassRules.{body_of}
+use Rattle.py_tree.specs.PlainStatements.{PlainStmts}
 use Rattle.call_graph.specs.SuspendingCode.{Leaving, expr_suspends, stmts_suspend}
 use Rattle.sf_value.specs.Keys.{Key, key_cmp}
 use Rattle.sf_value.specs.declared.value.Value.{Value}
 use Rattle.sf_value.proofs.Maps.{key_total, key_exact}
 use Rattle.program_meaning.specs.declared.vars.Var.{Var}
 use Rattle.program_meaning.specs.ClassTables.{Source, methods_of}
-use Rattle.program_meaning.specs.World.{State, Keys, World, Own, Calls, Gives, Got, Fell, Ends, Goes, Returns, Breaks, Continues, Fails, no_entity, record_at, reading, writing}
+use Rattle.program_meaning.specs.World.{State, Keys, World, Own, Gives, Got, Fell, Ends, Goes, Returns, Breaks, Continues, Fails, no_entity, record_at, reading, writing}
 use Rattle.program_meaning.specs.Evaluation.{Site, eval, method_of}
 use Rattle.program_meaning.specs.Execution.{act_all}
 use Rattle.program_meaning.specs.Calls.{Held, own_held, own_at, in_state, on_record, calls_at, calls_within, run_body, enter, if_there}

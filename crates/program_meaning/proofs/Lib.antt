@@ -40,3 +40,4 @@ pub mod NotReached
 pub mod QuietViews
 pub mod HereInState
 pub mod HereFits
+pub mod SameLocals

@@ -1,10 +1,9 @@
 -- The calls of the source give light values, and so do requests.
-use Rattle.std.proofs.Common.{◌≡◌, ◌≤◌, ◌+◌, ℕ, zero, suc, arith, Bool, true, false, ◌||◌, Option, Some, None, List, [], ◌∷◌, if◌then◌else◌, refl, sym, ap, ◌∙◌, subst}
-use Rattle.std.specs.Prelude.{nat_lt, slice_get}
+use Rattle.std.proofs.Common.{◌≡◌, ℕ, zero, suc, arith, Bool, true, false, ◌||◌, Option, Some, None, List, [], ◌∷◌, if◌then◌else◌, refl, sym, ◌∙◌}
+use Rattle.std.specs.Prelude.{slice_get}
 use Rattle.std.specs.FinMap as map
 use Rattle.std.specs.List.{list_any}
 use Rattle.std.proofs.lemmas.Bool.{ltb-false}
-use Rattle.py_tree.specs.PlainExpressions.{PlainExpr}
 use Rattle.py_tree.specs.PlainStatements.{stmts_of}
 use Rattle.py_tree.specs.PlainProgram.{PlainMethod}
 use Rattle.py_tree.specs.ClassRules.{body_of, params_of}
@@ -12,13 +11,12 @@ use Rattle.sf_value.specs.Keys.{Key}
 use Rattle.sf_value.specs.Weight.{weight_of}
 use Rattle.sf_value.specs.declared.Act.{Act}
 use Rattle.sf_value.specs.declared.Act.TheVariants as act
-use Rattle.sf_value.specs.declared.Failure.{Failure}
 use Rattle.sf_value.specs.declared.value.Value.{Value}
 use Rattle.sf_value.specs.declared.value.Value.TheVariants as value
 use Rattle.sf_value.proofs.Weights.{weight-Str, weight-Entity}
 use Rattle.sf_value.proofs.Variants.{by_variants}
 use Rattle.program_meaning.specs.declared.vars.Var.{Var}
-use Rattle.program_meaning.specs.ClassTables.{Source, methods_of, init_of, key_param_of}
+use Rattle.program_meaning.specs.ClassTables.{Source, methods_of, key_param_of}
 use Rattle.program_meaning.specs.World.{State, World, Own, Calls, Gives, Got, Fell, Ends, Goes, Returns, Breaks, Continues, Fails, step, with_given, next, next_turn, result_of, reading, value_at}
 use Rattle.program_meaning.specs.Operations.{text_of}
 use Rattle.program_meaning.specs.Evaluation.{Site, entity}

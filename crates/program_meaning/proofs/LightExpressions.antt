@@ -1,5 +1,5 @@
 -- An expression gives a light value where calls do.
-use Rattle.std.proofs.Common.{ℕ, ℤ, pos, ◌-ℤ◌, Bool, true, false, not, Option, Some, None, Result, Ok, Err, List, [], ◌∷◌, ◌++◌, if◌then◌else◌}
+use Rattle.std.proofs.Common.{ℕ, Bool, true, false, not, Option, Some, None, Result, Ok, Err, List, [], ◌∷◌, ◌++◌, if◌then◌else◌}
 use Rattle.py_tree.specs.ExpressionTypes.{Function, function_of}
 use Rattle.py_tree.specs.PlainExpressions.{PlainExpr, PInt, PBool, PStr, PNil, PVar, PSelf, PAttr, PCall, PApply, PIndex, PList, PNeg, PPos, PNot, PChain, PAnd, POr, PCompare, PIsNone, PCond, PlainExprs, PNoExpr, PExpr, PLink, PlainLinks, PNoLink, PMoreLinks}
 use Rattle.py_tree.specs.PlainStatements.{PlainOver, PRange, PItems}
@@ -10,7 +10,7 @@ use Rattle.program_meaning.specs.declared.vars.Var.{Var}
 use Rattle.program_meaning.specs.World.{Gives, Got, Fell, ◌>>=◌, told}
 use Rattle.program_meaning.specs.Operations.{is_true, int_of, items_of, combined}
 use Rattle.program_meaning.specs.Evaluation.{Site, eval, eval_all, linked, each_is, same_truth, applied}
-use Rattle.program_meaning.specs.Execution.{Turns, Items, Numbers, value_or_none, start_of, turns_of}
+use Rattle.program_meaning.specs.Execution.{Items, Numbers, value_or_none, start_of, turns_of}
 use Rattle.program_meaning.specs.LightValues.{IsLight, AreLight, no_value, GivesLight, GivesLightTurns, CallsGiveLight}
 use Rattle.program_meaning.proofs.LightOperations.{LightResult, int_light, bool_light, nil_light, weighed_light, in_range_light, items_light, element_light, light_behind, combined_light, given_light}
 

@@ -48,7 +48,7 @@ assigned_more a vars x v = ap (λ o. placed (a ∷ vars) o (new_var x v)) (posit
     by true = refl
     by false = placed_more a vars (position (is_named x) vars) (new_var x v)
 
-abbrev value_found : ℕ → List Var → Option Value
+abbrev pub value_found : ℕ → List Var → Option Value
 value_found y vars = option_map (λ (a : Var). a.value) (find (is_named y) vars)
 
 abbrev here : ℕ → Var → List Var → Option Value
@@ -58,7 +58,7 @@ found_in_more : (y : ℕ) (a : Var) (vars : List Var) (b : Bool) → is_named y 
 found_in_more y a vars true e = ap (λ b. option_map (λ (c : Var). c.value) (cond b (Some a) (find (is_named y) vars))) e
 found_in_more y a vars false e = ap (λ b. option_map (λ (c : Var). c.value) (cond b (Some a) (find (is_named y) vars))) e
 
-assigned_found : (vars : List Var) (x : ℕ) (v : Value) (y : ℕ) → value_found y (assigned vars x v) ≡ cond (x == y) (Some v) (value_found y vars)
+pub assigned_found : (vars : List Var) (x : ℕ) (v : Value) (y : ℕ) → value_found y (assigned vars x v) ≡ cond (x == y) (Some v) (value_found y vars)
 unfolding assigned
 assigned_found [] x v y = by (x == y)
   where

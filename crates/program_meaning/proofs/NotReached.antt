@@ -1,5 +1,5 @@
 -- A point that can't be reached never is.
-use Rattle.std.proofs.Common.{◌≡◌, ℕ, zero, suc, ℤ, pos, ◌+ℤ◌, Bool, true, false, true≢false, not, ◌||◌, ◌&&◌, Option, Some, None, Result, Ok, Err, List, [], ◌∷◌, if◌then◌else◌, refl, sym, ap, ◌∙◌, subst}
+use Rattle.std.proofs.Common.{◌≡◌, ℕ, zero, suc, ℤ, pos, ◌+ℤ◌, Bool, true, false, true≢false, not, ◌||◌, ◌&&◌, List, [], ◌∷◌, if◌then◌else◌, refl, sym, ◌∙◌}
 use Rattle.std.specs.Ordering.{int_cmp, is_lt}
 use Rattle.py_tree.specs.declared.stmt.Target.{Target}
 use Rattle.py_tree.specs.declared.stmt.Target.TheVariants as target
@@ -12,7 +12,7 @@ use Rattle.program_meaning.specs.declared.vars.Var.{Var}
 use Rattle.program_meaning.specs.World.{Gives, Got, Fell, told, Ends, Goes, Returns, Breaks, Continues, Fails, with_given, next, next_turn}
 use Rattle.program_meaning.specs.Operations.{in_range, is_true}
 use Rattle.program_meaning.specs.Evaluation.{Site, eval}
-use Rattle.program_meaning.specs.Execution.{stepping, store, augmented, value_or_none, message, Turns, Items, Numbers, turns_of, turn, over_items, over_numbers, over_turns, counting, while_turns, checked, act, act_all, act_arms}
+use Rattle.program_meaning.specs.Execution.{stepping, store, augmented, value_or_none, message, Turns, Items, Numbers, turns_of, turn, over_items, over_numbers, over_turns, counting, while_turns, act, act_all, act_arms}
 use Rattle.program_meaning.specs.Reached.{IsReached}
 
 first_true : (a b : Bool) → a ≡ true → (a || b) ≡ true

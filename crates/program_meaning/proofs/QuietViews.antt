@@ -1,5 +1,5 @@
 -- One world seen through another by code that doesn't suspend: it is enough that the view keeps what those calls do that stay.
-use Rattle.std.proofs.Common.{◌≡◌, ◌∙◌, ℕ, zero, suc, ℤ, pos, ◌-ℤ◌, Bool, true, false, true≢false, not, ◌||◌, ◌&&◌, List, [], ◌∷◌, ◌++◌, Option, Some, None, Ok, Err, Result, if◌then◌else◌, refl, sym, ap, subst}
+use Rattle.std.proofs.Common.{◌≡◌, ◌∙◌, ℕ, suc, pos, ◌-ℤ◌, Bool, true, false, true≢false, not, ◌||◌, ◌&&◌, List, [], ◌∷◌, ◌++◌, Option, Some, None, Ok, Err, if◌then◌else◌, refl, sym, ap, subst}
 use Rattle.std.specs.Prelude.{nat_le, is_none}
 use Rattle.py_tree.specs.declared.expr.BinOp.{BinOp}
 use Rattle.py_tree.specs.declared.stmt.Target.{Target}
@@ -13,15 +13,14 @@ use Rattle.py_tree.specs.Reachability.{goes_on, breaks}
 use Rattle.call_graph.specs.SuspendingCode.{Leaving, expr_suspends, exprs_suspend, links_suspend, some_suspends, over_suspends, stmt_suspends, stmts_suspend, arms_suspend}
 use Rattle.sf_value.specs.Keys.{Key}
 use Rattle.sf_value.specs.Weight.{weight_of}
-use Rattle.sf_value.specs.declared.Failure.{Failure}
 use Rattle.sf_value.specs.declared.value.Value.{Value}
 use Rattle.sf_value.specs.declared.value.Value.TheVariants as value
 use Rattle.program_meaning.specs.declared.vars.Var.{Var}
 use Rattle.program_meaning.specs.ClassTables.{Source, fields_of}
-use Rattle.program_meaning.specs.World.{Calls, Own, Gives, Got, Fell, ◌>>=◌, Ends, Goes, Returns, Breaks, Continues, Fails, told, size_limit, assertion_error, with_given, next, local_value, assigned, field_value, with_field}
+use Rattle.program_meaning.specs.World.{Calls, Own, Gives, Got, ◌>>=◌, Ends, Goes, Returns, Breaks, Continues, Fails, told, size_limit, assertion_error, with_given, next, local_value, field_value, with_field}
 use Rattle.program_meaning.specs.Operations.{in_range, weighed, int_of, is_true, is_nil, items_of, text_of, element, combined, holds, given_by}
 use Rattle.program_meaning.specs.Evaluation.{Site, eval, eval_all, linked, each_is, same_truth, applied, entity, method_of, literal, own_field}
-use Rattle.program_meaning.specs.Execution.{message, stepping, store, target_value, augmented, value_or_none, start_of, turns_of, Turns, Items, Numbers, over_turns, while_turns, checked, act, act_all, act_arms}
+use Rattle.program_meaning.specs.Execution.{message, store, target_value, augmented, value_or_none, start_of, turns_of, Items, Numbers, over_turns, while_turns, checked, act, act_all, act_arms}
 use Rattle.program_meaning.specs.Calls.{bound, run_body}
 use Rattle.program_meaning.specs.Reached.{IsReached}
 use Rattle.program_meaning.proofs.NotReached.{act_reached}

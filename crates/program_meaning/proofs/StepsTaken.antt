@@ -1,5 +1,5 @@
 -- No code gives steps back.
-use Rattle.std.proofs.Common.{◌≡◌, ◌≤◌, ℕ, zero, suc, arith, Bool, true, false, Option, Some, None, Result, Ok, Err, List, [], ◌∷◌, if◌then◌else◌}
+use Rattle.std.proofs.Common.{◌≤◌, ℕ, zero, suc, arith, Bool, true, false, Option, Some, None, Result, Ok, Err, List, [], ◌∷◌, if◌then◌else◌}
 use Rattle.std.specs.Prelude.{slice_get}
 use Rattle.std.specs.FinMap as map
 use Rattle.py_tree.specs.PlainExpressions.{PlainExpr}
@@ -118,8 +118,10 @@ declare_takes : (src : Source) (me : Key) (x : PlainStmt) (vars : List Var) (fie
 unfolding declare
 declare_takes src me (PAssign at x ty e) vars fields n = stepped_takes n _ _ (omega arith) (λ m. then_takes m (eval (making src me) e vars fields m) _ (eval_takes (making src me) no_calls_take e vars fields m) (λ v. record { most = λ w n. omega arith }))
 declare_takes src me (PAssert at test e) vars fields n =
-    stepped_takes n _ _ (omega arith) (λ m. then_takes m (eval (making src me) test vars fields m) _ (eval_takes (making src me) no_calls_take test vars fields m) (λ v. record { most = λ w n.
-    check_takes (is_true v) w n (message (making src me) e vars w n) _ (message_takes (making src me) no_calls_take e vars w n) }))
+    stepped_takes n _ _ (omega arith) (λ m. then_takes m (eval (making src me) test vars fields m) _ (eval_takes (making src me) no_calls_take test vars fields m) (λ v. record {
+      most = λ w n.
+          check_takes (is_true v) w n (message (making src me) e vars w n) _ (message_takes (making src me) no_calls_take e vars w n);
+    }))
 declare_takes src me (PPass at) vars fields n = stepped_takes n _ _ (omega arith) (λ m. omega arith)
 declare_takes src me (PBreak at) vars fields n = stepped_takes n _ _ (omega arith) (λ m. omega arith)
 declare_takes src me (PContinue at) vars fields n = stepped_takes n _ _ (omega arith) (λ m. omega arith)

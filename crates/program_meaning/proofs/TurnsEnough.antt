@@ -1,5 +1,5 @@
 -- A loop has turns enough where it has more than there are steps: of how many at most it is doesn't matter then.
-use Rattle.std.proofs.Common.{◌≡◌, ◌<◌, ◌≤◌, ◌+◌, ℕ, zero, suc, arith, ℤ, pos, ◌+ℤ◌, Bool, true, false, Result, Ok, Err, List, if◌then◌else◌, refl, ap}
+use Rattle.std.proofs.Common.{◌≡◌, ◌<◌, ◌≤◌, ℕ, zero, suc, arith, ℤ, pos, ◌+ℤ◌, Bool, true, false, Result, Ok, Err, List, if◌then◌else◌, refl}
 use Rattle.std.specs.Ordering.{int_cmp, is_lt}
 use Rattle.py_tree.specs.PlainExpressions.{PlainExpr}
 use Rattle.py_tree.specs.PlainStatements.{PlainStmts}
@@ -10,7 +10,7 @@ use Rattle.program_meaning.specs.declared.vars.Var.{Var}
 use Rattle.program_meaning.specs.World.{Gives, Got, Fell, told, Ends, Goes, Returns, Breaks, Continues, Fails, with_given, next_turn, assigned}
 use Rattle.program_meaning.specs.Operations.{in_range, is_true}
 use Rattle.program_meaning.specs.Evaluation.{Site, eval}
-use Rattle.program_meaning.specs.Execution.{stepping, turn, counting, over_numbers, while_turns, act_all}
+use Rattle.program_meaning.specs.Execution.{stepping, counting, over_numbers, while_turns, act_all}
 use Rattle.program_meaning.specs.StepsLeft.{left_in, left_at, CallsTakeSteps}
 use Rattle.program_meaning.proofs.StepsTaken.{eval_takes, acts_take}
 

@@ -18,3 +18,4 @@ pub mod StepsLeft
 pub mod Reached
 pub mod HereInState
 pub mod HereFits
+pub mod SameLocals

@@ -5,6 +5,7 @@ ghost use Rattle.program_meaning.specs.HereFits.{ExpressionsHereFit, StatementsH
 ghost use Rattle.program_meaning.specs.HereInState.{ExpressionsAlike, StatementsAlike};
 ghost use Rattle.program_meaning.specs.LightValues.{ExpressionsAreLight, ItemsAreLight, BodiesAreLight, CallsAreLight, OwnCallsAreLight, RunsAreLight};
 ghost use Rattle.program_meaning.specs.Reached.{PointsAreReached};
+ghost use Rattle.program_meaning.specs.SameLocals.{ExpressionsAgree, StatementsAgree};
 ghost use Rattle.program_meaning.specs.StepsLeft.{ExpressionsTakeSteps, StatementsTakeSteps, SourceTakesSteps, OwnCallsTakeSteps, TurnsAreEnough, NumbersAreEnough};
 ghost use Rattle.program_meaning.specs.NothingGoesWrong.{FirstFits, RunsFit, HistoriesFit, ExpressionsFit, StatementsFit, CallsKeepFit, InitsFit, CheckedAreKnown};
 
@@ -63,4 +64,11 @@ pub fn points_are_reached()
 pub fn code_here_is_in_state()
     ensures expressions { ExpressionsAlike }
     ensures statements { StatementsAlike }
+{}
+
+/// Code depends on the locals by their names alone: where each name has the same value in two lists
+/// of locals, an expression gives the same, and statements end alike, with locals that agree again.
+pub fn locals_are_named()
+    ensures expressions { InEachWorld ExpressionsAgree }
+    ensures statements { InEachWorld StatementsAgree }
 {}

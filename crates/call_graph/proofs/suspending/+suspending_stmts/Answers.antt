@@ -1,23 +1,22 @@
 use Rattle.std.proofs.Common.{arith}
-use Rattle.py_tree.specs.CheckedViews.{checked_program, checked_names}
-use Rattle.call_graph.specs.SuspendingCode.{leaving}
+use Rattle.call_graph.specs.SuspendingCode.{leaving_in}
 use Rattle.call_graph.proofs.CodeRules.{stmts_more, arms_more}
 use Rattle.call_graph.proofs.suspending.+suspending_stmts.Goals as goal
 
 pub stmts_suspend-returns-then-stmt_suspends : goal.stmts_suspend-returns-then-stmt_suspends
-stmts_suspend-returns-then-stmt_suspends t c = grind (arith, stmts_more (leaving (checked_names c.args.program.now) (checked_program c.args.program.now) c.args.graph.now c.args.class) c.args.stmts.now c.loop-stmt.stmt-index c.stmt-item.result c.loop-stmt-test.true c.stmt-item.is)
+stmts_suspend-returns-then-stmt_suspends t c = grind (arith, stmts_more (leaving_in c.args.program.now c.args.graph.now c.args.class) c.args.stmts.now c.loop-stmt.stmt-index c.stmt-item.result c.loop-stmt-test.true c.stmt-item.is)
 
 pub stmts_suspend-loop-stmt-preserved : goal.stmts_suspend-loop-stmt-preserved
-stmts_suspend-loop-stmt-preserved t c = grind (arith, stmts_more (leaving (checked_names c.args.program.now) (checked_program c.args.program.now) c.args.graph.now c.args.class) c.args.stmts.now c.loop-stmt.stmt-index c.stmt-item.result c.loop-stmt-test.true c.stmt-item.is)
+stmts_suspend-loop-stmt-preserved t c = grind (arith, stmts_more (leaving_in c.args.program.now c.args.graph.now c.args.class) c.args.stmts.now c.loop-stmt.stmt-index c.stmt-item.result c.loop-stmt-test.true c.stmt-item.is)
 
 pub arms_suspend-returns-then-expr_suspends : goal.arms_suspend-returns-then-expr_suspends
-arms_suspend-returns-then-expr_suspends t c = grind (arith, arms_more (leaving (checked_names c.args.program.now) (checked_program c.args.program.now) c.args.graph.now c.args.class) c.args.arms.now c.loop-arm.arm-index c.arm-item.result c.loop-arm-test.true c.arm-item.is)
+arms_suspend-returns-then-expr_suspends t c = grind (arith, arms_more (leaving_in c.args.program.now c.args.graph.now c.args.class) c.args.arms.now c.loop-arm.arm-index c.arm-item.result c.loop-arm-test.true c.arm-item.is)
 
 pub arms_suspend-loop-arm-preserved : goal.arms_suspend-loop-arm-preserved
-arms_suspend-loop-arm-preserved t c = grind (arith, arms_more (leaving (checked_names c.args.program.now) (checked_program c.args.program.now) c.args.graph.now c.args.class) c.args.arms.now c.loop-arm.arm-index c.arm-item.result c.loop-arm-test.true c.arm-item.is)
+arms_suspend-loop-arm-preserved t c = grind (arith, arms_more (leaving_in c.args.program.now c.args.graph.now c.args.class) c.args.arms.now c.loop-arm.arm-index c.arm-item.result c.loop-arm-test.true c.arm-item.is)
 
 pub stmts_suspend-returns-then-not-goes_on : goal.stmts_suspend-returns-then-not-goes_on
-stmts_suspend-returns-then-not-goes_on t c = grind (arith, stmts_more (leaving (checked_names c.args.program.now) (checked_program c.args.program.now) c.args.graph.now c.args.class) c.args.stmts.now c.loop-stmt.stmt-index c.stmt-item.result c.loop-stmt-test.true c.stmt-item.is)
+stmts_suspend-returns-then-not-goes_on t c = grind (arith, stmts_more (leaving_in c.args.program.now c.args.graph.now c.args.class) c.args.stmts.now c.loop-stmt.stmt-index c.stmt-item.result c.loop-stmt-test.true c.stmt-item.is)
 
 pub arms_suspend-returns-then-stmts_suspend : goal.arms_suspend-returns-then-stmts_suspend
-arms_suspend-returns-then-stmts_suspend t c = grind (arith, arms_more (leaving (checked_names c.args.program.now) (checked_program c.args.program.now) c.args.graph.now c.args.class) c.args.arms.now c.loop-arm.arm-index c.arm-item.result c.loop-arm-test.true c.arm-item.is)
+arms_suspend-returns-then-stmts_suspend t c = grind (arith, arms_more (leaving_in c.args.program.now c.args.graph.now c.args.class) c.args.arms.now c.loop-arm.arm-index c.arm-item.result c.loop-arm-test.true c.arm-item.is)

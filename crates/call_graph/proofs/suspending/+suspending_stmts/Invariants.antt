@@ -1,15 +1,14 @@
 use Rattle.std.proofs.Common.{◌≡◌, drop}
 use Rattle.py_tree.specs.PlainStatements.{plain_stmts, stmts_of, plain_arms, arms_of}
-use Rattle.py_tree.specs.CheckedViews.{checked_program, checked_names}
-use Rattle.call_graph.specs.SuspendingCode.{leaving, stmts_suspend, arms_suspend}
+use Rattle.call_graph.specs.SuspendingCode.{leaving_in, stmts_suspend, arms_suspend}
 use Rattle.call_graph.proofs.suspending.+suspending_stmts.Given as goal
 
 abbrev pub invariant-stmts_suspend-loop-stmt : goal.invariant-stmts_suspend-loop-stmt
 invariant-stmts_suspend-loop-stmt l =
-    stmts_suspend (leaving (checked_names l.program) (checked_program l.program) l.graph l.class) (stmts_of (plain_stmts (drop l.stmt-index l.stmts)))
-    ≡ stmts_suspend (leaving (checked_names l.program) (checked_program l.program) l.graph l.class) (stmts_of (plain_stmts l.stmts))
+    stmts_suspend (leaving_in l.program l.graph l.class) (stmts_of (plain_stmts (drop l.stmt-index l.stmts)))
+    ≡ stmts_suspend (leaving_in l.program l.graph l.class) (stmts_of (plain_stmts l.stmts))
 
 abbrev pub invariant-arms_suspend-loop-arm : goal.invariant-arms_suspend-loop-arm
 invariant-arms_suspend-loop-arm l =
-    arms_suspend (leaving (checked_names l.program) (checked_program l.program) l.graph l.class) (arms_of (plain_arms (drop l.arm-index l.arms)))
-    ≡ arms_suspend (leaving (checked_names l.program) (checked_program l.program) l.graph l.class) (arms_of (plain_arms l.arms))
+    arms_suspend (leaving_in l.program l.graph l.class) (arms_of (plain_arms (drop l.arm-index l.arms)))
+    ≡ arms_suspend (leaving_in l.program l.graph l.class) (arms_of (plain_arms l.arms))
