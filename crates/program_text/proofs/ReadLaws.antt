@@ -31,7 +31,7 @@ reads_no_tree text ls syntax.NoMemory is parsed = tt
 
 -- a text whose lines have the tree of a program
 module _ (text : List ℕ) (ls : List Line) (parsed : Parsed) (lexed : IsText text (has_lines (map (plain_line text) ls)))
-  (is : IsProgram (map (plain_line text) ls) (has_tree (plain_program parsed.program) parsed.names)) where
+    (is : IsProgram (map (plain_line text) ls) (has_tree (plain_program parsed.program) parsed.names)) where
   pub reads_broken : (e : ProgramError) → Judges parsed (Err e) → Reads text (Err e)
   reads_broken (error.Fault fault) (f, broken, told) = subst (HasFault text) (sym told) (has_rule lexed is broken)
   reads_broken error.NoMemory judged = tt

@@ -237,7 +237,7 @@ module _ (names : List (List ℕ)) (members : List PlainMethod) (index : ClassIn
   method_stands number =
       let all = slice_get members in
       let same : option_map all (slice_get (called_places names 0 members) number) ≡ option_map Some (slice_get (methods_of names members) number) =
-        sym (slice_get-map all (called_places names 0 members) number) ∙ ap (λ xs. slice_get xs number) (stand names members members 0 refl) ∙ slice_get-map Some (methods_of names members) number in
+      sym (slice_get-map all (called_places names 0 members) number) ∙ ap (λ xs. slice_get xs number) (stand names members members 0 refl) ∙ slice_get-map Some (methods_of names members) number in
       ap (λ places. option_and_then all (slice_get places number)) is.methods ∙ sym (joined all (slice_get (called_places names 0 members) number) (slice_get (methods_of names members) number) same)
 
   pub init_stands : option_and_then (slice_get members) index.init ≡ init_of names members

@@ -54,11 +54,7 @@ pub(crate) fn class_names(alloc: Global, classes: &[Class]) -> Result<Vec<Name>,
 }
 
 /// Where the methods that are called by name stand among the members.
-fn called_places(
-    alloc: Global,
-    names: &Names,
-    members: &[Method],
-) -> Result<Vec<usize>, AllocError>
+fn called_places(alloc: Global, names: &Names, members: &[Method]) -> Result<Vec<usize>, AllocError>
     ensures { IfOk result (λ places. places.items ≡ the_called_places names.now 0 (plain_methods members.now)) }
 {
     let mut places = Vec::new(alloc);

@@ -42,9 +42,7 @@ use crate::operations::{
 use crate::purity::is_pure;
 use crate::run::{NESTING_LIMIT, Run};
 use crate::site::{Room, Site};
-use crate::tables::{
-    body, class_number, init, method_at, method_number, new_entity, params,
-};
+use crate::tables::{body, class_number, init, method_at, method_number, new_entity, params};
 use crate::trailers::{Chain, Trailer, chain_of, last_trailer};
 use crate::transaction::begin;
 use crate::vars::{assign_local, bind};

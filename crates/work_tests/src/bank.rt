@@ -51,7 +51,17 @@ fn generated_requests_are_served(rt: HostRuntime) -> Result<(), Fail> {
         NO_FAULTS,
     )?;
     assert_eq!(rt; answer.status, 0);
-    assert!(rt; answer.out.bytes().starts_with(b"{\"id\":\"g1\",\"ok\":\"a1\",\"seq\":1}\n"));
-    assert!(rt; answer.out.bytes().ends_with(b"{\"id\":\"g20\",\"ok\":\"a20\",\"seq\":20}\n"));
+    assert!(rt;
+        answer
+            .out
+            .bytes()
+            .starts_with(b"{\"id\":\"g1\",\"ok\":\"a1\",\"seq\":1}\n")
+    );
+    assert!(rt;
+        answer
+            .out
+            .bytes()
+            .ends_with(b"{\"id\":\"g20\",\"ok\":\"a20\",\"seq\":20}\n")
+    );
     Ok(())
 }

@@ -47,8 +47,16 @@ fn one_request_is_one_line(rt: HostRuntime) -> Result<(), Fail> {
 #[test]
 fn the_program_is_that_of_a_bank(rt: HostRuntime) -> Result<(), Fail> {
     let work = generate(rt.alloc(), 0, 1)?;
-    assert!(rt; work.program.as_slice().starts_with(b"from stateflow import entity\n\n\n@entity\nclass Account:\n"));
-    assert!(rt; work.program.as_slice().ends_with(b"        self.balance -= amount\n        return True\n"));
+    assert!(rt;
+        work.program.as_slice().starts_with(
+            b"from stateflow import entity\n\n\n@entity\nclass Account:\n"
+        )
+    );
+    assert!(rt;
+        work.program
+            .as_slice()
+            .ends_with(b"        self.balance -= amount\n        return True\n")
+    );
     Ok(())
 }
 
