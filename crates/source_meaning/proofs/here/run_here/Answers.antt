@@ -32,5 +32,5 @@ returns c =
     mapped_ok c.ended_here.result (EndedAs c.execute_all-ended.result) (λ x. EndsHere x c.execute_all-ended.new.vars h c.execute_all-ended.new.run.steps (act_all (on_record src me d) (stmts_of (plain_stmts c.args.code.now)) c.args.vars.now (held c.args.held.now c.args.wrote.now) c.args.steps.now))
     (acts_here src me d c.saturating_sub.result c.saturating_sub.ensures before fields left (world_of c.in_ok-state.state c.begin.result) w written h (c.begin.ensures c.in_ok-state.state ∙ ap at_first c.in_ok-state.ensures) (c.into_written-written.ensures.written c.in_ok-state.state) (c.into_written-written.ensures.fields c.in_ok-state.state) back
     (stmts_of (plain_stmts c.args.code.now)) c.args.vars.now c.execute_all-ended.new.vars c.args.steps.now c.execute_all-ended.new.run.steps c.execute_all-ended.result
-    (subst (λ l. EndsIn c.execute_all-ended.result c.execute_all-ended.new.vars w c.execute_all-ended.new.run.steps (act_all (within src me c.saturating_sub.result) (stmts_of (plain_stmts l)) c.args.vars.now (world_of c.in_ok-state.state c.begin.result) c.args.steps.now)) c.as_slice-2.ensures c.execute_all-ended.ensures))
+    (subst (λ l. EndsIn c.execute_all-ended.result c.execute_all-ended.new.vars w c.execute_all-ended.new.run.steps (act_all (within src me c.saturating_sub.result) (stmts_of (plain_stmts l)) c.args.vars.now (world_of c.in_ok-state.state c.begin.result) c.args.steps.now)) c.as_slice.ensures c.execute_all-ended.ensures))
     c.ended_here.ensures
