@@ -54,7 +54,7 @@ def blocks(depth, head):
 
 def receivers():
     """A chain of receivers behind brackets: the deepest that a text of 8 KB may hold."""
-    chain = "(" * 61 + "self.g(n - 1)" + "".join(".same()" * count + ")" for count in range(1, 62))
+    chain = "(" * 61 + "self.g(n - 1)" + "".join(")" + ".same()" * count for count in range(2, 63))
     return HEAD + "    def g(self, n: int) -> 'A':\n        if n == 0: return self\n        return " + chain + "\n    def f(self, n: int) -> int:\n        return 0 if self.g(n) == self else 1\n"
 
 

@@ -49,7 +49,7 @@ both_replies="$first_reply$line$second_reply$line"
 : >out
 : >err
 
-cp "$here/crates/stateflow/data/counter.py" counter.py
+cp "$here/examples/counter/counter.py" counter.py
 
 # A class stands in the first piece of the file and one in the last.
 {
