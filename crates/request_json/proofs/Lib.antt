@@ -3,4 +3,11 @@ pub mod ArgLaws
 pub mod IntLaws
 pub mod FloatLaws
 pub mod RequestFits
+pub mod LineTexts
+pub mod LineTokens
+pub mod LineData
+pub mod BoundedParts
+pub mod ArgumentSpellings
+pub mod RequestSpellings
+pub mod FittingSpellings
 mod LineExamples

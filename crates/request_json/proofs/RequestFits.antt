@@ -30,20 +30,20 @@ use Rattle.request_json.specs.RequestLines.{◌>>=◌, length_of, is_id, id_of, 
 use Rattle.request_json.specs.LinesFit.{IdFits, RequestFits}
 
 -- what goes on had something to go on with
-then_some : {A B : Type 0} (o : Option A) (f : A → Option B) (y : B) → (o >>? f) ≡ Some y → (x : A) × (o ≡ Some x) × (f x ≡ Some y)
+pub then_some : {A B : Type 0} (o : Option A) (f : A → Option B) (y : B) → (o >>? f) ≡ Some y → (x : A) × (o ≡ Some x) × (f x ≡ Some y)
 then_some None f y is = absurd (none-some y is)
 then_some (Some x) f y is = (x, refl, is)
 
-then_ok : {A B : Type 0} (o : Result A LineFault) (f : A → Result B LineFault) (y : B) → (o >>= f) ≡ Ok y → (x : A) × (o ≡ Ok x) × (f x ≡ Ok y)
+pub then_ok : {A B : Type 0} (o : Result A LineFault) (f : A → Result B LineFault) (y : B) → (o >>= f) ≡ Ok y → (x : A) × (o ≡ Ok x) × (f x ≡ Ok y)
 then_ok (Err fault) f y is = absurd cc
 then_ok (Ok x) f y is = (x, refl, is)
 
-found : {A : Type 0} (o : Option A) (fault : LineFault) (x : A) → ok_or o fault ≡ Ok x → o ≡ Some x
+pub found : {A : Type 0} (o : Option A) (fault : LineFault) (x : A) → ok_or o fault ≡ Ok x → o ≡ Some x
 found None fault x is = absurd cc
 found (Some y) fault x is = cc
 
 -- what is there only where a test passes
-where_true : {A : Type 0} (b : Bool) (o : Option A) (y : A) → (if b then o else None) ≡ Some y → (b ≡ true) × (o ≡ Some y)
+pub where_true : {A : Type 0} (b : Bool) (o : Option A) (y : A) → (if b then o else None) ≡ Some y → (b ≡ true) × (o ≡ Some y)
 where_true true o y is = (refl, is)
 where_true false o y is = absurd (none-some y is)
 
@@ -59,7 +59,7 @@ stands_at p (x ∷ xs) n e = by (p x) refl (sym (position_of_more p x xs) ∙ e)
         let y = later m.0 m.1 in
         (y.0, subst (λ k. slice_get (x ∷ xs) k ≡ Some y.0) m.2 y.1, y.2)
 
-stands_from : {A : Type 0} (p : A → Bool) (xs : List A) (n : ℕ) → position_from p 0 xs ≡ Some n → (x : A) × (slice_get xs n ≡ Some x) × (p x ≡ true)
+pub stands_from : {A : Type 0} (p : A → Bool) (xs : List A) (n : ℕ) → position_from p 0 xs ≡ Some n → (x : A) × (slice_get xs n ≡ Some x) × (p x ≡ true)
 stands_from p xs n e = stands_at p xs n (position_is p xs ∙ e)
 
 same_number : (a b : ℕ) → (a == b) ≡ true → a ≡ b
@@ -68,10 +68,10 @@ same_number a b h = (Decides-eqb a b).0 h
 id_fits : (id : List ℕ) → is_id id ≡ true → IdFits id
 id_fits id is = record { some = grind (arith, nat_tests); few = grind (arith, nat_tests) }
 
-same_Ok : {A : Type 0} (x y : A) → ◌≡◌ {A = Result A LineFault} (Ok x) (Ok y) → x ≡ y
+pub same_Ok : {A : Type 0} (x y : A) → ◌≡◌ {A = Result A LineFault} (Ok x) (Ok y) → x ≡ y
 same_Ok x y is = cc
 
-passed : (src : Source) (ps : List PlainParam) (ds : Items) (vs : List Value) → arguments_of src ps ds ≡ Ok vs → args_of src ps ds ≡ Some vs
+pub passed : (src : Source) (ps : List PlainParam) (ds : Items) (vs : List Value) → arguments_of src ps ds ≡ Ok vs → args_of src ps ds ≡ Some vs
 passed src ps ds vs = by (nat_eq (length_of ds) (length ps))
   where
     by : (b : Bool) → (if b then ok_or (args_of src ps ds) ArgumentType else Err ArgumentCount) ≡ Ok vs → args_of src ps ds ≡ Some vs
@@ -161,7 +161,7 @@ module _ (names : List (List ℕ)) (program : PlainProgram) where
         fit = args_fit (params_of (init_among names c.0.members)) ds vs (subst (λ o. args_of src (params_of (init_among names (members_of o))) ds ≡ Some vs) c.1 args);
       }
 
-  id_is : (d : Data) (id : List ℕ) → id_in d ≡ Ok id → IdFits id
+  pub id_is : (d : Data) (id : List ℕ) → id_in d ≡ Ok id → IdFits id
   id_is d id is =
       let text = then_some (text_at (codes "id") d) id_of id (found (text_at (codes "id") d >>? id_of) NotRequest id is) in
       let kept = where_true (is_id (chars text.0)) (Some (chars text.0)) id text.2 in

@@ -4,3 +4,5 @@ pub mod ReplyLines
 pub mod Answers
 pub mod Actions
 pub mod LinesFit
+pub mod LineSpellings
+pub mod FittingSpellings

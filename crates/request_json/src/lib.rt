@@ -8,6 +8,6 @@ mod read;
 mod write;
 
 pub use fault::{LineError, LineFault};
-pub use laws::lines_fit;
+pub use laws::{fitting_things_have_spellings, lines_fit, lines_have_spellings};
 pub use read::read_line;
 pub use write::{write_bad, write_entry, write_reply};

@@ -9,6 +9,6 @@ pub mod ValueLaws
 pub mod Fronts
 pub mod Fields
 pub mod RecordLaws
-pub mod Light
+pub mod Lengths
 pub mod Stands
 pub mod Wholes

@@ -11,7 +11,8 @@ use Rattle.sf_bytes.specs.ByteForms.{int_bytes, text_bytes, ref_bytes, value_byt
 use Rattle.sf_bytes.specs.Reading.{Reader, ◌>>=◌, int_at, text_at, ref_at, tagged_at, value_by, values_within}
 use Rattle.sf_bytes.specs.Spelt.{IsShortText, IsShort, AreShort, NestsWithin, NestWithin, IsRealText, IsRealRef, IsReal, AreReal}
 use Rattle.sf_bytes.proofs.Wide.{IsBytes, IsBytes-rest}
-use Rattle.sf_bytes.proofs.Layers.{bytes-List, short-List, nests-List, real-List}
+use Rattle.byte_sizes.proofs.Layers.{short-List, nests-List, real-List}
+use Rattle.sf_bytes.proofs.Layers.{bytes-List}
 use Rattle.sf_bytes.proofs.Laws.{Spells, said, bind_some, some_is, number_spells, int_spells, text_spells, list_spells}
 use Rattle.sf_bytes.proofs.Fields.{two_spells}
 

@@ -1,8 +1,9 @@
 -- The bytes of each thing. A number has four bytes, the greatest first, unless said otherwise.
-use Rattle.std.specs.Prelude.{ℕ, ℤ, ◌+◌, true, false, List as Items, [], ◌∷◌, ◌++◌, length}
+use Rattle.std.specs.Prelude.{ℕ, ℤ, true, false, List as Items, [], ◌∷◌, ◌++◌, length}
 use Rattle.std.specs.Int.{w32, w64, w128, to_be_bytes, cast_unsigned}
 use Rattle.std.specs.List.{flat_map}
 use Rattle.std.specs.Str.{encode_utf8_all}
+use Rattle.byte_sizes.specs.Sizes.{row_len}
 use Rattle.sf_value.specs.declared.Act.{Act}
 use Rattle.sf_value.specs.declared.Act.TheVariants.{Call, New}
 use Rattle.sf_value.specs.declared.BatchRecord.{BatchRecord}
@@ -59,11 +60,6 @@ unfoldable mutual
   pub row_bytes : {n : _} → Row_of-Value n → Items ℕ
   row_bytes end_of-Value = []
   row_bytes (more_of-Value value row) = value_bytes value ++ row_bytes row
-
-  -- how many elements
-  pub row_len : {n : _} → Row_of-Value n → ℕ
-  row_len end_of-Value = 0
-  row_len (more_of-Value value row) = 1 + row_len row
 
 -- arguments, or the fields of a record
 abbrev pub values_bytes : Items Value → Items ℕ

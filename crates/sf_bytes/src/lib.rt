@@ -6,8 +6,10 @@
 #![tactic(auto)]
 
 ghost use Rattle.std.specs.Prelude.{◌≡◌, IfOk, OnOk};
+ghost use Rattle.byte_sizes.specs.Sizes.{value_size, request_size, outcome_size, batch_size, snapshot_size};
 ghost use Rattle.sf_bytes.specs.ByteForms.{value_bytes, request_bytes, outcome_bytes, batch_bytes, snapshot_bytes};
 ghost use Rattle.sf_bytes.specs.Spelt.{IsSpeltValue, IsSpeltRequest, IsSpeltOutcome, IsSpeltBatch, IsSpeltSnapshot, IsReal, IsRealRequest, IsRealOutcome, IsRealBatch, IsRealSnapshot, IsReadValue, IsReadRequest, IsReadOutcome, IsReadBatch, IsReadSnapshot};
+ghost use Rattle.sf_bytes.specs.Lengths.{HasSizes};
 ghost use Rattle.sf_bytes.specs.Reads.{Reads, NoneBeginsAnother};
 
 mod fault;
@@ -123,4 +125,13 @@ pub fn spellings_stand_apart()
     ensures outcomes { NoneBeginsAnother outcome_bytes IsReadOutcome }
     ensures batches { NoneBeginsAnother batch_bytes IsReadBatch }
     ensures snapshots { NoneBeginsAnother snapshot_bytes IsReadSnapshot }
+{}
+
+/// A spelling is as long as the size of its thing says, which `byte_sizes` defines.
+pub fn spellings_have_sizes()
+    ensures values { HasSizes value_bytes value_size }
+    ensures requests { HasSizes request_bytes request_size }
+    ensures outcomes { HasSizes outcome_bytes outcome_size }
+    ensures batches { HasSizes batch_bytes batch_size }
+    ensures snapshots { HasSizes snapshot_bytes snapshot_size }
 {}

@@ -1,0 +1,4 @@
+pub mod Layers
+pub mod Small
+pub mod Light
+mod SizeExamples

@@ -1,0 +1,5 @@
+use Rattle.sf_bytes.proofs.Lengths.{value-sizes, request-sizes, outcome-sizes, batch-sizes, snapshot-sizes}
+use Rattle.sf_bytes.proofs.spellings_have_sizes.Goals as goal
+
+pub returns : goal.returns
+returns c = record { values = value-sizes; requests = request-sizes; outcomes = outcome-sizes; batches = batch-sizes; snapshots = snapshot-sizes }
