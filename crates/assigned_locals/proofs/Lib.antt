@@ -1,0 +1,5 @@
+pub mod SureNames
+pub mod ExpressionsRead
+pub mod BreaksStay
+pub mod StatementsRead
+pub mod AssignedLocals

@@ -1,0 +1,3 @@
+pub mod QuietExpressions
+pub mod QuietStatements
+pub mod QuietMethods
