@@ -1,0 +1,10 @@
+use Rattle.std.proofs.Common.{ap, ◌∙◌}
+use Rattle.std.proofs.lemmas.Result.{IfOk-weaker}
+use Rattle.std.specs.FinMap as finite
+use Rattle.keyed_state.specs.Works.{with_records}
+use Rattle.keyed_state.proofs.TableLaws.{listed_contents}
+use Rattle.keyed_state.proofs.keyed.Keyed.records.Goals as goal
+
+pub returns-clause-contents : goal.returns-clause-contents
+returns-clause-contents c =
+    IfOk-weaker c.copies_of.result _ _ (λ all is. ap (with_records finite.empty) is ∙ listed_contents c.self.inside.records.entries ∙ ap (λ s. s.contents) c.self.view_is) c.copies_of.ensures.copies

@@ -1,0 +1,5 @@
+pub mod Accesses
+pub mod CommitRules
+pub mod BatchRule
+pub mod Reservations
+pub mod BatchRuleLaws
