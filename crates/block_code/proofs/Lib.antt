@@ -1,0 +1,3 @@
+pub mod ListCopies
+pub mod GraphLaws
+pub mod TextLaws

@@ -1,0 +1,16 @@
+pub mod FuelLaws
+pub mod Steps
+pub mod FallLaws
+pub mod NamesApart
+pub mod Assigning
+pub mod NamesOnce
+pub mod Variables
+pub mod Spared
+pub mod SparedHere
+pub mod Items
+pub mod Ranks
+pub mod EndValues
+pub mod Parts
+pub mod Frames
+pub mod Entries
+pub mod WellSteps

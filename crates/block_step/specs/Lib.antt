@@ -1,0 +1,5 @@
+pub mod BlockRuns
+pub mod EventStep
+pub mod Laws
+pub mod StepFits
+pub mod StepFalls

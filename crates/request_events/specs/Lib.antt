@@ -1,0 +1,2 @@
+pub mod RequestEvents
+pub mod GraphMeans
