@@ -1,0 +1,4 @@
+pub mod EnoughBlocks
+pub mod OwnRuns
+pub mod BatchWorks
+pub mod BatchExamples

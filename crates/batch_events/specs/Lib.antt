@@ -1,0 +1,3 @@
+pub mod BatchEvents
+pub mod BatchRuns
+pub mod BatchWorks

@@ -1,0 +1,2 @@
+mod RoutingLaws
+mod RoutingExamples

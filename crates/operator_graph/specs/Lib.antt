@@ -1,0 +1,4 @@
+pub mod Routing
+pub mod Telling
+pub mod Notes
+pub mod MemoryNotes
