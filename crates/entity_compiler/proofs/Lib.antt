@@ -1,0 +1,4 @@
+pub mod NamesAreBelow
+pub mod Places
+pub mod CompiledMeaning
+mod Examples

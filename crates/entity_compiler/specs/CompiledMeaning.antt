@@ -1,0 +1,42 @@
+-- Where the blocks of a program stand, and that they fit it and mean it where it is accepted and its flat code keeps the rules.
+use Rattle.std.specs.Prelude.{◌≡◌, ℕ, Bool, List, length}
+use Rattle.py_tree.specs.PlainProgram.{PlainMethod, PlainProgram}
+use Rattle.py_tree.specs.ClassRules.{tables_of}
+use Rattle.call_graph.specs.Marks.{IsGraph}
+use Rattle.program_meaning.specs.NothingGoesWrong.{IsKnownAccepted}
+use Rattle.block_code.specs.Places.{blocks_of}
+use Rattle.block_code.specs.GraphFits.{method_count, GraphFits}
+use Rattle.request_events.specs.GraphMeans.{MethodsMean, GraphMeans}
+use Rattle.entity_compiler.specs.CompiledGraph.{method_blocks, compiled}
+use Rattle.entity_compiler.specs.CodeKeepsRules.{OfEachMethod, NamesItsCallees, CodeKeepsRules}
+
+module _ (names : List (List ℕ)) (program : PlainProgram) (marks : List (List Bool)) where
+  -- where a graph has the blocks of a method, the compiled one has those of its flat method
+  abbrev pub HasItsBlocks : (class number : ℕ) → PlainMethod → Type 0
+  HasItsBlocks class number m = blocks_of (tables_of names program) (compiled names program marks) class number ≡ method_blocks names program marks class number m
+
+  -- there are the blocks of as many methods as the class tables have
+  pub record BlocksStand : Type 0 where
+    pub as_many : length (compiled names program marks) ≡ method_count (tables_of names program)
+    pub each : OfEachMethod names program HasItsBlocks
+
+abbrev pub CompiledBlocksStand : Type 0
+CompiledBlocksStand = (names : List (List ℕ)) (program : PlainProgram) (marks : List (List Bool)) → BlocksStand names program marks
+
+-- the blocks of each method come to what its body does, whatever the marks
+abbrev pub CompiledMethodsMean : Type 0
+CompiledMethodsMean =
+    (names : List (List ℕ)) (program : PlainProgram) (marks : List (List Bool)) → IsKnownAccepted names program → OfEachMethod names program (NamesItsCallees names program marks)
+    → MethodsMean names program (compiled names program marks)
+
+-- where the marks are exact and the flat code keeps the rules, the compiled graph fits the program
+abbrev pub CompiledFits : Type 0
+CompiledFits =
+    (names : List (List ℕ)) (program : PlainProgram) (marks : List (List Bool)) → IsKnownAccepted names program → IsGraph names program marks → CodeKeepsRules names program marks
+    → GraphFits names program (compiled names program marks)
+
+-- and means it
+abbrev pub CompiledMeans : Type 0
+CompiledMeans =
+    (names : List (List ℕ)) (program : PlainProgram) (marks : List (List Bool)) → IsKnownAccepted names program → IsGraph names program marks → CodeKeepsRules names program marks
+    → GraphMeans names program (compiled names program marks)

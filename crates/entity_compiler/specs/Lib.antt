@@ -1,0 +1,3 @@
+pub mod CompiledGraph
+pub mod CodeKeepsRules
+pub mod CompiledMeaning

@@ -1,0 +1,12 @@
+use Rattle.flat_tree.specs.PlainFlat.{plain_flat_stmt, plain_flat_arm, plain_operand}
+use Rattle.py_tree.proofs.CopyLaws.{map_step}
+use Rattle.flat_tree.proofs.copy.+copy_flat.Goals as goal
+
+pub copy_stmts-loop-stmt-preserved : goal.copy_stmts-loop-stmt-preserved
+copy_stmts-loop-stmt-preserved t c = map_step plain_flat_stmt c.as_slice-stmt-items.result.now c.loop-stmt.made c.push.new.self c.loop-stmt.stmt-index c.stmt-item.result c.in_ok-copy_stmt.field-0 c.loop-stmt.invariant c.loop-stmt-test.true c.stmt-item.is c.in_ok-copy_stmt.ensures c.in_ok-push.ensures.ok
+
+pub copy_arms-loop-arm-preserved : goal.copy_arms-loop-arm-preserved
+copy_arms-loop-arm-preserved t c = map_step plain_flat_arm c.as_slice-arm-items.result.now c.loop-arm.made c.push.new.self c.loop-arm.arm-index c.arm-item.result c.in_ok-copy_arm.field-0 c.loop-arm.invariant c.loop-arm-test.true c.arm-item.is c.in_ok-copy_arm.ensures c.in_ok-push.ensures.ok
+
+pub copy_operands-loop-operand-preserved : goal.copy_operands-loop-operand-preserved
+copy_operands-loop-operand-preserved t c = map_step plain_operand c.as_slice-operand-items.result.now c.loop-operand.made c.push.new.self c.loop-operand.operand-index c.operand-item.result c.in_ok-copy_operand.field-0 c.loop-operand.invariant c.loop-operand-test.true c.operand-item.is c.in_ok-copy_operand.ensures c.in_ok-push.ensures.ok

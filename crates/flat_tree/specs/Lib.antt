@@ -1,0 +1,3 @@
+pub mod PlainFlat
+pub mod FlatMeaning
+pub mod Flatness

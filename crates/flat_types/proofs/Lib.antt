@@ -1,0 +1,7 @@
+pub mod FlowStays
+pub mod CodeJoins
+pub mod PointLaws
+pub mod RestsFit
+pub mod LoopsFit
+pub mod BlocksFit
+mod Examples

@@ -1,0 +1,3 @@
+pub mod FlatTypes
+pub mod DeadCode
+pub mod SplitFits

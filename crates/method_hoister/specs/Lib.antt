@@ -1,0 +1,5 @@
+pub mod Spots
+pub mod HoistExpressions
+pub mod HoistStatements
+pub mod HoistMethods
+pub mod Views

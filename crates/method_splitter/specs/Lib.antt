@@ -1,0 +1,12 @@
+pub mod Split
+pub mod Callees
+pub mod SplitMeaning
+pub mod SplitTargets
+pub mod SplitRanks
+pub mod Points
+pub mod SplitPoints
+pub mod Rests
+pub mod Numbering
+pub mod SmallStatements
+pub mod SplitSteps
+pub mod TreesSplit

@@ -1,0 +1,13 @@
+pub mod LocalLaws
+pub mod KeptTypes
+pub mod EnvironmentLaws
+pub mod Assignable
+pub mod PointLaws
+pub mod StoredLaws
+pub mod GoodParts
+pub mod GoodTests
+pub mod TypedLists
+pub mod TypedKinds
+pub mod CallsKeep
+pub mod OthersKeep
+pub mod ExpressionsKeep
