@@ -1,0 +1,9 @@
+pub mod NumberLaws
+pub mod GivenLaws
+pub mod BuiltRules
+pub mod ClapWalk
+pub mod ClapCommand
+pub mod ArgLoops
+pub mod AskedLaws
+pub mod GrammarLaws
+pub mod AskLaws

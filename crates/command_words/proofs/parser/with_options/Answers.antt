@@ -1,0 +1,11 @@
+use Rattle.std.proofs.Common.{ap₂, ◌∙◌}
+use Rattle.clap.specs.Words.{app_of, with_rule}
+use Rattle.command_words.specs.ClapCommands.{option_arg}
+use Rattle.command_words.proofs.ArgLoops.{one_more}
+use Rattle.command_words.proofs.parser.with_options.Goals as goal
+
+pub loop-name-preserved : goal.loop-name-preserved
+loop-name-preserved c =
+    c.in_ok-more.ensures.shape c.option.ensures.own
+    ∙ ap₂ with_rule c.loop-name.invariant c.option.ensures.rule
+    ∙ one_more option_arg (app_of c.args.command) c.args.names.now c.loop-name.name-index _ c.loop-name-test.true

@@ -1,0 +1,88 @@
+//! The command that words ask for.
+
+ghost use Rattle.std.specs.Prelude.{◌≡◌, map, option_map, string_bytes};
+ghost use Rattle.command_words.specs.Commands.{Ask, asked_by};
+ghost use Rattle.command_words.specs.CommandReading as spec;
+ghost use Rattle.command_words.specs.Readings.{Reads, ReadsOnly};
+
+use crate::command::{Command, WordsError};
+use crate::reading::{file_words, gen_words, run_words};
+use crate::settings::{file_in, gen_in, run_in};
+use std::alloc::Global;
+
+/// The file that the words of a command name, where it takes nothing else.
+#[tactic(auto, unfolding(crate::specs::CommandReading::file_asked))]
+fn file_asked<'a>(alloc: Global, words: &'a [String]) -> Result<&'a str, WordsError>
+    ensures { Reads (λ t. t.now) (spec.file_asked (map string_bytes words.entry.now)) result }
+{
+    let found = file_words(alloc, words)?;
+    let file = file_in(&found);
+    drop(found);
+    file.ok_or(WordsError::Usage)
+}
+
+/// What the words of `run` ask for.
+#[tactic(auto, using(crate::proofs::AskedLaws::told), unfolding(crate::specs::CommandReading::run_asked))]
+fn run_asked<'a>(alloc: Global, words: &'a [String]) -> Result<Command<'a>, WordsError>
+    ensures { Reads asked_by (spec.run_asked (map string_bytes words.entry.now)) result }
+{
+    let found = run_words(alloc, words)?;
+    let command = run_in(&found);
+    drop(found);
+    command.ok_or(WordsError::Usage)
+}
+
+/// What the words of `gen` ask for.
+#[tactic(auto, using(crate::proofs::AskedLaws::told), unfolding(crate::specs::CommandReading::gen_asked))]
+fn gen_asked<'a>(alloc: Global, words: &'a [String]) -> Result<Command<'a>, WordsError>
+    ensures { Reads asked_by (spec.gen_asked (map string_bytes words.entry.now)) result }
+{
+    let found = gen_words(alloc, words)?;
+    let command = gen_in(&found);
+    drop(found);
+    command.ok_or(WordsError::Usage)
+}
+
+/// What the words behind a command's name ask for.
+#[tactic(auto, unfolding(crate::specs::CommandReading::asked_by_name))]
+fn asked_by_name<'a>(
+    alloc: Global,
+    name: &str,
+    words: &'a [String],
+) -> Result<Command<'a>, WordsError>
+    ensures { Reads asked_by (spec.asked_by_name name.entry.now (map string_bytes words.entry.now)) result }
+{
+    if name == "check" {
+        let file = file_asked(alloc, words)?;
+        return Ok(Command::Check { file });
+    }
+    if name == "compile" {
+        let file = file_asked(alloc, words)?;
+        return Ok(Command::Compile { file });
+    }
+    if name == "local" {
+        let file = file_asked(alloc, words)?;
+        return Ok(Command::Local { file });
+    }
+    if name == "run" {
+        return run_asked(alloc, words);
+    }
+    if name == "gen" {
+        return gen_asked(alloc, words);
+    }
+    Err(WordsError::Usage)
+}
+
+/// The command that the words of a call ask for, the first of them being its name.
+///
+/// # Errors
+///
+/// `Usage` where they ask for none, `NoMemory` where memory runs out before that is known.
+pub fn command_of<'a>(alloc: Global, words: &'a [String]) -> Result<Command<'a>, WordsError>
+    ensures { ReadsOnly asked_by (Ask (map string_bytes words.entry.now)) result }
+{
+    match words {
+        [] => Err(WordsError::Usage),
+        [name, rest @ ..] => asked_by_name(alloc, name.as_str(), rest),
+    }
+}
