@@ -7,15 +7,17 @@ ghost use Rattle.py_tree.specs.CheckedViews.{checked_program, checked_names};
 ghost use Rattle.call_graph.specs.Suspending as suspending;
 ghost use Rattle.call_graph.specs.Marks as spec;
 ghost use Rattle.call_graph.specs.SuspendingCode as code;
-ghost use Rattle.py_tree.specs.PlainExpressions.{plain_expr};
-ghost use Rattle.py_tree.specs.PlainStatements.{plain_stmts, stmts_of};
+ghost use Rattle.py_tree.specs.PlainExpressions.{plain_expr, plain_exprs, exprs_of};
+ghost use Rattle.py_tree.specs.PlainStatements.{plain_stmt, plain_stmts, stmts_of};
 ghost use Rattle.py_tree.specs.ClassViews.{numbers_of};
 
 use crate::closure::{Marks, marks_of};
 use crate::sites::Sites;
 use crate::stmts::find_in_body;
-use crate::suspending::{expr_suspends, stmts_suspend};
-use py_tree::{Checked, Class, Expr, Method, Name, Names, Program, Stmt, is_called_by_name};
+use crate::suspending::{
+    call_leaves, expr_suspends, exprs_suspend, stmt_suspends, stmts_suspend,
+};
+use py_tree::{Checked, Class, Expr, Exprs, Method, Name, Names, Program, Stmt, is_called_by_name};
 use sf_list::Sequence;
 use std::alloc::{AllocError, Global};
 use std::marker::Model;
@@ -58,15 +60,35 @@ impl CallGraph {
 
     /// Whether an expression may suspend, in a method of the class of this number.
     pub fn expr_suspends(&self, program: &Checked, class: u32, expr: &Expr) -> bool
-        requires { class < length (checked_program program.now) }
         ensures { result ≡ code.expr_suspends (code.leaving_in program.now self.now class) (plain_expr expr.now) }
     {
         expr_suspends(self, program, class, expr)
     }
 
+    /// Whether a call of the method of this name on this receiver leaves, in a method of the class of this
+    /// number.
+    pub fn call_leaves(&self, program: &Checked, class: u32, on: &Expr, name: Name) -> bool
+        ensures { result ≡ code.leaving_in program.now self.now class (plain_expr on.now) name.0 }
+    {
+        call_leaves(self, program, class, on, name)
+    }
+
+    /// Whether one of these expressions may suspend, in a method of the class of this number.
+    pub fn exprs_suspend(&self, program: &Checked, class: u32, exprs: &Exprs) -> bool
+        ensures { result ≡ code.exprs_suspend (code.leaving_in program.now self.now class) (exprs_of (plain_exprs exprs.now)) }
+    {
+        exprs_suspend(self, program, class, exprs)
+    }
+
+    /// Whether a statement may suspend, in a method of the class of this number.
+    pub fn stmt_suspends(&self, program: &Checked, class: u32, stmt: &Stmt) -> bool
+        ensures { result ≡ code.stmt_suspends (code.leaving_in program.now self.now class) (plain_stmt stmt.now) }
+    {
+        stmt_suspends(self, program, class, stmt)
+    }
+
     /// Whether statements may suspend, in a method of the class of this number.
     pub fn stmts_suspend(&self, program: &Checked, class: u32, stmts: &[Stmt]) -> bool
-        requires { class < length (checked_program program.now) }
         ensures { result ≡ code.stmts_suspend (code.leaving_in program.now self.now class) (stmts_of (plain_stmts stmts.now)) }
     {
         stmts_suspend(self, program, class, stmts)

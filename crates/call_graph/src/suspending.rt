@@ -25,8 +25,7 @@ fn method_leaves(graph: &CallGraph, class: u32, method: Option<u32>) -> bool
 }
 
 /// Whether a call of the method of this name on this receiver leaves, in a method of this class.
-fn leaves(graph: &CallGraph, program: &Checked, class: u32, on: &Expr, name: Name) -> bool
-    requires { class < length (checked_program program.now) }
+pub(crate) fn call_leaves(graph: &CallGraph, program: &Checked, class: u32, on: &Expr, name: Name) -> bool
     ensures { result ≡ leaving_in program.now graph.now class (plain_expr on.now) name.0 }
 {
     !is_self(on) || method_leaves(graph, class, program.method_by_name(class, name))
@@ -35,7 +34,6 @@ fn leaves(graph: &CallGraph, program: &Checked, class: u32, on: &Expr, name: Nam
 #[cycle(suspending)]
 #[tactic(auto, using(crate::proofs::CodeRules::expr_asks))]
 pub(crate) fn expr_suspends(graph: &CallGraph, program: &Checked, class: u32, expr: &Expr) -> bool
-    requires { class < length (checked_program program.now) }
     ensures { result ≡ spec.expr_suspends (leaving_in program.now graph.now class) (plain_expr expr.now) }
 {
     match &expr.kind {
@@ -49,7 +47,7 @@ pub(crate) fn expr_suspends(graph: &CallGraph, program: &Checked, class: u32, ex
         ExprKind::Call(on, name, args) => {
             let parts_suspend = expr_suspends(graph, program, class, on)
                 | exprs_suspend(graph, program, class, args);
-            parts_suspend || leaves(graph, program, class, on, name.name)
+            parts_suspend || call_leaves(graph, program, class, on, name.name)
         }
         ExprKind::Apply(name, args) => {
             exprs_suspend(graph, program, class, args) || function_of(*name).is_none()
@@ -77,8 +75,7 @@ pub(crate) fn expr_suspends(graph: &CallGraph, program: &Checked, class: u32, ex
 
 #[cycle(suspending)]
 #[tactic(auto, using(crate::proofs::CodeRules::list_asks))]
-fn exprs_suspend(graph: &CallGraph, program: &Checked, class: u32, exprs: &Exprs) -> bool
-    requires { class < length (checked_program program.now) }
+pub(crate) fn exprs_suspend(graph: &CallGraph, program: &Checked, class: u32, exprs: &Exprs) -> bool
     ensures { result ≡ spec.exprs_suspend (leaving_in program.now graph.now class) (exprs_of (plain_exprs exprs.now)) }
 {
     for expr in exprs.as_slice() {
@@ -92,7 +89,6 @@ fn exprs_suspend(graph: &CallGraph, program: &Checked, class: u32, exprs: &Exprs
 #[cycle(suspending)]
 #[tactic(auto, using(crate::proofs::CodeRules::link_asks))]
 fn links_suspend(graph: &CallGraph, program: &Checked, class: u32, links: &Links) -> bool
-    requires { class < length (checked_program program.now) }
     ensures { result ≡ spec.links_suspend (leaving_in program.now graph.now class) (links_of (plain_links links.now)) }
 {
     for link in links.as_slice() {
@@ -104,7 +100,6 @@ fn links_suspend(graph: &CallGraph, program: &Checked, class: u32, links: &Links
 }
 
 fn some_suspends(graph: &CallGraph, program: &Checked, class: u32, expr: &Option<Expr>) -> bool
-    requires { class < length (checked_program program.now) }
     ensures { result ≡ spec.some_suspends (leaving_in program.now graph.now class) (plain_option plain_expr expr.now) }
 {
     match expr {
@@ -114,7 +109,6 @@ fn some_suspends(graph: &CallGraph, program: &Checked, class: u32, expr: &Option
 }
 
 fn over_suspends(graph: &CallGraph, program: &Checked, class: u32, over: &Over) -> bool
-    requires { class < length (checked_program program.now) }
     ensures { result ≡ spec.over_suspends (leaving_in program.now graph.now class) (plain_over over.now) }
 {
     match over {
@@ -127,8 +121,7 @@ fn over_suspends(graph: &CallGraph, program: &Checked, class: u32, over: &Over) 
 
 #[cycle(suspending_stmts)]
 #[tactic(auto, using(crate::proofs::CodeRules::stmt_does))]
-fn stmt_suspends(graph: &CallGraph, program: &Checked, class: u32, stmt: &Stmt) -> bool
-    requires { class < length (checked_program program.now) }
+pub(crate) fn stmt_suspends(graph: &CallGraph, program: &Checked, class: u32, stmt: &Stmt) -> bool
     ensures { result ≡ spec.stmt_suspends (leaving_in program.now graph.now class) (plain_stmt stmt.now) }
 {
     match &stmt.kind {
@@ -165,7 +158,6 @@ pub(crate) fn stmts_suspend(
     class: u32,
     stmts: &[Stmt],
 ) -> bool
-    requires { class < length (checked_program program.now) }
     ensures { result ≡ spec.stmts_suspend (leaving_in program.now graph.now class) (stmts_of (plain_stmts stmts.now)) }
 {
     for stmt in stmts {
@@ -182,7 +174,6 @@ pub(crate) fn stmts_suspend(
 #[cycle(suspending_stmts)]
 #[tactic(auto, using(crate::proofs::CodeRules::arm_does))]
 fn arms_suspend(graph: &CallGraph, program: &Checked, class: u32, arms: &[Arm]) -> bool
-    requires { class < length (checked_program program.now) }
     ensures { result ≡ spec.arms_suspend (leaving_in program.now graph.now class) (arms_of (plain_arms arms.now)) }
 {
     for arm in arms {

@@ -227,10 +227,17 @@ module _ {W : Type 0} (s : Site W) (leaves : Leaving) (c : Context) (calls : Cal
           };
           test = λ h us w n le agree. not_decides s ((forms leaves c a).test h).test w n (eval s a vs w n) ((expression_means a named).test h us w n le agree);
         })
-    expression_means (PChain at first links) named =
-        means_if (PChain at first links) (taken leaves c (PChain at first links)) named (λ is.
-        value_means (PChain at first links) (taken leaves c (PChain at first links)).value (λ wanted h us w n le agree.
-        links_mean links named.1 at (ty_at c None h.locals first) (chain_of (lasts leaves first) (part first None h)) h.next us w n (eval s first vs w n) le agree (given_light first w n)
+    expression_means (PChain at first PNoLink) named =
+        means_if (PChain at first PNoLink) (taken leaves c (PChain at first PNoLink)) named (λ is.
+        value_means (PChain at first PNoLink) (taken leaves c (PChain at first PNoLink)).value (λ wanted h us w n le agree. record {
+          stands =
+              leads_through (λ us w n. eval s (part first None h).rest us w n) (λ v w n. Got v w n) (eval s first vs w n) (run s (part first None h).before us w n)
+              (means_there s (lasts leaves first) w n (part first None h) ((expression_means first named.0).value None h us w n le agree));
+        }))
+    expression_means (PChain at first (PMoreLinks l more)) named =
+        means_if (PChain at first (PMoreLinks l more)) (taken leaves c (PChain at first (PMoreLinks l more))) named (λ is.
+        value_means (PChain at first (PMoreLinks l more)) (taken leaves c (PChain at first (PMoreLinks l more))).value (λ wanted h us w n le agree.
+        links_mean (PMoreLinks l more) named.1 at (ty_at c None h.locals first) (chain_of (lasts leaves first) (part first None h)) h.next us w n (eval s first vs w n) le agree (given_light first w n)
         (record { up = (forms_rise leaves c first).value None h; means = record { stands = ((expression_means first named.0).value None h us w n le agree).stands } })))
     expression_means (PAnd at items) named =
         means_if (PAnd at items) (taken leaves c (PAnd at items)) named (λ is. record {

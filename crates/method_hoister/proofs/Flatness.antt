@@ -218,10 +218,14 @@ module _ (leaves : Leaving) where
         value = λ wanted h. built_flat (PNot at) (part a None h) ((forms_if_flat a (taken leaves c a) (taken_flat a)).value None h) refl;
         test = λ h. (forms_if_flat a (taken leaves c a) (taken_flat a)).test h;
       }
-      taken_flat (PChain at first links) =
+      taken_flat (PChain at first PNoLink) =
           value_flat _ (λ wanted h.
           let a : HoistedFlat (part first None h) = (forms_if_flat first (taken leaves c first) (taken_flat first)).value None h in
-          so_far_flat at (taken_links leaves c at (ty_at c None h.locals first) links (chain_of (lasts leaves first) (part first None h))) (links_flat links at (ty_at c None h.locals first) (chain_of (lasts leaves first) (part first None h)) (record { before = a.before; left = a.rest; links = no_link })))
+          record { before = a.before; rest = or_from _ _ a.rest no_link })
+      taken_flat (PChain at first (PMoreLinks l more)) =
+          value_flat _ (λ wanted h.
+          let a : HoistedFlat (part first None h) = (forms_if_flat first (taken leaves c first) (taken_flat first)).value None h in
+          so_far_flat at (taken_links leaves c at (ty_at c None h.locals first) (PMoreLinks l more) (chain_of (lasts leaves first) (part first None h))) (links_flat (PMoreLinks l more) at (ty_at c None h.locals first) (chain_of (lasts leaves first) (part first None h)) (record { before = a.before; left = a.rest; links = no_link })))
       taken_flat (PAnd at items) = record {
         value = λ wanted h. chosen_flat at TBool h.locals (PAnd at items) (made_of FAnd (taken_operands leaves c true items h)) (still (PBool at true)) (still (PBool at false)) (operands_flat true items h) (bool_flat at true) (bool_flat at false);
         test = λ h. operands_flat true items h;

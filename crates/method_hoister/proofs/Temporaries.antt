@@ -103,7 +103,8 @@ module _ (leaves : Leaving) (c : Context) where
     taken_rises (PNeg at a) = by_value_rises _ (λ wanted h. (forms_if_rise (expr_suspends leaves a) a (taken leaves c a) (taken_rises a)).value None h)
     taken_rises (PPos at a) = by_value_rises _ (λ wanted h. (forms_if_rise (expr_suspends leaves a) a (taken leaves c a) (taken_rises a)).value None h)
     taken_rises (PNot at a) = record { value = λ wanted h. (forms_if_rise (expr_suspends leaves a) a (taken leaves c a) (taken_rises a)).value None h; test = λ h. (forms_if_rise (expr_suspends leaves a) a (taken leaves c a) (taken_rises a)).test h }
-    taken_rises (PChain at first links) = by_value_rises _ (λ wanted h. links_rise links at (ty_at c None h.locals first) (chain_of (lasts leaves first) (part first None h)) h.next ((forms_if_rise (expr_suspends leaves first) first (taken leaves c first) (taken_rises first)).value None h))
+    taken_rises (PChain at first PNoLink) = by_value_rises _ (λ wanted h. (forms_if_rise (expr_suspends leaves first) first (taken leaves c first) (taken_rises first)).value None h)
+    taken_rises (PChain at first (PMoreLinks l more)) = by_value_rises _ (λ wanted h. links_rise (PMoreLinks l more) at (ty_at c None h.locals first) (chain_of (lasts leaves first) (part first None h)) h.next ((forms_if_rise (expr_suspends leaves first) first (taken leaves c first) (taken_rises first)).value None h))
     taken_rises (PAnd at items) = record {
       value = λ wanted h. chosen_rises at TBool h.locals (PAnd at items) (made_of FAnd (taken_operands leaves c true items h)) (still (PBool at true)) (still (PBool at false)) h.next (operands_rise true items h) (still_up (PBool at true)) (still_up (PBool at false));
       test = λ h. operands_rise true items h;

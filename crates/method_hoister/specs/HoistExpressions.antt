@@ -225,7 +225,9 @@ module _ (leaves : Leaving) (c : Context) where
       value = λ wanted h. built (PNot at) ((forms_if (expr_suspends leaves a) a (taken a)).value None h);
       test = λ h. made_of FNot ((forms_if (expr_suspends leaves a) a (taken a)).test h);
     }
-    taken (PChain at first links) = by_value (λ wanted h. so_far at (taken_links at (ty_at c None h.locals first) links (chain_of (lasts leaves first) ((forms_if (expr_suspends leaves first) first (taken first)).value None h))))
+    taken (PChain at first PNoLink) = by_value (λ wanted h. built (λ r. PChain at r PNoLink) ((forms_if (expr_suspends leaves first) first (taken first)).value None h))
+    taken (PChain at first (PMoreLinks l more)) =
+        by_value (λ wanted h. so_far at (taken_links at (ty_at c None h.locals first) (PMoreLinks l more) (chain_of (lasts leaves first) ((forms_if (expr_suspends leaves first) first (taken first)).value None h))))
     taken (PAnd at items) = record { value = λ wanted h. truth_of at h.locals (PAnd at items) (made_of FAnd (taken_operands true items h)); test = λ h. made_of FAnd (taken_operands true items h) }
     taken (POr at items) = record { value = λ wanted h. truth_of at h.locals (POr at items) (made_of FOr (taken_operands false items h)); test = λ h. made_of FOr (taken_operands false items h) }
     taken (PCompare at op op_at left right) =
