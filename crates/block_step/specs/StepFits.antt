@@ -8,6 +8,7 @@ use Rattle.sf_value.specs.declared.value.Ref.{Ref}
 use Rattle.program_meaning.specs.ClassTables.{Source}
 use Rattle.program_meaning.specs.Fits.{RecordFits}
 use Rattle.program_meaning.specs.NothingGoesWrong.{IsKnownAccepted}
+use Rattle.quiet_methods.specs.MarksKeepWithin.{source}
 use Rattle.block_code.specs.declared.event.Event.{Event}
 use Rattle.block_code.specs.declared.event.EventKind.{EventKind}
 use Rattle.block_code.specs.declared.event.EventKind.TheVariants as kind
@@ -15,9 +16,6 @@ use Rattle.block_code.specs.PlainBlocks.{PlainBlock}
 use Rattle.block_code.specs.GraphFits.{GraphFits}
 use Rattle.block_code.specs.EventsFit.{EventFits}
 use Rattle.block_step.specs.EventStep.{Step, StepsTo, lasts, target_of}
-
-abbrev pub source : List (List ℕ) → PlainProgram → Source
-source names program = record { program = program; names = names }
 
 -- a record, where there is one, fits its class
 abbrev pub HeldFits : List PlainTable → ℕ → Option (List Value) → Type 0
