@@ -15,7 +15,7 @@ use Rattle.block_code.specs.declared.event.Event.{Event}
 use Rattle.block_code.specs.PlainBlocks.{PlainBlock}
 use Rattle.block_code.specs.GraphFits.{GraphFits}
 use Rattle.block_code.specs.EventsFit.{EventFits}
-use Rattle.block_step.specs.EventStep.{Step, StepsTo}
+use Rattle.block_runs.specs.EventStep.{Step, StepsTo}
 use Rattle.operator_graph.specs.Telling.{Told}
 use Rattle.request_events.specs.RequestEvents.{ended_as}
 use Rattle.request_events.specs.GraphMeans.{GraphMeans}

@@ -20,7 +20,7 @@ use Rattle.program_meaning.specs.NothingGoesWrong.{IsKnownAccepted}
 use Rattle.program_meaning.proofs.MethodFacts.{method_flows, method_member}
 use Rattle.program_meaning.proofs.StepsTaken.{source_takes}
 use Rattle.block_code.specs.GraphFits.{MethodFits}
-use Rattle.block_step.specs.BlockRuns.{ComesTo}
+use Rattle.block_runs.specs.BlockRuns.{ComesTo}
 use Rattle.flat_tree.specs.PlainFlat.{PlainFlat, flat_stmts_of}
 use Rattle.flat_tree.specs.FlatMeaning.{run_flat}
 use Rattle.method_hoister.proofs.Methods.{flat_methods_mean}

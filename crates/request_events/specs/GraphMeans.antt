@@ -18,7 +18,7 @@ use Rattle.block_code.specs.declared.event.Event.{Event}
 use Rattle.block_code.specs.PlainBlocks.{PlainBlock}
 use Rattle.block_code.specs.Places.{blocks_of}
 use Rattle.block_code.specs.GraphFits.{GraphFits}
-use Rattle.block_step.specs.BlockRuns.{ComesTo}
+use Rattle.block_runs.specs.BlockRuns.{ComesTo}
 use Rattle.request_events.specs.RequestEvents.{first_event, Comes, ended_as}
 
 -- the events of a request come to an end, which is that of the source's run on the same state

@@ -36,16 +36,16 @@ use Rattle.block_code.specs.PlainBlocks.{PlainEnd, EJump, EBranch, ELeave, ECall
 use Rattle.block_code.specs.Places.{blocks_of}
 use Rattle.block_code.specs.GraphFits.{GraphFits, MethodFits, BlockFits, CatchFits, EndFits, Takes, Leads, at_start, each_once, var_of, var_of_param}
 use Rattle.block_code.specs.EventsFit.{catch_of, params_if_there, kept_params, IsKept, FrameFits, CallsIt, MakesIt, awaited_type, result_of_method, entity_of_class, AnswersIt, WaitsSo, FramesFit, OfLast, KindFits, EventFits}
-use Rattle.block_step.specs.BlockRuns.{run_blocks}
-use Rattle.block_step.specs.EventStep.{Part, Gave, Failed, Asks, Wants, waiting, has_room, kept_if, kept_at, Lasts, lasts, resumed, Step, target_of, block_of, given, caught, thrown, frame, site, finish, finished, from, created, go_on, awaited_by, catch, caught_by, resume, step_of}
-use Rattle.block_step.specs.StepFits.{HeldFits, IsThere, IsReady, StepsWell, EventsStepWell}
-use Rattle.block_step.proofs.Variables.{Kept, all_of_each, filter_passes}
-use Rattle.block_step.proofs.NamesApart.{IsMethod, method_is}
-use Rattle.block_step.proofs.NamesOnce.{Once, once_stays, once_filtered}
-use Rattle.block_step.proofs.Ranks.{above}
-use Rattle.block_step.proofs.Parts.{catch_found, Waits, PartFits, Comes, blocks_well}
-use Rattle.block_step.proofs.Frames.{WaitsFor, last_more, last_pushed, pushed_fit, LastFits, lasts_fit, last_holds, StayFit, caught_fit}
-use Rattle.block_step.proofs.Entries.{Among, among_first, among_second, among_flat, bound_once, bound_kept, kept_filtered, result_kept, end_reached, end_takes}
+use Rattle.block_runs.specs.BlockRuns.{run_blocks}
+use Rattle.block_runs.specs.EventStep.{Part, Gave, Failed, Asks, Wants, waiting, has_room, kept_if, kept_at, Lasts, lasts, resumed, Step, target_of, block_of, given, caught, thrown, frame, site, finish, finished, from, created, go_on, awaited_by, catch, caught_by, resume, step_of}
+use Rattle.block_runs.specs.StepFits.{HeldFits, IsThere, IsReady, StepsWell, EventsStepWell}
+use Rattle.block_runs.proofs.Variables.{Kept, all_of_each, filter_passes}
+use Rattle.block_runs.proofs.NamesApart.{IsMethod, method_is}
+use Rattle.block_runs.proofs.NamesOnce.{Once, once_stays, once_filtered}
+use Rattle.block_runs.proofs.Ranks.{above}
+use Rattle.block_runs.proofs.Parts.{catch_found, Waits, PartFits, Comes, blocks_well}
+use Rattle.block_runs.proofs.Frames.{WaitsFor, last_more, last_pushed, pushed_fit, LastFits, lasts_fit, last_holds, StayFit, caught_fit}
+use Rattle.block_runs.proofs.Entries.{Among, among_first, among_second, among_flat, bound_once, bound_kept, kept_filtered, result_kept, end_reached, end_takes}
 
 module _ (names : List (List ℕ)) (program : PlainProgram) (accepted : IsKnownAccepted names program) (graph : List (List PlainBlock)) (fits : GraphFits names program graph) where
   abbrev src : Source

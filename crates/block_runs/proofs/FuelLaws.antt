@@ -21,9 +21,9 @@ use Rattle.block_code.specs.declared.event.EventKind.TheVariants as kind
 use Rattle.block_code.specs.PlainBlocks.{PlainEnd, EJump, EBranch, ELeave, ECall, EMake, PlainCatch, PlainBlock}
 use Rattle.block_code.specs.Places.{blocks_of}
 use Rattle.block_code.specs.EventsFit.{Awaits, catch_of}
-use Rattle.block_step.specs.BlockRuns.{Go, Fall, Exits, given_then, parts_of_call, run_items, run_end, fall_at, fall, behind, at_block, run_blocks, recursing}
-use Rattle.block_step.specs.EventStep.{Part, waiting, has_room, Lasts, lasts, Step, site, finished, from, go_on, catch, resume, step_of, block_of, awaited_by, caught_by}
-use Rattle.block_step.specs.Laws.{StepsAreOne, RunsAreOne}
+use Rattle.block_runs.specs.BlockRuns.{Go, Fall, Exits, given_then, parts_of_call, run_items, run_end, fall_at, fall, behind, at_block, run_blocks, recursing}
+use Rattle.block_runs.specs.EventStep.{Part, waiting, has_room, Lasts, lasts, Step, site, finished, from, go_on, catch, resume, step_of, block_of, awaited_by, caught_by}
+use Rattle.block_runs.specs.Laws.{StepsAreOne, RunsAreOne}
 
 module _ {W R : Type 0} where
   -- where the first comes to something the second comes to it too

@@ -9,7 +9,7 @@ use Rattle.program_meaning.specs.Fits.{FailureFits}
 use Rattle.block_code.specs.declared.event.Frame.{Frame}
 use Rattle.block_code.specs.PlainBlocks.{PlainBlock}
 use Rattle.block_code.specs.EventsFit.{FrameFits, CallsIt, AnswersIt, WaitsSo, CallsNext, FramesFit, OfLast}
-use Rattle.block_step.specs.EventStep.{names_it, behind_it, up_to, Lasts, one_before, lasts, block_of, caught}
+use Rattle.block_runs.specs.EventStep.{names_it, behind_it, up_to, Lasts, one_before, lasts, block_of, caught}
 
 module _ (tables : List PlainTable) (graph : List (List PlainBlock)) where
   -- a frame waits for this method

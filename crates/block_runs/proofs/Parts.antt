@@ -36,15 +36,15 @@ use Rattle.block_code.specs.PlainVars.{PlainVar}
 use Rattle.block_code.specs.PlainBlocks.{PlainEnd, EJump, EBranch, ELeave, ECall, EMake, PlainCatch, PlainBlock}
 use Rattle.block_code.specs.GraphFits.{at_start, is_supplied, each_once, takes_step, Leads, Takes, EndFits, BelowRank, NextAreBelow, AtEachItem, CatchFits, BlockFits}
 use Rattle.block_code.specs.EventsFit.{item_goes_on, Awaits, awaited, catch_of, params_if_there, kept_params, CallsIt, MakesIt}
-use Rattle.block_step.specs.BlockRuns.{Go, Fall, Exits, given_then, parts_of_call, method_called, run_items, run_end, fall_at, fall, behind, at_block, run_blocks}
-use Rattle.block_step.specs.EventStep.{Part, Gave, Failed, Asks, Wants, waiting}
-use Rattle.block_step.proofs.Variables.{Kept, Supplied, start_sound, start_fits, each_passes, one_kept, supplied_kept, kept_both, filter_passes, other_local}
-use Rattle.block_step.proofs.NamesOnce.{Once, once_stays}
-use Rattle.block_step.proofs.Assigning.{LocalsHold, items_hold as items_of_block_hold}
-use Rattle.block_step.proofs.Steps.{Went, all_takes, items_take, parts_take, items_went}
-use Rattle.block_step.proofs.Ranks.{above, rank_below, lower, lower_rank}
-use Rattle.block_step.proofs.EndValues.{called_is, all_args_fit, parts_fit, Tested, tested}
-use Rattle.block_step.proofs.Items.{ItemsEnd, go, return, fail, items_end}
+use Rattle.block_runs.specs.BlockRuns.{Go, Fall, Exits, given_then, parts_of_call, method_called, run_items, run_end, fall_at, fall, behind, at_block, run_blocks}
+use Rattle.block_runs.specs.EventStep.{Part, Gave, Failed, Asks, Wants, waiting}
+use Rattle.block_runs.proofs.Variables.{Kept, Supplied, start_sound, start_fits, each_passes, one_kept, supplied_kept, kept_both, filter_passes, other_local}
+use Rattle.block_runs.proofs.NamesOnce.{Once, once_stays}
+use Rattle.block_runs.proofs.Assigning.{LocalsHold, items_hold as items_of_block_hold}
+use Rattle.block_runs.proofs.Steps.{Went, all_takes, items_take, parts_take, items_went}
+use Rattle.block_runs.proofs.Ranks.{above, rank_below, lower, lower_rank}
+use Rattle.block_runs.proofs.EndValues.{called_is, all_args_fit, parts_fit, Tested, tested}
+use Rattle.block_runs.proofs.Items.{ItemsEnd, go, return, fail, items_end}
 
 -- Catches
 

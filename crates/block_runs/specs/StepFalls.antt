@@ -9,7 +9,7 @@ use Rattle.block_code.specs.declared.event.Event.{Event}
 use Rattle.block_code.specs.declared.event.EventKind.{EventKind}
 use Rattle.block_code.specs.declared.event.EventKind.TheVariants as kind
 use Rattle.block_code.specs.PlainBlocks.{PlainBlock}
-use Rattle.block_step.specs.EventStep.{Step, StepsTo}
+use Rattle.block_runs.specs.EventStep.{Step, StepsTo}
 
 -- how many events may still come where no step is taken: one for each frame that goes on, and one for a method that is entered
 abbrev pub left_by_frames : EventKind → List Frame → ℕ

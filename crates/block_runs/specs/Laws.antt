@@ -9,8 +9,8 @@ use Rattle.program_meaning.specs.World.{World, Gives}
 use Rattle.program_meaning.specs.Evaluation.{Site}
 use Rattle.block_code.specs.declared.event.Event.{Event}
 use Rattle.block_code.specs.PlainBlocks.{PlainBlock}
-use Rattle.block_step.specs.BlockRuns.{ComesTo}
-use Rattle.block_step.specs.EventStep.{Step, StepsTo}
+use Rattle.block_runs.specs.BlockRuns.{ComesTo}
+use Rattle.block_runs.specs.EventStep.{Step, StepsTo}
 
 -- an event comes to one step
 abbrev pub StepsAreOne : Type 0

@@ -36,7 +36,7 @@ use Rattle.program_meaning.proofs.FlowGrows.{WhileParts, while_parts, ForParts, 
 use Rattle.program_meaning.proofs.ActFits.{EndFits, goes, returns, leaves, turns, fails, Ready, act_fits, stmts_fit}
 use Rattle.block_code.specs.PlainVars.{PlainVar}
 use Rattle.block_code.specs.GraphFits.{AtEachPoint, Within as WithinStmt, WithinArms}
-use Rattle.block_step.proofs.Variables.{Kept, Supplied, supplied_kept}
+use Rattle.block_runs.proofs.Variables.{Kept, Supplied, supplied_kept}
 
 module _ (tables : List PlainTable) {W : Type 0} (s : Site W) (WorldFits : W → Type 0) (number : ℕ) (around : Around tables s Anywhere WorldFits)
     (puts : (x : ℕ) (ty : PlainTy) (v : Value) (w : W) → field_of tables s.me.0 x ≡ Some ty → Fits tables ty v → WorldFits w → WorldFits (s.own.put w (with_field (fields_of s.src s.me.0) (s.own.fields w) x v))) (params : List PlainVar) where

@@ -24,10 +24,10 @@ use Rattle.block_code.specs.declared.event.EventKind.TheVariants as kind
 use Rattle.block_code.specs.PlainBlocks.{PlainEnd, EJump, EBranch, ELeave, ECall, EMake, PlainCatch, PlainBlock}
 use Rattle.block_code.specs.Places.{blocks_of}
 use Rattle.block_code.specs.EventsFit.{Awaits, catch_of}
-use Rattle.block_step.proofs.Steps.{all_takes, items_take, parts_take}
-use Rattle.block_step.specs.BlockRuns.{Go, Fall, Exits, given_then, parts_of_call, run_items, run_end, fall_at, fall, behind, at_block, run_blocks}
-use Rattle.block_step.specs.EventStep.{Part, Gave, Failed, Asks, Wants, waiting, has_room, behind_it, up_to, Lasts, one_before, lasts, resumed, Step, given, caught, thrown, frame, site, finish, finished, from, created, go_on, catch, resume, step_of, block_of, awaited_by, caught_by}
-use Rattle.block_step.specs.StepFalls.{left_by_frames, weight, FewWait, StepsFall}
+use Rattle.block_runs.proofs.Steps.{all_takes, items_take, parts_take}
+use Rattle.block_runs.specs.BlockRuns.{Go, Fall, Exits, given_then, parts_of_call, run_items, run_end, fall_at, fall, behind, at_block, run_blocks}
+use Rattle.block_runs.specs.EventStep.{Part, Gave, Failed, Asks, Wants, waiting, has_room, behind_it, up_to, Lasts, one_before, lasts, resumed, Step, given, caught, thrown, frame, site, finish, finished, from, created, go_on, catch, resume, step_of, block_of, awaited_by, caught_by}
+use Rattle.block_runs.specs.StepFalls.{left_by_frames, weight, FewWait, StepsFall}
 
 -- Parts
 

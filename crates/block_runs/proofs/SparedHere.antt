@@ -34,8 +34,8 @@ use Rattle.program_meaning.proofs.HereInState.{written_there, written_read, adde
 use Rattle.program_meaning.proofs.Soundness.{first_fits}
 use Rattle.block_code.specs.PlainVars.{PlainVar}
 use Rattle.block_code.specs.GraphFits.{AtEachPoint}
-use Rattle.block_step.proofs.Variables.{Kept, Supplied}
-use Rattle.block_step.proofs.Spared.{SparesAll, stmts_spare}
+use Rattle.block_runs.proofs.Variables.{Kept, Supplied}
+use Rattle.block_runs.proofs.Spared.{SparesAll, stmts_spare}
 
 abbrev with_record : Key → List Value → World
 with_record me fields = reading (record { state = map.insert no_state me fields; reads = set.empty; writes = set.empty }) me

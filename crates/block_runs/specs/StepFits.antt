@@ -15,7 +15,7 @@ use Rattle.block_code.specs.declared.event.EventKind.TheVariants as kind
 use Rattle.block_code.specs.PlainBlocks.{PlainBlock}
 use Rattle.block_code.specs.GraphFits.{GraphFits}
 use Rattle.block_code.specs.EventsFit.{EventFits}
-use Rattle.block_step.specs.EventStep.{Step, StepsTo, lasts, target_of}
+use Rattle.block_runs.specs.EventStep.{Step, StepsTo, lasts, target_of}
 
 -- a record, where there is one, fits its class
 abbrev pub HeldFits : List PlainTable → ℕ → Option (List Value) → Type 0

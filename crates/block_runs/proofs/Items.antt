@@ -40,9 +40,9 @@ use Rattle.block_code.specs.PlainVars.{PlainVar}
 use Rattle.block_code.specs.PlainBlocks.{PlainItem, IMark, ISet, IPut, IGive, IFail, ICode}
 use Rattle.block_code.specs.GraphFits.{Asked, HasType, Takes, FieldTakes, CodeFits, MessageFits, ItemFits, ItemsFit, AtEachItem}
 use Rattle.block_code.specs.EventsFit.{item_goes_on}
-use Rattle.block_step.specs.BlockRuns.{run_item, run_items}
-use Rattle.block_step.proofs.Variables.{Kept, Supplied, supplied_kept, sound_one_type}
-use Rattle.block_step.proofs.SparedHere.{code_spares}
+use Rattle.block_runs.specs.BlockRuns.{run_item, run_items}
+use Rattle.block_runs.proofs.Variables.{Kept, Supplied, supplied_kept, sound_one_type}
+use Rattle.block_runs.proofs.SparedHere.{code_spares}
 
 -- a method on the record of its entity, whose code by these marks doesn't suspend
 module _ (names : List (List ℕ)) (program : PlainProgram) (accepted : IsKnownAccepted names program) (me : Key) (leaves : Leaving) (within : KeepsWithin (record { program = program; names = names }) me.0 leaves) (d number : ℕ) where

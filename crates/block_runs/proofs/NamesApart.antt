@@ -16,7 +16,7 @@ use Rattle.program_meaning.specs.Evaluation.{method_of}
 use Rattle.program_meaning.specs.Fits.{HasTable}
 use Rattle.program_meaning.proofs.TableFacts.{none_before, class_at, methods_here, mapped_at, table_methods}
 use Rattle.program_meaning.proofs.TypedParts.{both_true, either_false}
-use Rattle.block_step.proofs.Variables.{any_at}
+use Rattle.block_runs.proofs.Variables.{any_at}
 
 -- each name stands once
 abbrev pub distinct : {A : Type 0} → (A → ℕ) → List A → Bool

@@ -8,7 +8,7 @@ use Rattle.program_meaning.specs.declared.vars.Var.{Var}
 use Rattle.program_meaning.specs.World.{Goes}
 use Rattle.program_meaning.specs.Calls.{Held}
 use Rattle.block_code.specs.PlainBlocks.{PlainBlock}
-use Rattle.block_step.proofs.Steps.{Went}
+use Rattle.block_runs.proofs.Steps.{Went}
 
 -- more than each rank
 abbrev pub above : List PlainBlock → ℕ

@@ -27,7 +27,7 @@ use Rattle.block_code.specs.PlainVars.{PlainVar}
 use Rattle.block_code.specs.PlainBlocks.{PlainBlock}
 use Rattle.block_code.specs.Places.{blocks_of}
 use Rattle.block_code.specs.EventsFit.{Awaits, awaited, catch_of, kept_params}
-use Rattle.block_step.specs.BlockRuns.{Exits, run_blocks}
+use Rattle.block_runs.specs.BlockRuns.{Exits, run_blocks}
 
 -- Parts of a method
 

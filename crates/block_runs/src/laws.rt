@@ -1,8 +1,8 @@
 //! What the definitions say by themselves.
 
-ghost use Rattle.block_step.specs.Laws.{StepsAreOne, RunsAreOne};
-ghost use Rattle.block_step.specs.StepFalls.{StepsFall};
-ghost use Rattle.block_step.specs.StepFits.{EventsStepWell};
+ghost use Rattle.block_runs.specs.Laws.{StepsAreOne, RunsAreOne};
+ghost use Rattle.block_runs.specs.StepFalls.{StepsFall};
+ghost use Rattle.block_runs.specs.StepFits.{EventsStepWell};
 
 /// How much fuel there is doesn't matter, where it is enough: the blocks of a method come to one
 /// thing, and an event to one step.

@@ -13,7 +13,7 @@ use Rattle.program_meaning.specs.Operations.{in_range, is_true}
 use Rattle.program_meaning.specs.Evaluation.{Site, eval}
 use Rattle.program_meaning.specs.Execution.{stepping, store, augmented, value_or_none, message, Turns, Items, Numbers, turns_of, turn, counting, over_items, over_numbers, over_turns, while_turns, checked, act, act_all, act_arms}
 use Rattle.block_code.specs.PlainBlocks.{PlainItem, IMark, ISet, IPut, IGive, IFail, ICode}
-use Rattle.block_step.specs.BlockRuns.{run_item, run_items}
+use Rattle.block_runs.specs.BlockRuns.{run_item, run_items}
 
 module _ (Q : List Var → Type 0) (stays : (vars : List Var) (x : ℕ) (v : Value) → Q vars → Q (assigned vars x v)) {W : Type 0} where
   -- the locals at an end

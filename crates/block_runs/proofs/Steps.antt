@@ -21,7 +21,7 @@ use Rattle.program_meaning.proofs.StepsTaken.{eval_takes, acts_take}
 use Rattle.program_meaning.specs.Calls.{Held}
 use Rattle.block_code.specs.PlainBlocks.{PlainItem, IMark, ISet, IPut, IGive, IFail, ICode}
 use Rattle.block_code.specs.GraphFits.{takes_step}
-use Rattle.block_step.specs.BlockRuns.{parts_of_call, run_item, run_items}
+use Rattle.block_runs.specs.BlockRuns.{parts_of_call, run_item, run_items}
 
 -- where items go on there are fewer steps than these, or no more
 abbrev pub Went : Bool → ℕ → Ends Held → Type 0
