@@ -19,4 +19,4 @@ pub expr_suspends-returns-then-parts_suspend : goal.expr_suspends-returns-then-p
 expr_suspends-returns-then-parts_suspend t c = part_asks (leaving_in c.args.program.now c.args.graph.now c.args.class) c.args.expr.now.place c.args.expr.now.kind c.in-Call.on c.in-Call.name c.in-Call.args c.deref.result.now c.expr_suspends.result c.exprs_suspend.result c.in-Call.is c.deref.ensures c.expr_suspends.ensures c.exprs_suspend.ensures c.if-parts_suspend.true
 
 pub expr_suspends-returns-else-parts_suspend : goal.expr_suspends-returns-else-parts_suspend
-expr_suspends-returns-else-parts_suspend t c = call_leaves (leaving_in c.args.program.now c.args.graph.now c.args.class) c.args.expr.now.place c.args.expr.now.kind c.in-Call.on c.in-Call.name c.in-Call.args c.deref.result.now c.expr_suspends.result c.exprs_suspend.result c.in-Call.is c.deref.ensures c.expr_suspends.ensures c.exprs_suspend.ensures c.deref-else-parts_suspend.result.now c.leaves.result c.if-parts_suspend.false c.deref-else-parts_suspend.ensures c.leaves.ensures
+expr_suspends-returns-else-parts_suspend t c = call_leaves (leaving_in c.args.program.now c.args.graph.now c.args.class) c.args.expr.now.place c.args.expr.now.kind c.in-Call.on c.in-Call.name c.in-Call.args c.deref.result.now c.expr_suspends.result c.exprs_suspend.result c.in-Call.is c.deref.ensures c.expr_suspends.ensures c.exprs_suspend.ensures c.deref-else-parts_suspend.result.now c.call_leaves.result c.if-parts_suspend.false c.deref-else-parts_suspend.ensures c.call_leaves.ensures
