@@ -6,3 +6,5 @@ pub mod FlowKept
 pub mod BegunAnew
 pub mod WaysOn
 pub mod KnownStays
+pub mod CodeLaws
+pub mod SimpleKeep
