@@ -47,7 +47,7 @@ grown_there ls ms ks a b here there g e k =
 pub on_ahead : (w v : Way) (ls ms : List PlainLocal) → Ahead w v → Grows w.locals ls → shapes ms ≡ shapes v.locals → AllKept ls ms → Ahead (on w ls) (on v ms)
 on_ahead w v ls ms a g e kept = record { kept = kept; breaks = grown_there ls ms ls w.breaks v.breaks w.locals v.locals g e a.breaks }
 
-begun_ahead : (ls ms : List PlainLocal) → AllKept ls ms → Ahead (begun ls) (begun ms)
+pub begun_ahead : (ls ms : List PlainLocal) → AllKept ls ms → Ahead (begun ls) (begun ms)
 begun_ahead ls ms kept = record { kept = kept; breaks = tt }
 
 goes_from : (next v : Way) (r q : Result Way RuleFault) → r ≡ q → GoesSo next v q → GoesSo next v r

@@ -8,3 +8,5 @@ pub mod WaysOn
 pub mod KnownStays
 pub mod CodeLaws
 pub mod SimpleKeep
+pub mod AugmentKeep
+pub mod StillKeep
