@@ -10,3 +10,6 @@ pub mod CodeLaws
 pub mod SimpleKeep
 pub mod AugmentKeep
 pub mod StillKeep
+pub mod PointsBehind
+pub mod ArmsKeep
+pub mod WhilesKeep
