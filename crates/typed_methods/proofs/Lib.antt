@@ -13,3 +13,5 @@ pub mod StillKeep
 pub mod PointsBehind
 pub mod ArmsKeep
 pub mod WhilesKeep
+pub mod StoredAt
+pub mod ForLoops
