@@ -1,26 +1,33 @@
 -- Parts that keep the rules, one after another, and the values that go into temporaries.
-use Rattle.std.proofs.Common.{◌≡◌, ◌≤◌, ◌+◌, arith, ℕ, Bool, true, false, Option, None, Ok, List, [], ◌∷◌, ◌++◌, refl, sym, ap, subst}
+use Rattle.std.proofs.Common.{◌≡◌, ◌≤◌, ◌+◌, arith, ℕ, Bool, true, false, cond, Option, Some, None, Ok, List, [], ◌∷◌, ◌++◌, refl, sym, ap, ◌∙◌, subst}
+use Rattle.std.specs.Prelude.{◌==◌, find, option_map}
+use Rattle.std.proofs.lemmas.Bool.{eqb-true}
+use Rattle.std.proofs.lemmas.Option.{same_Some, none-some}
 use Rattle.py_tree.specs.declared.names.Place.{Place}
 use Rattle.py_tree.specs.PlainTypes.{PlainTy, TBool}
 use Rattle.py_tree.specs.PlainExpressions.{PlainExpr, PVar}
 use Rattle.py_tree.specs.Bounded.{ExprNames}
-use Rattle.py_tree.specs.FlowEnvironment.{PlainLocal, has_name, shown, narrowed}
+use Rattle.py_tree.specs.FlowEnvironment.{PlainLocal, local_of, has_name, shown, narrowed}
 use Rattle.py_tree.specs.Flow.{Context, type_at}
 use Rattle.call_graph.specs.SuspendingCode.{Leaving, expr_suspends}
 use Rattle.block_code.specs.PlainVars.{PlainVar}
-use Rattle.block_code.specs.GraphFits.{Asked}
+use Rattle.block_code.specs.GraphFits.{Asked, is_var}
 use Rattle.flat_tree.specs.PlainFlat.{PlainFlatStmt, FSet, FNoStmt}
 use Rattle.flat_types.specs.FlatTypes.{LeafFits, stmt_fits, stmts_fit, test_fits}
 use Rattle.method_hoister.specs.Spots.{Spot, temporary}
 use Rattle.method_hoister.specs.HoistExpressions.{Hoisted, Forms, still, built, in_turn, taken_into, settled, settled_unless, kept, leaf, by_value, forms_if}
 use Rattle.typed_hoisting.specs.KnownLocals.{Alike, Free, Stands}
-use Rattle.typed_hoisting.specs.TypedHoisting.{Numbered, AreAmong, Around, code_fits, asked_of, Typed, Good, GoodTest, GoodForms}
+use Rattle.typed_hoisting.specs.TypedHoisting.{Numbered, AreAmong, Adds, Around, code_fits, asked_of, Typed, Good, GoodTest, GoodForms}
+use Rattle.typed_hoisting.proofs.LocalLaws.{or_else, one_more}
 use Rattle.typed_hoisting.proofs.Assignable.{assigned_itself}
 use Rattle.typed_hoisting.proofs.EnvironmentLaws.{alike_itself, alike_on, kept_at, more_alike, more_free, reads_temporary, narrowed_least}
 use Rattle.typed_hoisting.proofs.PointLaws.{IsVariable}
 use Rattle.typed_hoisting.proofs.StoredLaws.{takes, stored_stands}
 
 -- Temporaries
+
+abbrev type_of_local : PlainLocal → PlainTy
+type_of_local l = l.ty
 
 abbrev pub made_var : ℕ → PlainTy → PlainVar
 made_var n ty = record { name = n; ty = ty }
@@ -44,6 +51,33 @@ pub among_rest : (variables a b : List PlainVar) → AreAmong variables (a ++ b)
 among_rest variables [] b h = h
 among_rest variables (v ∷ a) b h = among_rest variables a b h.1
 
+-- Names and their types
+
+pub adds_nothing : (locals : List PlainLocal) → Adds [] locals locals
+adds_nothing locals = record { keeps = λ x ty h. h; only = λ variables among typed. typed }
+
+pub adds_on : (first more : List PlainVar) (a b d : List PlainLocal) → Adds first a b → Adds more b d → Adds (first ++ more) a d
+adds_on first more a b d f g = record { keeps = λ x ty h. g.keeps x ty (f.keeps x ty h); only = λ variables among typed. g.only variables (among_rest variables first more among) (f.only variables (among_first variables first more among) typed) }
+
+pub adds_behind : (first made : List PlainVar) (a b : List PlainLocal) → Adds made a b → Adds (first ++ made) a b
+adds_behind first made a b f = record { keeps = f.keeps; only = λ variables among typed. f.only variables (among_rest variables first made among) typed }
+
+pub adds_temporary : (n : ℕ) (ty : PlainTy) (locals : List PlainLocal) → Adds (made_var n ty ∷ []) locals (locals ++ temporary n ty ∷ [])
+adds_temporary n ty locals = record {
+  keeps = λ x t h. ap (option_map type_of_local) (one_more locals (temporary n ty) x) ∙ first (local_of locals x) x t h;
+  only = λ variables among typed x t h. by variables among.0 x t (local_of locals x) (typed x t) (n == x) refl (sym (ap (option_map type_of_local) (one_more locals (temporary n ty) x)) ∙ h);
+}
+  where
+    first : (o : Option PlainLocal) (x : ℕ) (t : PlainTy) → option_map type_of_local o ≡ Some t → option_map type_of_local (or_else o (cond (n == x) (Some (temporary n ty)) None)) ≡ Some t
+    first None x t h = absurd (none-some t h)
+    first (Some l) x t h = h
+
+    by : (variables : List PlainVar) → find (is_var n) variables ≡ Some (made_var n ty) → (x : ℕ) (t : PlainTy) (o : Option PlainLocal) → (option_map type_of_local o ≡ Some t → find (is_var x) variables ≡ Some (made_var x t))
+        → (b : Bool) → (n == x) ≡ b → option_map type_of_local (or_else o (cond b (Some (temporary n ty)) None)) ≡ Some t → find (is_var x) variables ≡ Some (made_var x t)
+    by variables is x t (Some l) typed b e h = typed h
+    by variables is x t None typed true e h = subst (λ y. find (is_var y) variables ≡ Some (made_var y t)) (eqb-true n x e) (is ∙ ap (λ u. Some (made_var n u)) (same_Some _ _ h))
+    by variables is x t None typed false e h = absurd (none-some t h)
+
 module _ (c : Context) (leaves : Leaving) where
   -- one list of code after another
   pub code_both : (m : Around) (xs ys : List PlainFlatStmt) (goal : Asked) → code_fits c leaves m (xs ++ ys) goal ≡ code_fits c leaves m xs (code_fits c leaves m ys goal)
@@ -60,11 +94,11 @@ module _ (c : Context) (leaves : Leaving) where
   -- what stays
   pub still_good : {R : Type 0} (h : Spot) (e : R) (Rest : List PlainLocal → R → Type 0) → Free h.next h.locals → ((there : List PlainLocal) → Alike h.next h.locals there → Rest there e) → Good c leaves h (still e h) Rest
   unfolding stmts_fit
-  still_good h e Rest free rest = record { made = []; numbered = refl; free = free; alike = alike_itself h.next h.locals; rest = rest; before = λ m among env stands goal goes. goes env stands }
+  still_good h e Rest free rest = record { made = []; numbered = refl; free = free; adds = adds_nothing h.locals; alike = alike_itself h.next h.locals; rest = rest; before = λ m among env stands goal goes. goes env stands }
 
   -- something is made of what is left
   pub built_good : {R S : Type 0} (h : Spot) (a : Hoisted R) (f : R → S) {RA : List PlainLocal → R → Type 0} (RB : List PlainLocal → S → Type 0) → Good c leaves h a RA → ((there : List PlainLocal) → RA there a.rest → RB there (f a.rest)) → Good c leaves h (built f a) RB
-  built_good h a f RB g make = record { made = g.made; numbered = g.numbered; free = g.free; alike = g.alike; rest = λ there alike. make there (g.rest there alike); before = g.before }
+  built_good h a f RB g make = record { made = g.made; numbered = g.numbered; free = g.free; adds = g.adds; alike = g.alike; rest = λ there alike. make there (g.rest there alike); before = g.before }
 
   -- a part, and one behind it
   pub turn_good : {R S T : Type 0} (h : Spot) (f : R → S → T) (a : Hoisted R) (b : Spot → Hoisted S) {RA : List PlainLocal → R → Type 0} {RB : List PlainLocal → S → Type 0} (RC : List PlainLocal → T → Type 0)
@@ -76,6 +110,7 @@ module _ (c : Context) (leaves : Leaving) where
         made = ga.made ++ gb.made;
         numbered = numbered_both h.next ga.made gb.made a.spot.next next ga.numbered gb.numbered;
         free = gb.free;
+        adds = adds_on ga.made gb.made h.locals a.spot.locals locals ga.adds gb.adds;
         alike = alike_on h.next a.spot.next h.locals a.spot.locals locals (up h a ga) ga.alike gb.alike;
         rest = λ there alike. both there (ga.rest there (alike_on a.spot.next next a.spot.locals locals there (up a.spot (b a.spot) gb) gb.alike alike)) (gb.rest there alike);
         before = λ m among env stands goal goes.
@@ -106,6 +141,7 @@ module _ (c : Context) (leaves : Leaving) where
         made = g.made ++ last;
         numbered = numbered_both h.next g.made last n (n + 1) g.numbered (one_numbered n ty);
         free = more_free n a.spot.locals ty g.free;
+        adds = adds_on g.made last h.locals a.spot.locals (a.spot.locals ++ temporary n ty ∷ []) g.adds (adds_temporary n ty a.spot.locals);
         alike = alike_on h.next n h.locals a.spot.locals (a.spot.locals ++ temporary n ty ∷ []) (up h a g) g.alike (more_alike n a.spot.locals ty);
         rest = λ there alike. (reads_temporary n a.spot.locals ty g.free c there wanted at alike, variable_stays at n);
         before = λ m among env stands goal goes.

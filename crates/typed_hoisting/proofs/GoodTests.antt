@@ -19,7 +19,7 @@ use Rattle.typed_hoisting.proofs.Assignable.{assigned_itself}
 use Rattle.typed_hoisting.proofs.EnvironmentLaws.{alike_itself, alike_on, more_alike, more_free, free_later, free_narrowed, reads_temporary, as_least, narrowed_least, forgotten_least, joined_least, unnarrowed_least, least_behind}
 use Rattle.typed_hoisting.proofs.PointLaws.{IsVariable, supplies, stands_behind}
 use Rattle.typed_hoisting.proofs.StoredLaws.{takes, stored_least}
-use Rattle.typed_hoisting.proofs.GoodParts.{made_var, numbered_up, numbered_both, one_numbered, among_first, among_rest, code_then, still_good, variable_stays}
+use Rattle.typed_hoisting.proofs.GoodParts.{made_var, numbered_up, numbered_both, one_numbered, among_first, among_rest, adds_behind, adds_temporary, code_then, still_good, variable_stays}
 
 module _ (c : Context) (leaves : Leaving) where
   -- what is asked of operands
@@ -165,6 +165,8 @@ module _ (c : Context) (leaves : Leaving) where
         numbered = numbered_both h.next gt.made (ga.made ++ (gb.made ++ last)) t.next (n + 1) gt.numbered
             (numbered_both t.next ga.made (gb.made ++ last) a.spot.next (n + 1) ga.numbered (numbered_both a.spot.next gb.made last n (n + 1) gb.numbered (one_numbered n ty)));
         free = more_free n h.locals ty open';
+        adds = adds_behind gt.made (ga.made ++ (gb.made ++ last)) h.locals (h.locals ++ temporary n ty ∷ [])
+            (adds_behind ga.made (gb.made ++ last) h.locals (h.locals ++ temporary n ty ∷ []) (adds_behind gb.made last h.locals (h.locals ++ temporary n ty ∷ []) (adds_temporary n ty h.locals)));
         alike = alike_on h.next n h.locals h.locals (h.locals ++ temporary n ty ∷ []) below (alike_itself h.next h.locals) (more_alike n h.locals ty);
         rest = λ there alike. (reads_temporary n h.locals ty open' c there wanted at alike, variable_stays c leaves at n);
         before = λ m among env stands goal goes.

@@ -114,7 +114,7 @@ module _ (c : Context) (leaves : Leaving) (limit : ℕ) where
   ListGood o at ty items h = Good c leaves h (taken_each leaves c (by_elements c o h.locals items) items h) (λ there r. (list_of c.tables (env_of c there) o at r ≡ Ok ty) × (exprs_suspend leaves r ≡ false))
 
   as_made : {h : Spot} {a : Hoisted PlainExprs} {RA RB : List PlainLocal → PlainExprs → Type 0} → Good c leaves h a RA → ((there : List PlainLocal) → RA there a.rest → RB there a.rest) → Good c leaves h a RB
-  as_made g f = record { made = g.made; numbered = g.numbered; free = g.free; alike = g.alike; rest = λ there alike. f there (g.rest there alike); before = g.before }
+  as_made g f = record { made = g.made; numbered = g.numbered; free = g.free; adds = g.adds; alike = g.alike; rest = λ there alike. f there (g.rest there alike); before = g.before }
 
   list_again : (there : List PlainLocal) (element : PlainTy) (at : Place) (source : PlainExprs) (ts : List PlainTy) (r : PlainExprs) → count_of source ≡ length ts → TypedEach c (each_wanted (Some element) source) ts there r → SuitElement element ts → list_of c.tables (env_of c there) (Some element) at r ≡ Ok (TList element)
   unfolding type_of
@@ -202,6 +202,7 @@ module _ (c : Context) (leaves : Leaving) (limit : ℕ) where
         made = g.made;
         numbered = g.numbered;
         free = g.free;
+        adds = g.adds;
         alike = g.alike;
         rest = λ there alike.
             let x : RunTyped c leaves t there (r.left, r.links) = g.rest there alike in

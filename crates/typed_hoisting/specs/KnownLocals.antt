@@ -1,5 +1,5 @@
 -- What is known of locals at a point, name by name, and how what is known at two points compares.
-use Rattle.std.specs.Prelude.{◌≡◌, ◌<◌, ◌≤◌, ◌&&◌, ⊤, ℕ, Bool, true, false, if◌then◌else◌, List, [], ◌∷◌, map, Some, None}
+use Rattle.std.specs.Prelude.{◌≡◌, ◌<◌, ◌≤◌, ◌&&◌, ⊤, ℕ, Bool, true, false, if◌then◌else◌, List, [], ◌∷◌, map, Some, None, option_map}
 use Rattle.std.specs.declared.option.Option.{Option}
 use Rattle.py_tree.specs.PlainTypes.{PlainTy, TOptional}
 use Rattle.py_tree.specs.FlowEnvironment.{PlainLocal, local_of}
@@ -47,6 +47,10 @@ Once (l ∷ locals) = (local_of locals l.name ≡ None) × Once locals
 pub record Free (next : ℕ) (locals : List PlainLocal) : Type 0 where
   pub free : (x : ℕ) → next ≤ x → local_of locals x ≡ None
   pub once : Once locals
+
+-- a name has this type, assigned or not
+abbrev pub HasTy : List PlainLocal → ℕ → PlainTy → Type 0
+HasTy locals x ty = option_map (λ l. l.ty) (local_of locals x) ≡ Some ty
 
 -- Where all variables of a method have their types beforehand
 

@@ -18,7 +18,7 @@ use Rattle.flat_tree.specs.PlainFlat.{PlainFlatStmt, PlainFlatTest, flat_stmts_o
 use Rattle.flat_types.specs.FlatTypes.{Nowhere, Supplies, stmts_fit, test_fits}
 use Rattle.method_hoister.specs.Spots.{Spot, surely}
 use Rattle.method_hoister.specs.HoistExpressions.{Hoisted, Tested, Forms, forms}
-use Rattle.typed_hoisting.specs.KnownLocals.{Alike, Free, Stands, AtLeast}
+use Rattle.typed_hoisting.specs.KnownLocals.{HasTy, Alike, Free, Stands, AtLeast}
 
 -- temporaries from one number up to another, one after the other
 abbrev pub Numbered : ℕ → List PlainVar → ℕ → Type 0
@@ -29,6 +29,15 @@ Numbered first (v ∷ made) next = (v.name ≡ first) × Numbered (first + 1) ma
 abbrev pub AreAmong : List PlainVar → List PlainVar → Type 0
 AreAmong variables [] = ⊤
 AreAmong variables (v ∷ made) = (find (is_var v.name) variables ≡ Some v) × AreAmong variables made
+
+-- names that have types are variables of the method, of those types
+abbrev pub AreTyped : List PlainVar → List PlainLocal → Type 0
+AreTyped variables locals = (x : ℕ) (ty : PlainTy) → HasTy locals x ty → find (is_var x) variables ≡ Some (record { name = x; ty = ty })
+
+-- names keep their types, and what has a type besides is a temporary that was made
+pub record Adds (made : List PlainVar) (before after : List PlainLocal) : Type 0 where
+  pub keeps : (x : ℕ) (ty : PlainTy) → HasTy before x ty → HasTy after x ty
+  pub only : (variables : List PlainVar) → AreAmong variables made → AreTyped variables before → AreTyped variables after
 
 -- the variables of a method, and what is asked at a `break` and at a `continue`
 pub record Around : Type 1 where
@@ -56,6 +65,7 @@ module _ (c : Context) (leaves : Leaving) where
     pub made : List PlainVar
     pub numbered : Numbered h.next made a.spot.next
     pub free : Free a.spot.next a.spot.locals
+    pub adds : Adds made h.locals a.spot.locals
     pub alike : Alike h.next h.locals a.spot.locals
     pub rest : (there : List PlainLocal) → Alike a.spot.next a.spot.locals there → Rest there a.rest
     pub before : (m : Around) → AreAmong m.variables made → (env : List PlainLocal) → Stands m.variables h.next h.locals env
