@@ -4,12 +4,13 @@ use Rattle.std.specs.Prelude.{◌==◌, is_some, unwrap_or}
 use Rattle.std.proofs.lemmas.Bool.{eqb-true}
 use Rattle.std.proofs.lemmas.Option.{none-some}
 use Rattle.py_tree.specs.declared.names.Place.{Place}
+use Rattle.py_tree.specs.declared.expr.BinOp.TheVariants as op
 use Rattle.py_tree.specs.Bounded.{StmtsNames}
 use Rattle.py_tree.specs.PlainTypes.{PlainTy, TInt, TBool}
 use Rattle.py_tree.specs.PlainExpressions.{PlainExpr, PInt, PVar}
 use Rattle.py_tree.specs.PlainStatements.{PlainOver, PlainStmt, PFor, PlainStmts}
 use Rattle.py_tree.specs.FlowEnvironment.{PlainLocal, shown, narrowed}
-use Rattle.py_tree.specs.ExpressionTypes.{assignable}
+use Rattle.py_tree.specs.ExpressionTypes.{assignable, right_wanted}
 use Rattle.py_tree.specs.Reachability.{all_go_on, goes_on, breaks, break_in, is_true, assigned_in}
 use Rattle.py_tree.specs.Flow.{Context, Known, within_loop, known_at, settled, meet, way, with_local, at_head, keeps, named_at, stored, for_head, Way, on, begun, after_for, flow, flow_all}
 use Rattle.call_graph.specs.SuspendingCode.{Leaving}
@@ -26,13 +27,14 @@ use Rattle.method_hoister.specs.HoistStatements.{Flattened, opened, flat_all, pl
 use Rattle.typed_hoisting.specs.KnownLocals.{seen, Kept, Under, Free, AreVariables}
 use Rattle.typed_hoisting.specs.TypedHoisting.{Numbered, AreAmong, Around, code_fits, Typed}
 use Rattle.typed_hoisting.proofs.LocalLaws.{apart}
+use Rattle.typed_hoisting.proofs.Assignable.{assigned_itself}
 use Rattle.typed_hoisting.proofs.EnvironmentLaws.{free_later, variables_narrowed}
 use Rattle.typed_hoisting.proofs.PointLaws.{IsVariable}
 use Rattle.typed_hoisting.proofs.StoredLaws.{stored_variables}
 use Rattle.typed_hoisting.proofs.GoodParts.{code_then}
 use Rattle.typed_hoisting.proofs.CallsKeep.{Own}
 use Rattle.typed_methods.proofs.KnownWays.{seen_among, KnownThere, MetUnder, met_left, met_right, met_here, met_behind, under_then}
-use Rattle.typed_methods.proofs.StoredKnown.{AllKept, AllUnder, TypedThere, all_itself, all_under, type_or, head_kept, stored_there, stored_seen, free_same}
+use Rattle.typed_methods.proofs.StoredKnown.{AllKept, AllUnder, TypedThere, all_itself, all_under, given_as, type_or, head_kept, stored_there, stored_seen, free_same}
 use Rattle.typed_methods.proofs.KeptParts.{in_loop_if}
 use Rattle.typed_methods.proofs.FlowKept.{GoesSo, begun_ahead, all_kept}
 use Rattle.typed_methods.proofs.KnownStays.{begun_above, all_above, Forgets, forgets_first, forgets_rest, narrowed_above, stored_above}
@@ -224,3 +226,28 @@ module _ (c : Context) (leaves : Leaving) (own : Own leaves) (limit : ℕ) (at :
           ),
           behind_end true ks m.variables goal (λ go. go_on (at_start m.variables (surely ks)) (subst (λ ks. At m.variables end.locals (at_start m.variables (surely ks))) (sym is) (point_at m.variables k end.locals free_end typed_end))),
         )
+
+    name_apart : name < limit → (s : ℕ) → limit ≤ s → (name == s) ≡ false
+    name_apart low s high = apart name s (λ e. omega (arith, low, high, e))
+
+    -- a turn puts a value into the name, and counts on
+    pub counted_turn : name < limit → (m : Around) → TypedAs m.variables ls → (env : List PlainLocal) → At m.variables head env → (v : PlainExpr) → Typed c leaves None item env v → (s : ℕ) → limit ≤ s → seen ls s ≡ with_type TInt → IsVariable m.variables s TInt
+        → (goal : Asked) → ((after : List PlainLocal) → At m.variables start after → goal after) → code_fits c leaves m (FSet name v ∷ FSet s (plus at (PVar at s) (PInt at (pos 1))) ∷ []) goal env
+    unfolding stmts_fit
+    counted_turn low m typed_ls env at' v hv s high counter is_s goal goes =
+        let t : PlainTy = name_type.0 in
+        let is_name : IsVariable m.variables name t = typed_ls name t (there name t name_type.1) in
+        let env1 : List PlainLocal = with_local name item item env in
+        let at1 : At m.variables start env1 = record {
+          are = stored_variables m.variables name t item env at'.are is_name;
+          kept = stored_there name item item item head env (variable_typed m.variables env name t at'.are is_name ∙ sym (ap (λ o. Some (unwrap_or o item)) name_there)) at'.kept;
+        } in
+        let counter1 : seen start s ≡ with_type TInt =
+            stored_seen name item item head s ∙ ap (λ b. cond b (Some (given_as (type_or head name item) item)) (seen head s)) (name_apart low s high) ∙ head_type all ls s TInt counter in
+        let env2 : List PlainLocal = with_local s TInt TInt env1 in
+        let at2 : At m.variables start env2 = stored_at m.variables s TInt TInt env1 at1.are is_s start at1.kept (subst (λ o. Kept o (Some (given_as TInt TInt))) (sym counter1) refl) in
+        set_fits c leaves m name v item t env (as_has c leaves None item env v hv) at'.are is_name suits _
+        (set_fits c leaves m s (plus at (PVar at s) (PInt at (pos 1))) TInt TInt env1
+        (as_has c leaves None TInt env1 (plus at (PVar at s) (PInt at (pos 1)))
+        (plus_typed c leaves env1 at (PVar at s) (PInt at (pos 1)) TInt numbers (variable_reads c leaves env1 None at s TInt (seen_at m.variables start env1 s TInt at1 counter1)) (int_typed c leaves env1 (right_wanted op.Add TInt) at (pos 1))))
+        at1.are is_s (assigned_itself TInt) _ (goes env2 at2))

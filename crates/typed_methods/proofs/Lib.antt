@@ -15,3 +15,4 @@ pub mod ArmsKeep
 pub mod WhilesKeep
 pub mod StoredAt
 pub mod ForLoops
+pub mod RangesKeep
