@@ -16,3 +16,4 @@ pub mod WhilesKeep
 pub mod StoredAt
 pub mod ForLoops
 pub mod RangesKeep
+pub mod ListsKeep
