@@ -17,3 +17,4 @@ pub mod StoredAt
 pub mod ForLoops
 pub mod RangesKeep
 pub mod ListsKeep
+pub mod StatementsKeep
