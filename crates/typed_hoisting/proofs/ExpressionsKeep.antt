@@ -244,7 +244,7 @@ module _ (c : Context) (leaves : Leaving) (own : Own leaves) (limit : ℕ) where
   each_expression_keeps e named = as_part e named (taken_keeps e named)
 
 -- by the marks of a program only calls on `self` stay
-own_by_marks : (names : List (List ℕ)) (program : PlainProgram) (marks : List (List Bool)) (class : ℕ) → Own (leaving names program marks class)
+pub own_by_marks : (names : List (List ℕ)) (program : PlainProgram) (marks : List (List Bool)) (class : ℕ) → Own (leaving names program marks class)
 own_by_marks names program marks class on name h = not_false (is_self on) (either_false (not (is_self on)) (method_leaves marks class (method_named names program class name)) h).0
 
 pub expressions_keep_the_rules : ExpressionsKeepTheRules

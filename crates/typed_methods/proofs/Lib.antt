@@ -18,3 +18,4 @@ pub mod ForLoops
 pub mod RangesKeep
 pub mod ListsKeep
 pub mod StatementsKeep
+pub mod NewLocals

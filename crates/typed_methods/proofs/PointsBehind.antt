@@ -17,15 +17,15 @@ use Rattle.typed_methods.proofs.BegunAnew.{stmt_anew}
 
 -- Locals of the same names and types, as they are known elsewhere
 
-first_of_list : Shape → List Shape → Shape
+pub first_of_list : Shape → List Shape → Shape
 first_of_list s [] = s
 first_of_list s (t ∷ ts) = t
 
-rest_of_list : List Shape → List Shape
+pub rest_of_list : List Shape → List Shape
 rest_of_list [] = []
 rest_of_list (t ∷ ts) = ts
 
-abbrev local_as : Shape → Bool → Bool → PlainLocal
+abbrev pub local_as : Shape → Bool → Bool → PlainLocal
 local_as s a n = record { name = s.0; ty = s.1; assigned = a; not_none = n }
 
 pub settled_same : (last ls : List PlainLocal) → shapes last ≡ shapes ls → settled last (known_at ls) ≡ ls
