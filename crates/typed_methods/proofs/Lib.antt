@@ -19,3 +19,5 @@ pub mod RangesKeep
 pub mod ListsKeep
 pub mod StatementsKeep
 pub mod NewLocals
+pub mod Variables
+pub mod MethodsKeep

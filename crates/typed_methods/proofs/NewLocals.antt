@@ -74,7 +74,7 @@ each_grown a b (x ∷ names) g h =
     let p = some_typed (type_in (shapes a) x) h.0 in
     (ap (λ ss. is_some (type_in ss x)) g.is ∙ ap is_some (typed_behind (shapes a) g.rest x p.0 p.1), each_grown a b names g h.1)
 
-each_as : (a b : List PlainLocal) (names : List ℕ) → shapes b ≡ shapes a → EachTyped (shapes a) names → EachTyped (shapes b) names
+pub each_as : (a b : List PlainLocal) (names : List ℕ) → shapes b ≡ shapes a → EachTyped (shapes a) names → EachTyped (shapes b) names
 each_as a b names e h = subst (λ ss. EachTyped ss names) (sym e) h
 
 module _ (n : ℕ) where

@@ -17,11 +17,11 @@ use Rattle.typed_methods.proofs.BegunAnew.{stmt_anew}
 
 -- Locals of the same names and types, as they are known elsewhere
 
-pub first_of_list : Shape → List Shape → Shape
+abbrev pub first_of_list : Shape → List Shape → Shape
 first_of_list s [] = s
 first_of_list s (t ∷ ts) = t
 
-pub rest_of_list : List Shape → List Shape
+abbrev pub rest_of_list : List Shape → List Shape
 rest_of_list [] = []
 rest_of_list (t ∷ ts) = ts
 
@@ -29,7 +29,7 @@ abbrev pub local_as : Shape → Bool → Bool → PlainLocal
 local_as s a n = record { name = s.0; ty = s.1; assigned = a; not_none = n }
 
 pub settled_same : (last ls : List PlainLocal) → shapes last ≡ shapes ls → settled last (known_at ls) ≡ ls
-unfolding settled known_at first_of_list rest_of_list
+unfolding settled known_at
 settled_same [] [] e = refl
 settled_same [] (m ∷ ls) e = absurd cc
 settled_same (l ∷ last) [] e = absurd cc

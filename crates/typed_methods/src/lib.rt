@@ -3,9 +3,6 @@
 //! What is said of flat methods is a definition, in `specs/`; that it holds of each method is said at the function of `laws`.
 #![tactic(auto)]
 
-ghost use Rattle.std.specs.Prelude.{⊤};
+mod laws;
 
-/// A law.
-pub fn a_law()
-    ensures { ⊤ }
-{}
+pub use laws::methods_keep_types;

@@ -1,0 +1,206 @@
+-- The variables of a method: its locals and its temporaries, each once; and points of what is surely assigned name them.
+use Rattle.std.proofs.Common.{◌≡◌, ◌≤◌, ◌<◌, ◌+◌, arith, ℕ, Bool, true, false, not, cond, Option, Some, None, List, [], ◌∷◌, ◌++◌, map, append_assoc, append-nil, refl, sym, ap, ◌∙◌, subst, true≢false}
+use Rattle.std.specs.Prelude.{◌==◌, ◌&&◌, ◌||◌, find, nat_le, option_map, if◌then◌else◌}
+use Rattle.std.specs.List.{list_any, list_all, cons_option}
+use Rattle.std.specs.Cmp.Derive.{both_true as both_hold}
+use Rattle.std.proofs.lemmas.Bool.{eqb-true, eq-eqb, leb-true, leb-false}
+use Rattle.std.proofs.lemmas.Option.{same_Some, none-some}
+use Rattle.py_tree.specs.PlainTypes.{PlainTy, TInt, TBool, TStr, TNil, TList, TOptional, TEntity}
+use Rattle.py_tree.specs.ClassRules.{PlainSigParam}
+use Rattle.py_tree.specs.FlowEnvironment.{PlainLocal, local_of, has_none}
+use Rattle.py_tree.specs.ExpressionTypes.{same_ty, inside, read_ty}
+use Rattle.py_tree.specs.Flow.{known_at, settled, param_local}
+use Rattle.py_tree.proofs.TypeLaws.{same-refl}
+use Rattle.program_meaning.proofs.LocalShapes.{Shape, shape, shapes, type_in, type_found}
+use Rattle.block_code.specs.PlainVars.{PlainVar}
+use Rattle.block_code.specs.GraphFits.{var_of, var_of_param, is_var, is_inside, is_param_of, each_once}
+use Rattle.flat_types.specs.FlatTypes.{is_point}
+use Rattle.method_hoister.specs.Spots.{surely}
+use Rattle.typed_hoisting.specs.KnownLocals.{Once, Free}
+use Rattle.typed_hoisting.specs.TypedHoisting.{Numbered, AreAmong}
+use Rattle.typed_hoisting.proofs.LocalLaws.{apart}
+use Rattle.typed_methods.proofs.CodeLaws.{TypedAs}
+use Rattle.typed_methods.proofs.PointsBehind.{first_of_list, rest_of_list}
+
+-- Temporaries are variables
+
+named_none : (vs : List PlainVar) (x : ℕ) → find (is_var x) vs ≡ None → (v : PlainVar) → (v.name == x) ≡ false → find (is_var x) (vs ++ v ∷ []) ≡ None
+named_none [] x h v e = ap (λ b. cond b (Some v) None) e
+named_none (u ∷ vs) x h v e = by (u.name == x) h (named_none vs x)
+  where
+    by : (b : Bool) → cond b (Some u) (find (is_var x) vs) ≡ None → (find (is_var x) vs ≡ None → (v : PlainVar) → (v.name == x) ≡ false → find (is_var x) (vs ++ v ∷ []) ≡ None) → cond b (Some u) (find (is_var x) (vs ++ v ∷ [])) ≡ None
+    by true h k = absurd (none-some u (sym h))
+    by false h k = k h v e
+
+found_behind : (vs more : List PlainVar) (v : PlainVar) → find (is_var v.name) vs ≡ None → find (is_var v.name) (vs ++ v ∷ more) ≡ Some v
+found_behind [] more v h = ap (λ b. cond b (Some v) (find (is_var v.name) more)) (eq-eqb v.name v.name refl)
+found_behind (u ∷ vs) more v h = by (u.name == v.name) h (found_behind vs more v)
+  where
+    by : (b : Bool) → cond b (Some u) (find (is_var v.name) vs) ≡ None → (find (is_var v.name) vs ≡ None → find (is_var v.name) (vs ++ v ∷ more) ≡ Some v) → cond b (Some u) (find (is_var v.name) (vs ++ v ∷ more)) ≡ Some v
+    by true h k = absurd (none-some u (sym h))
+    by false h k = k h
+
+pub made_among : (vs made : List PlainVar) (first next : ℕ) → Numbered first made next → ((x : ℕ) → first ≤ x → find (is_var x) vs ≡ None) → AreAmong (vs ++ made) made
+made_among vs [] first next numbered none = tt
+made_among vs (v ∷ made) first next numbered none = (
+  found_behind vs made v (none v.name (omega (arith, numbered.0))),
+  subst (λ us. AreAmong us made) (append_assoc vs (v ∷ []) made)
+      (made_among (vs ++ v ∷ []) made (first + 1) next numbered.1 (λ x up. named_none vs x (none x (omega (arith, up))) v (apart v.name x (λ e. omega (arith, numbered.0, up, e))))),
+)
+
+pub none_named : (ls : List PlainLocal) (x : ℕ) → local_of ls x ≡ None → find (is_var x) (map var_of ls) ≡ None
+unfolding local_of
+none_named [] x h = refl
+none_named (l ∷ ls) x h = by (l.name == x) h (none_named ls x)
+  where
+    by : (b : Bool) → cond b (Some l) (local_of ls x) ≡ None → (local_of ls x ≡ None → find (is_var x) (map var_of ls) ≡ None) → cond b (Some (var_of l)) (find (is_var x) (map var_of ls)) ≡ None
+    by true h k = absurd (none-some l (sym h))
+    by false h k = k h
+
+-- Locals are variables
+
+var_so : ℕ → PlainTy → PlainVar
+var_so x t = record { name = x; ty = t }
+
+pub locals_typed : (ls : List PlainLocal) (made : List PlainVar) → TypedAs (map var_of ls ++ made) ls
+unfolding var_so
+locals_typed [] made x t h = absurd (none-some t h)
+locals_typed (l ∷ ls) made x t h = by (l.name == x) refl h (locals_typed ls made x t)
+  where
+    by : (b : Bool) → (l.name == x) ≡ b → cond b (Some l.ty) (type_in (shapes ls) x) ≡ Some t → (type_in (shapes ls) x ≡ Some t → find (is_var x) (map var_of ls ++ made) ≡ Some (var_so x t))
+        → cond b (Some (var_of l)) (find (is_var x) (map var_of ls ++ made)) ≡ Some (var_so x t)
+    by true e h k = ap (λ y. Some (var_so y l.ty)) (eqb-true l.name x e) ∙ ap (λ u. Some (var_so x u)) (same_Some _ _ h)
+    by false e h k = k h
+
+-- Each once
+
+no_later : (x first next : ℕ) (made : List PlainVar) → x < first → Numbered first made next → list_any (is_var x) made ≡ false
+no_later x first next [] below numbered = refl
+no_later x first next (v ∷ made) below numbered = ap (λ b. b || list_any (is_var x) made) (apart v.name x (λ e. omega (arith, below, numbered.0, e))) ∙ no_later x (first + 1) next made (omega (arith, below)) numbered.1
+
+pub made_once : (first next : ℕ) (made : List PlainVar) → Numbered first made next → each_once made ≡ true
+made_once first next [] numbered = refl
+made_once first next (v ∷ made) numbered = both_hold (ap not (no_later v.name (first + 1) next made (omega (arith, numbered.0)) numbered.1)) (made_once (first + 1) next made numbered.1)
+
+none_either : (x : ℕ) (ls : List PlainLocal) (made : List PlainVar) → local_of ls x ≡ None → list_any (is_var x) made ≡ false → list_any (is_var x) (map var_of ls ++ made) ≡ false
+unfolding local_of
+none_either x [] made h g = g
+none_either x (l ∷ ls) made h g = by (l.name == x) h (λ h. none_either x ls made h g)
+  where
+    by : (b : Bool) → cond b (Some l) (local_of ls x) ≡ None → (local_of ls x ≡ None → list_any (is_var x) (map var_of ls ++ made) ≡ false) → (b || list_any (is_var x) (map var_of ls ++ made)) ≡ false
+    by true h k = absurd (none-some l (sym h))
+    by false h k = k h
+
+pub all_once : (first next : ℕ) (ls : List PlainLocal) (made : List PlainVar) → ((x : ℕ) → first ≤ x → local_of ls x ≡ None) → Once ls → Numbered first made next → each_once (map var_of ls ++ made) ≡ true
+unfolding local_of
+all_once first next [] made none once numbered = made_once first next made numbered
+all_once first next (l ∷ ls) made none once numbered =
+    both_hold (ap not (none_either l.name ls made once.0 (no_later l.name first next made (below (nat_le first l.name) refl) numbered)))
+    (all_once first next ls made (λ x up. later x (l.name == x) (none x up)) once.1 numbered)
+  where
+    later : (x : ℕ) (b : Bool) → cond b (Some l) (local_of ls x) ≡ None → local_of ls x ≡ None
+    later x true h = absurd (none-some l (sym h))
+    later x false h = h
+
+    below : (o : Bool) → nat_le first l.name ≡ o → l.name < first
+    below true f = absurd (none-some l (sym (sym (ap (λ b. cond b (Some l) (local_of ls l.name)) (eq-eqb l.name l.name refl)) ∙ none l.name (leb-true first l.name f))))
+    below false f = leb-false first l.name f
+
+-- Points
+
+no_type_of : (ls : List PlainLocal) (x : ℕ) → local_of ls x ≡ None → type_in (shapes ls) x ≡ None
+no_type_of ls x h = sym (type_found ls x) ∙ ap (option_map (λ (l : PlainLocal). l.ty)) h
+
+some_any : (p q : PlainVar → Bool) (vs : List PlainVar) (v : PlainVar) → find p vs ≡ Some v → q v ≡ true → list_any q vs ≡ true
+some_any p q [] v h is = absurd (none-some v h)
+some_any p q (u ∷ vs) v h is = by (p u) h (some_any p q vs v)
+  where
+    either : (a b : Bool) → b ≡ true → (a || b) ≡ true
+    either true b e = refl
+    either false b e = e
+
+    by : (b : Bool) → cond b (Some u) (find p vs) ≡ Some v → (find p vs ≡ Some v → q v ≡ true → list_any q vs ≡ true) → (q u || list_any q vs) ≡ true
+    by true h k = ap (λ b. b || list_any q vs) (ap q (same_Some _ _ h) ∙ is)
+    by false h k = either (q u) (list_any q vs) (k h is)
+
+same_first : (t : PlainTy) (b : Bool) → (same_ty t t || b) ≡ true
+same_first t b = ap (λ a. a || b) (same-refl t)
+
+read_is : (t : PlainTy) (n : Bool) → (same_ty t (cond n (inside t) t) || is_inside t (cond n (inside t) t)) ≡ true
+read_is (TOptional u) true = by (same_ty (TOptional u) u) (same_ty u u) (same-refl u)
+  where
+    by : (a b : Bool) → b ≡ true → (a || b) ≡ true
+    by true b e = refl
+    by false b e = e
+read_is (TList u) true = same_first (TList u) false
+read_is (TEntity k) true = same_first (TEntity k) false
+read_is TInt true = refl
+read_is TBool true = refl
+read_is TStr true = refl
+read_is TNil true = refl
+read_is t false = ap (λ b. b || is_inside t t) (same-refl t)
+
+module _ (variables : List PlainVar) where
+  names_variable : (x : ℕ) (t : PlainTy) (n : Bool) → find (is_var x) variables ≡ Some (var_so x t) → is_param_of variables (var_so x (cond n (inside t) t)) ≡ true
+  unfolding var_so
+  names_variable x t n h = some_any (is_var x) (λ v. v.name == x && (same_ty v.ty (cond n (inside t) t) || is_inside v.ty (cond n (inside t) t))) variables (var_so x t) h (both_hold (eq-eqb x x refl) (read_is t n))
+
+  none_sure : (ls : List PlainLocal) (x : ℕ) → local_of ls x ≡ None → list_any (is_var x) (surely ls) ≡ false
+  unfolding local_of
+  none_sure [] x h = refl
+  none_sure (l ∷ ls) x h = by (l.name == x) refl l.assigned h (none_sure ls x)
+    where
+      here : PlainVar
+      here = record { name = l.name; ty = read_ty l }
+
+      by : (b : Bool) → (l.name == x) ≡ b → (a : Bool) → cond b (Some l) (local_of ls x) ≡ None → (local_of ls x ≡ None → list_any (is_var x) (surely ls) ≡ false) → list_any (is_var x) (cons_option (if a then Some here else None) (surely ls)) ≡ false
+      by true e a h k = absurd (none-some l (sym h))
+      by false e true h k = ap (λ b. b || list_any (is_var x) (surely ls)) e ∙ k h
+      by false e false h k = k h
+
+  each_passes : (ls : List PlainLocal) → Once ls → TypedAs variables ls → (list_all (is_param_of variables) (surely ls) ≡ true) × (each_once (surely ls) ≡ true)
+  unfolding var_so
+  each_passes [] once typed = (refl, refl)
+  each_passes (l ∷ ls) once typed = by l.assigned (each_passes ls once.1 later)
+    where
+      here : PlainVar
+      here = record { name = l.name; ty = read_ty l }
+
+      later : TypedAs variables ls
+      later x t h = typed x t (ap (λ b. cond b (Some l.ty) (type_in (shapes ls) x)) (apart l.name x (λ e. none-some t (sym (no_type_of ls l.name once.0) ∙ ap (type_in (shapes ls)) e ∙ h))) ∙ h)
+
+      found : find (is_var l.name) variables ≡ Some (var_so l.name l.ty)
+      found = typed l.name l.ty (ap (λ b. cond b (Some l.ty) (type_in (shapes ls) l.name)) (eq-eqb l.name l.name refl))
+
+      by : (a : Bool) → (list_all (is_param_of variables) (surely ls) ≡ true) × (each_once (surely ls) ≡ true)
+          → (list_all (is_param_of variables) (cons_option (if a then Some here else None) (surely ls)) ≡ true) × (each_once (cons_option (if a then Some here else None) (surely ls)) ≡ true)
+      by true p = (both_hold (names_variable l.name l.ty l.not_none found) p.0, both_hold (ap not (none_sure ls l.name once.0)) p.1)
+      by false p = p
+
+  pub point_passes : (ls : List PlainLocal) → Once ls → TypedAs variables ls → is_point variables (surely ls) ≡ true
+  point_passes ls once typed = let p = each_passes ls once typed in both_hold p.0 p.1
+
+-- Parameters
+
+none_settled : (ls : List PlainLocal) → surely (settled ls []) ≡ []
+unfolding settled
+none_settled [] = refl
+none_settled (l ∷ ls) = none_settled ls
+
+read_param : (p : PlainSigParam) → (if not (has_none p.ty) then inside p.ty else p.ty) ≡ p.ty
+read_param p = by p.ty
+  where
+    by : (t : PlainTy) → (if not (has_none t) then inside t else t) ≡ t
+    by (TOptional u) = refl
+    by _ = refl
+
+-- what is surely assigned where a method begins are its parameters
+pub surely_params : (params : List PlainSigParam) (ls : List PlainLocal) (rest : List Shape) → shapes ls ≡ shapes (map param_local params) ++ rest → surely (settled ls (known_at (map param_local params))) ≡ map var_of_param params
+unfolding settled known_at var_so
+surely_params [] ls rest e = none_settled ls
+surely_params (p ∷ params) [] rest e = absurd cc
+surely_params (p ∷ params) (l ∷ ls) rest e =
+    let named : shape l ≡ (p.name, p.ty) = ap (first_of_list (shape l)) e in
+    ap (λ (s : Shape). var_so s.0 (if not (has_none p.ty) then inside s.1 else s.1) ∷ surely (settled ls (known_at (map param_local params)))) named
+    ∙ ap (λ t. var_so p.name t ∷ surely (settled ls (known_at (map param_local params)))) (read_param p)
+    ∙ ap (λ vs. var_of_param p ∷ vs) (surely_params params ls rest (ap rest_of_list e))
