@@ -15,7 +15,8 @@ use Rattle.call_graph.specs.SuspendingCode.{Leaving, leaving, expr_suspends}
 use Rattle.block_code.specs.PlainVars.{PlainVar}
 use Rattle.block_code.specs.GraphFits.{Asked, HasType, is_var}
 use Rattle.flat_tree.specs.PlainFlat.{PlainFlatStmt, PlainFlatTest, flat_stmts_of}
-use Rattle.flat_types.specs.FlatTypes.{Nowhere, Supplies, stmts_fit, test_fits}
+use Rattle.method_splitter.specs.Points.{PointsPassInAll, PointsPassInTest}
+use Rattle.flat_types.specs.FlatTypes.{is_point, Nowhere, Supplies, stmts_fit, test_fits}
 use Rattle.method_hoister.specs.Spots.{Spot, surely}
 use Rattle.method_hoister.specs.HoistExpressions.{Hoisted, Tested, Forms, forms}
 use Rattle.typed_hoisting.specs.KnownLocals.{HasTy, Alike, Free, Stands, AtLeast}
@@ -45,22 +46,30 @@ pub record Around : Type 1 where
   pub breaks : Asked
   pub continues : Asked
 
--- what is asked of a test, by what is asked where it holds and where it doesn't
-abbrev pub AskedOfTest : Type 1
-AskedOfTest = Around → (holds fails : Asked) → Asked
+-- each point in code names variables of the method
+abbrev pub CodePasses : List PlainVar → List PlainFlatStmt → Type 0
+CodePasses variables code = PointsPassInAll (is_point variables) (flat_stmts_of code)
+
+-- what is asked of a test, by what is asked where it holds and where it doesn't; and that each of its points names variables
+pub record AskedOfTest : Type 1 where
+  pub fits : Around → (holds fails : Asked) → Asked
+  pub passes : List PlainVar → Type 0
 
 module _ (c : Context) (leaves : Leaving) where
   abbrev pub code_fits : Around → List PlainFlatStmt → Asked → Asked
   code_fits m code goal locals = stmts_fit c leaves m.variables m.breaks m.continues (flat_stmts_of code) goal locals
 
   abbrev pub asked_of : PlainFlatTest → AskedOfTest
-  asked_of test m holds fails locals = test_fits c leaves m.variables m.breaks m.continues test holds fails locals
+  asked_of test = record {
+    fits = λ m holds fails locals. test_fits c leaves m.variables m.breaks m.continues test holds fails locals;
+    passes = λ variables. PointsPassInTest (is_point variables) test;
+  }
 
   -- what doesn't suspend, and has this type
   abbrev pub Typed : Option PlainTy → PlainTy → List PlainLocal → PlainExpr → Type 0
   Typed wanted ty locals e = (type_at c locals wanted e ≡ Ok ty) × (expr_suspends leaves e ≡ false)
 
-  -- what is hoisted at a spot keeps the rules, and so is what is left
+  -- what is hoisted at a spot keeps the rules, and so does what is left; and points name variables
   pub record Good {R : Type 0} (h : Spot) (a : Hoisted R) (Rest : List PlainLocal → R → Type 0) : Type 1 where
     pub made : List PlainVar
     pub numbered : Numbered h.next made a.spot.next
@@ -71,6 +80,7 @@ module _ (c : Context) (leaves : Leaving) where
     pub before : (m : Around) → AreAmong m.variables made → (env : List PlainLocal) → Stands m.variables h.next h.locals env
         → (goal : Asked) → ((after : List PlainLocal) → Stands m.variables a.spot.next a.spot.locals after → goal after)
         → code_fits m a.before goal env
+    pub points : (variables : List PlainVar) → AreAmong variables made → AreTyped variables h.locals → CodePasses variables a.before
 
   -- a test leads to either side, where at least as much is known as here
   pub record GoodTest (h : Spot) (fit : AskedOfTest) (next : ℕ) (holds fails : List PlainLocal) : Type 1 where
@@ -79,7 +89,8 @@ module _ (c : Context) (leaves : Leaving) where
     pub sides : (m : Around) → AreAmong m.variables made → (env : List PlainLocal) → Stands m.variables h.next h.locals env
         → (yes no : Asked) → ((after : List PlainLocal) → AtLeast m.variables h.next holds after → yes after)
         → ((after : List PlainLocal) → AtLeast m.variables h.next fails after → no after)
-        → fit m yes no env
+        → fit.fits m yes no env
+    pub points : (variables : List PlainVar) → AreAmong variables made → AreTyped variables h.locals → fit.passes variables
 
   -- of an expression whose names are below the limit, at each spot whose temporaries are not
   pub record GoodForms (limit : ℕ) (e : PlainExpr) (both : Forms) : Type 1 where
