@@ -16,13 +16,14 @@ use Rattle.program_meaning.proofs.FlowGrows.{follows_all, last_parts, ArmParts, 
 use Rattle.block_code.specs.PlainVars.{PlainVar}
 use Rattle.block_code.specs.GraphFits.{Asked, at_start}
 use Rattle.flat_tree.specs.PlainFlat.{Point, PlainFlatStmt, PlainFlatArms, PlainFlatTest, flat_stmts_of}
-use Rattle.flat_types.specs.FlatTypes.{Supplies, Ends, stmts_fit, arms_fit}
+use Rattle.method_splitter.specs.Points.{PointsPass, PointsPassInArms}
+use Rattle.flat_types.specs.FlatTypes.{is_point, Supplies, Ends, stmts_fit, arms_fit}
 use Rattle.flat_types.proofs.FlowStays.{EachTyped, all_stay, stmt_stays, first_typed, later_typed}
 use Rattle.method_hoister.specs.Spots.{Spot, surely, where_shown, locals_behind, point_behind}
 use Rattle.method_hoister.specs.HoistExpressions.{Tested, forms}
 use Rattle.method_hoister.specs.HoistStatements.{Flattened, opened, flat_all, flat_arms, other_spot}
 use Rattle.typed_hoisting.specs.KnownLocals.{Free, AreVariables}
-use Rattle.typed_hoisting.specs.TypedHoisting.{Numbered, AreAmong, Around, asked_of, GoodTest}
+use Rattle.typed_hoisting.specs.TypedHoisting.{Numbered, AreAmong, CodePasses, Around, asked_of, GoodTest}
 use Rattle.typed_hoisting.proofs.EnvironmentLaws.{free_later, free_narrowed}
 use Rattle.typed_hoisting.proofs.PointLaws.{supplies}
 use Rattle.typed_hoisting.proofs.GoodParts.{numbered_up, numbered_both, among_first, among_rest}
@@ -33,9 +34,9 @@ use Rattle.typed_methods.proofs.KeptParts.{in_loop_if}
 use Rattle.typed_methods.proofs.FlowKept.{or_left, or_right}
 use Rattle.typed_methods.proofs.WaysOn.{LeftUnder, arms_left_on, all_left_on, ended_on}
 use Rattle.typed_methods.proofs.KnownStays.{Forgets, forgets_first, forgets_rest, narrowed_above}
-use Rattle.typed_methods.proofs.CodeLaws.{spot, At, TypedAs, WaysLead, to_stands, at_as, supplies_all, point_at, typed_same, GoodCode}
+use Rattle.typed_methods.proofs.CodeLaws.{spot, At, TypedAs, WaysLead, to_stands, at_as, supplies_all, point_at, typed_same, are_typed, surely_passes, GoodCode}
 use Rattle.typed_methods.proofs.SimpleKeep.{EachVariable, Begins, forms_good, GoodOpened}
-use Rattle.typed_methods.proofs.PointsBehind.{settled_same, behind_is, ends_behind, behind_end}
+use Rattle.typed_methods.proofs.PointsBehind.{settled_same, behind_is, ends_behind, behind_passes, behind_end}
 
 module _ (c : Context) (leaves : Leaving) (own : Own leaves) (limit : ℕ) where
   abbrev pub flattened : PlainStmts → Way → ℕ → Flattened (List PlainFlatStmt)
@@ -51,6 +52,7 @@ module _ (c : Context) (leaves : Leaving) (own : Own leaves) (limit : ℕ) where
   pub record ArmsFit (looping : Bool) (floor : List PlainLocal) (w : Way) (n : ℕ) (arms : PlainFlatArms) (next : ℕ) (end : Way) (goes left : Bool) (rest : List PlainLocal) : Type 1 where
     pub made : List PlainVar
     pub numbered : Numbered n made next
+    pub points : (variables : List PlainVar) → AreAmong variables made → TypedAs variables w.locals → PointsPassInArms (is_point variables) arms
     pub fits : (m : Around) → AreAmong m.variables made → TypedAs m.variables w.locals → (env : List PlainLocal) → At m.variables w.locals env → WaysLead m floor looping left end → (goal other : Asked)
         → (goes ≡ true → (after : List PlainLocal) → AreVariables m.variables after → AllUnder end.locals after → goal after) → ((after : List PlainLocal) → At m.variables rest after → other after)
         → arms_fit c leaves m.variables m.breaks m.continues arms goal other env
@@ -75,8 +77,8 @@ module _ (c : Context) (leaves : Leaving) (own : Own leaves) (limit : ℕ) where
   other_locals (PMoreArms (PArm test body) more) ls a b = other_locals more (narrowed (shown false test) ls) a b
 
   pub no_arms : GoodArms PNoArm
-  unfolding opened stmts_fit
-  no_arms looping floor w n end b variables forgets ended go other goes h = record { made = []; numbered = refl; fits = λ m among typed env at ways goal other go_on rest. rest env at }
+  unfolding opened stmts_fit PointsPass
+  no_arms looping floor w n end b variables forgets ended go other goes h = record { made = []; numbered = refl; points = λ variables among typed. tt; fits = λ m among typed env at ways goal other go_on rest. rest env at }
 
   -- behind an arm
   module _ (looping : Bool) (floor : List PlainLocal) (w : Way) (test : PlainExpr) (body : PlainStmts) (last : Way) (variables : EachVariable w.locals (assigned_in body)) (arm : flow_all (in_loop_if c looping) (on w (narrowed (shown true test) w.locals)) body ≡ Ok last) where
@@ -97,7 +99,7 @@ module _ (c : Context) (leaves : Leaving) (own : Own leaves) (limit : ℕ) where
     is_no = settled_same last.locals (narrowed (shown false test) w.locals) (sym to_no)
 
   pub arm_step : (test : PlainExpr) (body : PlainStmts) (more : PlainArms) → ExprNames limit test → GoodAll body → GoodArms more → GoodArms (PMoreArms (PArm test body) more)
-  unfolding opened stmts_fit assigned_in goes_on breaks
+  unfolding opened stmts_fit PointsPass assigned_in goes_on breaks
   arm_step test body more named good_body good_more looping floor w n end b variables forgets ended go other others h =
       let d : Context = in_loop_if c looping in
       let p : ArmParts d w end ended go other test body more = arm_parts d w end ended go other test body more h in
@@ -128,6 +130,16 @@ module _ (c : Context) (leaves : Leaving) (own : Own leaves) (limit : ℕ) where
       record {
         made = gt.made ++ (gb.made ++ gm.made);
         numbered = numbered_both n gt.made (gb.made ++ gm.made) t.next g.next gt.numbered (numbered_both t.next gb.made gm.made f.next g.next gb.numbered gm.numbered);
+        points = λ variables among typed.
+            let among2 : AreAmong variables (gb.made ++ gm.made) = among_rest variables gt.made (gb.made ++ gm.made) among in
+            let typed1 : TypedAs variables ls = typed_same variables w.locals ls shapes1 typed in
+            let typed2 : TypedAs variables rs = typed_same variables w.locals rs shapes2 typed in (
+              gt.points variables (among_first variables gt.made (gb.made ++ gm.made) among) (are_typed variables w.locals typed),
+              surely_passes variables t.next ls begins1.free typed1,
+              gb.points variables (among_first variables gb.made gm.made among2) typed1,
+              surely_passes variables f.next rs begins2.free typed2,
+              gm.points variables (among_rest variables gb.made gm.made among2) typed2,
+            );
         fits = λ m among typed env at ways goal other' go_on rest.
             let among2 : AreAmong m.variables (gb.made ++ gm.made) = among_rest m.variables gt.made (gb.made ++ gm.made) among in
             let typed1 : TypedAs m.variables ls = typed_same m.variables w.locals ls shapes1 typed in
@@ -200,7 +212,7 @@ module _ (c : Context) (leaves : Leaving) (own : Own leaves) (limit : ℕ) where
 
   pub if_good : (at : Place) (arms : PlainArms) (other : PlainStmts) → GoodArms arms → GoodAll other → (looping : Bool) (floor : List PlainLocal) (w : Way) (n : ℕ) (end : Way) → Begins limit floor w n
       → EachVariable w.locals (assigned_in_arms arms ++ assigned_in other) → Forgets floor (assigned_in_arms arms ++ assigned_in other) → flow (in_loop_if c looping) w (PIf at arms other) ≡ Ok end → GoodOpened c leaves own limit (PIf at arms other) looping floor w n end
-  unfolding opened stmts_fit flow goes_on breaks assigned_in
+  unfolding opened stmts_fit PointsPass flow goes_on breaks assigned_in
   if_good at arms other good_arms good_other looping floor w n end b variables forgets h =
       let d : Context = in_loop_if c looping in
       let others : Other = λ last. flow_all d last other in
@@ -232,6 +244,14 @@ module _ (c : Context) (leaves : Leaving) (own : Own leaves) (limit : ℕ) where
       record {
         made = ga.made ++ go.made;
         numbered = numbered_both n ga.made go.made f.next next ga.numbered numbered;
+        points = λ variables among typed. (
+          tt,
+          ((
+            ga.points variables (among_first variables ga.made go.made among) typed,
+            subst (λ ks. CodePasses variables (code ks).code) q.at (go.points variables (among_rest variables ga.made go.made among) (typed_same variables w.locals q.mid.locals same typed)),
+            behind_passes goes_here ls variables (subst (λ ks. is_point variables (surely ks) ≡ true) (sym is) (surely_passes variables next end.locals free (typed_same variables w.locals end.locals end_same typed))),
+          ), tt),
+        );
         fits = λ m among typed env at' ways goal go_on.
             let typed_end : TypedAs m.variables end.locals = typed_same m.variables w.locals end.locals end_same typed in
             let point : (after : List PlainLocal) → goes_here ≡ true → AreVariables m.variables after → AllUnder end.locals after → Ends (point_behind c (PIf at arms other) w.locals) after = λ after go are under.

@@ -23,6 +23,7 @@ use Rattle.call_graph.specs.SuspendingCode.{Leaving, expr_suspends}
 use Rattle.program_meaning.proofs.LocalShapes.{shapes, type_in, earlier_is}
 use Rattle.program_meaning.proofs.TypedParts.{done, same_ok, found_ok, needs_ok, Joins, numbers, texts, lists}
 use Rattle.program_meaning.proofs.FlowParts.{Augments, augments_ok, put_local_ok, put_field_ok}
+use Rattle.method_splitter.specs.Points.{PointsPass}
 use Rattle.flat_types.specs.FlatTypes.{stmts_fit}
 use Rattle.method_hoister.specs.Spots.{Spot, ty_at, found_ty}
 use Rattle.method_hoister.specs.HoistExpressions.{Hoisted, still, in_turn, settled, forms}
@@ -38,7 +39,7 @@ use Rattle.typed_hoisting.proofs.TypedKinds.{RunTyped, run_typed, run_stays, one
 use Rattle.typed_hoisting.proofs.CallsKeep.{Own}
 use Rattle.typed_methods.proofs.StoredKnown.{stored_there}
 use Rattle.typed_methods.proofs.KeptParts.{in_loop_if}
-use Rattle.typed_methods.proofs.CodeLaws.{spot, At, GoodCode, at_as, variable_typed, no_more, no_more_is, behind_good, marked_fits}
+use Rattle.typed_methods.proofs.CodeLaws.{spot, At, GoodCode, at_as, variable_typed, no_more, no_more_is, behind_good, marked_passes, marked_fits}
 use Rattle.typed_methods.proofs.SimpleKeep.{EachVariable, Begins, forms_good, GoodOpened}
 
 -- What joins
@@ -120,7 +121,7 @@ module _ (c : Context) (leaves : Leaving) (own : Own leaves) (limit : ℕ) where
 
     pub augment_local : (at : Place) (x : PlacedName) (o : BinOp) (op_at : Place) (e : PlainExpr) → StmtNames limit (PAugment at (Local x) o op_at e) → EachVariable w.locals (local_assigned (Local x)) → flow d w (PAugment at (Local x) o op_at e) ≡ Ok end
         → GoodOpened c leaves own limit (PAugment at (Local x) o op_at e) looping floor w n end
-    unfolding flow opened goes_on breaks StmtNames stmts_fit
+    unfolding flow opened goes_on breaks StmtNames stmts_fit PointsPass
     augment_local at x o op_at e named variable h =
         let p : (ls : List PlainLocal) × (augmentation d w.locals at (Local x) o op_at e ≡ Ok ls) × (done (on w ls) ≡ Ok end) = found_ok (augmentation d w.locals at (Local x) o op_at e) (λ ls. Ok (on w ls)) end h in
         let q : Augments d w.locals at (Local x) o op_at e p.0 = augments_ok d w.locals at (Local x) o op_at e p.0 p.1 in
@@ -132,6 +133,7 @@ module _ (c : Context) (leaves : Leaving) (own : Own leaves) (limit : ℕ) where
         record {
           made = g.made;
           numbered = g.numbered;
+          points = λ variables among typed. marked_passes c leaves here a (store (Local x) a.rest) g variables among typed tt;
           fits = λ m among typed env at' ways goal goes.
               marked_fits c leaves here a (store (Local x)) g m among env at' goal
               (λ after stands rest.
@@ -153,7 +155,7 @@ module _ (c : Context) (leaves : Leaving) (own : Own leaves) (limit : ℕ) where
         there None e s k = absurd (true≢false (sym e))
 
     pub augment_field : (at : Place) (f : PlacedName) (o : BinOp) (op_at : Place) (e : PlainExpr) → StmtNames limit (PAugment at (Field f) o op_at e) → flow d w (PAugment at (Field f) o op_at e) ≡ Ok end → GoodOpened c leaves own limit (PAugment at (Field f) o op_at e) looping floor w n end
-    unfolding flow opened goes_on breaks StmtNames stmts_fit
+    unfolding flow opened goes_on breaks StmtNames stmts_fit PointsPass
     augment_field at f o op_at e named h =
         let p : (ls : List PlainLocal) × (augmentation d w.locals at (Field f) o op_at e ≡ Ok ls) × (done (on w ls) ≡ Ok end) = found_ok (augmentation d w.locals at (Field f) o op_at e) (λ ls. Ok (on w ls)) end h in
         let q : Augments d w.locals at (Field f) o op_at e p.0 = augments_ok d w.locals at (Field f) o op_at e p.0 p.1 in
@@ -163,6 +165,7 @@ module _ (c : Context) (leaves : Leaving) (own : Own leaves) (limit : ℕ) where
         record {
           made = g.made;
           numbered = g.numbered;
+          points = λ variables among typed. marked_passes c leaves here a (store (Field f) a.rest) g variables among typed tt;
           fits = λ m among typed env at' ways goal goes.
               marked_fits c leaves here a (store (Field f)) g m among env at' goal
               (λ after stands rest. (

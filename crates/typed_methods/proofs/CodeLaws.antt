@@ -9,14 +9,16 @@ use Rattle.program_meaning.proofs.LocalShapes.{shapes, type_in, type_found}
 use Rattle.block_code.specs.PlainVars.{PlainVar}
 use Rattle.block_code.specs.GraphFits.{Asked, is_var, at_start}
 use Rattle.flat_tree.specs.PlainFlat.{PlainFlatStmt, FMark, FNoStmt}
-use Rattle.flat_types.specs.FlatTypes.{Supplies, stmt_fits, stmts_fit}
+use Rattle.method_splitter.specs.Points.{PointsPass}
+use Rattle.flat_types.specs.FlatTypes.{is_point, Supplies, stmt_fits, stmts_fit}
 use Rattle.method_hoister.specs.Spots.{Spot, surely}
 use Rattle.method_hoister.specs.HoistExpressions.{Hoisted}
-use Rattle.typed_hoisting.specs.KnownLocals.{seen, Kept, Under, Alike, Free, AreVariables, Stands, AtLeast}
-use Rattle.typed_hoisting.specs.TypedHoisting.{Numbered, AreAmong, Around, code_fits, Good}
+use Rattle.typed_hoisting.specs.KnownLocals.{HasTy, seen, Kept, Under, Alike, Free, AreVariables, Stands, AtLeast}
+use Rattle.typed_hoisting.specs.TypedHoisting.{Numbered, AreAmong, AreTyped, CodePasses, Around, code_fits, Good}
 use Rattle.typed_hoisting.proofs.LocalLaws.{kept_on, kept_narrowed}
 use Rattle.typed_hoisting.proofs.EnvironmentLaws.{variables_narrowed}
 use Rattle.typed_hoisting.proofs.PointLaws.{IsVariable, Found, found_local, point_stands, supplies}
+use Rattle.typed_hoisting.proofs.PassingPoints.{point_passes, passes_both}
 use Rattle.typed_hoisting.proofs.GoodParts.{code_then}
 use Rattle.typed_methods.proofs.KnownWays.{MetUnder, under_then}
 use Rattle.typed_methods.proofs.StoredKnown.{AllKept, AllUnder, TypedThere, all_under, kept_free, under_free}
@@ -44,7 +46,22 @@ all_kept_on a b d f g x = kept_on (seen a x) (seen b x) (seen d x) (f x) (g x)
 pub all_under_on : (a b d : List PlainLocal) → AllUnder a b → AllUnder b d → AllUnder a d
 all_under_on a b d f g x = under_then (seen a x) (seen b x) (seen d x) (f x) (g x)
 
+-- Types by names and types of locals, or by the local that is found
+
+pub ty_as : (locals : List PlainLocal) (x : ℕ) (t : PlainTy) → type_in (shapes locals) x ≡ Some t → HasTy locals x t
+ty_as locals x t h = type_found locals x ∙ h
+
+pub as_ty : (locals : List PlainLocal) (x : ℕ) (t : PlainTy) → HasTy locals x t → type_in (shapes locals) x ≡ Some t
+as_ty locals x t h = sym (type_found locals x) ∙ h
+
 module _ (variables : List PlainVar) where
+  pub are_typed : (locals : List PlainLocal) → TypedAs variables locals → AreTyped variables locals
+  are_typed locals typed x t h = typed x t (as_ty locals x t h)
+
+  -- a point of what is surely assigned names variables
+  pub surely_passes : (k : ℕ) (locals : List PlainLocal) → Free k locals → TypedAs variables locals → is_point variables (surely locals) ≡ true
+  surely_passes k locals free typed = point_passes variables locals free.once (are_typed locals typed)
+
   pub to_stands : (k : ℕ) (locals env : List PlainLocal) → At variables locals env → Stands variables k locals env
   to_stands k locals env a = record { are = a.are; alike = record { alike = λ x below. a.kept x } }
 
@@ -85,6 +102,7 @@ module _ (c : Context) (leaves : Leaving) where
   pub record GoodCode (looping : Bool) (floor : List PlainLocal) (w : Way) (n : ℕ) (code : List PlainFlatStmt) (next : ℕ) (end : Way) (goes left : Bool) : Type 1 where
     pub made : List PlainVar
     pub numbered : Numbered n made next
+    pub points : (variables : List PlainVar) → AreAmong variables made → TypedAs variables w.locals → CodePasses variables code
     pub fits : (m : Around) → AreAmong m.variables made → TypedAs m.variables w.locals → (env : List PlainLocal) → At m.variables w.locals env → WaysLead m floor looping left end
         → (goal : Asked) → (goes ≡ true → (after : List PlainLocal) → At m.variables end.locals after → goal after) → code_fits c leaves m code goal env
 
@@ -100,6 +118,12 @@ module _ (c : Context) (leaves : Leaving) where
   pub behind_good : {R : Type 0} (h : Spot) (a : Hoisted R) {Rest : List PlainLocal → R → Type 0} (variables : List PlainVar) (after : List PlainLocal) → Free h.next h.locals → Good c leaves h a Rest → Stands variables a.spot.next a.spot.locals after → At variables h.locals after
   behind_good h a variables after free g s =
       at_before variables h.locals a.spot.locals after (kept_free h.next h.locals a.spot.locals free g.alike) (from_stands variables a.spot.next a.spot.locals after g.free s)
+
+  -- points of a step, of what runs before an expression, and of a statement
+  pub marked_passes : {R : Type 0} (h : Spot) (a : Hoisted R) (x : PlainFlatStmt) {Rest : List PlainLocal → R → Type 0} → (g : Good c leaves h a Rest) → (variables : List PlainVar) → AreAmong variables g.made → TypedAs variables h.locals → PointsPass (is_point variables) x
+      → CodePasses variables (FMark ∷ a.before ++ x ∷ [])
+  unfolding PointsPass
+  marked_passes h a x g variables among typed last = (tt, passes_both variables a.before (x ∷ []) (g.points variables among (are_typed variables h.locals typed)) (last, tt))
 
   -- a step, what runs before an expression, and a statement over what is left
   pub marked_fits : {R : Type 0} (h : Spot) (a : Hoisted R) (f : R → PlainFlatStmt) {Rest : List PlainLocal → R → Type 0} → (g : Good c leaves h a Rest) → (m : Around) → AreAmong m.variables g.made → (env : List PlainLocal) → At m.variables h.locals env → (goal : Asked)

@@ -20,17 +20,19 @@ use Rattle.program_meaning.proofs.FlowGrows.{ForParts, for_parts}
 use Rattle.block_code.specs.PlainVars.{PlainVar}
 use Rattle.block_code.specs.GraphFits.{Asked, HasType, at_start}
 use Rattle.flat_tree.specs.PlainFlat.{Point, PlainFlatStmt, FSet, FWhile, FLeaf, FNoStmt, flat_stmts_of}
-use Rattle.flat_types.specs.FlatTypes.{Supplies, Ends, Behind, LoopFits, stmt_fits, stmts_fit}
+use Rattle.method_splitter.specs.Points.{PointsPass}
+use Rattle.flat_types.specs.FlatTypes.{is_point, Supplies, Ends, Behind, LoopFits, stmt_fits, stmts_fit}
 use Rattle.flat_types.proofs.FlowStays.{EachTyped, all_stay, stmt_stays, shapes_with}
 use Rattle.method_hoister.specs.Spots.{Spot, surely, locals_behind, point_behind}
 use Rattle.method_hoister.specs.HoistStatements.{Flattened, opened, flat_all, plus}
 use Rattle.typed_hoisting.specs.KnownLocals.{seen, Kept, Under, Free, AreVariables}
-use Rattle.typed_hoisting.specs.TypedHoisting.{Numbered, AreAmong, Around, code_fits, Typed}
+use Rattle.typed_hoisting.specs.TypedHoisting.{Numbered, AreAmong, CodePasses, Around, code_fits, Typed}
 use Rattle.typed_hoisting.proofs.LocalLaws.{apart}
 use Rattle.typed_hoisting.proofs.Assignable.{assigned_itself}
 use Rattle.typed_hoisting.proofs.EnvironmentLaws.{free_later, variables_narrowed}
 use Rattle.typed_hoisting.proofs.PointLaws.{IsVariable}
 use Rattle.typed_hoisting.proofs.StoredLaws.{stored_variables}
+use Rattle.typed_hoisting.proofs.PassingPoints.{passes_both}
 use Rattle.typed_hoisting.proofs.GoodParts.{code_then}
 use Rattle.typed_hoisting.proofs.CallsKeep.{Own}
 use Rattle.typed_methods.proofs.KnownWays.{seen_among, KnownThere, MetUnder, met_left, met_right, met_here, met_behind, under_then}
@@ -38,10 +40,10 @@ use Rattle.typed_methods.proofs.StoredKnown.{AllKept, AllUnder, TypedThere, all_
 use Rattle.typed_methods.proofs.KeptParts.{in_loop_if}
 use Rattle.typed_methods.proofs.FlowKept.{GoesSo, begun_ahead, all_kept}
 use Rattle.typed_methods.proofs.KnownStays.{begun_above, all_above, Forgets, forgets_first, forgets_rest, narrowed_above, stored_above}
-use Rattle.typed_methods.proofs.CodeLaws.{spot, At, TypedAs, WaysLead, all_under_on, at_as, supplies_all, point_at, typed_same, variable_typed, GoodCode}
+use Rattle.typed_methods.proofs.CodeLaws.{spot, At, TypedAs, WaysLead, all_under_on, at_as, supplies_all, point_at, typed_same, surely_passes, variable_typed, GoodCode}
 use Rattle.typed_methods.proofs.SimpleKeep.{EachVariable, Begins}
 use Rattle.typed_methods.proofs.StillKeep.{some_typed, each_there}
-use Rattle.typed_methods.proofs.PointsBehind.{settled_same, behind_is, ends_behind, behind_end}
+use Rattle.typed_methods.proofs.PointsBehind.{settled_same, behind_is, ends_behind, behind_passes, behind_end}
 use Rattle.typed_methods.proofs.ArmsKeep.{GoodAll}
 use Rattle.typed_methods.proofs.WhilesKeep.{head_forgets, head_under}
 use Rattle.typed_methods.proofs.StoredAt.{with_type, stored_at, seen_at, head_type, set_fits, as_has, variable_reads, int_typed, plus_typed}
@@ -177,6 +179,21 @@ module _ (c : Context) (leaves : Leaving) (own : Own leaves) (limit : ℕ) (at :
     pub numbered_inside : Numbered k made_inside code.next
     unfolding made_inside
     numbered_inside = body_good.numbered
+
+    -- the points of such a loop name variables
+    pub loop_passes : (variables : List PlainVar) → AreAmong variables made_inside → TypedAs variables w.locals → TypedAs variables ls → (e : PlainExpr) (turn : List PlainFlatStmt) → CodePasses variables turn
+        → PointsPass (is_point variables) (FWhile (surely head) (FLeaf FNoStmt e) (surely head) (flat_stmts_of (turn ++ code.code)) (point_behind c statement w.locals))
+    unfolding made_inside goes_on PointsPass
+    loop_passes variables among typed typed_ls e turn turns =
+        let typed_end : TypedAs variables end.locals = typed_same variables w.locals end.locals same typed in
+        let free_end : Free k end.locals = free_later n k end.locals up (free_same n w.locals end.locals same b.free) in
+        let here : is_point variables (surely head) ≡ true = surely_passes variables k head free_head (typed_same variables ls head head_shapes typed_ls) in (
+          here,
+          tt,
+          here,
+          passes_both variables turn code.code turns (body_good.points variables among (typed_same variables ls start start_shapes typed_ls)),
+          behind_passes true (locals_behind c statement w.locals) variables (subst (λ ks. is_point variables (surely ks) ≡ true) (sym (behind_is c looping w end statement h)) (surely_passes variables k end.locals free_end typed_end)),
+        )
 
     -- a loop whose test is this, and whose turns begin so
     pub loop_fits : (m : Around) → AreAmong m.variables made_inside → TypedAs m.variables w.locals → TypedAs m.variables ls → (env : List PlainLocal) → At m.variables ls env → (e : PlainExpr) (turn : List PlainFlatStmt) → is_true e ≡ false

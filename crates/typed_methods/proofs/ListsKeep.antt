@@ -20,6 +20,7 @@ use Rattle.program_meaning.proofs.FlowGrows.{ForParts, for_parts}
 use Rattle.block_code.specs.PlainVars.{PlainVar}
 use Rattle.block_code.specs.GraphFits.{Asked}
 use Rattle.flat_tree.specs.PlainFlat.{PlainFlatStmt, FMark, FSet, FWhile, flat_stmts_of}
+use Rattle.method_splitter.specs.Points.{PointsPass}
 use Rattle.flat_types.specs.FlatTypes.{stmts_fit}
 use Rattle.method_hoister.specs.Spots.{Spot, surely, temporary, ty_at, found_ty, item_ty, point_behind}
 use Rattle.method_hoister.specs.HoistExpressions.{Hoisted, settled, forms}
@@ -30,17 +31,18 @@ use Rattle.typed_hoisting.proofs.LocalLaws.{apart, kept_seen}
 use Rattle.typed_hoisting.proofs.Assignable.{assigned_itself}
 use Rattle.typed_hoisting.proofs.EnvironmentLaws.{more_alike, more_free, temporary_local, temporary_seen}
 use Rattle.typed_hoisting.proofs.PointLaws.{IsVariable}
+use Rattle.typed_hoisting.proofs.PassingPoints.{passes_both}
 use Rattle.typed_hoisting.proofs.GoodParts.{made_var, up, numbered_both, among_first, among_rest, adds_on, adds_temporary, settled_unless_good, code_then}
 use Rattle.typed_hoisting.proofs.TypedKinds.{index_typed}
 use Rattle.typed_hoisting.proofs.CallsKeep.{Own}
 use Rattle.typed_methods.proofs.StoredKnown.{AllKept, TypedThere, given_as, kept_free}
 use Rattle.typed_methods.proofs.KeptParts.{in_loop_if}
-use Rattle.typed_methods.proofs.CodeLaws.{spot, At, TypedAs, all_kept_on, to_stands, from_stands, GoodCode}
+use Rattle.typed_methods.proofs.CodeLaws.{spot, At, TypedAs, all_kept_on, to_stands, from_stands, ty_as, as_ty, are_typed, GoodCode}
 use Rattle.typed_methods.proofs.SimpleKeep.{EachVariable, Begins, forms_good, GoodOpened}
 use Rattle.typed_methods.proofs.ArmsKeep.{GoodAll}
 use Rattle.typed_methods.proofs.StoredAt.{with_type, stored_itself, stored_other, stored_at, more_at, seen_at, head_type, set_fits, as_has, variable_reads, int_typed, empty_typed, plus_typed, less_typed, length_typed}
-use Rattle.typed_methods.proofs.ForLoops.{head, made_inside, numbered_inside, loop_fits, counted_turn}
-use Rattle.typed_methods.proofs.RangesKeep.{ty_as, as_ty, added_there, added_typed}
+use Rattle.typed_methods.proofs.ForLoops.{head, made_inside, numbered_inside, loop_passes, loop_fits, counted_turn}
+use Rattle.typed_methods.proofs.RangesKeep.{added_there, added_typed}
 
 -- Three temporaries behind some locals: a list, the place in it, and an empty list
 
@@ -135,7 +137,7 @@ module _ (c : Context) (leaves : Leaving) (own : Own leaves) (limit : ℕ) where
   pub list_good : (at : Place) (name : ℕ) (name_at : Place) (e : PlainExpr) (body : PlainStmts) → StmtNames limit (PFor at name name_at (PItems e) body) → GoodAll c leaves own limit body
       → (looping : Bool) (floor : List PlainLocal) (w : Way) (n : ℕ) (end : Way) → Begins limit floor w n → EachVariable w.locals (name ∷ assigned_in body) → flow (in_loop_if c looping) w (PFor at name name_at (PItems e) body) ≡ Ok end
       → GoodOpened c leaves own limit (PFor at name name_at (PItems e) body) looping floor w n end
-  unfolding opened goes_on breaks stmts_fit StmtNames
+  unfolding opened goes_on breaks stmts_fit StmtNames PointsPass
   list_good at name name_at e body named good_body looping floor w n end b variables h =
       let over : PlainOver = PItems e in
       let here : Spot = spot w n in
@@ -171,6 +173,15 @@ module _ (c : Context) (leaves : Leaving) (own : Own leaves) (limit : ℕ) where
         made = gs.made ++ (two ++ inside_made);
         numbered = numbered_both n gs.made (two ++ inside_made) (t + 1) (coded (TList u)).next gs.numbered
             (numbered_both (t + 1) two inside_made k (coded (TList u)).next (refl, (refl, refl)) (numbered_inside c leaves own limit at name name_at over body named.2 good_body looping floor w n end b variables h ls k up_k kept_w there free));
+        points = λ vs among typed.
+            let among_s : AreAmong vs gs.made = among_first vs gs.made (two ++ inside_made) among in
+            let among_r : AreAmong vs (two ++ inside_made) = among_rest vs gs.made (two ++ inside_made) among in
+            let typed_s : TypedAs vs s.spot.locals = added_typed c leaves here s gs vs among_s typed in
+            let typed_ls : TypedAs vs ls = λ x v f. (two_add u t before ga.free).only vs (among_first vs two inside_made among_r) (λ y z g. typed_s y z (as_ty s.spot.locals y z g)) x v (ty_as ls x v f) in (
+              tt,
+              passes_both vs s.before _ (gs.points vs among_s (are_typed vs w.locals typed))
+                  (tt, (tt, (tt, (loop_passes c leaves own limit at name name_at over body named.2 good_body looping floor w n end b variables h ls k up_k kept_w there free vs (among_rest vs two inside_made among_r) typed typed_ls test (FSet name element ∷ FSet (t + 1) (plus at (PVar at (t + 1)) (PInt at (pos 1))) ∷ []) (tt, (tt, tt)), tt)))),
+            );
         fits = λ m among typed env at' ways goal goes.
             let among_s : AreAmong m.variables gs.made = among_first m.variables gs.made (two ++ inside_made) among in
             let among_r : AreAmong m.variables (two ++ inside_made) = among_rest m.variables gs.made (two ++ inside_made) among in

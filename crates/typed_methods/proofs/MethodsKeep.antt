@@ -47,11 +47,11 @@ use Rattle.typed_methods.proofs.KnownWays.{MetUnder, known_before}
 use Rattle.typed_methods.proofs.StoredKnown.{AllKept, free_same}
 use Rattle.typed_methods.proofs.KeptParts.{in_loop_if}
 use Rattle.typed_methods.proofs.FlowKept.{GoesSo, begun_ahead, all_kept}
-use Rattle.typed_methods.proofs.CodeLaws.{spot, At, TypedAs, WaysLead, point_at, GoodCode}
+use Rattle.typed_methods.proofs.CodeLaws.{spot, At, TypedAs, WaysLead, point_at, surely_passes, GoodCode}
 use Rattle.typed_methods.proofs.SimpleKeep.{Begins}
 use Rattle.typed_methods.proofs.StatementsKeep.{all_good}
 use Rattle.typed_methods.proofs.NewLocals.{free_more, Settles, all_settle, each_as}
-use Rattle.typed_methods.proofs.Variables.{made_among, none_named, locals_typed, all_once, point_passes, surely_params}
+use Rattle.typed_methods.proofs.Variables.{made_among, none_named, locals_typed, all_once, surely_params}
 
 -- Where a method ends
 
@@ -154,7 +154,8 @@ module _ (tables : List PlainTable) (class number : ℕ) (sig : PlainSig) (m : P
           made = g.made;
           numbered = g.numbered;
           once = all_once limit (behind locals) locals g.made free.free free.once g.numbered;
-          params = subst (λ point. is_point variables point ≡ true) params_are (point_passes variables locals free.once typed);
+          params = subst (λ point. is_point variables point ≡ true) params_are (surely_passes variables limit locals free typed);
+          points = g.points variables among typed;
           types = subst (λ point. Behind variables point (stmts_fit c leaves variables Nowhere Nowhere (flat_stmts_of (flat_of locals).body) (EndsWithNone c))) params_are
               (g.fits around among typed start (point_at variables limit locals free typed) ways (EndsWithNone c)
               (λ go after there. none_assigned (result_at c) (ends_none (all_go_on (stmts_of m.body)) (has_none (result_at c)) flows.ends go)));

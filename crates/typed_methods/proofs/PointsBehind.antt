@@ -1,6 +1,6 @@
 -- The point behind a statement, where a way leads there.
 use Rattle.std.proofs.Common.{◌≡◌, ℕ, Bool, true, false, Option, Some, None, Result, Ok, List, [], ◌∷◌, refl, sym, ap, ◌∙◌, subst, true≢false}
-use Rattle.std.specs.Prelude.{⊤, if◌then◌else◌}
+use Rattle.std.specs.Prelude.{⊤, if◌then◌else◌, IfSome}
 use Rattle.py_tree.specs.declared.rule.RuleFault.{RuleFault}
 use Rattle.py_tree.specs.PlainTypes.{PlainTy}
 use Rattle.py_tree.specs.PlainStatements.{PlainStmt}
@@ -10,7 +10,7 @@ use Rattle.py_tree.specs.Flow.{Context, Known, known_at, settled, Way, flow}
 use Rattle.program_meaning.proofs.LocalShapes.{Shape, shapes}
 use Rattle.block_code.specs.PlainVars.{PlainVar}
 use Rattle.block_code.specs.GraphFits.{Asked, at_start}
-use Rattle.flat_types.specs.FlatTypes.{Supplies, Ends, BehindEnd}
+use Rattle.flat_types.specs.FlatTypes.{is_point, Supplies, Ends, BehindEnd}
 use Rattle.method_hoister.specs.Spots.{surely, locals_of, locals_behind}
 use Rattle.typed_methods.proofs.KeptParts.{in_loop_if}
 use Rattle.typed_methods.proofs.BegunAnew.{stmt_anew}
@@ -44,6 +44,13 @@ behind_is c looping w end x h = ap (locals_of w.locals) (stmt_anew c x looping t
 module _ (go : Bool) (ls : List PlainLocal) where
   pub ends_behind : (env : List PlainLocal) → go ≡ true → Supplies (surely ls) env → Ends (if go then Some (surely ls) else None) env
   ends_behind env e h = subst (λ b. Ends (if b then Some (surely ls) else None) env) (sym e) h
+
+  pub behind_passes : (variables : List PlainVar) → is_point variables (surely ls) ≡ true → IfSome (if go then Some (surely ls) else None) (λ p. is_point variables p ≡ true)
+  behind_passes variables h = by go
+    where
+      by : (b : Bool) → IfSome (if b then Some (surely ls) else None) (λ p. is_point variables p ≡ true)
+      by true = h
+      by false = tt
 
   pub behind_end : (variables : List PlainVar) (goal : Asked) → (go ≡ true → goal (at_start variables (surely ls))) → BehindEnd variables (if go then Some (surely ls) else None) goal
   behind_end variables goal h = by go refl

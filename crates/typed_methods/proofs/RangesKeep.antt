@@ -18,6 +18,7 @@ use Rattle.program_meaning.proofs.FlowGrows.{ForParts, for_parts}
 use Rattle.block_code.specs.PlainVars.{PlainVar}
 use Rattle.block_code.specs.GraphFits.{Asked, HasType, is_var}
 use Rattle.flat_tree.specs.PlainFlat.{Point, PlainFlatStmt, FMark, FSet, FWhile, FLeaf, FNoStmt, flat_stmts_of}
+use Rattle.method_splitter.specs.Points.{PointsPass}
 use Rattle.flat_types.specs.FlatTypes.{stmts_fit}
 use Rattle.method_hoister.specs.Spots.{Spot, surely, temporary, point_behind}
 use Rattle.method_hoister.specs.HoistExpressions.{Hoisted, built, in_turn, settled, forms}
@@ -27,24 +28,17 @@ use Rattle.typed_hoisting.specs.TypedHoisting.{AreAmong, AreTyped, Around, code_
 use Rattle.typed_hoisting.proofs.LocalLaws.{kept_seen}
 use Rattle.typed_hoisting.proofs.EnvironmentLaws.{kept_at, temporary_local, temporary_seen}
 use Rattle.typed_hoisting.proofs.PointLaws.{IsVariable}
+use Rattle.typed_hoisting.proofs.PassingPoints.{passes_both}
 use Rattle.typed_hoisting.proofs.GoodParts.{up, numbered_both, among_first, among_rest, built_good, settled_unless_good, turn_good, code_then}
 use Rattle.typed_hoisting.proofs.TypedKinds.{pos_typed}
 use Rattle.typed_hoisting.proofs.CallsKeep.{Own}
 use Rattle.typed_methods.proofs.StoredKnown.{AllKept, TypedThere, kept_free}
 use Rattle.typed_methods.proofs.KeptParts.{in_loop_if}
-use Rattle.typed_methods.proofs.CodeLaws.{spot, At, TypedAs, all_kept_on, to_stands, from_stands, at_as, GoodCode, no_more}
+use Rattle.typed_methods.proofs.CodeLaws.{spot, At, TypedAs, all_kept_on, to_stands, from_stands, at_as, ty_as, as_ty, are_typed, GoodCode, no_more}
 use Rattle.typed_methods.proofs.SimpleKeep.{EachVariable, Begins, forms_good, GoodOpened}
 use Rattle.typed_methods.proofs.ArmsKeep.{GoodAll}
 use Rattle.typed_methods.proofs.StoredAt.{with_type, seen_at, head_type, as_has, variable_reads, less_typed}
-use Rattle.typed_methods.proofs.ForLoops.{statement, all, item, head, start, code, made_inside, numbered_inside, loop_fits, counted_turn}
-
--- Types by names and types of locals, or by the local that is found
-
-pub ty_as : (locals : List PlainLocal) (x : ℕ) (t : PlainTy) → type_in (shapes locals) x ≡ Some t → HasTy locals x t
-ty_as locals x t h = type_found locals x ∙ h
-
-pub as_ty : (locals : List PlainLocal) (x : ℕ) (t : PlainTy) → HasTy locals x t → type_in (shapes locals) x ≡ Some t
-as_ty locals x t h = sym (type_found locals x) ∙ h
+use Rattle.typed_methods.proofs.ForLoops.{statement, all, item, head, start, code, made_inside, numbered_inside, loop_passes, loop_fits, counted_turn}
 
 module _ (c : Context) (leaves : Leaving) where
   pub added_there : {R : Type 0} (h : Spot) (a : Hoisted R) {Rest : List PlainLocal → R → Type 0} → Good c leaves h a Rest → TypedThere h.locals a.spot.locals
@@ -87,7 +81,7 @@ module _ (c : Context) (leaves : Leaving) (own : Own leaves) (limit : ℕ) where
   pub range_good : (at : Place) (name : ℕ) (name_at : Place) (from : Option PlainExpr) (to : PlainExpr) (body : PlainStmts) → StmtNames limit (PFor at name name_at (PRange from to) body) → GoodAll c leaves own limit body
       → (looping : Bool) (floor : List PlainLocal) (w : Way) (n : ℕ) (end : Way) → Begins limit floor w n → EachVariable w.locals (name ∷ assigned_in body) → flow (in_loop_if c looping) w (PFor at name name_at (PRange from to) body) ≡ Ok end
       → GoodOpened c leaves own limit (PFor at name name_at (PRange from to) body) looping floor w n end
-  unfolding opened goes_on breaks stmts_fit StmtNames
+  unfolding opened goes_on breaks stmts_fit StmtNames PointsPass
   range_good at name name_at from to body named good_body looping floor w n end b variables h =
       let over : PlainOver = PRange from to in
       let here : Spot = spot w n in
@@ -122,6 +116,13 @@ module _ (c : Context) (leaves : Leaving) (own : Own leaves) (limit : ℕ) where
       let good : GoodCode c leaves looping floor w n (FMark ∷ (a.before ++ d.before) ++ range_loop at name t u (surely (head_locals name body ls)) (point_behind c (PFor at name name_at over body) w.locals) (coded p.item).code) (coded p.item).next end true false = record {
         made = both.made ++ inside_made;
         numbered = numbered_both n both.made inside_made k (coded p.item).next both.numbered (numbered_inside c leaves own limit at name name_at over body named.2 good_body looping floor w n end b variables h ls k up_k kept_w there gd.free);
+        points = λ vs among typed.
+            let among1 : AreAmong vs both.made = among_first vs both.made inside_made among in
+            let typed_ls : TypedAs vs ls = added_typed c leaves here (in_turn (λ (x y : PlainExpr). x) a (λ g. whole at to g)) both vs among1 typed in (
+              tt,
+              passes_both vs (a.before ++ d.before) _ (both.points vs among1 (are_typed vs w.locals typed))
+                  (loop_passes c leaves own limit at name name_at over body named.2 good_body looping floor w n end b variables h ls k up_k kept_w there gd.free vs (among_rest vs both.made inside_made among) typed typed_ls test (FSet name (PVar at t) ∷ FSet t (plus at (PVar at t) (PInt at (pos 1))) ∷ []) (tt, (tt, tt)), tt),
+            );
         fits = λ m among typed env at' ways goal goes.
             let among1 : AreAmong m.variables both.made = among_first m.variables both.made inside_made among in
             let typed_ls : TypedAs m.variables ls = added_typed c leaves here (in_turn (λ (x y : PlainExpr). x) a (λ g. whole at to g)) both m.variables among1 typed in

@@ -23,7 +23,8 @@ use Rattle.program_meaning.proofs.FlowParts.{no_fault, no_need, return_nothing_o
 use Rattle.block_code.specs.PlainVars.{PlainVar}
 use Rattle.block_code.specs.GraphFits.{Asked, MessageFits, ValueSuits, HasType, at_start}
 use Rattle.flat_tree.specs.PlainFlat.{Point, PlainFlatStmt, FSet, FGive, FFail, FNoStmt, flat_stmts_of}
-use Rattle.flat_types.specs.FlatTypes.{Supplies, Ends, Nowhere, stmts_fit, test_fits}
+use Rattle.method_splitter.specs.Points.{PointsPass}
+use Rattle.flat_types.specs.FlatTypes.{is_point, Supplies, Ends, Nowhere, stmts_fit, test_fits}
 use Rattle.flat_types.proofs.FlowStays.{EachTyped, shapes_with}
 use Rattle.method_hoister.specs.Spots.{Spot, surely, where_shown, ty_at, found_ty}
 use Rattle.method_hoister.specs.HoistExpressions.{Hoisted, Tested, still, built, settled_unless, lasts, forms}
@@ -33,13 +34,14 @@ use Rattle.typed_hoisting.specs.TypedHoisting.{AreAmong, Around, code_fits, Type
 use Rattle.typed_hoisting.proofs.EnvironmentLaws.{free_later, free_narrowed, forgotten_least}
 use Rattle.typed_hoisting.proofs.PointLaws.{supplies}
 use Rattle.typed_hoisting.proofs.StoredLaws.{takes, stored_variables}
+use Rattle.typed_hoisting.proofs.PassingPoints.{passes_both}
 use Rattle.typed_hoisting.proofs.GoodParts.{numbered_up, numbered_both, among_first, among_rest, still_good, built_good, settled_unless_good, code_then}
 use Rattle.typed_hoisting.proofs.CallsKeep.{Own}
 use Rattle.typed_hoisting.proofs.ExpressionsKeep.{each_expression_keeps}
 use Rattle.typed_methods.proofs.KnownWays.{MetUnder, met_right, met_here}
 use Rattle.typed_methods.proofs.StoredKnown.{AllKept, AllUnder, all_under, type_or, stored_there, under_free, free_same}
 use Rattle.typed_methods.proofs.KeptParts.{in_loop_if, LocalAssigned, local_parts}
-use Rattle.typed_methods.proofs.CodeLaws.{spot, At, TypedAs, WaysLead, all_under_on, to_stands, from_stands, at_as, supplies_all, point_at, variable_typed, GoodCode, no_more, no_more_is, behind_good, marked_fits}
+use Rattle.typed_methods.proofs.CodeLaws.{spot, At, TypedAs, WaysLead, all_under_on, to_stands, from_stands, at_as, supplies_all, point_at, variable_typed, typed_same, are_typed, surely_passes, marked_passes, GoodCode, no_more, no_more_is, behind_good, marked_fits}
 use Rattle.program_meaning.proofs.LocalShapes.{shapes_narrowed}
 
 abbrev pub EachVariable : List PlainLocal → List ℕ → Type 0
@@ -74,26 +76,28 @@ module _ (c : Context) (leaves : Leaving) (own : Own leaves) (limit : ℕ) where
     goes_to variables after e at = at_as variables w.locals end.locals after (ap (λ (v : Way). v.locals) e) at
 
     pub pass_good : (at : Place) → flow d w (PPass at) ≡ Ok end → GoodOpened (PPass at) looping floor w n end
-    unfolding flow opened goes_on breaks stmts_fit
-    pass_good at h = record { made = []; numbered = refl; fits = λ m among typed env at' ways goal goes. goes refl env (goes_to m.variables env (same_ok w end h) at') }
+    unfolding flow opened goes_on breaks stmts_fit PointsPass
+    pass_good at h = record { made = []; numbered = refl; points = λ variables among typed. (tt, tt); fits = λ m among typed env at' ways goal goes. goes refl env (goes_to m.variables env (same_ok w end h) at') }
 
     pub break_good : (at : Place) → flow d w (PBreak at) ≡ Ok end → GoodOpened (PBreak at) looping floor w n end
-    unfolding flow opened goes_on breaks stmts_fit
+    unfolding flow opened goes_on breaks stmts_fit PointsPass
     break_good at h =
         let is : broken_off w ≡ end = same_ok (broken_off w) end (refuse_ok (not looping) LoopWord at (Ok (broken_off w)) end h).1 in
         record {
           made = [];
           numbered = refl;
+          points = λ variables among typed. (tt, (tt, tt));
           fits = λ m among typed env at' ways goal goes.
               ways.at_break refl env at'.are
               (subst (λ (v : Way). MetUnder (shapes v.locals) v.breaks env) is (met_right (shapes w.locals) env w.breaks (way true w.locals) (met_here w.locals env (all_under w.locals env at'.kept))));
         }
 
     pub continue_good : (at : Place) → flow d w (PContinue at) ≡ Ok end → GoodOpened (PContinue at) looping floor w n end
-    unfolding flow opened goes_on breaks stmts_fit
+    unfolding flow opened goes_on breaks stmts_fit PointsPass
     continue_good at h = record {
       made = [];
       numbered = refl;
+      points = λ variables among typed. (tt, (tt, tt));
       fits = λ m among typed env at' ways goal goes. ways.at_continue (in_a_loop looping (refuse_ok (not looping) LoopWord at (Ok w) end h).0) env at'.are (all_under_on floor w.locals env b.above (all_under w.locals env at'.kept));
     }
       where
@@ -102,7 +106,7 @@ module _ (c : Context) (leaves : Leaving) (own : Own leaves) (limit : ℕ) where
         in_a_loop false e = absurd (true≢false e)
 
     pub do_good : (at : Place) (e : PlainExpr) → StmtNames limit (PDo at e) → flow d w (PDo at e) ≡ Ok end → GoodOpened (PDo at e) looping floor w n end
-    unfolding flow opened goes_on breaks stmts_fit StmtNames
+    unfolding flow opened goes_on breaks stmts_fit PointsPass StmtNames
     do_good at e named h =
         let p : (ty : PlainTy) × (type_at c w.locals None e ≡ Ok ty) × (done w ≡ Ok end) = found_ok (type_at c w.locals None e) (λ ty. Ok w) end h in
         let a : Hoisted PlainExpr = settled_unless (lasts leaves e) at (ty_at c None w.locals e) ((forms leaves c e).value None here) in
@@ -110,6 +114,7 @@ module _ (c : Context) (leaves : Leaving) (own : Own leaves) (limit : ℕ) where
         record {
           made = g.made;
           numbered = g.numbered;
+          points = λ variables among typed. (tt, g.points variables among (are_typed variables w.locals typed));
           fits = λ m among typed env at' ways goal goes.
               g.before m among env (to_stands m.variables n w.locals env at') goal (λ after there. goes refl after (goes_to m.variables after (same_ok w end p.2) (behind_good c leaves here a m.variables after b.free g there)));
         }
@@ -121,10 +126,10 @@ module _ (c : Context) (leaves : Leaving) (own : Own leaves) (limit : ℕ) where
     nil_suits locals at suits = record { ty = TNil; has = record { wanted = None; typed = refl; stays = refl }; suits = suits }
 
     pub return_good : (at : Place) (e : Option PlainExpr) → StmtNames limit (PReturn at e) → flow d w (PReturn at e) ≡ Ok end → GoodOpened (PReturn at e) looping floor w n end
-    unfolding flow opened goes_on breaks stmts_fit StmtNames
+    unfolding flow opened goes_on breaks stmts_fit PointsPass StmtNames
     return_good at None named h =
         let suits : assignable TNil (result_at c) ≡ true = ap (assignable TNil) (sym (result_here looping)) ∙ return_nothing_ok d w.locals at (no_need (return_fault d w.locals at None) (Ok w) end h).0 in
-        record { made = []; numbered = refl; fits = λ m among typed env at' ways goal goes. nil_suits env at suits }
+        record { made = []; numbered = refl; points = λ variables among typed. (tt, (tt, tt)); fits = λ m among typed env at' ways goal goes. nil_suits env at suits }
     return_good at (Some e) named h =
         let p : (ty : PlainTy) × (type_at d w.locals (Some (result_at d)) e ≡ Ok ty) × (assignable ty (result_at d) ≡ true) = return_ok d w.locals at e (no_need (return_fault d w.locals at (Some e)) (Ok w) end h).0 in
         let wanted : Option PlainTy = Some (result_at c) in
@@ -133,6 +138,7 @@ module _ (c : Context) (leaves : Leaving) (own : Own leaves) (limit : ℕ) where
         record {
           made = g.made;
           numbered = g.numbered;
+          points = λ variables among typed. marked_passes c leaves here a (FGive a.rest) g variables among typed tt;
           fits = λ m among typed env at' ways goal goes.
               marked_fits c leaves here a (λ r. FGive r) g m among env at' goal
               (λ after there rest. record { ty = p.0; has = record { wanted = wanted; typed = rest.0; stays = rest.1 }; suits = ap (assignable p.0) (sym (result_here looping)) ∙ p.2 });
@@ -162,20 +168,21 @@ module _ (c : Context) (leaves : Leaving) (own : Own leaves) (limit : ℕ) where
         (λ there x. record { wanted = None; typed = x.0; stays = x.1 })
 
     pub raise_good : (at : Place) (kind : ℕ) (e : Option PlainExpr) → StmtNames limit (PRaise at kind e) → RaisesFailure (PRaise at kind e) → flow d w (PRaise at kind e) ≡ Ok end → GoodOpened (PRaise at kind e) looping floor w n end
-    unfolding flow opened goes_on breaks stmts_fit StmtNames
+    unfolding flow opened goes_on breaks stmts_fit PointsPass StmtNames
     raise_good at kind e named kinds h =
         let a : Hoisted (Option PlainExpr) = optional leaves c None e here in
         let g : Good c leaves here a MessageIs = message_good n b.below b.free e named (no_need (message_fault d w.locals e) (Ok w) end h).0 in
         record {
           made = g.made;
           numbered = g.numbered;
+          points = λ variables among typed. marked_passes c leaves here a (FFail kind a.rest) g variables among typed tt;
           fits = λ m among typed env at' ways goal goes. marked_fits c leaves here a (FFail kind) g m among env at' goal (λ after there rest. (omega (arith, kinds.0), omega (arith, kinds.1), rest));
         }
 
     -- Asserts
 
     pub assert_good : (at : Place) (test : PlainExpr) (e : Option PlainExpr) → StmtNames limit (PAssert at test e) → flow d w (PAssert at test e) ≡ Ok end → GoodOpened (PAssert at test e) looping floor w n end
-    unfolding flow opened goes_on breaks stmts_fit StmtNames
+    unfolding flow opened goes_on breaks stmts_fit PointsPass StmtNames
     assert_good at test e named h =
         let ls : List PlainLocal = narrowed (shown true test) w.locals in
         let rest : PlainTy → Result Way RuleFault = λ ty. needs_none (message_fault d w.locals e) (Ok (on w ls)) in
@@ -193,6 +200,16 @@ module _ (c : Context) (leaves : Leaving) (own : Own leaves) (limit : ℕ) where
         record {
           made = gt.made ++ g.made;
           numbered = numbered_both n gt.made g.made t.next a.spot.next gt.numbered g.numbered;
+          points = λ variables among typed.
+              let typed_true : TypedAs variables ls = typed_same variables w.locals ls (shapes_narrowed (shown true test) w.locals) typed in
+              let behind_passes : is_point variables behind ≡ true = surely_passes variables t.next ls free_true typed_true in (
+                tt,
+                ((
+                  (gt.points variables (among_first variables gt.made g.made among) (are_typed variables w.locals typed), behind_passes, tt, surely_passes variables t.next w.locals free typed, tt),
+                  passes_both variables a.before (FFail 3 a.rest ∷ []) (g.points variables (among_rest variables gt.made g.made among) (are_typed variables w.locals typed)) (tt, tt),
+                  behind_passes,
+                ), tt),
+              );
           fits = λ m among typed env at' ways goal goes.
               let typed_true : TypedAs m.variables ls = λ x u e. typed x u (ap (λ ss. type_in ss x) (sym (shapes_narrowed (shown true test) w.locals)) ∙ e) in
               let at_true : At m.variables ls (at_start m.variables behind) = point_at m.variables t.next ls free_true typed_true in
@@ -216,7 +233,7 @@ module _ (c : Context) (leaves : Leaving) (own : Own leaves) (limit : ℕ) where
 
     pub assign_local : (at : Place) (x : PlacedName) (written : Option PlainWritten) (e : PlainExpr) → StmtNames limit (PAssign at (Local x) written e) → EachVariable w.locals (local_assigned (Local x)) → flow d w (PAssign at (Local x) written e) ≡ Ok end
         → GoodOpened (PAssign at (Local x) written e) looping floor w n end
-    unfolding flow opened goes_on breaks stmts_fit StmtNames
+    unfolding flow opened goes_on breaks stmts_fit PointsPass StmtNames
     assign_local at x written e named variable h =
         let p : (ls : List PlainLocal) × (assigned d w.locals at (Local x) written e ≡ Ok ls) × (done (on w ls) ≡ Ok end) = found_ok (assigned d w.locals at (Local x) written e) (λ ls. Ok (on w ls)) end h in
         let q : LocalAssigned d w.locals x written e p.0 = local_parts d w.locals x e p.0 at written p.1 in
@@ -229,6 +246,7 @@ module _ (c : Context) (leaves : Leaving) (own : Own leaves) (limit : ℕ) where
         record {
           made = g.made;
           numbered = g.numbered;
+          points = λ variables among typed. marked_passes c leaves here a (store (Local x) a.rest) g variables among typed tt;
           fits = λ m among typed env at' ways goal goes.
               marked_fits c leaves here a (store (Local x)) g m among env at' goal
               (λ after stands rest.
@@ -251,7 +269,7 @@ module _ (c : Context) (leaves : Leaving) (own : Own leaves) (limit : ℕ) where
 
     pub assign_field : is_some c.method ≡ true → (at : Place) (f : PlacedName) (written : Option PlainWritten) (e : PlainExpr) → StmtNames limit (PAssign at (Field f) written e) → flow d w (PAssign at (Field f) written e) ≡ Ok end
         → GoodOpened (PAssign at (Field f) written e) looping floor w n end
-    unfolding flow opened goes_on breaks stmts_fit StmtNames
+    unfolding flow opened goes_on breaks stmts_fit PointsPass StmtNames
     assign_field method at f written e named h =
         let p : (ls : List PlainLocal) × (assigned d w.locals at (Field f) written e ≡ Ok ls) × (done (on w ls) ≡ Ok end) = found_ok (assigned d w.locals at (Field f) written e) (λ ls. Ok (on w ls)) end h in
         let q = field_ok d w.locals at f written e p.0 method p.1 in
@@ -262,6 +280,7 @@ module _ (c : Context) (leaves : Leaving) (own : Own leaves) (limit : ℕ) where
         record {
           made = g.made;
           numbered = g.numbered;
+          points = λ variables among typed. marked_passes c leaves here a (store (Field f) a.rest) g variables among typed tt;
           fits = λ m among typed env at' ways goal goes.
               marked_fits c leaves here a (store (Field f)) g m among env at' goal
               (λ after stands rest. (

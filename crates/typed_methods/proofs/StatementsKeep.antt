@@ -15,12 +15,14 @@ use Rattle.program_meaning.proofs.FlowGrows.{all_parts}
 use Rattle.block_code.specs.GraphFits.{Asked}
 use Rattle.flat_tree.specs.PlainFlat.{PlainFlatStmt}
 use Rattle.flat_tree.specs.Flatness.{jumps}
+use Rattle.method_splitter.specs.Points.{PointsPass}
 use Rattle.flat_types.specs.FlatTypes.{stmts_fit}
 use Rattle.flat_types.proofs.FlowStays.{EachTyped, stmt_stays, first_typed, later_typed}
 use Rattle.method_hoister.specs.Spots.{Spot, locals_behind}
 use Rattle.method_hoister.specs.HoistStatements.{Flattened, code_if, followed, opened, flat_all}
 use Rattle.typed_hoisting.specs.TypedHoisting.{AreAmong, Around, code_fits}
 use Rattle.typed_hoisting.proofs.EnvironmentLaws.{free_later}
+use Rattle.typed_hoisting.proofs.PassingPoints.{passes_both}
 use Rattle.typed_hoisting.proofs.GoodParts.{numbered_up, numbered_both, among_first, among_rest, code_then}
 use Rattle.typed_hoisting.proofs.CallsKeep.{Own}
 use Rattle.typed_methods.proofs.KnownWays.{MetUnder}
@@ -67,10 +69,11 @@ module _ (c : Context) (leaves : Leaving) (own : Own leaves) (limit : ℕ) (outs
       by false e = still_keeps c leaves limit outside x named raises e looping floor w n end variables h
 
   none_good : GoodAll c leaves own limit PNoStmt
-  unfolding flow opened stmts_fit goes_on breaks
+  unfolding flow opened stmts_fit goes_on breaks PointsPass
   none_good looping floor w n end b variables forgets h = record {
     made = [];
     numbered = refl;
+    points = λ variables among typed. tt;
     fits = λ m among typed env at ways goal goes. goes refl env (at_as m.variables w.locals end.locals env (ap (λ (v : Way). v.locals) (same_ok w end h)) at);
   }
 
@@ -92,6 +95,7 @@ module _ (c : Context) (leaves : Leaving) (own : Own leaves) (limit : ℕ) (outs
       by false mid hx hxs in_x in_xs f_xs g f_x = record {
         made = g.made;
         numbered = g.numbered;
+        points = g.points;
         fits = λ m among typed env at ways goal goes.
             g.fits m among typed env at
             (record { at_break = λ left env are met. ways.at_break (or_left (breaks x) false left) env are (subst (λ (v : Way). MetUnder (shapes v.locals) v.breaks env) (same_ok mid end hxs) met); at_continue = ways.at_continue }) goal
@@ -116,6 +120,9 @@ module _ (c : Context) (leaves : Leaving) (own : Own leaves) (limit : ℕ) (outs
           record {
             made = g.made ++ gx.made;
             numbered = numbered_both n g.made gx.made f.next next g.numbered gx.numbered;
+            points = λ variables among typed.
+                passes_both variables f.code (rest (locals_behind c x w.locals)).code (g.points variables (among_first variables g.made gx.made among) typed)
+                (gx.points variables (among_rest variables g.made gx.made among) (typed_same variables w.locals mid.locals same typed));
             fits = λ m among typed env at ways goal goes.
                 code_then c leaves m f.code (rest (locals_behind c x w.locals)).code goal env
                 (g.fits m (among_first m.variables g.made gx.made among) typed env at

@@ -16,6 +16,7 @@ use Rattle.program_meaning.proofs.TypedParts.{done, either_false, both_true}
 use Rattle.block_code.specs.GraphFits.{Asked, are_variables, CodeFits}
 use Rattle.flat_tree.specs.PlainFlat.{FCode}
 use Rattle.flat_tree.specs.Flatness.{jumps}
+use Rattle.method_splitter.specs.Points.{PointsPass}
 use Rattle.flat_types.specs.FlatTypes.{stmts_fit}
 use Rattle.flat_types.proofs.FlowStays.{EachTyped, stmt_stays}
 use Rattle.typed_hoisting.specs.TypedHoisting.{Around, code_fits}
@@ -70,10 +71,11 @@ module _ (c : Context) (leaves : Leaving) (limit : ℕ) (outside : c.in_loop ≡
 
   pub still_keeps : (looping : Bool) (floor : List PlainLocal) (w : Way) (n : ℕ) (end : Way) → EachVariable w.locals (assigns x) → flow (in_loop_if c looping) w x ≡ Ok end
       → GoodCode c leaves looping floor w n (FCode x ∷ []) n end (goes_on x) (breaks x)
-  unfolding stmts_fit
+  unfolding stmts_fit PointsPass
   still_keeps looping floor w n end variables h = record {
     made = [];
     numbered = refl;
+    points = λ variables among typed. (tt, tt);
     fits = λ m among typed env at ways goal goes.
         let anew : LeadsTo end (flow (in_loop_if c looping) (way_at w.locals None) x) = stmt_anew c x looping looping w end None (λ j t. t) h in
         let same : shapes end.locals ≡ shapes w.locals = (stmt_stays x (in_loop_if c looping) w end h).same variables in

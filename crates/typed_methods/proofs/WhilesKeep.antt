@@ -15,7 +15,8 @@ use Rattle.program_meaning.proofs.FlowGrows.{WhileParts, while_parts}
 use Rattle.block_code.specs.PlainVars.{PlainVar}
 use Rattle.block_code.specs.GraphFits.{Asked, at_start}
 use Rattle.flat_tree.specs.PlainFlat.{Point, PlainFlatStmt, PlainFlatTest, FLeaf, FNot, FAnd, FOr, FNoStmt, FStmt, flat_stmts_of}
-use Rattle.flat_types.specs.FlatTypes.{Supplies, Ends, Behind, LoopFits, stmts_fit, test_fits}
+use Rattle.method_splitter.specs.Points.{PointsPass}
+use Rattle.flat_types.specs.FlatTypes.{is_point, Supplies, Ends, Behind, LoopFits, stmts_fit, test_fits}
 use Rattle.flat_types.proofs.FlowStays.{EachTyped, all_stay, stmt_stays}
 use Rattle.method_splitter.specs.Split.{always}
 use Rattle.method_hoister.specs.Spots.{Spot, surely, where_shown, locals_behind, point_behind}
@@ -33,9 +34,9 @@ use Rattle.typed_methods.proofs.StoredKnown.{all_itself, AllKept, AllUnder, all_
 use Rattle.typed_methods.proofs.KeptParts.{in_loop_if}
 use Rattle.typed_methods.proofs.FlowKept.{or_left, or_right}
 use Rattle.typed_methods.proofs.KnownStays.{Above, begun_above, all_above, Forgets, narrowed_above}
-use Rattle.typed_methods.proofs.CodeLaws.{spot, At, TypedAs, WaysLead, all_under_on, to_stands, from_stands, at_as, supplies_all, point_at, typed_same, GoodCode}
+use Rattle.typed_methods.proofs.CodeLaws.{spot, At, TypedAs, WaysLead, all_under_on, to_stands, from_stands, at_as, supplies_all, point_at, typed_same, are_typed, surely_passes, GoodCode}
 use Rattle.typed_methods.proofs.SimpleKeep.{EachVariable, Begins, forms_good, GoodOpened}
-use Rattle.typed_methods.proofs.PointsBehind.{behind_is, ends_behind, behind_end}
+use Rattle.typed_methods.proofs.PointsBehind.{behind_is, ends_behind, behind_passes, behind_end}
 use Rattle.typed_methods.proofs.ArmsKeep.{GoodAll}
 
 -- The head of a loop
@@ -112,7 +113,7 @@ module _ (c : Context) (leaves : Leaving) where
   holds_only _ yes' no' env e h = absurd (true≢false (sym e))
 
   -- a test that always holds leads to where it holds
-  always_leads : (m : Around) (test : PlainFlatTest) (yes' no' : Asked) (env : List PlainLocal) → always test ≡ true → asked_of c leaves test m yes' no' env → yes' (narrowed [] env)
+  always_leads : (m : Around) (test : PlainFlatTest) (yes' no' : Asked) (env : List PlainLocal) → always test ≡ true → (asked_of c leaves test).fits m yes' no' env → yes' (narrowed [] env)
   unfolding test_fits
   always_leads m (FLeaf FNoStmt e) yes' no' env is h = holds_only e yes' no' env is h.1
   always_leads m (FLeaf (FStmt x xs) e) yes' no' env is h = absurd (true≢false (sym is))
@@ -133,7 +134,7 @@ loops variables head start after test body b yes' no' false e = no' e
 module _ (c : Context) (leaves : Leaving) (own : Own leaves) (limit : ℕ) where
   pub while_good : (at : Place) (test : PlainExpr) (body : PlainStmts) → ExprNames limit test → GoodAll c leaves own limit body → (looping : Bool) (floor : List PlainLocal) (w : Way) (n : ℕ) (end : Way) → Begins limit floor w n → EachVariable w.locals (assigned_in body)
       → flow (in_loop_if c looping) w (PWhile at test body) ≡ Ok end → GoodOpened c leaves own limit (PWhile at test body) looping floor w n end
-  unfolding opened stmts_fit goes_on breaks after_while assigned_in
+  unfolding opened stmts_fit goes_on breaks after_while assigned_in PointsPass
   while_good at test body named good_body looping floor w n end b variables h =
       let x : PlainStmt = PWhile at test body in
       let d : Context = in_loop_if c looping in
@@ -167,6 +168,18 @@ module _ (c : Context) (leaves : Leaving) (own : Own leaves) (limit : ℕ) where
       record {
         made = gt.made ++ gb.made;
         numbered = numbered_both n gt.made gb.made t.next f.next gt.numbered gb.numbered;
+        points = λ variables among typed.
+            let typed_h : TypedAs variables hs = typed_same variables w.locals hs to_hs typed in
+            let typed_s : TypedAs variables ss = typed_same variables w.locals ss to_ss typed in (
+              tt,
+              ((
+                surely_passes variables n hs free_h typed_h,
+                gt.points variables (among_first variables gt.made gb.made among) (are_typed variables hs typed_h),
+                surely_passes variables t.next ss begins.free typed_s,
+                gb.points variables (among_rest variables gt.made gb.made among) typed_s,
+                behind_passes goes_here ls variables (subst (λ ks. is_point variables (surely ks) ≡ true) (sym is) (surely_passes variables f.next end.locals free (typed_same variables w.locals end.locals same typed))),
+              ), tt),
+            );
         fits = λ m among typed env at' ways goal go_on.
             let typed_h : TypedAs m.variables hs = typed_same m.variables w.locals hs to_hs typed in
             let typed_s : TypedAs m.variables ss = typed_same m.variables w.locals ss to_ss typed in

@@ -12,6 +12,7 @@ use Rattle.program_meaning.specs.NothingGoesWrong.{IsKnownAccepted}
 use Rattle.block_code.specs.PlainVars.{PlainVar}
 use Rattle.block_code.specs.GraphFits.{var_of, each_once}
 use Rattle.flat_tree.specs.PlainFlat.{PlainFlat, flat_stmts_of}
+use Rattle.method_splitter.specs.Points.{PointsPassInAll}
 use Rattle.flat_types.specs.FlatTypes.{is_point, Nowhere, Behind, stmts_fit}
 use Rattle.flat_types.specs.SplitFits.{EndsWithNone}
 use Rattle.method_hoister.specs.HoistStatements.{flat_all}
@@ -27,6 +28,7 @@ pub record KeepsTypes (c : Context) (leaves : Leaving) (first next : ℕ) (local
   pub once : each_once (map var_of locals ++ made) ≡ true
   pub params : is_point (map var_of locals ++ made) flat.params ≡ true
   pub types : Behind (map var_of locals ++ made) flat.params (stmts_fit c leaves (map var_of locals ++ made) Nowhere Nowhere (flat_stmts_of flat.body) (EndsWithNone c))
+  pub points : PointsPassInAll (is_point (map var_of locals ++ made)) (flat_stmts_of flat.body)
 
 module _ (names : List (List ℕ)) (program : PlainProgram) (marks : List (List Bool)) (class number : ℕ) (m : PlainMethod) where
   -- the number behind those of the temporaries
