@@ -120,8 +120,8 @@ module _ (variables : List PlainVar) where
     under = λ x below.
         let same : Kept (seen here x) (seen env x) = kept_on (seen here x) (seen there x) (seen env x) (f.alike x below) (s.alike.alike x (omega (arith, below, up))) in
         let more : Under (seen (narrowed names here) x) (seen (narrowed others here) x) =
-            subst (λ o. Under o (seen (narrowed others here) x)) (sym (narrowed_seen names here x))
-            (subst (Under (option_map (narrowed_more (has_name names x)) (seen here x))) (sym (narrowed_seen others here x)) (under_both (has_name names x) (has_name others x) (seen here x) (more x))) in
+        subst (λ o. Under o (seen (narrowed others here) x)) (sym (narrowed_seen names here x))
+        (subst (Under (option_map (narrowed_more (has_name names x)) (seen here x))) (sym (narrowed_seen others here x)) (under_both (has_name names x) (has_name others x) (seen here x) (more x))) in
         under_kept (seen (narrowed names here) x) (seen (narrowed others here) x) (seen (narrowed others env) x) more (kept_narrowed others here env x same);
   }
 

@@ -190,7 +190,7 @@ module _ (c : Context) (leaves : Leaving) where
             let rest1 : AreAmong variables (ga.made ++ (gb.made ++ last)) = among_rest variables gt.made (ga.made ++ (gb.made ++ last)) among in
             let rest2 : AreAmong variables (gb.made ++ last) = among_rest variables ga.made (gb.made ++ last) rest1 in
             let point : (names : List ℕ) → is_point variables (surely (narrowed names h.locals)) ≡ true = λ names.
-                point_passes variables (narrowed names h.locals) (free_narrowed h.next h.next names h.locals (omega arith) free).once (typed_narrowed variables names h.locals typed) in
+            point_passes variables (narrowed names h.locals) (free_narrowed h.next h.next names h.locals (omega arith) free).once (typed_narrowed variables names h.locals typed) in
             let more : AreTyped variables (h.locals ++ temporary n ty ∷ []) = (adds_temporary n ty h.locals).only variables (among_rest variables gb.made last rest2) typed in (
               (
                 (

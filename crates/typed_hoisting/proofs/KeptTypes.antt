@@ -1,6 +1,6 @@
 -- What has a type keeps it wherever what is known of the locals that it names is known so.
 use Rattle.std.proofs.Common.{◌≡◌, ◌<◌, ℕ, Bool, true, false, not, Option, Some, None, Result, Ok, List, [], ◌∷◌, length, sym, ap, ◌∙◌}
-use Rattle.std.specs.Prelude.{◌==◌, if◌then◌else◌, option_map, option_and_then}
+use Rattle.std.specs.Prelude.{◌==◌, if◌then◌else◌, option_and_then}
 use Rattle.py_tree.specs.declared.names.Place.{Place}
 use Rattle.py_tree.specs.declared.rule.RuleFault.{RuleFault}
 use Rattle.py_tree.specs.declared.rule.Rule.{Rule}
@@ -8,7 +8,7 @@ use Rattle.py_tree.specs.declared.rule.Rule.TheVariants.{RemoteField, UnknownFie
 use Rattle.py_tree.specs.Bounded.{ExprNames, ExprsNames, LinksNames}
 use Rattle.py_tree.specs.PlainTypes.{PlainTy, TInt, TStr, TEntity}
 use Rattle.py_tree.specs.ClassRules.{PlainTable, PlainSigParam, is_self}
-use Rattle.py_tree.specs.FlowEnvironment.{PlainLocal, PlainEnv, has_name, has_none, shown, where_test}
+use Rattle.py_tree.specs.FlowEnvironment.{PlainLocal, PlainEnv, has_none, shown, where_test}
 use Rattle.py_tree.specs.ExpressionTypes.{Function, Length, Text, Absolute, Least, Greatest, function_of, type_of_name, needs, refuse_if, with_found, as_condition, place_of, count_of, applied, table_named, type_of, conditions, arguments, each_is, list_of, elements, linked, combined, operand, right_wanted, inside, assignable, self_ty, field_of, class_of_ty, method_of, element_of, element_wanted, is_str_or_list, is_int}
 use Rattle.py_tree.specs.PlainExpressions.{PlainExpr, PInt, PBool, PStr, PNil, PVar, PSelf, PAttr, PCall, PApply, PIndex, PList, PNeg, PPos, PNot, PChain, PAnd, POr, PCompare, PIsNone, PCond, PlainExprs, PNoExpr, PExpr, PLink, PlainLinks, PNoLink, PMoreLinks}
 use Rattle.program_meaning.proofs.TypedParts.{found_ok}

@@ -1,5 +1,5 @@
 -- Points of what is surely assigned name variables of the method, each once.
-use Rattle.std.proofs.Common.{◌≡◌, ℕ, Bool, true, false, not, cond, Option, Some, None, List, [], ◌∷◌, ◌++◌, map, if◌then◌else◌, refl, sym, ap, ◌∙◌}
+use Rattle.std.proofs.Common.{◌≡◌, ℕ, Bool, true, false, not, cond, Option, Some, None, List, [], ◌∷◌, ◌++◌, if◌then◌else◌, refl, sym, ap, ◌∙◌}
 use Rattle.std.specs.Prelude.{◌==◌, ◌&&◌, ◌||◌, find, option_map}
 use Rattle.std.specs.List.{list_any, list_all, cons_option}
 use Rattle.std.specs.Cmp.Derive.{both_true as both_hold}
@@ -15,7 +15,7 @@ use Rattle.flat_tree.specs.PlainFlat.{PlainFlatStmt}
 use Rattle.method_splitter.specs.Points.{PointsPass}
 use Rattle.flat_types.specs.FlatTypes.{is_point}
 use Rattle.method_hoister.specs.Spots.{surely}
-use Rattle.typed_hoisting.specs.KnownLocals.{HasTy, Once}
+use Rattle.typed_hoisting.specs.KnownLocals.{Once}
 use Rattle.typed_hoisting.specs.TypedHoisting.{AreTyped, CodePasses}
 use Rattle.typed_hoisting.proofs.LocalLaws.{changed, narrow, narrow_name, narrow_ty, apart}
 

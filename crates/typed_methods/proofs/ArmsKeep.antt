@@ -1,25 +1,24 @@
 -- `if` keeps the rules where calls come out of it, if its arms do and what follows them.
-use Rattle.std.proofs.Common.{◌≡◌, ◌≤◌, arith, ℕ, Bool, true, false, cond, Option, Some, None, Result, Ok, List, [], ◌∷◌, ◌++◌, refl, sym, ap, ◌∙◌, subst}
+use Rattle.std.proofs.Common.{◌≡◌, ◌≤◌, arith, ℕ, Bool, true, false, Option, None, Result, Ok, List, [], ◌++◌, refl, sym, ap, ◌∙◌, subst}
 use Rattle.std.specs.Prelude.{◌||◌}
 use Rattle.py_tree.specs.declared.names.Place.{Place}
 use Rattle.py_tree.specs.declared.rule.RuleFault.{RuleFault}
-use Rattle.py_tree.specs.Bounded.{ExprNames, StmtNames}
-use Rattle.py_tree.specs.PlainTypes.{PlainTy}
+use Rattle.py_tree.specs.Bounded.{ExprNames}
 use Rattle.py_tree.specs.PlainExpressions.{PlainExpr}
-use Rattle.py_tree.specs.PlainStatements.{PlainStmt, PIf, PlainStmts, PNoStmt, PStmt, PArm, PlainArms, PNoArm, PMoreArms}
+use Rattle.py_tree.specs.PlainStatements.{PIf, PlainStmts, PArm, PlainArms, PNoArm, PMoreArms}
 use Rattle.py_tree.specs.FlowEnvironment.{PlainLocal, shown, narrowed}
 use Rattle.py_tree.specs.Reachability.{goes_on, all_go_on, an_arm_goes_on, breaks, break_in, break_in_arm, assigned_in, assigned_in_arms}
 use Rattle.py_tree.specs.Flow.{Context, Known, known_at, settled, meet, way, behind_ways, Way, on, flow, flow_all, flow_arms}
 use Rattle.call_graph.specs.SuspendingCode.{Leaving}
-use Rattle.program_meaning.proofs.LocalShapes.{shapes, type_in, Grows, shapes_narrowed, shapes_behind}
+use Rattle.program_meaning.proofs.LocalShapes.{shapes, Grows, shapes_narrowed, shapes_behind}
 use Rattle.program_meaning.proofs.FlowGrows.{follows_all, last_parts, ArmParts, arm_parts}
 use Rattle.block_code.specs.PlainVars.{PlainVar}
 use Rattle.block_code.specs.GraphFits.{Asked, at_start}
-use Rattle.flat_tree.specs.PlainFlat.{Point, PlainFlatStmt, PlainFlatArms, PlainFlatTest, flat_stmts_of}
+use Rattle.flat_tree.specs.PlainFlat.{PlainFlatStmt, PlainFlatArms, PlainFlatTest, flat_stmts_of}
 use Rattle.method_splitter.specs.Points.{PointsPass, PointsPassInArms}
 use Rattle.flat_types.specs.FlatTypes.{is_point, Supplies, Ends, stmts_fit, arms_fit}
 use Rattle.flat_types.proofs.FlowStays.{EachTyped, all_stay, stmt_stays, first_typed, later_typed}
-use Rattle.method_hoister.specs.Spots.{Spot, surely, where_shown, locals_behind, point_behind}
+use Rattle.method_hoister.specs.Spots.{Spot, surely, locals_behind, point_behind}
 use Rattle.method_hoister.specs.HoistExpressions.{Tested, forms}
 use Rattle.method_hoister.specs.HoistStatements.{Flattened, opened, flat_all, flat_arms, other_spot}
 use Rattle.typed_hoisting.specs.KnownLocals.{Free, AreVariables}
@@ -29,7 +28,7 @@ use Rattle.typed_hoisting.proofs.PointLaws.{supplies}
 use Rattle.typed_hoisting.proofs.GoodParts.{numbered_up, numbered_both, among_first, among_rest}
 use Rattle.typed_hoisting.proofs.CallsKeep.{Own}
 use Rattle.typed_methods.proofs.KnownWays.{MetUnder, met_right, met_here, met_behind}
-use Rattle.typed_methods.proofs.StoredKnown.{AllKept, AllUnder, all_under, free_same}
+use Rattle.typed_methods.proofs.StoredKnown.{AllUnder, all_under, free_same}
 use Rattle.typed_methods.proofs.KeptParts.{in_loop_if}
 use Rattle.typed_methods.proofs.FlowKept.{or_left, or_right}
 use Rattle.typed_methods.proofs.WaysOn.{LeftUnder, arms_left_on, all_left_on, ended_on}
@@ -112,7 +111,7 @@ module _ (c : Context) (leaves : Leaving) (own : Own leaves) (limit : ℕ) where
       let shapes1 : shapes ls ≡ shapes w.locals = shapes_narrowed (shown true test) w.locals in
       let shapes2 : shapes rs ≡ shapes w.locals = shapes_narrowed (shown false test) w.locals in
       let rest_flow : flow_arms d w2 (meet ended (way (all_go_on body) p.end.locals)) more go other ≡ Ok end =
-          subst (λ ks. flow_arms d (on p.end ks) (meet ended (way (all_go_on body) p.end.locals)) more go other ≡ Ok end) (is_no looping floor w test body p.end in_body p.arm) p.rest in
+      subst (λ ks. flow_arms d (on p.end ks) (meet ended (way (all_go_on body) p.end.locals)) more go other ≡ Ok end) (is_no looping floor w test body p.end in_body p.arm) p.rest in
       let here : Spot = spot w n in
       let t : Tested PlainFlatTest = (forms leaves c test).test here in
       let gt : GoodTest c leaves here (asked_of c leaves t.test) t.next ls rs = (forms_good c leaves own limit test named).test here b.below b.free p.condition in
@@ -120,12 +119,12 @@ module _ (c : Context) (leaves : Leaving) (own : Own leaves) (limit : ℕ) where
       let begins1 : Begins limit floor w1 t.next = record { below = omega (arith, b.below, up); free = free_narrowed n t.next (shown true test) w.locals up b.free; above = narrowed_above floor (shown true test) w.locals b.above } in
       let f = flattened body w1 t.next in
       let gb : GoodCode c leaves looping floor w1 t.next f.code f.next p.end (all_go_on body) (break_in body) =
-          good_body looping floor w1 t.next p.end begins1 (subst (λ ss. EachTyped ss (assigned_in body)) (sym shapes1) in_body) (forgets_first floor (assigned_in body) (assigned_in_arms more) forgets) p.arm in
+      good_body looping floor w1 t.next p.end begins1 (subst (λ ss. EachTyped ss (assigned_in body)) (sym shapes1) in_body) (forgets_first floor (assigned_in body) (assigned_in_arms more) forgets) p.arm in
       let up2 : t.next ≤ f.next = numbered_up t.next gb.made f.next gb.numbered in
       let begins2 : Begins limit floor w2 f.next = record { below = omega (arith, b.below, up, up2); free = free_narrowed n f.next (shown false test) w.locals (omega (arith, up, up2)) b.free; above = narrowed_above floor (shown false test) w.locals b.above } in
       let g = flat_arms leaves c more (spot w2 f.next) in
       let gm : ArmsFit looping floor w2 f.next g.code g.next end (an_arm_goes_on more) (break_in_arm more) (other_spot leaves c more (spot w2 f.next)).locals =
-          good_more looping floor w2 f.next end begins2 (subst (λ ss. EachTyped ss (assigned_in_arms more)) (sym shapes2) in_more) (forgets_rest floor (assigned_in body) (assigned_in_arms more) forgets) (meet ended (way (all_go_on body) p.end.locals)) go other others rest_flow in
+      good_more looping floor w2 f.next end begins2 (subst (λ ss. EachTyped ss (assigned_in_arms more)) (sym shapes2) in_more) (forgets_rest floor (assigned_in body) (assigned_in_arms more) forgets) (meet ended (way (all_go_on body) p.end.locals)) go other others rest_flow in
       let no_same : shapes rs ≡ shapes p.end.locals = to_no looping floor w test body p.end in_body p.arm in
       record {
         made = gt.made ++ (gb.made ++ gm.made);
@@ -152,10 +151,10 @@ module _ (c : Context) (leaves : Leaving) (own : Own leaves) (limit : ℕ) where
             } in
             let ways2 : WaysLead m floor looping (break_in_arm more) end = record { at_break = λ left after are met. ways.at_break (or_right (break_in body) (break_in_arm more) left) after are met; at_continue = ways.at_continue } in
             let behind : all_go_on body ≡ true → (after : List PlainLocal) → At m.variables p.end.locals after → goal after = λ go_body after there.
-                go_on (or_left (all_go_on body) (an_arm_goes_on more) go_body) after there.are
-                (ended_on after more d w2 end (meet ended (way (all_go_on body) p.end.locals)) go other others.grows rest_flow
-                (subst (λ ss. MetUnder ss (meet ended (way (all_go_on body) p.end.locals)) after) (sym no_same)
-                (met_right (shapes p.end.locals) after ended (way (all_go_on body) p.end.locals) (subst (λ o. MetUnder (shapes p.end.locals) (way o p.end.locals) after) (sym go_body) (met_here p.end.locals after (all_under p.end.locals after there.kept)))))) in (
+            go_on (or_left (all_go_on body) (an_arm_goes_on more) go_body) after there.are
+            (ended_on after more d w2 end (meet ended (way (all_go_on body) p.end.locals)) go other others.grows rest_flow
+            (subst (λ ss. MetUnder ss (meet ended (way (all_go_on body) p.end.locals)) after) (sym no_same)
+            (met_right (shapes p.end.locals) after ended (way (all_go_on body) p.end.locals) (subst (λ o. MetUnder (shapes p.end.locals) (way o p.end.locals) after) (sym go_body) (met_here p.end.locals after (all_under p.end.locals after there.kept)))))) in (
               gt.sides m (among_first m.variables gt.made (gb.made ++ gm.made) among) env (to_stands m.variables n w.locals env at) (Supplies (surely ls)) (Supplies (surely rs))
                   (λ after least. supplies m.variables n ls after (free_narrowed n n (shown true test) w.locals (omega arith) b.free) least)
                   (λ after least. supplies m.variables n rs after (free_narrowed n n (shown false test) w.locals (omega arith) b.free) least),
@@ -201,8 +200,8 @@ module _ (c : Context) (leaves : Leaving) (own : Own leaves) (limit : ℕ) where
       let rs : List PlainLocal = narrowed (shown false test) w.locals in
       let shapes2 : shapes rs ≡ shapes w.locals = shapes_narrowed (shown false test) w.locals in
       let q : ArmsEnd (on p.end rs) end go other (other_spot leaves c more (spot (on p.end rs) n)).locals =
-          arms_end more looping (on p.end rs) n end (meet ended (way (all_go_on body) p.end.locals)) go other (subst (λ ss. EachTyped ss (assigned_in_arms more)) (sym shapes2) (later_typed (shapes w.locals) (assigned_in body) (assigned_in_arms more) variables))
-          (subst (λ ks. flow_arms d (on p.end ks) (meet ended (way (all_go_on body) p.end.locals)) more go other ≡ Ok end) (is_no looping [] w test body p.end in_body p.arm) p.rest) in
+      arms_end more looping (on p.end rs) n end (meet ended (way (all_go_on body) p.end.locals)) go other (subst (λ ss. EachTyped ss (assigned_in_arms more)) (sym shapes2) (later_typed (shapes w.locals) (assigned_in body) (assigned_in_arms more) variables))
+      (subst (λ ks. flow_arms d (on p.end ks) (meet ended (way (all_go_on body) p.end.locals)) more go other ≡ Ok end) (is_no looping [] w test body p.end in_body p.arm) p.rest) in
       record { mid = q.mid; at = q.at; last = q.last; is = q.is; same = q.same ∙ shapes2; behind = q.behind; left = q.left }
 
   other_above : (floor : List PlainLocal) (arms : PlainArms) (w : Way) (n : ℕ) → AllUnder floor w.locals → AllUnder floor (other_spot leaves c arms (spot w n)).locals
@@ -222,7 +221,7 @@ module _ (c : Context) (leaves : Leaving) (own : Own leaves) (limit : ℕ) where
       let f = flat_arms leaves c arms (spot w n) in
       let rest : List PlainLocal = (other_spot leaves c arms (spot w n)).locals in
       let ga : ArmsFit looping floor w n f.code f.next end (an_arm_goes_on arms) (break_in_arm arms) rest =
-          good_arms looping floor w n end b in_arms (forgets_first floor (assigned_in_arms arms) (assigned_in other) forgets) None (all_go_on other) others goes h in
+      good_arms looping floor w n end b in_arms (forgets_first floor (assigned_in_arms arms) (assigned_in other) forgets) None (all_go_on other) others goes h in
       let q : ArmsEnd w end (all_go_on other) others rest = arms_end arms looping w n end None (all_go_on other) others in_arms h in
       let up : n ≤ f.next = numbered_up n ga.made f.next ga.numbered in
       let same : shapes q.mid.locals ≡ shapes w.locals = ap shapes q.at ∙ q.same in
@@ -232,7 +231,7 @@ module _ (c : Context) (leaves : Leaving) (own : Own leaves) (limit : ℕ) where
         above = subst (λ ls. AllUnder floor ls) (sym q.at) (other_above floor arms w n b.above);
       } in
       let go : GoodCode c leaves looping floor q.mid f.next (flattened other q.mid f.next).code (flattened other q.mid f.next).next q.last (all_go_on other) (break_in other) =
-          good_other looping floor q.mid f.next q.last begins (subst (λ ss. EachTyped ss (assigned_in other)) (sym same) in_other) (forgets_rest floor (assigned_in_arms arms) (assigned_in other) forgets) q.is in
+      good_other looping floor q.mid f.next q.last begins (subst (λ ss. EachTyped ss (assigned_in other)) (sym same) in_other) (forgets_rest floor (assigned_in_arms arms) (assigned_in other) forgets) q.is in
       let code : List PlainLocal → Flattened (List PlainFlatStmt) = λ ls. flat_all leaves c other (record { locals = ls; next = f.next }) in
       let ls : List PlainLocal = locals_behind c (PIf at arms other) w.locals in
       let is : ls ≡ end.locals = behind_is c looping w end (PIf at arms other) h in
@@ -246,20 +245,23 @@ module _ (c : Context) (leaves : Leaving) (own : Own leaves) (limit : ℕ) where
         numbered = numbered_both n ga.made go.made f.next next ga.numbered numbered;
         points = λ variables among typed. (
           tt,
-          ((
-            ga.points variables (among_first variables ga.made go.made among) typed,
-            subst (λ ks. CodePasses variables (code ks).code) q.at (go.points variables (among_rest variables ga.made go.made among) (typed_same variables w.locals q.mid.locals same typed)),
-            behind_passes goes_here ls variables (subst (λ ks. is_point variables (surely ks) ≡ true) (sym is) (surely_passes variables next end.locals free (typed_same variables w.locals end.locals end_same typed))),
-          ), tt),
+          (
+            (
+              ga.points variables (among_first variables ga.made go.made among) typed,
+              subst (λ ks. CodePasses variables (code ks).code) q.at (go.points variables (among_rest variables ga.made go.made among) (typed_same variables w.locals q.mid.locals same typed)),
+              behind_passes goes_here ls variables (subst (λ ks. is_point variables (surely ks) ≡ true) (sym is) (surely_passes variables next end.locals free (typed_same variables w.locals end.locals end_same typed))),
+            ),
+            tt,
+          ),
         );
         fits = λ m among typed env at' ways goal go_on.
             let typed_end : TypedAs m.variables end.locals = typed_same m.variables w.locals end.locals end_same typed in
             let point : (after : List PlainLocal) → goes_here ≡ true → AreVariables m.variables after → AllUnder end.locals after → Ends (point_behind c (PIf at arms other) w.locals) after = λ after go are under.
-                ends_behind goes_here ls after go (subst (λ ks. Supplies (surely ks) after) (sym is) (supplies_all m.variables next end.locals after free are under)) in
+            ends_behind goes_here ls after go (subst (λ ks. Supplies (surely ks) after) (sym is) (supplies_all m.variables next end.locals after free are under)) in
             let ways1 : WaysLead m floor looping (break_in_arm arms) end = record { at_break = λ left after are met. ways.at_break (or_left (break_in_arm arms) (break_in other) left) after are met; at_continue = ways.at_continue } in
             let ways2 : WaysLead m floor looping (break_in other) q.last = record { at_break = λ left after are met. ways.at_break (or_right (break_in_arm arms) (break_in other) left) after are (q.left after met); at_continue = ways.at_continue } in
             let behind : all_go_on other ≡ true → (after : List PlainLocal) → At m.variables q.last.locals after → Ends (point_behind c (PIf at arms other) w.locals) after = λ go after there.
-                point after (or_right (an_arm_goes_on arms) (all_go_on other) go) there.are (q.behind after go (all_under q.last.locals after there.kept)) in (
+            point after (or_right (an_arm_goes_on arms) (all_go_on other) go) there.are (q.behind after go (all_under q.last.locals after there.kept)) in (
               ga.fits m (among_first m.variables ga.made go.made among) typed env at' ways1 (Ends (point_behind c (PIf at arms other) w.locals))
                   (λ locals. stmts_fit c leaves m.variables m.breaks m.continues (flat_stmts_of (code rest).code) (Ends (point_behind c (PIf at arms other) w.locals)) locals)
                   (λ go after are under. point after (or_left (an_arm_goes_on arms) (all_go_on other) go) are under)

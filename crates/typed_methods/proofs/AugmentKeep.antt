@@ -1,23 +1,21 @@
 -- Augmented assignments keep the rules where calls come out of them.
-use Rattle.std.proofs.Common.{◌≡◌, ◌≤◌, ◌<◌, arith, ℕ, Bool, true, false, not, cond, Option, Some, None, Result, Ok, List, [], ◌∷◌, ◌++◌, refl, sym, ap, ◌∙◌, subst, true≢false}
+use Rattle.std.proofs.Common.{◌≡◌, ◌≤◌, ◌<◌, arith, ℕ, Bool, true, false, not, cond, Option, Some, None, Ok, List, [], ◌∷◌, refl, sym, ap, ◌∙◌, subst, true≢false}
 use Rattle.std.specs.Prelude.{◌==◌, ◌&&◌, is_some, unwrap_or}
 use Rattle.py_tree.specs.declared.names.Place.{Place}
 use Rattle.py_tree.specs.declared.rule.Rule.TheVariants.{UnknownField, Operand}
-use Rattle.py_tree.specs.declared.rule.RuleFault.{RuleFault}
 use Rattle.py_tree.specs.declared.names.PlacedName.{PlacedName}
 use Rattle.py_tree.specs.declared.expr.BinOp.{BinOp}
-use Rattle.py_tree.specs.declared.expr.BinOp.TheVariants as op
 use Rattle.py_tree.specs.declared.stmt.Target.{Target}
 use Rattle.py_tree.specs.declared.stmt.Target.TheVariants.{Local, Field}
 use Rattle.py_tree.specs.Bounded.{ExprNames, StmtNames, target_name}
-use Rattle.py_tree.specs.PlainTypes.{PlainTy, TInt, TStr, TList, TEntity}
+use Rattle.py_tree.specs.PlainTypes.{PlainTy, TList, TEntity}
 use Rattle.py_tree.specs.PlainExpressions.{PlainExpr, PVar, PSelf, PAttr, PChain, PLink, PNoLink, PMoreLinks}
-use Rattle.py_tree.specs.PlainStatements.{PlainStmt, PAugment}
+use Rattle.py_tree.specs.PlainStatements.{PAugment}
 use Rattle.py_tree.specs.ReservedNames.{self_number}
 use Rattle.py_tree.specs.FlowEnvironment.{PlainLocal}
-use Rattle.py_tree.specs.ExpressionTypes.{same_ty, assignable, right_wanted, refuse_if, needs, with_found, field_of, self_ty, is_str, is_list, combined, type_of_name, type_of}
+use Rattle.py_tree.specs.ExpressionTypes.{assignable, right_wanted, refuse_if, field_of, self_ty, combined, type_of_name, type_of}
 use Rattle.py_tree.specs.Reachability.{goes_on, breaks, local_assigned}
-use Rattle.py_tree.specs.Flow.{Context, type_at, with_local, keeps, earlier, target_read, augmentation, combined_stored, Way, on, flow}
+use Rattle.py_tree.specs.Flow.{Context, type_at, with_local, keeps, target_read, augmentation, Way, on, flow}
 use Rattle.py_tree.proofs.TypeLaws.{same-refl}
 use Rattle.call_graph.specs.SuspendingCode.{Leaving, expr_suspends}
 use Rattle.program_meaning.proofs.LocalShapes.{shapes, type_in, earlier_is}
@@ -28,7 +26,7 @@ use Rattle.flat_types.specs.FlatTypes.{stmts_fit}
 use Rattle.method_hoister.specs.Spots.{Spot, ty_at, found_ty}
 use Rattle.method_hoister.specs.HoistExpressions.{Hoisted, still, in_turn, settled, forms}
 use Rattle.method_hoister.specs.HoistStatements.{stored as store, read_of, combination, opened}
-use Rattle.typed_hoisting.specs.KnownLocals.{Seen, seen, Free}
+use Rattle.typed_hoisting.specs.KnownLocals.{Free}
 use Rattle.typed_hoisting.specs.TypedHoisting.{Typed, Good}
 use Rattle.typed_hoisting.proofs.LocalLaws.{read_seen, seen_read}
 use Rattle.typed_hoisting.proofs.Assignable.{assigned_itself}
@@ -39,7 +37,7 @@ use Rattle.typed_hoisting.proofs.TypedKinds.{RunTyped, run_typed, run_stays, one
 use Rattle.typed_hoisting.proofs.CallsKeep.{Own}
 use Rattle.typed_methods.proofs.StoredKnown.{stored_there}
 use Rattle.typed_methods.proofs.KeptParts.{in_loop_if}
-use Rattle.typed_methods.proofs.CodeLaws.{spot, At, GoodCode, at_as, variable_typed, no_more, no_more_is, behind_good, marked_passes, marked_fits}
+use Rattle.typed_methods.proofs.CodeLaws.{spot, At, at_as, variable_typed, no_more, no_more_is, behind_good, marked_passes, marked_fits}
 use Rattle.typed_methods.proofs.SimpleKeep.{EachVariable, Begins, forms_good, GoodOpened}
 
 -- What joins
@@ -102,10 +100,10 @@ module _ (c : Context) (leaves : Leaving) (own : Own leaves) (limit : ℕ) where
       let a : Hoisted PlainExpr = settled at s (still (read_of at x) here) in
       let is : type_at c w.locals None (read_of at x) ≡ Ok s = read_typed w.locals at x o s t joins read in
       let ga : Good c leaves here a (Typed c leaves None s) =
-          settled_unless_good c leaves false here (still (read_of at x) here) at None s s refl
-          (still_good c leaves here (read_of at x) (Typed c leaves None s) free (λ there alike. (kept_at c limit n w.locals there below alike None (read_of at x) s (read_names at x named_x) is, read_stays at x))) in
+      settled_unless_good c leaves false here (still (read_of at x) here) at None s s refl
+      (still_good c leaves here (read_of at x) (Typed c leaves None s) free (λ there alike. (kept_at c limit n w.locals there below alike None (read_of at x) s (read_names at x named_x) is, read_stays at x))) in
       let gb : Good c leaves a.spot ((forms leaves c e).value (right_wanted o s) a.spot) (Typed c leaves (right_wanted o s) t) =
-          (forms_good c leaves own limit e named_e).value (right_wanted o s) a.spot t (omega (arith, below, up c leaves here a ga)) ga.free (kept_at c limit n w.locals a.spot.locals below ga.alike (right_wanted o s) e t named_e typed) in
+      (forms_good c leaves own limit e named_e).value (right_wanted o s) a.spot t (omega (arith, below, up c leaves here a ga)) ga.free (kept_at c limit n w.locals a.spot.locals below ga.alike (right_wanted o s) e t named_e typed) in
       subst (λ u. Good c leaves here (in_turn (λ left right. PChain at left (PMoreLinks (PLink o op_at right) PNoLink)) (settled at u (still (read_of at x) here)) (λ g. (forms leaves c e).value (right_wanted o u) g)) (Typed c leaves None s)) (sym same)
       (turn_good c leaves here (λ left right. PChain at left (PMoreLinks (PLink o op_at right) PNoLink)) a (λ g. (forms leaves c e).value (right_wanted o s) g) (Typed c leaves None s) ga gb
       (λ there l r.

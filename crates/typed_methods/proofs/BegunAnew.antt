@@ -1,13 +1,12 @@
 -- What is known behind a statement doesn't depend on the breaks before it, nor on whether it stands in a loop, unless it leaves one.
-use Rattle.std.proofs.Common.{◌≡◌, Bool, true, false, not, cond, Option, Some, None, Result, Ok, List, [], ◌∷◌, refl, sym, ap, ◌∙◌}
-use Rattle.std.specs.Prelude.{◌||◌, ℕ}
+use Rattle.std.proofs.Common.{◌≡◌, Bool, true, false, not, cond, Option, Some, None, Result, Ok, List, ◌∷◌, refl, ap, ◌∙◌}
 use Rattle.py_tree.specs.declared.names.Place.{Place}
 use Rattle.py_tree.specs.declared.rule.Rule.TheVariants.{LoopWord}
 use Rattle.py_tree.specs.declared.rule.RuleFault.{RuleFault}
 use Rattle.py_tree.specs.declared.stmt.Target.{Target}
 use Rattle.py_tree.specs.declared.stmt.Target.TheVariants.{Local, Field}
 use Rattle.py_tree.specs.declared.expr.BinOp.{BinOp}
-use Rattle.py_tree.specs.PlainTypes.{PlainTy, TBool, PlainWritten}
+use Rattle.py_tree.specs.PlainTypes.{PlainTy, PlainWritten}
 use Rattle.py_tree.specs.PlainExpressions.{PlainExpr}
 use Rattle.py_tree.specs.PlainStatements.{PlainOver, PRange, PItems, PlainStmt, PPass, PBreak, PContinue, PDo, PReturn, PRaise, PAssert, PAssign, PAugment, PIf, PWhile, PFor, PlainStmts, PNoStmt, PStmt, PArm, PlainArms, PNoArm, PMoreArms}
 use Rattle.py_tree.specs.FlowEnvironment.{PlainLocal, shown, narrowed}
@@ -157,7 +156,7 @@ module _ (c : Context) where
         let rest : List PlainLocal → List PlainLocal = λ ls. settled ls (known_at (narrowed (shown false test) w.locals)) in
         let q : LeadsTo p.end (flow_all (in_loop_if c b) (way_at start o) body) = all_anew body a b (on w start) p.end o (λ j. loops (or_left (all_jump body) (arms_jump more) j)) p.arm in
         let r : LeadsTo next (flow_arms (in_loop_if c b) (way_at (rest p.end.locals) q.0) (meet ended (way (all_go_on body) p.end.locals)) more go (other b)) =
-            arms_anew more a b (on p.end (rest p.end.locals)) next q.0 (λ j. loops (or_right (all_jump body) (arms_jump more) j)) (meet ended (way (all_go_on body) p.end.locals)) go other leads p.rest in
+        arms_anew more a b (on p.end (rest p.end.locals)) next q.0 (λ j. loops (or_right (all_jump body) (arms_jump more) j)) (meet ended (way (all_go_on body) p.end.locals)) go other leads p.rest in
         let then_rest : Way → Result Way RuleFault = λ arm. flow_arms (in_loop_if c b) (on arm (rest arm.locals)) (meet ended (way (all_go_on body) arm.locals)) more go (other b) in
         let then_body : PlainTy → Result Way RuleFault = λ ty. with_found (flow_all (in_loop_if c b) (way_at start o) body) then_rest in (
           r.0,

@@ -1,5 +1,5 @@
 -- Flat code that keeps the rules from a point on, and leads where statements lead.
-use Rattle.std.proofs.Common.{◌≡◌, ◌≤◌, ◌<◌, ◌+◌, arith, ℕ, Bool, true, false, Option, Some, None, List, [], ◌∷◌, ◌++◌, map, refl, sym, ap, ◌∙◌, subst}
+use Rattle.std.proofs.Common.{◌≡◌, ℕ, Bool, true, Some, List, [], ◌∷◌, ◌++◌, sym, ap, ◌∙◌, subst}
 use Rattle.std.specs.Prelude.{find, option_map}
 use Rattle.py_tree.specs.PlainTypes.{PlainTy}
 use Rattle.py_tree.specs.FlowEnvironment.{PlainLocal, local_of, narrowed}
@@ -13,7 +13,7 @@ use Rattle.method_splitter.specs.Points.{PointsPass}
 use Rattle.flat_types.specs.FlatTypes.{is_point, Supplies, stmt_fits, stmts_fit}
 use Rattle.method_hoister.specs.Spots.{Spot, surely}
 use Rattle.method_hoister.specs.HoistExpressions.{Hoisted}
-use Rattle.typed_hoisting.specs.KnownLocals.{HasTy, seen, Kept, Under, Alike, Free, AreVariables, Stands, AtLeast}
+use Rattle.typed_hoisting.specs.KnownLocals.{HasTy, seen, Free, AreVariables, Stands}
 use Rattle.typed_hoisting.specs.TypedHoisting.{Numbered, AreAmong, AreTyped, CodePasses, Around, code_fits, Good}
 use Rattle.typed_hoisting.proofs.LocalLaws.{kept_on, kept_narrowed}
 use Rattle.typed_hoisting.proofs.EnvironmentLaws.{variables_narrowed}
@@ -21,7 +21,7 @@ use Rattle.typed_hoisting.proofs.PointLaws.{IsVariable, Found, found_local, poin
 use Rattle.typed_hoisting.proofs.PassingPoints.{point_passes, passes_both}
 use Rattle.typed_hoisting.proofs.GoodParts.{code_then}
 use Rattle.typed_methods.proofs.KnownWays.{MetUnder, under_then}
-use Rattle.typed_methods.proofs.StoredKnown.{AllKept, AllUnder, TypedThere, all_under, kept_free, under_free}
+use Rattle.typed_methods.proofs.StoredKnown.{AllKept, AllUnder, TypedThere, kept_free}
 
 abbrev pub spot : Way → ℕ → Spot
 spot w n = record { locals = w.locals; next = n }

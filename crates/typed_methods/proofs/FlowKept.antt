@@ -1,6 +1,6 @@
 -- Statements that break no rule break none where all variables have their types beforehand and what is known is known so; and behind them what
 -- is known is known so again.
-use Rattle.std.proofs.Common.{◌≡◌, ℕ, Bool, true, false, not, cond, Option, Some, None, Result, Ok, List, [], ◌∷◌, ◌++◌, refl, sym, ap, ◌∙◌, subst}
+use Rattle.std.proofs.Common.{◌≡◌, ℕ, Bool, true, false, not, cond, Option, Some, None, Result, Ok, List, ◌∷◌, ◌++◌, refl, sym, ap, ◌∙◌, subst}
 use Rattle.std.specs.Prelude.{◌||◌, is_some}
 use Rattle.py_tree.specs.declared.names.Place.{Place}
 use Rattle.py_tree.specs.declared.rule.Rule.TheVariants.{LoopWord}
@@ -16,7 +16,7 @@ use Rattle.py_tree.specs.Flow.{Context, type_at, condition_at, within_loop, Know
 use Rattle.program_meaning.proofs.LocalShapes.{shapes, Grows, alike_grows, grows_on, grows_same, type_in, typed_behind, local_grows, shapes_narrowed, shapes_at_head, shapes_settled, shapes_behind}
 use Rattle.program_meaning.proofs.TypedParts.{done, same_ok, found_ok, refuse_ok, not_false}
 use Rattle.program_meaning.proofs.FlowParts.{no_need, stored_ok}
-use Rattle.program_meaning.proofs.FlowGrows.{Follows, follows_all, follows_arms, follows, WhileParts, while_parts, ForParts, for_parts, all_parts, last_parts, ArmParts, arm_parts, for_shapes}
+use Rattle.program_meaning.proofs.FlowGrows.{follows_all, follows, WhileParts, while_parts, ForParts, for_parts, all_parts, last_parts, ArmParts, arm_parts, for_shapes}
 use Rattle.flat_types.proofs.FlowStays.{shapes_with}
 use Rattle.flat_tree.specs.Flatness.{jumps, all_jump, arms_jump}
 use Rattle.typed_hoisting.specs.KnownLocals.{seen, Kept}
@@ -92,7 +92,7 @@ module _ (c : Context) (limit : ℕ) where
       let to_end : Grows ls end.locals = grows_same head ls end.locals end.locals (sym (shapes_narrowed (shown false test) head)) refl g in
       let to_end2 : shapes end2.locals ≡ shapes ms = e ∙ sym (shapes_narrowed (shown false test) head2) in
       let left : KnownThere (shapes end.locals) (way b ls) (shapes end2.locals) (way b ms) =
-          grown_there end.locals end2.locals ls (way b ls) (way b ms) ls ms to_end to_end2 (way_there b ls ms (λ x. kept_narrowed (shown false test) head head2 x (kept x))) in
+      grown_there end.locals end2.locals ls (way b ls) (way b ms) ls ms to_end to_end2 (way_there b ls ms (λ x. kept_narrowed (shown false test) head head2 x (kept x))) in
       behind_there end.locals end2.locals (meet (way b ls) end.breaks) (meet (way b ms) end2.breaks) ahead.kept (met_there (shapes end.locals) (shapes end2.locals) (way b ls) end.breaks (way b ms) end2.breaks left ahead.breaks)
 
   for_behind : (head head2 : List PlainLocal) (end end2 : Way) → Grows head end.locals → shapes end2.locals ≡ shapes head2 → AllKept head head2 → Ahead end end2 → AllKept (after_for head end) (after_for head2 end2)
@@ -140,8 +140,8 @@ module _ (c : Context) (limit : ℕ) where
       let q = no_need (message_fault (in_loop_if c a) w.locals m) (Ok (on w (narrowed names w.locals))) next p.2 in
       let end : Way = on v (narrowed names v.locals) in
       let to_end : Ahead (on w (narrowed names w.locals)) end =
-          on_ahead w v (narrowed names w.locals) (narrowed names v.locals) ahead (alike_grows w.locals (narrowed names w.locals) (shapes_narrowed names w.locals)) (shapes_narrowed names v.locals)
-          (λ x. kept_narrowed names w.locals v.locals x (ahead.kept x)) in
+      on_ahead w v (narrowed names w.locals) (narrowed names v.locals) ahead (alike_grows w.locals (narrowed names w.locals) (shapes_narrowed names w.locals)) (shapes_narrowed names v.locals)
+      (λ x. kept_narrowed names w.locals v.locals x (ahead.kept x)) in
       record {
         end = end;
         is =
@@ -173,9 +173,9 @@ module _ (c : Context) (limit : ℕ) where
   for_fault d at name name_at over body w next h =
       let x = named_at name name_at in
       let then_named : PlainTy → Result Way RuleFault = λ item.
-          with_found (stored w.locals x item) (λ named.
-          with_found (flow_all (within_loop d) (begun (with_local name item item (for_head (name ∷ assigned_in body) w.locals named))) body) (λ e.
-          Ok (on w (after_for (for_head (name ∷ assigned_in body) w.locals named) e)))) in
+      with_found (stored w.locals x item) (λ named.
+      with_found (flow_all (within_loop d) (begun (with_local name item item (for_head (name ∷ assigned_in body) w.locals named))) body) (λ e.
+      Ok (on w (after_for (for_head (name ∷ assigned_in body) w.locals named) e)))) in
       let p : (item : PlainTy) × (item_of d w.locals over ≡ Ok item) × (needs_none (local_fault d.tables w.locals x) (then_named item) ≡ Ok next) = found_ok (item_of d w.locals over) (λ item. needs_none (local_fault d.tables w.locals x) (then_named item)) next h in
       (no_need (local_fault d.tables w.locals x) (then_named p.0) next p.2).0
 
@@ -229,11 +229,11 @@ module _ (c : Context) (limit : ℕ) where
       let kept_head : AllKept head head2 = for_head_kept all w.locals v.locals p.named named2 to_named q.1.same ahead.kept in
       let head2_same : shapes head2 ≡ shapes v.locals = for_shapes all v.locals named2 ∙ q.1.same in
       let has : type_in (shapes head2) name ≡ Some (type_or head name p.item) =
-          ap (λ ss. type_in ss name) head2_same ∙ end_typed name (type_or head name p.item) (ap (λ ss. type_in ss name) to_end.is ∙ typed_behind (shapes start) to_end.rest name (type_or head name p.item) (stored_type name p.item p.item head)) in
+      ap (λ ss. type_in ss name) head2_same ∙ end_typed name (type_or head name p.item) (ap (λ ss. type_in ss name) to_end.is ∙ typed_behind (shapes start) to_end.rest name (type_or head name p.item) (stored_type name p.item p.item head)) in
       let kept_start : AllKept start start2 = stored_there name p.item p.item p.item head head2 has kept_head in
       let start2_same : shapes start2 ≡ shapes v.locals = shapes_with name p.item p.item head2 (ap is_some has) ∙ head2_same in
       let r : GoesSo p.end (begun start2) (flow_all (within_loop c) (begun start2) body) =
-          inside start2 kept_start (typed_to p.end.locals v.locals start2 start2_same end_typed) in
+      inside start2 kept_start (typed_to p.end.locals v.locals start2 start2_same end_typed) in
       let end : Way = on v (after_for head2 r.end) in
       let then_behind : List PlainLocal → Way → Result Way RuleFault = λ named e. Ok (on v (after_for (for_head all v.locals named) e)) in
       let turn : PlainTy → List PlainLocal → Result Way RuleFault = λ item named. flow_all (within_loop c) (begun (with_local name item item (for_head all v.locals named))) body in
@@ -264,7 +264,7 @@ module _ (c : Context) (limit : ℕ) where
         let p = refuse_ok (not a) LoopWord at (Ok (broken_off w)) next h in
         let in_loop : b ≡ true = loops refl (not_false a p.0) in
         let left : KnownThere (shapes w.locals) (meet w.breaks (way true w.locals)) (shapes v.locals) (meet v.breaks (way true v.locals)) =
-            met_there (shapes w.locals) (shapes v.locals) w.breaks (way true w.locals) v.breaks (way true v.locals) ahead.breaks (way_there true w.locals v.locals ahead.kept) in
+        met_there (shapes w.locals) (shapes v.locals) w.breaks (way true w.locals) v.breaks (way true v.locals) ahead.breaks (way_there true w.locals v.locals ahead.kept) in
         record {
           end = broken_off v;
           is = ap (λ o. refuse_if (not o) LoopWord at (done (broken_off v))) in_loop;
@@ -340,7 +340,7 @@ module _ (c : Context) (limit : ℕ) where
         let q : GoesSo p.0 v (flow (in_loop_if c b) v x) = stmt_kept x a b w v p.0 named.0 (λ j. loops (or_left (jumps x) (all_jump xs) j)) ahead mid_typed p.1 in
         let then' : Way → Result Way RuleFault = λ mid. cond (goes_on x) (flow_all (in_loop_if c b) mid xs) (done mid) in
         let r : GoesSo next q.end (then' q.end) =
-            one_or_rest (goes_on x) p.0 q.end next xs a b q.ahead p.2 (λ e. all_kept xs a b p.0 q.end next named.1 (λ j. loops (or_right (jumps x) (all_jump xs) j)) q.ahead (typed_to next.locals v.locals q.end.locals q.same typed) e) in
+        one_or_rest (goes_on x) p.0 q.end next xs a b q.ahead p.2 (λ e. all_kept xs a b p.0 q.end next named.1 (λ j. loops (or_right (jumps x) (all_jump xs) j)) q.ahead (typed_to next.locals v.locals q.end.locals q.same typed) e) in
         record { end = r.end; is = ap (λ o. with_found o then') q.is ∙ r.is; ahead = r.ahead; same = r.same ∙ q.same }
 
     arms_kept : (arms : PlainArms) (a b : Bool) (w v next : Way) → ArmsNames limit arms → LoopsToo (arms_jump arms) a b → (ended ended2 : Option (List Known)) (go : Bool) (other : Bool → Way → Result Way RuleFault)
@@ -353,8 +353,8 @@ module _ (c : Context) (limit : ℕ) where
         let q : GoesSo p.0 v (other b v) = goes w v p.0 ahead last_typed p.1 in
         let met_last : KnownThere (shapes p.0.locals) ended (shapes q.end.locals) ended2 = grown_there p.0.locals q.end.locals w.locals ended ended2 w.locals v.locals (grows w p.0 p.1) q.same met in
         let kept : AllKept (behind p.0 ended) (behind q.end ended2) =
-            behind_there p.0.locals q.end.locals (meet ended (way go p.0.locals)) (meet ended2 (way go q.end.locals)) q.ahead.kept
-            (met_there (shapes p.0.locals) (shapes q.end.locals) ended (way go p.0.locals) ended2 (way go q.end.locals) met_last (way_there go p.0.locals q.end.locals q.ahead.kept)) in
+        behind_there p.0.locals q.end.locals (meet ended (way go p.0.locals)) (meet ended2 (way go q.end.locals)) q.ahead.kept
+        (met_there (shapes p.0.locals) (shapes q.end.locals) ended (way go p.0.locals) ended2 (way go q.end.locals) met_last (way_there go p.0.locals q.end.locals q.ahead.kept)) in
         let same : shapes (behind q.end ended2) ≡ shapes q.end.locals = shapes_behind q.end.locals (meet ended2 (way go q.end.locals)) in
         let end : Way = on q.end (behind q.end ended2) in
         record {
@@ -373,22 +373,22 @@ module _ (c : Context) (limit : ℕ) where
         let end_typed : TypedThere p.end.locals v.locals = typed_as p.end.locals (rest w p.end).locals v.locals (sym rest_same) (typed_from (rest w p.end).locals next.locals v.locals to_next typed) in
         let yes_same : shapes (yes' v).locals ≡ shapes v.locals = shapes_narrowed (shown true test) v.locals in
         let ahead_yes : Ahead (yes' w) (yes' v) =
-            on_ahead w v (yes' w).locals (yes' v).locals ahead (alike_grows w.locals (yes' w).locals (shapes_narrowed (shown true test) w.locals)) yes_same (λ x. kept_narrowed (shown true test) w.locals v.locals x (ahead.kept x)) in
+        on_ahead w v (yes' w).locals (yes' v).locals ahead (alike_grows w.locals (yes' w).locals (shapes_narrowed (shown true test) w.locals)) yes_same (λ x. kept_narrowed (shown true test) w.locals v.locals x (ahead.kept x)) in
         let q : GoesSo p.end (yes' v) (flow_all (in_loop_if c b) (yes' v) body) =
-            all_kept body a b (yes' w) (yes' v) p.end named.0.1 (λ j. loops (or_left (all_jump body) (arms_jump more) j)) ahead_yes (typed_to p.end.locals v.locals (yes' v).locals yes_same end_typed) p.arm in
+        all_kept body a b (yes' w) (yes' v) p.end named.0.1 (λ j. loops (or_left (all_jump body) (arms_jump more) j)) ahead_yes (typed_to p.end.locals v.locals (yes' v).locals yes_same end_typed) p.arm in
         let end_same : shapes q.end.locals ≡ shapes v.locals = q.same ∙ yes_same in
         let rest_same2 : shapes (rest v q.end).locals ≡ shapes q.end.locals = shapes_settled q.end.locals (known_at (narrowed (shown false test) v.locals)) in
         let ahead_rest : Ahead (rest w p.end) (rest v q.end) =
-            on_ahead p.end q.end (rest w p.end).locals (rest v q.end).locals q.ahead (alike_grows p.end.locals (rest w p.end).locals rest_same) rest_same2
-            (rest_kept (shown false test) w.locals v.locals p.end.locals q.end.locals from_here end_same ahead.kept) in
+        on_ahead p.end q.end (rest w p.end).locals (rest v q.end).locals q.ahead (alike_grows p.end.locals (rest w p.end).locals rest_same) rest_same2
+        (rest_kept (shown false test) w.locals v.locals p.end.locals q.end.locals from_here end_same ahead.kept) in
         let met_end : KnownThere (shapes p.end.locals) (meet ended (way (all_go_on body) p.end.locals)) (shapes q.end.locals) (meet ended2 (way (all_go_on body) q.end.locals)) =
-            met_there (shapes p.end.locals) (shapes q.end.locals) ended (way (all_go_on body) p.end.locals) ended2 (way (all_go_on body) q.end.locals)
-            (grown_there p.end.locals q.end.locals w.locals ended ended2 w.locals v.locals from_here end_same met) (way_there (all_go_on body) p.end.locals q.end.locals q.ahead.kept) in
+        met_there (shapes p.end.locals) (shapes q.end.locals) ended (way (all_go_on body) p.end.locals) ended2 (way (all_go_on body) q.end.locals)
+        (grown_there p.end.locals q.end.locals w.locals ended ended2 w.locals v.locals from_here end_same met) (way_there (all_go_on body) p.end.locals q.end.locals q.ahead.kept) in
         let met_rest = subst (λ ss. KnownThere ss (meet ended (way (all_go_on body) p.end.locals)) (shapes (rest v q.end).locals) (meet ended2 (way (all_go_on body) q.end.locals))) (sym rest_same)
-            (subst (λ ts. KnownThere (shapes p.end.locals) (meet ended (way (all_go_on body) p.end.locals)) ts (meet ended2 (way (all_go_on body) q.end.locals))) (sym rest_same2) met_end) in
+        (subst (λ ts. KnownThere (shapes p.end.locals) (meet ended (way (all_go_on body) p.end.locals)) ts (meet ended2 (way (all_go_on body) q.end.locals))) (sym rest_same2) met_end) in
         let r : GoesSo next (rest v q.end) (flow_arms (in_loop_if c b) (rest v q.end) (meet ended2 (way (all_go_on body) q.end.locals)) more go (other b)) =
-            arms_kept more a b (rest w p.end) (rest v q.end) next named.1 (λ j. loops (or_right (all_jump body) (arms_jump more) j)) (meet ended (way (all_go_on body) p.end.locals)) (meet ended2 (way (all_go_on body) q.end.locals)) go other grows goes met_rest ahead_rest
-            (typed_to next.locals v.locals (rest v q.end).locals (rest_same2 ∙ end_same) typed) p.rest in
+        arms_kept more a b (rest w p.end) (rest v q.end) next named.1 (λ j. loops (or_right (all_jump body) (arms_jump more) j)) (meet ended (way (all_go_on body) p.end.locals)) (meet ended2 (way (all_go_on body) q.end.locals)) go other grows goes met_rest ahead_rest
+        (typed_to next.locals v.locals (rest v q.end).locals (rest_same2 ∙ end_same) typed) p.rest in
         let then_rest : Way → Result Way RuleFault = λ arm. flow_arms (in_loop_if c b) (rest v arm) (meet ended2 (way (all_go_on body) arm.locals)) more go (other b) in
         let then_body : PlainTy → Result Way RuleFault = λ ty. with_found (flow_all (in_loop_if c b) (yes' v) body) then_rest in
         record {

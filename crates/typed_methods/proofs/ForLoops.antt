@@ -1,7 +1,6 @@
 -- A `for` as a loop: where its head and its body keep the rules, with the temporaries that count its turns.
-use Rattle.std.proofs.Common.{◌≡◌, ◌≤◌, ◌<◌, ◌+◌, pos, arith, ℕ, Bool, true, false, not, cond, Option, Some, None, Result, Ok, List, [], ◌∷◌, ◌++◌, refl, sym, ap, ◌∙◌, subst, true≢false}
+use Rattle.std.proofs.Common.{◌≡◌, ◌≤◌, ◌<◌, pos, arith, ℕ, Bool, true, false, cond, Option, Some, None, Ok, List, [], ◌∷◌, ◌++◌, refl, sym, ap, ◌∙◌, subst}
 use Rattle.std.specs.Prelude.{◌==◌, is_some, unwrap_or}
-use Rattle.std.proofs.lemmas.Bool.{eqb-true}
 use Rattle.std.proofs.lemmas.Option.{none-some}
 use Rattle.py_tree.specs.declared.names.Place.{Place}
 use Rattle.py_tree.specs.declared.expr.BinOp.TheVariants as op
@@ -11,8 +10,8 @@ use Rattle.py_tree.specs.PlainExpressions.{PlainExpr, PInt, PVar}
 use Rattle.py_tree.specs.PlainStatements.{PlainOver, PlainStmt, PFor, PlainStmts}
 use Rattle.py_tree.specs.FlowEnvironment.{PlainLocal, shown, narrowed}
 use Rattle.py_tree.specs.ExpressionTypes.{assignable, right_wanted}
-use Rattle.py_tree.specs.Reachability.{all_go_on, goes_on, breaks, break_in, is_true, assigned_in}
-use Rattle.py_tree.specs.Flow.{Context, Known, within_loop, known_at, settled, meet, way, with_local, at_head, keeps, named_at, stored, for_head, Way, on, begun, after_for, flow, flow_all}
+use Rattle.py_tree.specs.Reachability.{all_go_on, goes_on, break_in, is_true, assigned_in}
+use Rattle.py_tree.specs.Flow.{Context, Known, meet, way, with_local, at_head, keeps, named_at, for_head, Way, begun, after_for, flow, flow_all}
 use Rattle.call_graph.specs.SuspendingCode.{Leaving}
 use Rattle.program_meaning.proofs.LocalShapes.{Shape, shapes, type_in, earlier_is, shapes_at_head}
 use Rattle.program_meaning.proofs.FlowParts.{stored_ok}
@@ -23,8 +22,8 @@ use Rattle.flat_tree.specs.PlainFlat.{Point, PlainFlatStmt, FSet, FWhile, FLeaf,
 use Rattle.method_splitter.specs.Points.{PointsPass}
 use Rattle.flat_types.specs.FlatTypes.{is_point, Supplies, Ends, Behind, LoopFits, stmt_fits, stmts_fit}
 use Rattle.flat_types.proofs.FlowStays.{EachTyped, all_stay, stmt_stays, shapes_with}
-use Rattle.method_hoister.specs.Spots.{Spot, surely, locals_behind, point_behind}
-use Rattle.method_hoister.specs.HoistStatements.{Flattened, opened, flat_all, plus}
+use Rattle.method_hoister.specs.Spots.{surely, locals_behind, point_behind}
+use Rattle.method_hoister.specs.HoistStatements.{Flattened, flat_all, plus}
 use Rattle.typed_hoisting.specs.KnownLocals.{seen, Kept, Under, Free, AreVariables}
 use Rattle.typed_hoisting.specs.TypedHoisting.{Numbered, AreAmong, CodePasses, Around, code_fits, Typed}
 use Rattle.typed_hoisting.proofs.LocalLaws.{apart}
@@ -35,19 +34,19 @@ use Rattle.typed_hoisting.proofs.StoredLaws.{stored_variables}
 use Rattle.typed_hoisting.proofs.PassingPoints.{passes_both}
 use Rattle.typed_hoisting.proofs.GoodParts.{code_then}
 use Rattle.typed_hoisting.proofs.CallsKeep.{Own}
-use Rattle.typed_methods.proofs.KnownWays.{seen_among, KnownThere, MetUnder, met_left, met_right, met_here, met_behind, under_then}
+use Rattle.typed_methods.proofs.KnownWays.{seen_among, KnownThere, MetUnder, met_left, met_right, met_here, met_behind}
 use Rattle.typed_methods.proofs.StoredKnown.{AllKept, AllUnder, TypedThere, all_itself, all_under, given_as, type_or, head_kept, stored_there, stored_seen, free_same}
 use Rattle.typed_methods.proofs.KeptParts.{in_loop_if}
 use Rattle.typed_methods.proofs.FlowKept.{GoesSo, begun_ahead, all_kept}
 use Rattle.typed_methods.proofs.KnownStays.{begun_above, all_above, Forgets, forgets_first, forgets_rest, narrowed_above, stored_above}
-use Rattle.typed_methods.proofs.CodeLaws.{spot, At, TypedAs, WaysLead, all_under_on, at_as, supplies_all, point_at, typed_same, surely_passes, variable_typed, GoodCode}
+use Rattle.typed_methods.proofs.CodeLaws.{spot, At, TypedAs, WaysLead, all_under_on, supplies_all, point_at, typed_same, surely_passes, variable_typed, GoodCode}
 use Rattle.typed_methods.proofs.SimpleKeep.{EachVariable, Begins}
 use Rattle.typed_methods.proofs.StillKeep.{some_typed, each_there}
 use Rattle.typed_methods.proofs.PointsBehind.{settled_same, behind_is, ends_behind, behind_passes, behind_end}
 use Rattle.typed_methods.proofs.ArmsKeep.{GoodAll}
 use Rattle.typed_methods.proofs.WhilesKeep.{head_forgets, head_under}
 use Rattle.typed_methods.proofs.StoredAt.{with_type, stored_at, seen_at, head_type, set_fits, as_has, variable_reads, int_typed, plus_typed}
-use Rattle.program_meaning.proofs.TypedParts.{Joins, numbers}
+use Rattle.program_meaning.proofs.TypedParts.{numbers}
 
 -- ways of which less is known here
 met_back : (ss ts : List Shape) (a b : Option (List Known)) (env : List PlainLocal) → KnownThere ss a ts b → MetUnder ts b env → MetUnder ss a env
@@ -70,7 +69,7 @@ tested : (variables : List PlainVar) (head : Point) (after : Option Point) (test
 tested variables head after test body b e h = subst (λ o. LoopFits variables o head head after test body) (sym e) h
 
 module _ (c : Context) (leaves : Leaving) (own : Own leaves) (limit : ℕ) (at : Place) (name : ℕ) (name_at : Place) (over : PlainOver) (body : PlainStmts) (named : StmtsNames limit body) (good_body : GoodAll c leaves own limit body)
-         (looping : Bool) (floor : List PlainLocal) (w : Way) (n : ℕ) (end : Way) (b : Begins limit floor w n) (variables : EachVariable w.locals (name ∷ assigned_in body)) (h : flow (in_loop_if c looping) w (PFor at name name_at over body) ≡ Ok end) where
+    (looping : Bool) (floor : List PlainLocal) (w : Way) (n : ℕ) (end : Way) (b : Begins limit floor w n) (variables : EachVariable w.locals (name ∷ assigned_in body)) (h : flow (in_loop_if c looping) w (PFor at name name_at over body) ≡ Ok end) where
   abbrev pub statement : PlainStmt
   statement = PFor at name name_at over body
 
@@ -215,7 +214,7 @@ module _ (c : Context) (leaves : Leaving) (own : Own leaves) (limit : ℕ) (at :
         let under_h : AllUnder head env_h = all_under head env_h at_h.kept in
         let names : Bool → List ℕ = λ b. shown b e in
         let ends : (env : List PlainLocal) → AreVariables m.variables env → AllUnder end.locals env → Ends after env = λ env are under.
-            ends_behind true ks env refl (subst (λ ks. Supplies (surely ks) env) (sym is) (supplies_all m.variables k end.locals env free_end are under)) in
+        ends_behind true ks env refl (subst (λ ks. Supplies (surely ks) env) (sym is) (supplies_all m.variables k end.locals env free_end are under)) in
         let inside : Around = record { variables = m.variables; breaks = Ends after; continues = Supplies (surely head) } in
         let ways_body : WaysLead inside head true (break_in body) turn_kept.end = record {
           at_break = λ left env are met.
@@ -224,11 +223,11 @@ module _ (c : Context) (leaves : Leaving) (own : Own leaves) (limit : ℕ) (at :
           at_continue = λ loops env are under. supplies_all m.variables k head env free_head are under;
         } in
         let failing : AllUnder end.locals (narrowed (names false) env_h) =
-            behind_met (narrowed (names false) env_h)
-            (subst (λ ss. MetUnder ss (meet (way true (at_head all w.locals)) parts_of.end.breaks) (narrowed (names false) env_h)) (shapes_at_head all w.locals ∙ sym end_shapes)
-            (met_left (shapes (at_head all w.locals)) (narrowed (names false) env_h) (way true (at_head all w.locals)) parts_of.end.breaks
-            (met_here (at_head all w.locals) (narrowed (names false) env_h)
-            (narrowed_above (at_head all w.locals) (names false) env_h (all_under_on (at_head all w.locals) head env_h (all_under (at_head all w.locals) head (head_kept all w.locals ls kept)) under_h))))) in (
+        behind_met (narrowed (names false) env_h)
+        (subst (λ ss. MetUnder ss (meet (way true (at_head all w.locals)) parts_of.end.breaks) (narrowed (names false) env_h)) (shapes_at_head all w.locals ∙ sym end_shapes)
+        (met_left (shapes (at_head all w.locals)) (narrowed (names false) env_h) (way true (at_head all w.locals)) parts_of.end.breaks
+        (met_here (at_head all w.locals) (narrowed (names false) env_h)
+        (narrowed_above (at_head all w.locals) (names false) env_h (all_under_on (at_head all w.locals) head env_h (all_under (at_head all w.locals) head (head_kept all w.locals ls kept)) under_h))))) in (
           supplies_all m.variables k head env free_head at'.are (all_under_on head ls env (head_under all ls) (all_under ls env at'.kept)),
           tested m.variables (surely head) after _ _ (is_true e) literal (
             (
@@ -260,7 +259,7 @@ module _ (c : Context) (leaves : Leaving) (own : Own leaves) (limit : ℕ) (at :
           kept = stored_there name item item item head env (variable_typed m.variables env name t at'.are is_name ∙ sym (ap (λ o. Some (unwrap_or o item)) name_there)) at'.kept;
         } in
         let counter1 : seen start s ≡ with_type TInt =
-            stored_seen name item item head s ∙ ap (λ b. cond b (Some (given_as (type_or head name item) item)) (seen head s)) (name_apart low s high) ∙ head_type all ls s TInt counter in
+        stored_seen name item item head s ∙ ap (λ b. cond b (Some (given_as (type_or head name item) item)) (seen head s)) (name_apart low s high) ∙ head_type all ls s TInt counter in
         let env2 : List PlainLocal = with_local s TInt TInt env1 in
         let at2 : At m.variables start env2 = stored_at m.variables s TInt TInt env1 at1.are is_s start at1.kept (subst (λ o. Kept o (Some (given_as TInt TInt))) (sym counter1) refl) in
         set_fits c leaves m name v item t env (as_has c leaves None item env v hv) at'.are is_name suits _

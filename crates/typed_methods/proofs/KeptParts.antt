@@ -10,13 +10,13 @@ use Rattle.py_tree.specs.declared.expr.BinOp.{BinOp}
 use Rattle.py_tree.specs.declared.stmt.Target.{Target}
 use Rattle.py_tree.specs.declared.stmt.Target.TheVariants.{Local, Field}
 use Rattle.py_tree.specs.Bounded.{ExprNames, OverNames, target_name}
-use Rattle.py_tree.specs.PlainTypes.{PlainTy, TInt, TNil, PlainWritten, type_of as type_written}
+use Rattle.py_tree.specs.PlainTypes.{PlainTy, TNil, PlainWritten, type_of as type_written}
 use Rattle.py_tree.specs.PlainExpressions.{PlainExpr, PVar, PSelf}
 use Rattle.py_tree.specs.PlainStatements.{PlainOver, PRange, PItems}
 use Rattle.py_tree.specs.ReservedNames.{self_number}
 use Rattle.py_tree.specs.ClassRules.{PlainTable, type_fault, broken, first_of, is_reserved, is_full}
 use Rattle.py_tree.specs.FlowEnvironment.{PlainLocal, local_of}
-use Rattle.py_tree.specs.ExpressionTypes.{same_ty, assignable, right_wanted, refuse_if, needs, with_found, place_of, field_of, type_of}
+use Rattle.py_tree.specs.ExpressionTypes.{same_ty, assignable, right_wanted, refuse_if, needs, with_found, place_of, field_of}
 use Rattle.py_tree.specs.Flow.{Context, env_of, type_at, condition_at, result_at, value_as, number_at, item_of, fault_in, needs_none, return_fault, message_fault, is_class_in, local_fault, earlier, keeps, stored, plainly_assigned, assigned_as, local_assigned, is_key_field, field_assigned, field_declared, assigned, target_read, augmented, is_key_target, combined_stored, augmentation, with_local}
 use Rattle.py_tree.proofs.TypeLaws.{same-refl}
 use Rattle.program_meaning.proofs.LocalShapes.{shapes, type_in, earlier_is, is_typed}

@@ -1,8 +1,8 @@
 -- What is known before statements stays known, but that names which they assign may be None again.
 use Rattle.std.proofs.Common.{◌≡◌, ℕ, Bool, true, false, not, cond, Option, Some, None, Result, Ok, List, [], ◌∷◌, ◌++◌, refl, sym, ap, ◌∙◌, subst, true≢false}
 use Rattle.std.specs.Prelude.{◌&&◌, ◌||◌, ◌==◌, option_map, unwrap_or}
-use Rattle.std.proofs.lemmas.Bool.{eqb-true, eq-eqb}
-use Rattle.std.proofs.lemmas.Option.{same_Some, none-some}
+use Rattle.std.proofs.lemmas.Bool.{eqb-true}
+use Rattle.std.proofs.lemmas.Option.{none-some}
 use Rattle.py_tree.specs.declared.names.Place.{Place}
 use Rattle.py_tree.specs.declared.rule.Rule.TheVariants.{LoopWord, UnknownField, KeyAssigned, InitForm}
 use Rattle.py_tree.specs.declared.rule.RuleFault.{RuleFault}
@@ -14,13 +14,13 @@ use Rattle.py_tree.specs.PlainStatements.{PlainStmt, PPass, PBreak, PContinue, P
 use Rattle.py_tree.specs.FlowEnvironment.{PlainLocal, local_of, has_name, shown, narrowed}
 use Rattle.py_tree.specs.ExpressionTypes.{refuse_if, with_found, field_of}
 use Rattle.py_tree.specs.Reachability.{goes_on, all_go_on, is_true, local_assigned, assigns, assigned_in, assigned_in_arms}
-use Rattle.py_tree.specs.Flow.{Context, type_at, condition_at, within_loop, Known, known_at, settled, meet, way, behind_ways, with_local, at_head, value_as, needs_none, return_fault, message_fault, stored, is_key_field, field_assigned, field_declared, assigned, augmentation, combined_stored, Way, on, begun, broken_off, after_while, after_for, for_head, named_at, flow, flow_all, flow_arms}
-use Rattle.program_meaning.proofs.LocalShapes.{shapes, type_in, type_found, Grows, alike_grows, grows_on, grows_same, local_grows, shapes_narrowed, shapes_at_head, shapes_settled, shapes_behind}
+use Rattle.py_tree.specs.Flow.{Context, type_at, condition_at, within_loop, Known, known_at, settled, meet, way, behind_ways, with_local, at_head, value_as, needs_none, return_fault, message_fault, is_key_field, field_assigned, field_declared, assigned, augmentation, combined_stored, Way, on, begun, broken_off, after_while, after_for, for_head, named_at, flow, flow_all, flow_arms}
+use Rattle.program_meaning.proofs.LocalShapes.{shapes, type_found, Grows, alike_grows, grows_on, grows_same, local_grows, shapes_narrowed, shapes_settled, shapes_behind}
 use Rattle.program_meaning.proofs.TypedParts.{done, same_ok, found_ok, refuse_ok, needs_ok}
 use Rattle.program_meaning.proofs.FlowParts.{no_need, stored_ok, local_ok, Augments, augments_ok, put_local_ok, put_field_ok}
-use Rattle.program_meaning.proofs.FlowGrows.{follows, follows_all, WhileParts, while_parts, ForParts, for_parts, all_parts, last_parts, ArmParts, arm_parts, for_shapes}
+use Rattle.program_meaning.proofs.FlowGrows.{follows, follows_all, WhileParts, while_parts, ForParts, for_parts, all_parts, last_parts, ArmParts, arm_parts}
 use Rattle.typed_hoisting.specs.KnownLocals.{Seen, is_optional, seen_of, seen, Under}
-use Rattle.typed_hoisting.proofs.LocalLaws.{narrowed_more, narrowed_seen, under_narrowed, has_either}
+use Rattle.typed_hoisting.proofs.LocalLaws.{narrowed_seen, under_narrowed, has_either}
 use Rattle.typed_methods.proofs.KnownWays.{MetAbove, above_both, above_grown, above_here, above_behind, known_before, under_then}
 use Rattle.typed_methods.proofs.StoredKnown.{AllUnder, forget_if, head_seen, type_or, stored_seen, given_as}
 
@@ -219,7 +219,7 @@ module _ (floor : List PlainLocal) where
         let left_end : Grows left p.end.locals = grows_same w.locals left p.end.locals p.end.locals (sym (shapes_narrowed (shown false test) w.locals)) refl to_end in
         let rest_same : shapes rest ≡ shapes p.end.locals = shapes_settled p.end.locals (known_at left) in
         let met_end : MetAbove floor (shapes p.end.locals) (meet ended (way (all_go_on body) p.end.locals)) =
-            above_both floor (shapes p.end.locals) ended (way (all_go_on body) p.end.locals) (above_grown floor w.locals p.end.locals ended to_end met) (above_here floor (all_go_on body) p.end.locals end.under) in
+        above_both floor (shapes p.end.locals) ended (way (all_go_on body) p.end.locals) (above_grown floor w.locals p.end.locals ended to_end met) (above_here floor (all_go_on body) p.end.locals end.under) in
         arms_above more d (on p.end rest) next (meet ended (way (all_go_on body) p.end.locals)) go other (forgets_rest floor (assigned_in body) (assigned_in_arms more) forgets) above grows
         (subst (λ ss. MetAbove floor ss (meet ended (way (all_go_on body) p.end.locals))) (sym rest_same) met_end)
         (on_above p.end rest end (alike_grows p.end.locals rest rest_same) (before_above left p.end.locals left_end (narrowed_above (shown false test) w.locals a.under))) p.rest

@@ -7,7 +7,6 @@ use Rattle.py_tree.specs.FlowEnvironment.{PlainLocal, local_of}
 use Rattle.py_tree.specs.Flow.{Known, known_at, settled, joined, meet, way, behind_ways}
 use Rattle.program_meaning.proofs.LocalShapes.{Shape, shapes, Grows}
 use Rattle.typed_hoisting.specs.KnownLocals.{Seen, is_optional, seen_of, seen, Kept, Under}
-use Rattle.typed_hoisting.proofs.LocalLaws.{kept_same}
 
 abbrev pub seen_by : PlainTy → Known → Option Seen
 seen_by ty k = if k.assigned then Some (record { ty = ty; less = is_optional ty && k.not_none }) else None

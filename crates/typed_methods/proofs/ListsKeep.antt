@@ -1,19 +1,17 @@
 -- A `for` over a list keeps the rules where calls come out of it, if its body does.
-use Rattle.std.proofs.Common.{◌≡◌, ◌≤◌, ◌<◌, ◌+◌, pos, arith, ℕ, Bool, true, false, Option, Some, None, Ok, List, [], ◌∷◌, ◌++◌, refl, sym, ap, ◌∙◌, subst}
-use Rattle.std.specs.Prelude.{◌==◌, option_map, find, codes}
+use Rattle.std.proofs.Common.{◌≡◌, ◌≤◌, ◌<◌, ◌+◌, pos, arith, ℕ, Bool, true, false, Some, None, Ok, List, [], ◌∷◌, ◌++◌, refl, sym, ap, ◌∙◌, subst}
+use Rattle.std.specs.Prelude.{◌==◌, option_map, codes}
 use Rattle.py_tree.specs.declared.names.Place.{Place}
 use Rattle.py_tree.specs.declared.expr.Cmp.TheVariants as cmp
-use Rattle.py_tree.specs.declared.expr.BinOp.TheVariants as op
 use Rattle.py_tree.specs.ReservedNames.{reserved_number}
-use Rattle.py_tree.specs.Bounded.{ExprNames, StmtNames, StmtsNames, OverNames}
+use Rattle.py_tree.specs.Bounded.{StmtNames}
 use Rattle.py_tree.specs.PlainTypes.{PlainTy, TInt, TBool, TList}
 use Rattle.py_tree.specs.PlainExpressions.{PlainExpr, PInt, PVar, PList, PIndex, PApply, PCompare, PNoExpr, PExpr}
 use Rattle.py_tree.specs.PlainStatements.{PlainOver, PItems, PFor, PlainStmts}
-use Rattle.py_tree.specs.FlowEnvironment.{PlainLocal, local_of}
+use Rattle.py_tree.specs.FlowEnvironment.{PlainLocal}
 use Rattle.py_tree.specs.Reachability.{goes_on, breaks, assigned_in}
-use Rattle.py_tree.specs.Flow.{Context, type_at, at_head, with_local, item_of, Way, begun, flow}
+use Rattle.py_tree.specs.Flow.{Context, type_at, with_local, Way, flow}
 use Rattle.call_graph.specs.SuspendingCode.{Leaving}
-use Rattle.program_meaning.proofs.LocalShapes.{shapes, type_in}
 use Rattle.program_meaning.proofs.TypedParts.{lists}
 use Rattle.program_meaning.proofs.FlowParts.{items_ok}
 use Rattle.program_meaning.proofs.FlowGrows.{ForParts, for_parts}
@@ -22,11 +20,11 @@ use Rattle.block_code.specs.GraphFits.{Asked}
 use Rattle.flat_tree.specs.PlainFlat.{PlainFlatStmt, FMark, FSet, FWhile, flat_stmts_of}
 use Rattle.method_splitter.specs.Points.{PointsPass}
 use Rattle.flat_types.specs.FlatTypes.{stmts_fit}
-use Rattle.method_hoister.specs.Spots.{Spot, surely, temporary, ty_at, found_ty, item_ty, point_behind}
+use Rattle.method_hoister.specs.Spots.{Spot, surely, temporary, found_ty, item_ty, point_behind}
 use Rattle.method_hoister.specs.HoistExpressions.{Hoisted, settled, forms}
 use Rattle.method_hoister.specs.HoistStatements.{Flattened, opened, flat_all, plus, list_spot, head_locals, body_spot, list_test, list_turn, list_loop}
-use Rattle.typed_hoisting.specs.KnownLocals.{HasTy, seen, seen_of, Kept, Free}
-use Rattle.typed_hoisting.specs.TypedHoisting.{Numbered, AreAmong, Adds, Around, Typed, Good}
+use Rattle.typed_hoisting.specs.KnownLocals.{seen, seen_of, Kept, Free}
+use Rattle.typed_hoisting.specs.TypedHoisting.{AreAmong, Adds, Around, Typed, Good}
 use Rattle.typed_hoisting.proofs.LocalLaws.{apart, kept_seen}
 use Rattle.typed_hoisting.proofs.Assignable.{assigned_itself}
 use Rattle.typed_hoisting.proofs.EnvironmentLaws.{more_alike, more_free, temporary_local, temporary_seen}
@@ -155,8 +153,8 @@ module _ (c : Context) (leaves : Leaving) (own : Own leaves) (limit : ℕ) where
       let up_t : n ≤ t = up c leaves here a ga in
       let up_k : n ≤ k = omega (arith, up_t) in
       let kept_w : AllKept w.locals ls =
-          all_kept_on w.locals s.spot.locals ls (kept_free n w.locals s.spot.locals b.free gs.alike)
-          (all_kept_on s.spot.locals (with_place u t before ga.free) ls (kept_place u t before ga.free) (kept_both u t before ga.free)) in
+      all_kept_on w.locals s.spot.locals ls (kept_free n w.locals s.spot.locals b.free gs.alike)
+      (all_kept_on s.spot.locals (with_place u t before ga.free) ls (kept_place u t before ga.free) (kept_both u t before ga.free)) in
       let there : TypedThere w.locals ls = λ x v f. as_ty ls x v ((two_add u t before ga.free).keeps x v (ty_as s.spot.locals x v (added_there c leaves here s gs x v f))) in
       let free : Free k ls = free_both u t before ga.free in
       let hs : List PlainLocal = head c leaves own limit at name name_at over body named.2 good_body looping floor w n end b variables h ls k up_k kept_w there free in
@@ -165,7 +163,7 @@ module _ (c : Context) (leaves : Leaving) (own : Own leaves) (limit : ℕ) where
       let element : PlainExpr = PIndex at (PVar at t) (PVar at (t + 1)) in
       let coded : PlainTy → Flattened (List PlainFlatStmt) = λ ty. flat_all leaves c body (body_spot name (item_ty ty) body (list_spot ty a.spot)) in
       let all_code : PlainTy → List PlainFlatStmt = λ ty.
-          FMark ∷ (settled at ty a).before ++ list_loop at name t (surely (head_locals name body (list_spot ty a.spot).locals)) (point_behind c (PFor at name name_at over body) w.locals) (coded ty).code in
+      FMark ∷ (settled at ty a).before ++ list_loop at name t (surely (head_locals name body (list_spot ty a.spot).locals)) (point_behind c (PFor at name name_at over body) w.locals) (coded ty).code in
       let point = surely (head_locals name body (list_spot (TList u) a.spot).locals) in
       let loop : PlainFlatStmt = FWhile point (list_test at t) point (flat_stmts_of (list_turn at name t (coded (TList u)).code)) (point_behind c (PFor at name name_at over body) w.locals) in
       let two : List PlainVar = two_made u t before ga.free in

@@ -1,16 +1,13 @@
 -- The flat code of each method of an accepted program keeps the rules on types.
 use Rattle.std.proofs.Common.{◌≡◌, ◌<◌, ℕ, zero, suc, arith, Bool, true, false, cond, not, Option, Some, None, Result, Ok, List, [], ◌∷◌, ◌++◌, length, map, append_assoc, append-nil, refl, sym, ap, ◌∙◌, subst, true≢false}
-use Rattle.std.specs.Prelude.{◌==◌, ◌||◌, ◌&&◌, slice_get, is_some}
-use Rattle.std.specs.List.{list_any}
-use Rattle.std.proofs.lemmas.Bool.{eqb-true}
+use Rattle.std.specs.Prelude.{◌==◌, ◌||◌, ◌&&◌, slice_get}
 use Rattle.std.proofs.lemmas.Option.{none-some}
 use Rattle.std.proofs.Math.Bridge.{le_prop}
 use Rattle.std.proofs.Math.Logic.{∥∥₁_elim}
 use Rattle.py_tree.specs.declared.rule.Rule.TheVariants.{TooMany, ReservedName, DuplicateMember, MissingReturn}
 use Rattle.py_tree.specs.declared.rule.RuleFault.{RuleFault}
 use Rattle.py_tree.specs.Bounded.{IsBounded, IsBoundedClass, IsBoundedMethod, IsBoundedParam, StmtsNames, EachOfStmts, RaisesFailure}
-use Rattle.py_tree.specs.ClassRules.{PlainTable, PlainSig, is_reserved, is_class, is_full, is_param, broken, first_behind, first_in, annotation_fault, param_fault, sig_param, sig_params, sig_of, methods_of, tables_of}
-use Rattle.py_tree.specs.Acceptance.{members_at}
+use Rattle.py_tree.specs.ClassRules.{PlainTable, PlainSig, is_reserved, is_class, is_full, is_param, broken, first_behind, first_in, annotation_fault, param_fault, sig_param, sig_params, sig_of, tables_of}
 use Rattle.py_tree.specs.PlainTypes.{PlainTy, TNil, TOptional}
 use Rattle.py_tree.specs.PlainProgram.{PlainParam, PlainMethod, PlainClass, PlainProgram}
 use Rattle.py_tree.specs.PlainStatements.{stmts_of}
@@ -20,8 +17,7 @@ use Rattle.py_tree.specs.Reachability.{all_go_on, break_in, assigned_in}
 use Rattle.py_tree.specs.Flow.{Context, result_at, known_at, settled, param_local, Way, begun, flow_all, locals_at_start, sig_at, in_method, method_locals}
 use Rattle.py_tree.proofs.ClassRuleLaws.{head_none, rest_none, not_broken}
 use Rattle.call_graph.specs.SuspendingCode.{Leaving, leaving}
-use Rattle.program_meaning.specs.NothingGoesWrong.{IsKnownAccepted}
-use Rattle.program_meaning.proofs.TypedParts.{done, same_ok, found_ok, refuse_ok}
+use Rattle.program_meaning.proofs.TypedParts.{same_ok, found_ok, refuse_ok}
 use Rattle.program_meaning.proofs.LocalShapes.{shapes, type_in, Grows, shapes_settled}
 use Rattle.program_meaning.proofs.FlowGrows.{follows_all}
 use Rattle.program_meaning.proofs.TableFacts.{all_at}
@@ -31,24 +27,22 @@ use Rattle.block_code.specs.GraphFits.{var_of, var_of_param, at_start}
 use Rattle.flat_tree.specs.PlainFlat.{PlainFlat, flat_stmts_of}
 use Rattle.flat_types.specs.FlatTypes.{is_point, Nowhere, Behind, stmts_fit}
 use Rattle.flat_types.specs.SplitFits.{EndsWithNone}
-use Rattle.flat_types.proofs.FlowStays.{EachTyped, all_stay}
+use Rattle.flat_types.proofs.FlowStays.{all_stay}
 use Rattle.method_hoister.specs.Spots.{surely}
 use Rattle.method_hoister.specs.HoistStatements.{flat_all}
-use Rattle.typed_hoisting.specs.KnownLocals.{seen, Kept, Free}
+use Rattle.typed_hoisting.specs.KnownLocals.{seen, Free}
 use Rattle.typed_hoisting.specs.TypedHoisting.{AreAmong, Around}
 use Rattle.typed_hoisting.proofs.LocalLaws.{kept_same}
 use Rattle.typed_hoisting.proofs.CallsKeep.{Own}
 use Rattle.typed_hoisting.proofs.ExpressionsKeep.{own_by_marks}
-use Rattle.entity_compiler.specs.CompiledGraph.{found_locals, context_of, start_locals, flat_method}
+use Rattle.entity_compiler.specs.CompiledGraph.{found_locals}
 use Rattle.entity_compiler.proofs.Places.{ClassOf, class_of_method, sig_stands}
 use Rattle.entity_compiler.proofs.NamesAreBelow.{body_below}
 use Rattle.typed_methods.specs.TypedMethods.{KeepsTypes, MethodsKeepTypes}
 use Rattle.typed_methods.proofs.KnownWays.{MetUnder, known_before}
 use Rattle.typed_methods.proofs.StoredKnown.{AllKept, free_same}
-use Rattle.typed_methods.proofs.KeptParts.{in_loop_if}
 use Rattle.typed_methods.proofs.FlowKept.{GoesSo, begun_ahead, all_kept}
-use Rattle.typed_methods.proofs.CodeLaws.{spot, At, TypedAs, WaysLead, point_at, surely_passes, GoodCode}
-use Rattle.typed_methods.proofs.SimpleKeep.{Begins}
+use Rattle.typed_methods.proofs.CodeLaws.{spot, TypedAs, WaysLead, point_at, surely_passes, GoodCode}
 use Rattle.typed_methods.proofs.StatementsKeep.{all_good}
 use Rattle.typed_methods.proofs.NewLocals.{free_more, Settles, all_settle, each_as}
 use Rattle.typed_methods.proofs.Variables.{made_among, none_named, locals_typed, all_once, surely_params}
@@ -73,7 +67,7 @@ ends_none false none h e = absurd (true≢false (sym e))
 -- A method that breaks no rule, whose parameters stand once, below the temporaries
 
 module _ (tables : List PlainTable) (class number : ℕ) (sig : PlainSig) (m : PlainMethod) (limit : ℕ) (has : sig_at tables class number ≡ Some sig) (names : StmtsNames limit (stmts_of m.body)) (raises : EachOfStmts RaisesFailure (stmts_of m.body))
-         (params_free : Free limit (map param_local sig.params)) (locals : List PlainLocal) (is : method_locals tables class number m ≡ Ok locals) where
+    (params_free : Free limit (map param_local sig.params)) (locals : List PlainLocal) (is : method_locals tables class number m ≡ Ok locals) where
   abbrev c : Context
   c = in_method tables class number
 
@@ -196,7 +190,7 @@ module _ (program : PlainProgram) (limit : ℕ) where
       let now : param_fault program before p ≡ None = head_none (param_fault program before p) (rest ∷ []) none in
       let later : rest ≡ None = head_none rest [] (rest_none (param_fault program before p) (rest ∷ []) none) in
       let more : Free limit (locals_of (before ++ p ∷ [])) =
-          subst (λ ls. Free limit ls) (sym (locals_both before (p ∷ []))) (free_more (param_local (sig_param p)) limit (locals_of before) (below zero p refl) (no_param before p.name (param_apart before p now)) free) in
+      subst (λ ls. Free limit ls) (sym (locals_both before (p ∷ []))) (free_more (param_local (sig_param p)) limit (locals_of before) (below zero p refl) (no_param before p.name (param_apart before p now)) free) in
       subst (λ qs. Free limit (locals_of qs)) (append_assoc before (p ∷ []) ps) (params_behind (before ++ p ∷ []) ps more later (λ j q is. below (suc j) q is))
 
   none_free : Free limit []
@@ -224,7 +218,7 @@ methods_keep_types names program marks accepted class number m h =
     let below : StmtsNames limit (stmts_of m.body) = body_below names program accepted.bounded class i.0 k.is m k.at i.1 in
     let raises : EachOfStmts RaisesFailure (stmts_of m.body) = raises_kept names program accepted.rules.classes accepted.rules.flow accepted.bounded class i.0 k.is m k.at i.1 in
     let params : Free limit (map param_local (sig_of m).params) =
-        params_free program limit m.params (params_kept names program accepted.rules.classes accepted.rules.flow class i.0 k.is m k.at i.1) (param_below names program accepted.bounded class i.0 k.is m k.at i.1) in
+    params_free program limit m.params (params_kept names program accepted.rules.classes accepted.rules.flow class i.0 k.is m k.at i.1) (param_below names program accepted.bounded class i.0 k.is m k.at i.1) in
     let own = own_by_marks names program marks class in
     let has : sig_at tables class number ≡ Some (sig_of m) = sig_stands names program class number m k in
     subst (λ ls. KeepsTypes (in_method tables class number) leaves limit (behind tables class number (sig_of m) m limit has below raises params found.0 found.1 leaves own ls) ls (flat_of tables class number (sig_of m) m limit has below raises params found.0 found.1 leaves own ls))

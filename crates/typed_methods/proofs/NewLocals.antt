@@ -1,29 +1,25 @@
 -- What statements assign has a type behind them; and locals that stand once, below the temporaries, do so behind them.
-use Rattle.std.proofs.Common.{◌≡◌, ◌≤◌, ◌<◌, arith, ℕ, Bool, true, false, not, cond, Option, Some, None, Result, Ok, List, [], ◌∷◌, ◌++◌, map, refl, sym, ap, ◌∙◌, subst, true≢false}
+use Rattle.std.proofs.Common.{◌≡◌, ◌<◌, arith, ℕ, Bool, true, false, cond, Option, Some, None, Result, Ok, List, [], ◌∷◌, ◌++◌, map, refl, sym, ap, ◌∙◌, subst, true≢false}
 use Rattle.std.specs.Prelude.{◌==◌, is_some}
 use Rattle.std.proofs.lemmas.Bool.{eq-eqb}
 use Rattle.std.proofs.lemmas.Option.{none-some}
-use Rattle.py_tree.specs.declared.names.Place.{Place}
-use Rattle.py_tree.specs.declared.rule.Rule.TheVariants.{LoopWord, UnknownField, KeyAssigned, InitForm}
 use Rattle.py_tree.specs.declared.rule.RuleFault.{RuleFault}
-use Rattle.py_tree.specs.declared.stmt.Target.{Target}
 use Rattle.py_tree.specs.declared.stmt.Target.TheVariants.{Local, Field}
-use Rattle.py_tree.specs.Bounded.{StmtNames, StmtsNames, ArmsNames, target_name}
-use Rattle.py_tree.specs.PlainTypes.{PlainTy, PlainWritten}
+use Rattle.py_tree.specs.Bounded.{StmtNames, StmtsNames, ArmsNames}
+use Rattle.py_tree.specs.PlainTypes.{PlainTy}
 use Rattle.py_tree.specs.PlainExpressions.{PlainExpr}
 use Rattle.py_tree.specs.PlainStatements.{PlainStmt, PPass, PBreak, PContinue, PDo, PReturn, PRaise, PAssert, PAssign, PAugment, PIf, PWhile, PFor, PlainStmts, PNoStmt, PStmt, PArm, PlainArms, PNoArm, PMoreArms}
 use Rattle.py_tree.specs.FlowEnvironment.{PlainLocal, local_of, shown, narrowed}
-use Rattle.py_tree.specs.ExpressionTypes.{refuse_if, with_found}
-use Rattle.py_tree.specs.Reachability.{goes_on, all_go_on, local_assigned, assigns, assigned_in, assigned_in_arms}
-use Rattle.py_tree.specs.Flow.{Context, type_at, condition_at, within_loop, Known, known_at, settled, meet, way, behind_ways, with_local, at_head, needs_none, return_fault, message_fault, stored, assigned, augmentation, combined_stored, Way, on, begun, broken_off, after_while, after_for, for_head, named_at, flow, flow_all, flow_arms}
-use Rattle.program_meaning.proofs.LocalShapes.{Shape, shapes, type_in, Grows, typed_behind, is_typed, given_if, new_local, shapes_narrowed, shapes_at_head, shapes_settled, shapes_behind, local_grows}
-use Rattle.program_meaning.proofs.TypedParts.{done, same_ok, found_ok, refuse_ok}
-use Rattle.program_meaning.proofs.FlowParts.{no_need, stored_ok, local_ok, Augments, augments_ok, put_local_ok, put_field_ok}
-use Rattle.program_meaning.proofs.FlowGrows.{follows, follows_all, WhileParts, while_parts, ForParts, for_parts, all_parts, last_parts, ArmParts, arm_parts, for_shapes}
+use Rattle.py_tree.specs.Reachability.{goes_on, all_go_on, assigns, assigned_in, assigned_in_arms}
+use Rattle.py_tree.specs.Flow.{Context, within_loop, Known, known_at, settled, meet, way, behind_ways, with_local, at_head, assigned, augmentation, Way, on, begun, after_while, after_for, for_head, named_at, flow, flow_all, flow_arms}
+use Rattle.program_meaning.proofs.LocalShapes.{Shape, shapes, type_in, Grows, typed_behind, is_typed, given_if, new_local, shapes_narrowed, shapes_at_head, shapes_settled, shapes_behind}
+use Rattle.program_meaning.proofs.TypedParts.{done, same_ok, found_ok}
+use Rattle.program_meaning.proofs.FlowParts.{stored_ok, local_ok, Augments, augments_ok, put_local_ok}
+use Rattle.program_meaning.proofs.FlowGrows.{follows_all, WhileParts, while_parts, ForParts, for_parts, all_parts, last_parts, ArmParts, arm_parts, for_shapes}
 use Rattle.flat_types.proofs.FlowStays.{EachTyped, stmt_stays, both_typed, shapes_with}
 use Rattle.typed_hoisting.specs.KnownLocals.{Once, Free}
 use Rattle.typed_hoisting.proofs.LocalLaws.{or_else, one_more, apart}
-use Rattle.typed_methods.proofs.StoredKnown.{type_or, stored_type, free_same, untyped}
+use Rattle.typed_methods.proofs.StoredKnown.{stored_type, free_same}
 use Rattle.typed_methods.proofs.StillKeep.{some_typed}
 use Rattle.typed_methods.proofs.FlowKept.{rest_grows, arms_grow}
 
@@ -142,10 +138,10 @@ module _ (n : ℕ) where
         let inside : Settles (assigned_in body) (begun start) p.end = all_settle body (within_loop d) (begun start) p.end named.2 p.turn in
         let after : shapes next.locals ≡ shapes p.end.locals = ap (λ (v : Way). shapes v.locals) (sym p.is) ∙ behind_for head p.end in
         let s : Settles (assigned_in body) w next =
-            around_body (assigned_in body) w next start p.end
-            (λ free. free_stored n name p.item p.item head named.0 (free_same n p.named head (for_shapes all w.locals p.named) (subst (λ ls. Free n ls) put (free_stored n name p.item p.item w.locals named.0 free)))) after inside in
+        around_body (assigned_in body) w next start p.end
+        (λ free. free_stored n name p.item p.item head named.0 (free_same n p.named head (for_shapes all w.locals p.named) (subst (λ ls. Free n ls) put (free_stored n name p.item p.item w.locals named.0 free)))) after inside in
         let first : EachTyped (shapes next.locals) (name ∷ []) =
-            each_as p.end.locals next.locals (name ∷ []) after (each_grown start p.end.locals (name ∷ []) (follows_all body (within_loop d) (begun start) p.end p.turn).grows (ap is_some (stored_type name p.item p.item head), tt)) in
+        each_as p.end.locals next.locals (name ∷ []) after (each_grown start p.end.locals (name ∷ []) (follows_all body (within_loop d) (begun start) p.end p.turn).grows (ap is_some (stored_type name p.item p.item head), tt)) in
         record { typed = (first.0, s.typed); free = s.free }
 
     pub all_settle : (xs : PlainStmts) (d : Context) (w next : Way) → StmtsNames n xs → flow_all d w xs ≡ Ok next → Settles (assigned_in xs) w next

@@ -1,12 +1,9 @@
 -- The point behind a statement, where a way leads there.
-use Rattle.std.proofs.Common.{◌≡◌, ℕ, Bool, true, false, Option, Some, None, Result, Ok, List, [], ◌∷◌, refl, sym, ap, ◌∙◌, subst, true≢false}
-use Rattle.std.specs.Prelude.{⊤, if◌then◌else◌, IfSome}
-use Rattle.py_tree.specs.declared.rule.RuleFault.{RuleFault}
-use Rattle.py_tree.specs.PlainTypes.{PlainTy}
+use Rattle.std.proofs.Common.{◌≡◌, Bool, true, false, Some, None, Ok, List, [], ◌∷◌, refl, sym, ap, ◌∙◌, subst}
+use Rattle.std.specs.Prelude.{if◌then◌else◌, IfSome}
 use Rattle.py_tree.specs.PlainStatements.{PlainStmt}
 use Rattle.py_tree.specs.FlowEnvironment.{PlainLocal}
-use Rattle.py_tree.specs.Reachability.{goes_on}
-use Rattle.py_tree.specs.Flow.{Context, Known, known_at, settled, Way, flow}
+use Rattle.py_tree.specs.Flow.{Context, known_at, settled, Way, flow}
 use Rattle.program_meaning.proofs.LocalShapes.{Shape, shapes}
 use Rattle.block_code.specs.PlainVars.{PlainVar}
 use Rattle.block_code.specs.GraphFits.{Asked, at_start}

@@ -1,30 +1,28 @@
 -- A `for` over a range keeps the rules where calls come out of it, if its body does.
-use Rattle.std.proofs.Common.{◌≡◌, ◌≤◌, ◌<◌, ◌+◌, pos, arith, ℕ, Bool, true, false, Option, Some, None, Ok, List, [], ◌∷◌, ◌++◌, refl, sym, ap, ◌∙◌, subst}
-use Rattle.std.specs.Prelude.{⊤, option_map, find, IfSome}
+use Rattle.std.proofs.Common.{◌≡◌, ◌≤◌, pos, arith, ℕ, Bool, true, false, Option, Some, None, Ok, List, [], ◌∷◌, ◌++◌, refl, sym, ap, subst}
+use Rattle.std.specs.Prelude.{⊤, option_map, IfSome}
 use Rattle.py_tree.specs.declared.names.Place.{Place}
-use Rattle.py_tree.specs.Bounded.{ExprNames, StmtNames, StmtsNames, OverNames}
+use Rattle.py_tree.specs.Bounded.{ExprNames, StmtNames}
 use Rattle.py_tree.specs.PlainTypes.{PlainTy, TInt, TBool}
 use Rattle.py_tree.specs.PlainExpressions.{PlainExpr, PInt, PVar, PPos, PCompare}
 use Rattle.py_tree.specs.declared.expr.Cmp.TheVariants as cmp
 use Rattle.py_tree.specs.PlainStatements.{PlainOver, PRange, PFor, PlainStmts}
-use Rattle.py_tree.specs.FlowEnvironment.{PlainLocal, local_of}
+use Rattle.py_tree.specs.FlowEnvironment.{PlainLocal}
 use Rattle.py_tree.specs.ExpressionTypes.{type_of}
 use Rattle.py_tree.specs.Reachability.{goes_on, breaks, assigned_in}
-use Rattle.py_tree.specs.Flow.{Context, type_at, at_head, with_local, item_of, Way, begun, flow}
+use Rattle.py_tree.specs.Flow.{Context, type_at, with_local, item_of, Way, flow}
 use Rattle.call_graph.specs.SuspendingCode.{Leaving}
-use Rattle.program_meaning.proofs.LocalShapes.{shapes, type_in, type_found}
 use Rattle.program_meaning.proofs.FlowParts.{short_range_ok, range_ok}
 use Rattle.program_meaning.proofs.FlowGrows.{ForParts, for_parts}
 use Rattle.block_code.specs.PlainVars.{PlainVar}
-use Rattle.block_code.specs.GraphFits.{Asked, HasType, is_var}
-use Rattle.flat_tree.specs.PlainFlat.{Point, PlainFlatStmt, FMark, FSet, FWhile, FLeaf, FNoStmt, flat_stmts_of}
+use Rattle.flat_tree.specs.PlainFlat.{PlainFlatStmt, FMark, FSet}
 use Rattle.method_splitter.specs.Points.{PointsPass}
 use Rattle.flat_types.specs.FlatTypes.{stmts_fit}
-use Rattle.method_hoister.specs.Spots.{Spot, surely, temporary, point_behind}
+use Rattle.method_hoister.specs.Spots.{Spot, surely, point_behind}
 use Rattle.method_hoister.specs.HoistExpressions.{Hoisted, built, in_turn, settled, forms}
-use Rattle.method_hoister.specs.HoistStatements.{Flattened, opened, flat_all, plus, start_or_zero, range_start, range_end, head_locals, range_loop}
-use Rattle.typed_hoisting.specs.KnownLocals.{HasTy, seen, Alike, Free, Stands}
-use Rattle.typed_hoisting.specs.TypedHoisting.{AreAmong, AreTyped, Around, code_fits, Typed, Good}
+use Rattle.method_hoister.specs.HoistStatements.{Flattened, opened, flat_all, plus, start_or_zero, head_locals, range_loop}
+use Rattle.typed_hoisting.specs.KnownLocals.{HasTy, seen, Free}
+use Rattle.typed_hoisting.specs.TypedHoisting.{AreAmong, Typed, Good}
 use Rattle.typed_hoisting.proofs.LocalLaws.{kept_seen}
 use Rattle.typed_hoisting.proofs.EnvironmentLaws.{kept_at, temporary_local, temporary_seen}
 use Rattle.typed_hoisting.proofs.PointLaws.{IsVariable}
@@ -34,11 +32,11 @@ use Rattle.typed_hoisting.proofs.TypedKinds.{pos_typed}
 use Rattle.typed_hoisting.proofs.CallsKeep.{Own}
 use Rattle.typed_methods.proofs.StoredKnown.{AllKept, TypedThere, kept_free}
 use Rattle.typed_methods.proofs.KeptParts.{in_loop_if}
-use Rattle.typed_methods.proofs.CodeLaws.{spot, At, TypedAs, all_kept_on, to_stands, from_stands, at_as, ty_as, as_ty, are_typed, GoodCode, no_more}
+use Rattle.typed_methods.proofs.CodeLaws.{spot, TypedAs, all_kept_on, to_stands, from_stands, ty_as, as_ty, are_typed, GoodCode}
 use Rattle.typed_methods.proofs.SimpleKeep.{EachVariable, Begins, forms_good, GoodOpened}
 use Rattle.typed_methods.proofs.ArmsKeep.{GoodAll}
 use Rattle.typed_methods.proofs.StoredAt.{with_type, seen_at, head_type, as_has, variable_reads, less_typed}
-use Rattle.typed_methods.proofs.ForLoops.{statement, all, item, head, start, code, made_inside, numbered_inside, loop_passes, loop_fits, counted_turn}
+use Rattle.typed_methods.proofs.ForLoops.{head, made_inside, numbered_inside, loop_passes, loop_fits, counted_turn}
 
 module _ (c : Context) (leaves : Leaving) where
   pub added_there : {R : Type 0} (h : Spot) (a : Hoisted R) {Rest : List PlainLocal → R → Type 0} → Good c leaves h a Rest → TypedThere h.locals a.spot.locals

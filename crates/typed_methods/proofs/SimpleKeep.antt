@@ -1,15 +1,13 @@
 -- Statements over one expression keep the rules where calls come out of it.
-use Rattle.std.proofs.Common.{◌≡◌, ◌≤◌, arith, ℕ, Bool, true, false, not, cond, Option, Some, None, Result, Ok, List, [], ◌∷◌, ◌++◌, refl, sym, ap, ◌∙◌, subst, true≢false}
-use Rattle.std.specs.Prelude.{◌==◌, is_some, unwrap_or, IfSome, ⊤}
-use Rattle.std.proofs.lemmas.Bool.{or_from}
+use Rattle.std.proofs.Common.{◌≡◌, ◌≤◌, arith, ℕ, Bool, true, false, not, Option, Some, None, Result, Ok, List, [], ◌∷◌, ◌++◌, refl, sym, ap, ◌∙◌, subst, true≢false}
+use Rattle.std.specs.Prelude.{is_some, unwrap_or, IfSome}
 use Rattle.py_tree.specs.declared.names.Place.{Place}
-use Rattle.py_tree.specs.declared.rule.Rule.TheVariants.{LoopWord, Mismatch, UnknownName, Unassigned}
+use Rattle.py_tree.specs.declared.rule.Rule.TheVariants.{LoopWord, Mismatch}
 use Rattle.py_tree.specs.declared.rule.RuleFault.{RuleFault}
 use Rattle.py_tree.specs.declared.names.PlacedName.{PlacedName}
-use Rattle.py_tree.specs.declared.stmt.Target.{Target}
 use Rattle.py_tree.specs.declared.stmt.Target.TheVariants.{Local, Field}
 use Rattle.py_tree.specs.Bounded.{ExprNames, StmtNames, RaisesFailure}
-use Rattle.py_tree.specs.PlainTypes.{PlainTy, TStr, TNil, TBool, PlainWritten}
+use Rattle.py_tree.specs.PlainTypes.{PlainTy, TStr, TNil, PlainWritten}
 use Rattle.py_tree.specs.PlainExpressions.{PlainExpr, PNil}
 use Rattle.py_tree.specs.PlainStatements.{PlainStmt, PPass, PBreak, PContinue, PDo, PReturn, PRaise, PAssert, PAssign}
 use Rattle.py_tree.specs.FlowEnvironment.{PlainLocal, shown, narrowed}
@@ -21,16 +19,16 @@ use Rattle.program_meaning.proofs.LocalShapes.{shapes, type_in, earlier_is}
 use Rattle.program_meaning.proofs.TypedParts.{done, same_ok, found_ok, refuse_ok, passes_ok, str_is, condition_ok}
 use Rattle.program_meaning.proofs.FlowParts.{no_fault, no_need, return_nothing_ok, return_ok, field_ok}
 use Rattle.block_code.specs.PlainVars.{PlainVar}
-use Rattle.block_code.specs.GraphFits.{Asked, MessageFits, ValueSuits, HasType, at_start}
-use Rattle.flat_tree.specs.PlainFlat.{Point, PlainFlatStmt, FSet, FGive, FFail, FNoStmt, flat_stmts_of}
+use Rattle.block_code.specs.GraphFits.{Asked, MessageFits, ValueSuits, at_start}
+use Rattle.flat_tree.specs.PlainFlat.{Point, FGive, FFail}
 use Rattle.method_splitter.specs.Points.{PointsPass}
-use Rattle.flat_types.specs.FlatTypes.{is_point, Supplies, Ends, Nowhere, stmts_fit, test_fits}
-use Rattle.flat_types.proofs.FlowStays.{EachTyped, shapes_with}
-use Rattle.method_hoister.specs.Spots.{Spot, surely, where_shown, ty_at, found_ty}
-use Rattle.method_hoister.specs.HoistExpressions.{Hoisted, Tested, still, built, settled_unless, lasts, forms}
-use Rattle.method_hoister.specs.HoistStatements.{Flattened, stored as store, value_or_nil, optional, failure_of, asserted, opened}
-use Rattle.typed_hoisting.specs.KnownLocals.{Free, Stands, AtLeast}
-use Rattle.typed_hoisting.specs.TypedHoisting.{AreAmong, Around, code_fits, Typed, Good, GoodTest, GoodForms}
+use Rattle.flat_types.specs.FlatTypes.{is_point, Supplies, stmts_fit}
+use Rattle.flat_types.proofs.FlowStays.{EachTyped}
+use Rattle.method_hoister.specs.Spots.{Spot, surely, ty_at, found_ty}
+use Rattle.method_hoister.specs.HoistExpressions.{Hoisted, Tested, settled_unless, lasts, forms}
+use Rattle.method_hoister.specs.HoistStatements.{stored as store, optional, opened}
+use Rattle.typed_hoisting.specs.KnownLocals.{Free}
+use Rattle.typed_hoisting.specs.TypedHoisting.{code_fits, Typed, Good, GoodTest, GoodForms}
 use Rattle.typed_hoisting.proofs.EnvironmentLaws.{free_later, free_narrowed, forgotten_least}
 use Rattle.typed_hoisting.proofs.PointLaws.{supplies}
 use Rattle.typed_hoisting.proofs.StoredLaws.{takes, stored_variables}
@@ -39,9 +37,9 @@ use Rattle.typed_hoisting.proofs.GoodParts.{numbered_up, numbered_both, among_fi
 use Rattle.typed_hoisting.proofs.CallsKeep.{Own}
 use Rattle.typed_hoisting.proofs.ExpressionsKeep.{each_expression_keeps}
 use Rattle.typed_methods.proofs.KnownWays.{MetUnder, met_right, met_here}
-use Rattle.typed_methods.proofs.StoredKnown.{AllKept, AllUnder, all_under, type_or, stored_there, under_free, free_same}
+use Rattle.typed_methods.proofs.StoredKnown.{AllUnder, all_under, type_or, stored_there}
 use Rattle.typed_methods.proofs.KeptParts.{in_loop_if, LocalAssigned, local_parts}
-use Rattle.typed_methods.proofs.CodeLaws.{spot, At, TypedAs, WaysLead, all_under_on, to_stands, from_stands, at_as, supplies_all, point_at, variable_typed, typed_same, are_typed, surely_passes, marked_passes, GoodCode, no_more, no_more_is, behind_good, marked_fits}
+use Rattle.typed_methods.proofs.CodeLaws.{spot, At, TypedAs, all_under_on, to_stands, at_as, supplies_all, point_at, variable_typed, typed_same, are_typed, surely_passes, marked_passes, GoodCode, no_more, no_more_is, behind_good, marked_fits}
 use Rattle.program_meaning.proofs.LocalShapes.{shapes_narrowed}
 
 abbrev pub EachVariable : List PlainLocal → List ℕ → Type 0
@@ -204,11 +202,14 @@ module _ (c : Context) (leaves : Leaving) (own : Own leaves) (limit : ℕ) where
               let typed_true : TypedAs variables ls = typed_same variables w.locals ls (shapes_narrowed (shown true test) w.locals) typed in
               let behind_passes : is_point variables behind ≡ true = surely_passes variables t.next ls free_true typed_true in (
                 tt,
-                ((
-                  (gt.points variables (among_first variables gt.made g.made among) (are_typed variables w.locals typed), behind_passes, tt, surely_passes variables t.next w.locals free typed, tt),
-                  passes_both variables a.before (FFail 3 a.rest ∷ []) (g.points variables (among_rest variables gt.made g.made among) (are_typed variables w.locals typed)) (tt, tt),
-                  behind_passes,
-                ), tt),
+                (
+                  (
+                    (gt.points variables (among_first variables gt.made g.made among) (are_typed variables w.locals typed), behind_passes, tt, surely_passes variables t.next w.locals free typed, tt),
+                    passes_both variables a.before (FFail 3 a.rest ∷ []) (g.points variables (among_rest variables gt.made g.made among) (are_typed variables w.locals typed)) (tt, tt),
+                    behind_passes,
+                  ),
+                  tt,
+                ),
               );
           fits = λ m among typed env at' ways goal goes.
               let typed_true : TypedAs m.variables ls = λ x u e. typed x u (ap (λ ss. type_in ss x) (sym (shapes_narrowed (shown true test) w.locals)) ∙ e) in

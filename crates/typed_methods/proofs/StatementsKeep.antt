@@ -1,7 +1,6 @@
 -- Every statement keeps the rules where calls come out of it.
-use Rattle.std.proofs.Common.{◌≡◌, ◌≤◌, arith, ℕ, Bool, true, false, not, cond, Option, Some, None, Result, Ok, List, [], ◌∷◌, ◌++◌, refl, sym, ap, ◌∙◌, subst}
+use Rattle.std.proofs.Common.{◌≡◌, ◌≤◌, arith, ℕ, Bool, true, false, not, cond, None, Ok, List, [], ◌++◌, refl, sym, ap, subst}
 use Rattle.std.specs.Prelude.{◌||◌, ◌&&◌, is_some}
-use Rattle.py_tree.specs.declared.names.Place.{Place}
 use Rattle.py_tree.specs.declared.stmt.Target.TheVariants.{Local, Field}
 use Rattle.py_tree.specs.Bounded.{StmtNames, StmtsNames, ArmsNames, EachStmt, EachOfStmts, EachOfArms, RaisesFailure}
 use Rattle.py_tree.specs.PlainStatements.{PRange, PItems, PlainStmt, PPass, PBreak, PContinue, PDo, PReturn, PRaise, PAssert, PAssign, PAugment, PIf, PWhile, PFor, PlainStmts, PNoStmt, PStmt, PArm, PlainArms, PNoArm, PMoreArms}
@@ -12,27 +11,26 @@ use Rattle.call_graph.specs.SuspendingCode.{Leaving, stmt_suspends}
 use Rattle.program_meaning.proofs.LocalShapes.{shapes}
 use Rattle.program_meaning.proofs.TypedParts.{done, same_ok}
 use Rattle.program_meaning.proofs.FlowGrows.{all_parts}
-use Rattle.block_code.specs.GraphFits.{Asked}
 use Rattle.flat_tree.specs.PlainFlat.{PlainFlatStmt}
 use Rattle.flat_tree.specs.Flatness.{jumps}
 use Rattle.method_splitter.specs.Points.{PointsPass}
 use Rattle.flat_types.specs.FlatTypes.{stmts_fit}
 use Rattle.flat_types.proofs.FlowStays.{EachTyped, stmt_stays, first_typed, later_typed}
-use Rattle.method_hoister.specs.Spots.{Spot, locals_behind}
+use Rattle.method_hoister.specs.Spots.{locals_behind}
 use Rattle.method_hoister.specs.HoistStatements.{Flattened, code_if, followed, opened, flat_all}
-use Rattle.typed_hoisting.specs.TypedHoisting.{AreAmong, Around, code_fits}
+use Rattle.typed_hoisting.specs.TypedHoisting.{code_fits}
 use Rattle.typed_hoisting.proofs.EnvironmentLaws.{free_later}
 use Rattle.typed_hoisting.proofs.PassingPoints.{passes_both}
 use Rattle.typed_hoisting.proofs.GoodParts.{numbered_up, numbered_both, among_first, among_rest, code_then}
 use Rattle.typed_hoisting.proofs.CallsKeep.{Own}
 use Rattle.typed_methods.proofs.KnownWays.{MetUnder}
-use Rattle.typed_methods.proofs.StoredKnown.{AllUnder, free_same}
+use Rattle.typed_methods.proofs.StoredKnown.{free_same}
 use Rattle.typed_methods.proofs.KeptParts.{in_loop_if}
 use Rattle.typed_methods.proofs.FlowKept.{or_left, or_right}
 use Rattle.typed_methods.proofs.BegunAnew.{way_at, LeadsTo, stmt_anew}
 use Rattle.typed_methods.proofs.WaysOn.{all_left_on}
 use Rattle.typed_methods.proofs.KnownStays.{Forgets, forgets_first, forgets_rest, begun_above, stmt_above}
-use Rattle.typed_methods.proofs.CodeLaws.{spot, At, TypedAs, WaysLead, at_as, typed_same, GoodCode}
+use Rattle.typed_methods.proofs.CodeLaws.{spot, at_as, typed_same, GoodCode}
 use Rattle.typed_methods.proofs.SimpleKeep.{EachVariable, Begins, GoodOpened, pass_good, break_good, continue_good, do_good, return_good, raise_good, assert_good, assign_local, assign_field}
 use Rattle.typed_methods.proofs.AugmentKeep.{augment_local, augment_field}
 use Rattle.typed_methods.proofs.StillKeep.{still_keeps}
@@ -114,8 +112,8 @@ module _ (c : Context) (leaves : Leaving) (own : Own leaves) (limit : ℕ) (outs
           } in
           let rest : List PlainLocal → Flattened (List PlainFlatStmt) = λ ls. flat_all leaves c xs (record { locals = ls; next = f.next }) in
           let gx : GoodCode c leaves looping floor mid f.next (rest (locals_behind c x w.locals)).code (rest (locals_behind c x w.locals)).next end (all_go_on xs) (break_in xs) =
-              subst (λ ls. GoodCode c leaves looping floor mid f.next (rest ls).code (rest ls).next end (all_go_on xs) (break_in xs)) (sym (behind_is c looping w mid x hx))
-              (good_xs looping floor mid f.next end begins (subst (λ ss. EachTyped ss (assigned_in xs)) (sym same) in_xs) f_xs hxs) in
+          subst (λ ls. GoodCode c leaves looping floor mid f.next (rest ls).code (rest ls).next end (all_go_on xs) (break_in xs)) (sym (behind_is c looping w mid x hx))
+          (good_xs looping floor mid f.next end begins (subst (λ ss. EachTyped ss (assigned_in xs)) (sym same) in_xs) f_xs hxs) in
           let next : ℕ = (rest (locals_behind c x w.locals)).next in
           record {
             made = g.made ++ gx.made;

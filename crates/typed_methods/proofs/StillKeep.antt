@@ -1,15 +1,14 @@
 -- A statement that stays as it is keeps the rules as code.
-use Rattle.std.proofs.Common.{◌≡◌, ◌≤◌, ℕ, Bool, true, false, not, cond, Option, Some, None, Result, Ok, List, [], ◌∷◌, ◌++◌, refl, sym, ap, ◌∙◌, subst, true≢false}
+use Rattle.std.proofs.Common.{◌≡◌, ℕ, Bool, true, false, cond, Option, Some, None, Ok, List, [], ◌∷◌, ◌++◌, refl, sym, ap, ◌∙◌, true≢false}
 use Rattle.std.specs.Prelude.{◌||◌, ◌&&◌, is_some}
 use Rattle.std.specs.Cmp.Derive.{both_true as both_hold}
-use Rattle.py_tree.specs.declared.rule.RuleFault.{RuleFault}
 use Rattle.py_tree.specs.Bounded.{StmtNames, EachStmt, EachOfStmts, RaisesFailure}
 use Rattle.py_tree.specs.PlainTypes.{PlainTy}
-use Rattle.py_tree.specs.PlainStatements.{PlainStmt, PlainStmts, PNoStmt, PStmt}
-use Rattle.py_tree.specs.FlowEnvironment.{PlainLocal, local_of}
+use Rattle.py_tree.specs.PlainStatements.{PlainStmt, PNoStmt, PStmt}
+use Rattle.py_tree.specs.FlowEnvironment.{PlainLocal}
 use Rattle.py_tree.specs.ExpressionTypes.{with_found}
-use Rattle.py_tree.specs.Reachability.{goes_on, breaks, all_go_on, assigns, assigned_in}
-use Rattle.py_tree.specs.Flow.{Context, Known, Way, begun, flow, flow_all}
+use Rattle.py_tree.specs.Reachability.{goes_on, breaks, assigns, assigned_in}
+use Rattle.py_tree.specs.Flow.{Context, Way, begun, flow, flow_all}
 use Rattle.call_graph.specs.SuspendingCode.{Leaving, stmt_suspends, stmts_suspend}
 use Rattle.program_meaning.proofs.LocalShapes.{shapes, type_in, is_typed}
 use Rattle.program_meaning.proofs.TypedParts.{done, either_false, both_true}
@@ -19,13 +18,12 @@ use Rattle.flat_tree.specs.Flatness.{jumps}
 use Rattle.method_splitter.specs.Points.{PointsPass}
 use Rattle.flat_types.specs.FlatTypes.{stmts_fit}
 use Rattle.flat_types.proofs.FlowStays.{EachTyped, stmt_stays}
-use Rattle.typed_hoisting.specs.TypedHoisting.{Around, code_fits}
 use Rattle.typed_methods.proofs.StoredKnown.{TypedThere, are_same}
 use Rattle.typed_methods.proofs.KeptParts.{in_loop_if}
 use Rattle.typed_methods.proofs.FlowKept.{LoopsToo, GoesSo, begun_ahead, stmt_kept}
 use Rattle.typed_methods.proofs.BegunAnew.{way_at, LeadsTo, stmt_anew}
-use Rattle.typed_methods.proofs.CodeLaws.{At, TypedAs, GoodCode, all_kept_on, typed_env, typed_same, no_more, no_more_is}
-use Rattle.typed_methods.proofs.SimpleKeep.{EachVariable, Begins}
+use Rattle.typed_methods.proofs.CodeLaws.{GoodCode, typed_env, typed_same, no_more, no_more_is}
+use Rattle.typed_methods.proofs.SimpleKeep.{EachVariable}
 
 pub all_variables : (locals : List PlainLocal) (names : List ℕ) → EachTyped (shapes locals) names → are_variables locals names ≡ true
 all_variables locals [] h = refl
@@ -82,7 +80,7 @@ module _ (c : Context) (leaves : Leaving) (limit : ℕ) (outside : c.in_loop ≡
         let there : TypedThere w.locals env = typed_env m.variables w.locals env typed at.are in
         let loops : LoopsToo (jumps x) looping false = λ j t. absurd (true≢false (sym j ∙ (either_false (stmt_suspends leaves x) (jumps x) stays).1)) in
         let kept : GoesSo (way_at end.locals anew.0) (begun env) (flow (in_loop_if c false) (begun env) x) =
-            stmt_kept c limit x looping false (begun w.locals) (begun env) (way_at end.locals anew.0) named loops (begun_ahead w.locals env at.kept) (typed_env m.variables end.locals env (typed_same m.variables w.locals end.locals same typed) at.are) anew.1 in
+        stmt_kept c limit x looping false (begun w.locals) (begun env) (way_at end.locals anew.0) named loops (begun_ahead w.locals env at.kept) (typed_env m.variables end.locals env (typed_same m.variables w.locals end.locals same typed) at.are) anew.1 in
         code_stays env kept.end (no_more c leaves m goal) kept.is (each_there w.locals env (assigns x) there variables)
         (λ go. no_more_is c leaves m goal kept.end.locals (goes go kept.end.locals (record { are = are_same m.variables env kept.end.locals kept.same at.are; kept = kept.ahead.kept })));
   }

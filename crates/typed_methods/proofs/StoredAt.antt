@@ -1,6 +1,6 @@
 -- Values that are stored where much is known, and what is read there.
-use Rattle.std.proofs.Common.{◌≡◌, ◌≤◌, ◌<◌, ◌+◌, pos, arith, ℕ, Bool, true, false, not, cond, Option, Some, None, Ok, List, [], ◌∷◌, ◌++◌, refl, sym, ap, ◌∙◌, subst, true≢false}
-use Rattle.std.specs.Prelude.{◌||◌, ◌&&◌, ◌==◌, option_map, unwrap_or, codes}
+use Rattle.std.proofs.Common.{◌≡◌, ℕ, Bool, true, false, cond, Option, Some, None, List, [], ◌∷◌, ◌++◌, refl, sym, ap, ◌∙◌, subst}
+use Rattle.std.specs.Prelude.{◌==◌, option_map, unwrap_or, codes}
 use Rattle.std.proofs.lemmas.Bool.{eqb-true, eq-eqb, or_from}
 use Rattle.py_tree.specs.declared.names.Place.{Place}
 use Rattle.py_tree.specs.declared.expr.BinOp.TheVariants as op
@@ -8,11 +8,11 @@ use Rattle.py_tree.specs.declared.expr.Cmp.TheVariants as cmp
 use Rattle.py_tree.specs.ReservedNames.{reserved_number}
 use Rattle.py_tree.specs.PlainTypes.{PlainTy, TInt, TBool, TList}
 use Rattle.py_tree.specs.PlainExpressions.{PlainExpr, PInt, PVar, PApply, PList, PCompare, PNoExpr, PExpr, PLink}
-use Rattle.py_tree.specs.FlowEnvironment.{PlainLocal, local_of, has_name}
-use Rattle.py_tree.specs.ExpressionTypes.{operand, is_str_or_list, place_of, assignable, right_wanted, function_of, applied, combined, comparison, ordered, with_found, type_of}
+use Rattle.py_tree.specs.FlowEnvironment.{PlainLocal, has_name}
+use Rattle.py_tree.specs.ExpressionTypes.{operand, is_str_or_list, place_of, assignable, right_wanted, function_of, applied, comparison, ordered, with_found, type_of}
 use Rattle.py_tree.specs.Flow.{Context, type_at, at_head, with_local}
 use Rattle.call_graph.specs.SuspendingCode.{Leaving, expr_suspends}
-use Rattle.program_meaning.proofs.TypedParts.{done, Joins, numbers, lists}
+use Rattle.program_meaning.proofs.TypedParts.{done, Joins}
 use Rattle.block_code.specs.PlainVars.{PlainVar}
 use Rattle.block_code.specs.GraphFits.{Asked, HasType}
 use Rattle.flat_tree.specs.PlainFlat.{FSet}

@@ -1,15 +1,15 @@
 -- What is known of names where a value is stored, at the head of a loop, and by names and types alone.
-use Rattle.std.proofs.Common.{◌≡◌, ◌≤◌, ◌<◌, arith, ℕ, Bool, true, false, not, cond, Option, Some, None, List, [], ◌∷◌, ◌++◌, map, if◌then◌else◌, refl, sym, ap, ◌∙◌, subst, true≢false}
+use Rattle.std.proofs.Common.{◌≡◌, ℕ, Bool, true, false, not, cond, Option, Some, None, List, [], ◌∷◌, ◌++◌, map, if◌then◌else◌, refl, sym, ap, ◌∙◌, subst, true≢false}
 use Rattle.std.specs.Prelude.{⊤, ◌&&◌, ◌==◌, is_some, option_map, unwrap_or, nat_le}
 use Rattle.std.proofs.lemmas.Bool.{eqb-true, eq-eqb, leb-true, leb-false}
-use Rattle.std.proofs.lemmas.Option.{same_Some, none-some}
-use Rattle.py_tree.specs.PlainTypes.{PlainTy, TOptional}
+use Rattle.std.proofs.lemmas.Option.{none-some}
+use Rattle.py_tree.specs.PlainTypes.{PlainTy}
 use Rattle.py_tree.specs.FlowEnvironment.{PlainLocal, local_of, has_name, has_none}
 use Rattle.py_tree.specs.Flow.{given, with_local, forgotten, at_head}
-use Rattle.program_meaning.proofs.LocalShapes.{Shape, shapes, type_in, type_found, is_typed, given_if, new_local}
+use Rattle.program_meaning.proofs.LocalShapes.{Shape, shapes, type_in, type_found, given_if, new_local}
 use Rattle.block_code.specs.PlainVars.{PlainVar}
 use Rattle.block_code.specs.GraphFits.{var_of}
-use Rattle.typed_hoisting.specs.KnownLocals.{Seen, is_optional, seen_of, seen, Kept, Under, Alike, Once, Free, AreVariables, Stands, AtLeast}
+use Rattle.typed_hoisting.specs.KnownLocals.{Seen, is_optional, seen_of, seen, Kept, Under, Alike, Once, Free, AreVariables, AtLeast}
 use Rattle.typed_hoisting.proofs.LocalLaws.{found_name, changed, or_else, one_more, apart, kept_same, kept_over, kept_under}
 
 -- what is known here of any name is known so there

@@ -1,22 +1,20 @@
 -- The variables of a method: its locals and its temporaries, each once; and points of what is surely assigned name them.
-use Rattle.std.proofs.Common.{◌≡◌, ◌≤◌, ◌<◌, ◌+◌, arith, ℕ, Bool, true, false, not, cond, Option, Some, None, List, [], ◌∷◌, ◌++◌, map, append_assoc, append-nil, refl, sym, ap, ◌∙◌, subst, true≢false}
-use Rattle.std.specs.Prelude.{◌==◌, ◌&&◌, ◌||◌, find, nat_le, option_map, if◌then◌else◌}
-use Rattle.std.specs.List.{list_any, list_all, cons_option}
+use Rattle.std.proofs.Common.{◌≡◌, ◌≤◌, ◌<◌, ◌+◌, arith, ℕ, Bool, true, false, not, cond, Some, None, List, [], ◌∷◌, ◌++◌, map, append_assoc, refl, sym, ap, ◌∙◌, subst}
+use Rattle.std.specs.Prelude.{◌==◌, ◌||◌, find, nat_le, if◌then◌else◌}
+use Rattle.std.specs.List.{list_any}
 use Rattle.std.specs.Cmp.Derive.{both_true as both_hold}
 use Rattle.std.proofs.lemmas.Bool.{eqb-true, eq-eqb, leb-true, leb-false}
 use Rattle.std.proofs.lemmas.Option.{same_Some, none-some}
-use Rattle.py_tree.specs.PlainTypes.{PlainTy, TInt, TBool, TStr, TNil, TList, TOptional, TEntity}
+use Rattle.py_tree.specs.PlainTypes.{PlainTy, TOptional}
 use Rattle.py_tree.specs.ClassRules.{PlainSigParam}
 use Rattle.py_tree.specs.FlowEnvironment.{PlainLocal, local_of, has_none}
-use Rattle.py_tree.specs.ExpressionTypes.{same_ty, inside, read_ty}
+use Rattle.py_tree.specs.ExpressionTypes.{inside}
 use Rattle.py_tree.specs.Flow.{known_at, settled, param_local}
-use Rattle.py_tree.proofs.TypeLaws.{same-refl}
-use Rattle.program_meaning.proofs.LocalShapes.{Shape, shape, shapes, type_in, type_found}
+use Rattle.program_meaning.proofs.LocalShapes.{Shape, shape, shapes, type_in}
 use Rattle.block_code.specs.PlainVars.{PlainVar}
-use Rattle.block_code.specs.GraphFits.{var_of, var_of_param, is_var, is_inside, is_param_of, each_once}
-use Rattle.flat_types.specs.FlatTypes.{is_point}
+use Rattle.block_code.specs.GraphFits.{var_of, var_of_param, is_var, each_once}
 use Rattle.method_hoister.specs.Spots.{surely}
-use Rattle.typed_hoisting.specs.KnownLocals.{Once, Free}
+use Rattle.typed_hoisting.specs.KnownLocals.{Once}
 use Rattle.typed_hoisting.specs.TypedHoisting.{Numbered, AreAmong}
 use Rattle.typed_hoisting.proofs.LocalLaws.{apart}
 use Rattle.typed_methods.proofs.CodeLaws.{TypedAs}

@@ -7,8 +7,8 @@ use Rattle.py_tree.specs.declared.rule.Rule.TheVariants.{Mismatch}
 use Rattle.py_tree.specs.declared.rule.RuleFault.{RuleFault}
 use Rattle.py_tree.specs.PlainTypes.{PlainTy, TNil, TList, TOptional}
 use Rattle.py_tree.specs.ClassRules.{PlainTable}
-use Rattle.py_tree.specs.FlowEnvironment.{PlainEnv, where_test, shown, has_none}
-use Rattle.py_tree.specs.ExpressionTypes.{same_ty, is_held, assignable, with_none, join_none, join, element_wanted, refuse_if, with_found, needs, fits, as_condition, place_of, type_of, list_of, elements}
+use Rattle.py_tree.specs.FlowEnvironment.{PlainEnv, where_test, has_none}
+use Rattle.py_tree.specs.ExpressionTypes.{same_ty, is_held, with_none, join_none, join, element_wanted, refuse_if, with_found, needs, fits, as_condition, place_of, type_of, list_of, elements}
 use Rattle.py_tree.specs.PlainExpressions.{PlainExpr, PList, PCond, PlainExprs, PNoExpr, PExpr}
 use Rattle.py_tree.proofs.TypeLaws.{same-true, join_none_is}
 use Rattle.program_meaning.proofs.TypedParts.{done, err_ok, same_ok, found_ok, needs_ok, either_true, elements_result}

@@ -1,22 +1,19 @@
 -- Where as much is known as on a way that has been left by a `break`, as much is known as on the ways that have been left so later on; and
 -- where as much is known as behind an arm, as much is known as behind all arms.
-use Rattle.std.proofs.Common.{◌≡◌, Bool, true, false, not, cond, Option, Some, None, Result, Ok, List, [], ◌∷◌, refl, sym, ap, ◌∙◌, subst}
-use Rattle.std.specs.Prelude.{ℕ}
-use Rattle.py_tree.specs.declared.names.Place.{Place}
+use Rattle.std.proofs.Common.{◌≡◌, Bool, true, false, not, cond, Option, None, Result, Ok, List, ◌∷◌, sym, ap, ◌∙◌, subst}
 use Rattle.py_tree.specs.declared.rule.Rule.TheVariants.{LoopWord}
 use Rattle.py_tree.specs.declared.rule.RuleFault.{RuleFault}
 use Rattle.py_tree.specs.PlainTypes.{PlainTy}
 use Rattle.py_tree.specs.PlainExpressions.{PlainExpr}
 use Rattle.py_tree.specs.PlainStatements.{PlainStmt, PPass, PBreak, PContinue, PDo, PReturn, PRaise, PAssert, PAssign, PAugment, PIf, PWhile, PFor, PlainStmts, PNoStmt, PStmt, PArm, PlainArms, PNoArm, PMoreArms}
 use Rattle.py_tree.specs.FlowEnvironment.{PlainLocal, shown, narrowed}
-use Rattle.py_tree.specs.ExpressionTypes.{refuse_if, with_found}
 use Rattle.py_tree.specs.Reachability.{goes_on, all_go_on, assigned_in}
-use Rattle.py_tree.specs.Flow.{Context, type_at, condition_at, within_loop, Known, known_at, settled, meet, way, behind_ways, at_head, needs_none, return_fault, message_fault, assigned, augmentation, Way, on, begun, broken_off, after_while, after_for, for_head, flow, flow_all, flow_arms}
-use Rattle.program_meaning.proofs.LocalShapes.{shapes, Grows, alike_grows, grows_on, grows_same, shapes_narrowed, shapes_settled, shapes_behind}
+use Rattle.py_tree.specs.Flow.{Context, type_at, condition_at, Known, known_at, settled, meet, way, behind_ways, at_head, needs_none, return_fault, message_fault, assigned, augmentation, Way, on, broken_off, after_while, after_for, for_head, flow, flow_all, flow_arms}
+use Rattle.program_meaning.proofs.LocalShapes.{shapes, Grows, alike_grows, grows_same, shapes_narrowed, shapes_settled, shapes_behind}
 use Rattle.program_meaning.proofs.TypedParts.{done, same_ok, found_ok, refuse_ok}
 use Rattle.program_meaning.proofs.FlowParts.{no_need}
 use Rattle.program_meaning.proofs.FlowGrows.{follows, follows_all, WhileParts, while_parts, ForParts, for_parts, all_parts, last_parts, ArmParts, arm_parts}
-use Rattle.typed_methods.proofs.KnownWays.{MetUnder, met_left, met_right, met_grown, met_behind}
+use Rattle.typed_methods.proofs.KnownWays.{MetUnder, met_left, met_grown, met_behind}
 use Rattle.typed_methods.proofs.StoredKnown.{AllUnder}
 
 module _ (env : List PlainLocal) where

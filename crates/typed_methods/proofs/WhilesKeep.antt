@@ -1,28 +1,27 @@
 -- `while` keeps the rules where calls come out of it, if its body does.
-use Rattle.std.proofs.Common.{◌≡◌, ◌≤◌, ◌<◌, arith, ℕ, Bool, true, false, not, cond, Option, Some, None, Ok, List, [], ◌∷◌, ◌++◌, refl, sym, ap, ◌∙◌, subst, true≢false}
+use Rattle.std.proofs.Common.{◌≡◌, ◌≤◌, arith, ℕ, Bool, true, false, not, Option, Some, None, Ok, List, [], ◌++◌, refl, sym, ap, ◌∙◌, subst, true≢false}
 use Rattle.std.specs.Prelude.{⊤, ◌||◌, ◌&&◌, option_map}
 use Rattle.py_tree.specs.declared.names.Place.{Place}
 use Rattle.py_tree.specs.Bounded.{ExprNames}
-use Rattle.py_tree.specs.PlainTypes.{PlainTy}
-use Rattle.py_tree.specs.PlainExpressions.{PlainExpr, PInt, PBool, PStr, PNil, PVar, PSelf, PAttr, PCall, PApply, PIndex, PList, PNeg, PPos, PNot, PChain, PAnd, POr, PCompare, PIsNone, PCond}
+use Rattle.py_tree.specs.PlainExpressions.{PlainExpr, PBool}
 use Rattle.py_tree.specs.PlainStatements.{PlainStmt, PWhile, PlainStmts}
 use Rattle.py_tree.specs.FlowEnvironment.{PlainLocal, has_name, shown, narrowed}
 use Rattle.py_tree.specs.Reachability.{all_go_on, goes_on, breaks, break_in, is_true, assigned_in}
-use Rattle.py_tree.specs.Flow.{Context, Known, within_loop, meet, way, at_head, Way, on, begun, after_while, flow}
+use Rattle.py_tree.specs.Flow.{Context, meet, way, at_head, Way, begun, after_while, flow}
 use Rattle.call_graph.specs.SuspendingCode.{Leaving, expr_suspends}
-use Rattle.program_meaning.proofs.LocalShapes.{shapes, type_in, shapes_narrowed, shapes_at_head}
+use Rattle.program_meaning.proofs.LocalShapes.{shapes, shapes_narrowed, shapes_at_head}
 use Rattle.program_meaning.proofs.FlowGrows.{WhileParts, while_parts}
 use Rattle.block_code.specs.PlainVars.{PlainVar}
 use Rattle.block_code.specs.GraphFits.{Asked, at_start}
-use Rattle.flat_tree.specs.PlainFlat.{Point, PlainFlatStmt, PlainFlatTest, FLeaf, FNot, FAnd, FOr, FNoStmt, FStmt, flat_stmts_of}
+use Rattle.flat_tree.specs.PlainFlat.{Point, PlainFlatTest, FLeaf, FNot, FAnd, FOr, FNoStmt, FStmt, flat_stmts_of}
 use Rattle.method_splitter.specs.Points.{PointsPass}
 use Rattle.flat_types.specs.FlatTypes.{is_point, Supplies, Ends, Behind, LoopFits, stmts_fit, test_fits}
 use Rattle.flat_types.proofs.FlowStays.{EachTyped, all_stay, stmt_stays}
 use Rattle.method_splitter.specs.Split.{always}
-use Rattle.method_hoister.specs.Spots.{Spot, surely, where_shown, locals_behind, point_behind}
-use Rattle.method_hoister.specs.HoistExpressions.{Tested, Forms, forms_if, taken, forms}
+use Rattle.method_hoister.specs.Spots.{Spot, surely, locals_behind, point_behind}
+use Rattle.method_hoister.specs.HoistExpressions.{Tested, forms}
 use Rattle.method_hoister.specs.HoistStatements.{opened, flat_all}
-use Rattle.typed_hoisting.specs.KnownLocals.{Seen, seen, Kept, Under, Free, AreVariables, Stands, AtLeast}
+use Rattle.typed_hoisting.specs.KnownLocals.{Seen, seen, Kept, Under, Free, AreVariables, AtLeast}
 use Rattle.typed_hoisting.specs.TypedHoisting.{AreAmong, Around, asked_of, code_fits, GoodTest}
 use Rattle.typed_hoisting.proofs.LocalLaws.{kept_same, narrowed_more, narrowed_seen}
 use Rattle.typed_hoisting.proofs.EnvironmentLaws.{free_later, free_narrowed}
@@ -33,8 +32,8 @@ use Rattle.typed_methods.proofs.KnownWays.{MetUnder, met_left, met_right, met_he
 use Rattle.typed_methods.proofs.StoredKnown.{all_itself, AllKept, AllUnder, all_under, forget_if, head_seen, under_free, free_same}
 use Rattle.typed_methods.proofs.KeptParts.{in_loop_if}
 use Rattle.typed_methods.proofs.FlowKept.{or_left, or_right}
-use Rattle.typed_methods.proofs.KnownStays.{Above, begun_above, all_above, Forgets, narrowed_above}
-use Rattle.typed_methods.proofs.CodeLaws.{spot, At, TypedAs, WaysLead, all_under_on, to_stands, from_stands, at_as, supplies_all, point_at, typed_same, are_typed, surely_passes, GoodCode}
+use Rattle.typed_methods.proofs.KnownStays.{begun_above, all_above, Forgets, narrowed_above}
+use Rattle.typed_methods.proofs.CodeLaws.{spot, At, TypedAs, WaysLead, all_under_on, to_stands, supplies_all, point_at, typed_same, are_typed, surely_passes, GoodCode}
 use Rattle.typed_methods.proofs.SimpleKeep.{EachVariable, Begins, forms_good, GoodOpened}
 use Rattle.typed_methods.proofs.PointsBehind.{behind_is, ends_behind, behind_passes, behind_end}
 use Rattle.typed_methods.proofs.ArmsKeep.{GoodAll}
@@ -164,7 +163,7 @@ module _ (c : Context) (leaves : Leaving) (own : Own leaves) (limit : ℕ) where
       let free : Free f.next end.locals = free_same f.next w.locals end.locals same (free_later n f.next w.locals (omega (arith, up, up2)) b.free) in
       let goes_here : Bool = not (is_true test) || break_in body in
       let behind_met : (env : List PlainLocal) → MetUnder (shapes p.end.locals) (meet (way (not (is_true test)) ns) p.end.breaks) env → AllUnder end.locals env = λ env met.
-          subst (λ ks. AllUnder ks env) locals_end (met_behind p.end.locals (meet (way (not (is_true test)) ns) p.end.breaks) env met) in
+      subst (λ ks. AllUnder ks env) locals_end (met_behind p.end.locals (meet (way (not (is_true test)) ns) p.end.breaks) env met) in
       record {
         made = gt.made ++ gb.made;
         numbered = numbered_both n gt.made gb.made t.next f.next gt.numbered gb.numbered;
@@ -172,13 +171,16 @@ module _ (c : Context) (leaves : Leaving) (own : Own leaves) (limit : ℕ) where
             let typed_h : TypedAs variables hs = typed_same variables w.locals hs to_hs typed in
             let typed_s : TypedAs variables ss = typed_same variables w.locals ss to_ss typed in (
               tt,
-              ((
-                surely_passes variables n hs free_h typed_h,
-                gt.points variables (among_first variables gt.made gb.made among) (are_typed variables hs typed_h),
-                surely_passes variables t.next ss begins.free typed_s,
-                gb.points variables (among_rest variables gt.made gb.made among) typed_s,
-                behind_passes goes_here ls variables (subst (λ ks. is_point variables (surely ks) ≡ true) (sym is) (surely_passes variables f.next end.locals free (typed_same variables w.locals end.locals same typed))),
-              ), tt),
+              (
+                (
+                  surely_passes variables n hs free_h typed_h,
+                  gt.points variables (among_first variables gt.made gb.made among) (are_typed variables hs typed_h),
+                  surely_passes variables t.next ss begins.free typed_s,
+                  gb.points variables (among_rest variables gt.made gb.made among) typed_s,
+                  behind_passes goes_here ls variables (subst (λ ks. is_point variables (surely ks) ≡ true) (sym is) (surely_passes variables f.next end.locals free (typed_same variables w.locals end.locals same typed))),
+                ),
+                tt,
+              ),
             );
         fits = λ m among typed env at' ways goal go_on.
             let typed_h : TypedAs m.variables hs = typed_same m.variables w.locals hs to_hs typed in
@@ -191,7 +193,7 @@ module _ (c : Context) (leaves : Leaving) (own : Own leaves) (limit : ℕ) where
             let at_h : At m.variables hs env_h = point_at m.variables n hs free_h typed_h in
             let at_s : At m.variables ss env_s = point_at m.variables t.next ss begins.free typed_s in
             let ends : (there : List PlainLocal) → goes_here ≡ true → AreVariables m.variables there → AllUnder end.locals there → Ends after there = λ there go are under.
-                ends_behind goes_here ls there go (subst (λ ks. Supplies (surely ks) there) (sym is) (supplies_all m.variables f.next end.locals there free are under)) in
+            ends_behind goes_here ls there go (subst (λ ks. Supplies (surely ks) there) (sym is) (supplies_all m.variables f.next end.locals there free are under)) in
             let inside : Around = record { variables = m.variables; breaks = Ends after; continues = Supplies head } in
             let ways_body : WaysLead inside hs true (break_in body) p.end = record {
               at_break = λ left there are met.
@@ -199,31 +201,31 @@ module _ (c : Context) (leaves : Leaving) (own : Own leaves) (limit : ℕ) where
               at_continue = λ loops there are under. supplies_all m.variables n hs there free_h are under;
             } in
             let body_fits : (start : List PlainLocal) → At m.variables ss start → code_fits c leaves inside f.code (Supplies head) start = λ start there.
-                gb.fits inside (among_rest m.variables gt.made gb.made among) typed_s start there ways_body (Supplies head)
-                (λ go last at_last. supplies_all m.variables n hs last free_h at_last.are (all_under_on hs p.end.locals last end_above (all_under p.end.locals last at_last.kept))) in
+            gb.fits inside (among_rest m.variables gt.made gb.made among) typed_s start there ways_body (Supplies head)
+            (λ go last at_last. supplies_all m.variables n hs last free_h at_last.are (all_under_on hs p.end.locals last end_above (all_under p.end.locals last at_last.kept))) in
             let among1 : AreAmong m.variables gt.made = among_first m.variables gt.made gb.made among in
             let always_fits : always t.test ≡ true → At m.variables ss env_h = λ yes'.
-                let least : AtLeast m.variables n ss (narrowed [] env_h) = always_leads c leaves m t.test (AtLeast m.variables n ss) (λ there. ⊤) env_h yes'
-                    (gt.sides m among1 env_h (to_stands m.variables n hs env_h at_h) (AtLeast m.variables n ss) (λ there. ⊤) (λ there least. least) (λ there least. tt)) in
-                record {
-                  are = at_h.are;
-                  kept = narrowed_already (shown true test) hs env_h at_h.kept
-                      (all_under_on ss (narrowed [] env_h) env_h (under_free n m.variables ss (narrowed [] env_h) (free_narrowed n n (shown true test) hs (omega arith) free_h) least) (all_under (narrowed [] env_h) env_h (unnarrowed env_h)));
-                } in
+            let least : AtLeast m.variables n ss (narrowed [] env_h) = always_leads c leaves m t.test (AtLeast m.variables n ss) (λ there. ⊤) env_h yes'
+            (gt.sides m among1 env_h (to_stands m.variables n hs env_h at_h) (AtLeast m.variables n ss) (λ there. ⊤) (λ there least. least) (λ there least. tt)) in
+            record {
+              are = at_h.are;
+              kept = narrowed_already (shown true test) hs env_h at_h.kept
+                  (all_under_on ss (narrowed [] env_h) env_h (under_free n m.variables ss (narrowed [] env_h) (free_narrowed n n (shown true test) hs (omega arith) free_h) least) (all_under (narrowed [] env_h) env_h (unnarrowed env_h)));
+            } in
             let failing : always t.test ≡ false → (there : List PlainLocal) → AtLeast m.variables n ns there → Ends after there = λ no' there least.
-                let open' : not (is_true test) ≡ true = not_literal (is_true test) (λ e. true≢false (sym (literal_always c leaves test (spot (begun hs) n) e) ∙ no')) in
-                let under : AllUnder ns there = under_free n m.variables ns there (free_narrowed n n (shown false test) hs (omega arith) free_h) least in
-                let met : MetUnder (shapes p.end.locals) (way (not (is_true test)) ns) there =
-                    subst (λ ks. MetUnder ks (way (not (is_true test)) ns) there) (to_ns ∙ sym to_ss ∙ sym end_shapes) (subst (λ o. MetUnder (shapes ns) (way o ns) there) (sym open') (met_here ns there under)) in
-                ends there (or_left (not (is_true test)) (break_in body) open') least.are (behind_met there (met_left (shapes p.end.locals) there (way (not (is_true test)) ns) p.end.breaks met)) in
+            let open' : not (is_true test) ≡ true = not_literal (is_true test) (λ e. true≢false (sym (literal_always c leaves test (spot (begun hs) n) e) ∙ no')) in
+            let under : AllUnder ns there = under_free n m.variables ns there (free_narrowed n n (shown false test) hs (omega arith) free_h) least in
+            let met : MetUnder (shapes p.end.locals) (way (not (is_true test)) ns) there =
+            subst (λ ks. MetUnder ks (way (not (is_true test)) ns) there) (to_ns ∙ sym to_ss ∙ sym end_shapes) (subst (λ o. MetUnder (shapes ns) (way o ns) there) (sym open') (met_here ns there under)) in
+            ends there (or_left (not (is_true test)) (break_in body) open') least.are (behind_met there (met_left (shapes p.end.locals) there (way (not (is_true test)) ns) p.end.breaks met)) in
             let loop : (o : Bool) → always t.test ≡ o → LoopFits m.variables o head (surely ss) after (λ yes' no' locals. test_fits c leaves m.variables m.breaks m.continues t.test yes' no' locals)
-                (λ locals. stmts_fit c leaves m.variables (Ends after) (Supplies head) (flat_stmts_of f.code) (Supplies head) locals) =
-                loops m.variables head (surely ss) after _ _ (always t.test) (λ yes'. body_fits env_h (always_fits yes'))
-                (λ no'. (
-                  gt.sides m among1 env_h (to_stands m.variables n hs env_h at_h) (Supplies (surely ss)) (Ends after)
-                      (λ there least. supplies m.variables n ss there (free_narrowed n n (shown true test) hs (omega arith) free_h) least) (failing no'),
-                  body_fits env_s at_s,
-                )) in (
+            (λ locals. stmts_fit c leaves m.variables (Ends after) (Supplies head) (flat_stmts_of f.code) (Supplies head) locals) =
+            loops m.variables head (surely ss) after _ _ (always t.test) (λ yes'. body_fits env_h (always_fits yes'))
+            (λ no'. (
+              gt.sides m among1 env_h (to_stands m.variables n hs env_h at_h) (Supplies (surely ss)) (Ends after)
+                  (λ there least. supplies m.variables n ss there (free_narrowed n n (shown true test) hs (omega arith) free_h) least) (failing no'),
+              body_fits env_s at_s,
+            )) in (
               supplies_all m.variables n hs env free_h at'.are (all_under_on hs w.locals env (head_under (assigned_in body) w.locals) (all_under w.locals env at'.kept)),
               loop (always t.test) refl,
               behind_end goes_here ls m.variables goal
