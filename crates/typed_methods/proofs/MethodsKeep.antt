@@ -1,6 +1,8 @@
 -- The flat code of each method of an accepted program keeps the rules on types.
-use Rattle.std.proofs.Common.{◌≡◌, ◌<◌, ℕ, zero, suc, arith, Bool, true, false, cond, not, Option, Some, None, Result, Ok, List, [], ◌∷◌, ◌++◌, length, map, append_assoc, append-nil, refl, sym, ap, ◌∙◌, subst, true≢false}
+use Rattle.std.proofs.Common.{◌≡◌, ◌<◌, ◌≤◌, ◌+◌, ℕ, zero, suc, arith, Bool, true, false, cond, not, Option, Some, None, Result, Ok, List, [], ◌∷◌, ◌++◌, length, map, append_assoc, append-nil, refl, sym, ap, ◌∙◌, subst, true≢false}
 use Rattle.std.specs.Prelude.{◌==◌, ◌||◌, ◌&&◌, slice_get}
+use Rattle.std.specs.List.{All}
+use Rattle.std.proofs.lemmas.List.Elements.{All-nil, All-cons}
 use Rattle.std.proofs.lemmas.Option.{none-some}
 use Rattle.std.proofs.Math.Bridge.{le_prop}
 use Rattle.std.proofs.Math.Logic.{∥∥₁_elim}
@@ -31,14 +33,14 @@ use Rattle.flat_types.proofs.FlowStays.{all_stay}
 use Rattle.method_hoister.specs.Spots.{surely}
 use Rattle.method_hoister.specs.HoistStatements.{flat_all}
 use Rattle.typed_hoisting.specs.KnownLocals.{seen, Free}
-use Rattle.typed_hoisting.specs.TypedHoisting.{AreAmong, Around}
+use Rattle.typed_hoisting.specs.TypedHoisting.{Numbered, AreAmong, Around}
 use Rattle.typed_hoisting.proofs.LocalLaws.{kept_same}
 use Rattle.typed_hoisting.proofs.CallsKeep.{Own}
 use Rattle.typed_hoisting.proofs.ExpressionsKeep.{own_by_marks}
 use Rattle.entity_compiler.specs.CompiledGraph.{found_locals}
 use Rattle.entity_compiler.proofs.Places.{ClassOf, class_of_method, sig_stands}
 use Rattle.entity_compiler.proofs.NamesAreBelow.{body_below}
-use Rattle.typed_methods.specs.TypedMethods.{KeepsTypes, MethodsKeepTypes}
+use Rattle.typed_methods.specs.TypedMethods.{behind_temporaries, MethodKeepsTypes, KeepsTypes, MethodsHaveTypes, MethodsKeepTypes}
 use Rattle.typed_methods.proofs.KnownWays.{MetUnder, known_before}
 use Rattle.typed_methods.proofs.StoredKnown.{AllKept, free_same}
 use Rattle.typed_methods.proofs.FlowKept.{GoesSo, begun_ahead, all_kept}
@@ -223,3 +225,18 @@ methods_keep_types names program marks accepted class number m h =
     let has : sig_at tables class number ≡ Some (sig_of m) = sig_stands names program class number m k in
     subst (λ ls. KeepsTypes (in_method tables class number) leaves limit (behind tables class number (sig_of m) m limit has below raises params found.0 found.1 leaves own ls) ls (flat_of tables class number (sig_of m) m limit has below raises params found.0 found.1 leaves own ls))
     (sym (ap found_locals found.1)) (keeps_types tables class number (sig_of m) m limit has below raises params found.0 found.1 leaves own)
+
+-- As a graph asks it
+
+made_behind : (first : ℕ) (made : List PlainVar) (next count : ℕ) → count ≤ first → Numbered first made next → All (λ (v : PlainVar). count ≤ v.name) made
+made_behind first [] next count up h = All-nil (λ (v : PlainVar). count ≤ v.name)
+made_behind first (v ∷ made) next count up h = All-cons (λ (v : PlainVar). count ≤ v.name) v made (omega (arith, up, h.0)) (made_behind (first + 1) made next count (omega (arith, up)) h.1)
+
+pub methods_have_types : MethodsHaveTypes
+methods_have_types names program marks accepted class number m h reached callees =
+    let k : MethodKeepsTypes names program marks class number m = methods_keep_types names program marks accepted class number m h in
+    record {
+      temporaries = k.made;
+      are_temporaries = made_behind (length names) k.made (behind_temporaries names program marks class number m) (length names) (omega arith) k.numbered;
+      fits = record { outside = refl; once = k.once; types = k.types; reached = reached; params = k.params; points = k.points; callees = callees };
+    }

@@ -12,13 +12,15 @@ use Rattle.program_meaning.specs.NothingGoesWrong.{IsKnownAccepted}
 use Rattle.block_code.specs.PlainVars.{PlainVar}
 use Rattle.block_code.specs.GraphFits.{var_of, each_once}
 use Rattle.flat_tree.specs.PlainFlat.{PlainFlat, flat_stmts_of}
+use Rattle.method_splitter.specs.Callees.{CalleesAreThere}
 use Rattle.method_splitter.specs.Points.{PointsPassInAll}
 use Rattle.flat_types.specs.FlatTypes.{is_point, Nowhere, Behind, stmts_fit}
+use Rattle.flat_types.specs.DeadCode.{HaveNoDead}
 use Rattle.flat_types.specs.SplitFits.{EndsWithNone}
 use Rattle.method_hoister.specs.HoistStatements.{flat_all}
 use Rattle.typed_hoisting.specs.TypedHoisting.{Numbered}
 use Rattle.entity_compiler.specs.CompiledGraph.{context_of, start_locals, flat_method}
-use Rattle.entity_compiler.specs.CodeKeepsRules.{OfEachMethod}
+use Rattle.entity_compiler.specs.CodeKeepsRules.{OfEachMethod, HasTypes}
 
 -- the temporaries of a whole flat method, from one number up to another, each of one type; with them and these locals its code keeps the rules
 -- from its parameters on, outside all loops
@@ -47,3 +49,12 @@ abbrev pub MethodsKeepTypes : Type 0
 MethodsKeepTypes =
     (names : List (List ℕ)) (program : PlainProgram) (marks : List (List Bool)) → IsKnownAccepted names program
     → OfEachMethod names program (MethodKeepsTypes names program marks)
+
+-- so where each part of its flat code can be reached, and the callees in it are there, it fits as a method of a graph does
+abbrev pub MethodsHaveTypes : Type 0
+MethodsHaveTypes =
+    (names : List (List ℕ)) (program : PlainProgram) (marks : List (List Bool)) → IsKnownAccepted names program
+    → OfEachMethod names program (λ class number m.
+    HaveNoDead (flat_stmts_of (flat_method names program marks class number m).body)
+    → CalleesAreThere (context_of names program class number).tables (flat_stmts_of (flat_method names program marks class number m).body)
+    → HasTypes names program marks class number m)

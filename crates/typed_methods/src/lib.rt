@@ -5,4 +5,4 @@
 
 mod laws;
 
-pub use laws::methods_keep_types;
+pub use laws::{methods_have_types, methods_keep_types};
