@@ -263,6 +263,7 @@ module _ (c : Context) (leaves : Leaving) (limit : ℕ) (e : PlainExpr) (both : 
       record {
         made = g.made;
         numbered = g.numbered;
+        points = g.points;
         fits = λ variables among env stands. g.before (outside variables) among env stands (IsTyped c leaves a.rest ty) (λ after there. record { wanted = wanted; typed = (g.rest after there.alike).0; stays = (g.rest after there.alike).1 });
       }
 
@@ -272,6 +273,7 @@ module _ (c : Context) (leaves : Leaving) (limit : ℕ) (e : PlainExpr) (both : 
       record {
         made = g.made;
         numbered = g.numbered;
+        points = g.points;
         fits = λ variables among env stands. g.sides (outside variables) among env stands (Supplies (surely (narrowed (shown true e) h.locals))) (Supplies (surely (narrowed (shown false e) h.locals)))
             (λ after least. supplies variables h.next (narrowed (shown true e) h.locals) after (free_narrowed h.next h.next (shown true e) h.locals (omega arith) free) least)
             (λ after least. supplies variables h.next (narrowed (shown false e) h.locals) after (free_narrowed h.next h.next (shown false e) h.locals (omega arith) free) least);

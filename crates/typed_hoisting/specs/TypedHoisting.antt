@@ -113,19 +113,21 @@ module _ (c : Context) (leaves : Leaving) where
   abbrev pub IsTyped : PlainExpr → PlainTy → Asked
   IsTyped e ty locals = HasType c leaves locals e ty
 
-  -- what runs before keeps the rules, and what is left has this type behind that
+  -- what runs before keeps the rules, and what is left has this type behind that; and points name variables
   pub record ValueFits (h : Spot) (a : Hoisted PlainExpr) (ty : PlainTy) : Type 0 where
     pub made : List PlainVar
     pub numbered : Numbered h.next made a.spot.next
     pub fits : (variables : List PlainVar) → AreAmong variables made → (env : List PlainLocal) → Stands variables h.next h.locals env
         → stmts_fit c leaves variables Nowhere Nowhere (flat_stmts_of a.before) (IsTyped a.rest ty) env
+    pub points : (variables : List PlainVar) → AreAmong variables made → AreTyped variables h.locals → CodePasses variables a.before
 
-  -- a test keeps the rules, and leads where this is known
+  -- a test keeps the rules, and leads where this is known; and its points name variables
   pub record TestFits (h : Spot) (t : Tested PlainFlatTest) (holds fails : List PlainLocal) : Type 0 where
     pub made : List PlainVar
     pub numbered : Numbered h.next made t.next
     pub fits : (variables : List PlainVar) → AreAmong variables made → (env : List PlainLocal) → Stands variables h.next h.locals env
         → test_fits c leaves variables Nowhere Nowhere t.test (Supplies (surely holds)) (Supplies (surely fails)) env
+    pub points : (variables : List PlainVar) → AreAmong variables made → AreTyped variables h.locals → PointsPassInTest (is_point variables) t.test
 
   -- as a value, and as a test
   abbrev pub FormsFit : ℕ → PlainExpr → Forms → Type 0

@@ -22,15 +22,21 @@ use Rattle.typed_hoisting.specs.TypedHoisting.{Numbered}
 use Rattle.entity_compiler.specs.CompiledGraph.{context_of, start_locals, flat_method}
 use Rattle.entity_compiler.specs.CodeKeepsRules.{OfEachMethod, HasTypes}
 
+-- with these locals and temporaries
+abbrev pub variables_of : List PlainLocal → List PlainVar → List PlainVar
+variables_of locals made = map var_of locals ++ made
+
 -- the temporaries of a whole flat method, from one number up to another, each of one type; with them and these locals its code keeps the rules
--- from its parameters on, outside all loops
+-- from its parameters on, outside all loops, and each of its points names variables
 pub record KeepsTypes (c : Context) (leaves : Leaving) (first next : ℕ) (locals : List PlainLocal) (flat : PlainFlat) : Type 0 where
   pub made : List PlainVar
   pub numbered : Numbered first made next
-  pub once : each_once (map var_of locals ++ made) ≡ true
-  pub params : is_point (map var_of locals ++ made) flat.params ≡ true
-  pub types : Behind (map var_of locals ++ made) flat.params (stmts_fit c leaves (map var_of locals ++ made) Nowhere Nowhere (flat_stmts_of flat.body) (EndsWithNone c))
-  pub points : PointsPassInAll (is_point (map var_of locals ++ made)) (flat_stmts_of flat.body)
+  pub once : each_once (variables_of locals made) ≡ true
+  pub params : is_point (variables_of locals made) flat.params ≡ true
+  pub types :
+      Behind (variables_of locals made) flat.params
+      (stmts_fit c leaves (variables_of locals made) Nowhere Nowhere (flat_stmts_of flat.body) (EndsWithNone c))
+  pub points : PointsPassInAll (is_point (variables_of locals made)) (flat_stmts_of flat.body)
 
 module _ (names : List (List ℕ)) (program : PlainProgram) (marks : List (List Bool)) (class number : ℕ) (m : PlainMethod) where
   -- the number behind those of the temporaries
