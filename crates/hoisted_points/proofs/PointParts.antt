@@ -125,10 +125,13 @@ module _ (variables : List PlainVar) where
       let behind : NamedAt variables (with_temporary ty later) = named_with variables later ty is there in
       let one : CodePasses variables a.before × NamedAt variables a.spot = q (named_shown true test h t.next to_test n) in
       let other : CodePasses variables b.before × NamedAt variables b.spot = r (named_shown false test h a.spot.next (omega (arith, to_test, to_first)) n) in (
-        ((
-          (p n, shown_point true test h n, last_passes a.before (FSet b.spot.next a.rest) one.0 tt, shown_point false test h n, tt),
-          last_passes b.before (FSet b.spot.next b.rest) other.0 tt,
-          named_point (with_temporary ty later) behind,
-        ), tt),
+        (
+          (
+            (p n, shown_point true test h n, last_passes a.before (FSet b.spot.next a.rest) one.0 tt, shown_point false test h n, tt),
+            last_passes b.before (FSet b.spot.next b.rest) other.0 tt,
+            named_point (with_temporary ty later) behind,
+          ),
+          tt,
+        ),
         behind,
       )

@@ -173,8 +173,14 @@ module _ (leaves : Leaving) (c : Context) where
         passes = λ variables among n.
             let there : NamedAt variables g = named_moved variables h.locals h.locals h.next t.next refl (numbered_up h.next p.made t.next p.numbered) n in (
               tt,
-              (((p.passes variables (among_first variables p.made q.made among) n, shown_point variables true test h n, tt, named_point variables h n, tt),
-              last_passes variables a.before (FFail 3 a.rest) (q.names variables (among_rest variables p.made q.made among) there).0 tt, shown_point variables true test h n), tt),
+              (
+                (
+                  (p.passes variables (among_first variables p.made q.made among) n, shown_point variables true test h n, tt, named_point variables h n, tt),
+                  last_passes variables a.before (FFail 3 a.rest) (q.names variables (among_rest variables p.made q.made among) there).0 tt,
+                  shown_point variables true test h n,
+                ),
+                tt,
+              ),
             );
       }
 
@@ -210,7 +216,7 @@ module _ (leaves : Leaving) (c : Context) where
             let head : Point = surely (head_locals name body inside.locals) in (
               tt,
               both_pass variables (settled at ty a).before (list_loop at name a.spot.next head after (code start).code) (last_passes variables a.before (FSet a.spot.next a.rest) first.0 tt)
-              (list_passes variables at name a.spot.next head after (code start).code (head_point variables all inside there) (end variables n) turn),
+                  (list_passes variables at name a.spot.next head after (code start).code (head_point variables all inside there) (end variables n) turn),
             );
       }
 
@@ -241,7 +247,7 @@ module _ (leaves : Leaving) (c : Context) where
             let upto : ℕ = (part stop None a.spot).spot.next in (
               tt,
               both_pass variables (a.before ++ b.before) (range_loop at name from upto head after (code start).code) (both_pass variables a.before b.before first.0 second.0)
-              (range_passes variables at name from upto head after (code start).code (head_point variables all inside second.1) (end variables n) turn),
+                  (range_passes variables at name from upto head after (code start).code (head_point variables all inside second.1) (end variables n) turn),
             );
       }
 
@@ -293,11 +299,14 @@ module _ (leaves : Leaving) (c : Context) where
         numbered = numbered_both h.next p.made q.made f.next g.next p.numbered q.numbered;
         passes = λ variables among n. (
           tt,
-          ((
-            p.passes variables (among_first variables p.made q.made among) n,
-            passing_there h there g.next (λ variables. CodePasses variables g.code) (other_shapes arms h) (numbered_up h.next p.made f.next p.numbered) q variables (among_rest variables p.made q.made among) n,
-            end variables n,
-          ), tt),
+          (
+            (
+              p.passes variables (among_first variables p.made q.made among) n,
+              passing_there h there g.next (λ variables. CodePasses variables g.code) (other_shapes arms h) (numbered_up h.next p.made f.next p.numbered) q variables (among_rest variables p.made q.made among) n,
+              end variables n,
+            ),
+            tt,
+          ),
         );
       }
 

@@ -38,7 +38,6 @@ unfolding with_local
 local_typed x first ty locals = by (is_some (local_of locals x)) refl (λ e. shapes_with x first ty locals (sym (is_typed locals x) ∙ e))
   where
     by : (b : Bool) → is_some (local_of locals x) ≡ b → (is_some (local_of locals x) ≡ true → shapes (with_local x first ty locals) ≡ shapes locals) → is_some (type_in (shapes (with_local x first ty locals)) x) ≡ true
-    unfolding with_local
     by true e same = ap (λ ss. is_some (type_in ss x)) (same e) ∙ sym (is_typed locals x) ∙ e
     by false e same =
         ap (λ b. is_some (type_in (shapes (cond b (over (given_if x ty) locals) (locals ++ new_local x first ty ∷ []))) x)) e
