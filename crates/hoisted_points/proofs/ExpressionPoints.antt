@@ -1,5 +1,5 @@
 -- Each point of a hoisted expression names variables of the method.
-use Rattle.std.proofs.Common.{ℕ, Bool, true, false, Option, None, List}
+use Rattle.std.proofs.Common.{Bool, true, false, Option, None, List}
 use Rattle.std.specs.Prelude.{is_none, option_and_then}
 use Rattle.py_tree.specs.declared.names.Place.{Place}
 use Rattle.py_tree.specs.PlainTypes.{PlainTy, TBool}
@@ -10,7 +10,7 @@ use Rattle.call_graph.specs.SuspendingCode.{Leaving, expr_suspends, exprs_suspen
 use Rattle.flat_tree.specs.PlainFlat.{PlainFlatTest, FNot, FAnd, FOr, PlainOperands}
 use Rattle.method_splitter.specs.Points.{PointsPassInAll}
 use Rattle.method_hoister.specs.Spots.{Spot, where_shown, ty_at, method_params}
-use Rattle.method_hoister.specs.HoistExpressions.{Hoisted, Tested, Forms, still, built, if_suspends, settled_unless, kept, lasts, made_of, with_args, in_turn, by_params, by_function, by_elements, first_wanted, others_wanted, ChainPart, chain_of, so_far, linked_on, begun_anew, either, taken, taken_each, taken_links, taken_operands, forms}
+use Rattle.method_hoister.specs.HoistExpressions.{Hoisted, Tested, still, if_suspends, settled_unless, kept, lasts, made_of, with_args, in_turn, by_params, by_function, by_elements, first_wanted, others_wanted, ChainPart, chain_of, so_far, linked_on, begun_anew, either, taken, taken_each, taken_links, taken_operands, forms}
 use Rattle.hoisted_points.proofs.PointedParts.{Pointed, TestPassing, OperandsPassing, PointedForms, still_pointed, built_pointed, turn_pointed, unless_pointed, kept_pointed, if_pointed, call_pointed, apply_pointed, value_pointed, still_forms, forms_if_pointed, no_operand, operand_pointed, chosen_pointed, linked_pointed, anew_pointed, either_pointed}
 
 module _ (leaves : Leaving) (c : Context) where

@@ -1,5 +1,5 @@
 -- Code of which each statement leads on to the next, and code put together.
-use Rattle.std.proofs.Common.{◌≡◌, Bool, true, false, List, [], ◌∷◌, ◌++◌, refl, sym, ◌∙◌, true≢false}
+use Rattle.std.proofs.Common.{◌≡◌, true, List, [], ◌∷◌, ◌++◌, refl, sym, ◌∙◌, true≢false}
 use Rattle.std.specs.Prelude.{⊤}
 use Rattle.flat_tree.specs.PlainFlat.{PlainFlatStmt, flat_stmts_of}
 use Rattle.flat_types.specs.DeadCode.{leads_on, HasNoDead, HaveNoDead}

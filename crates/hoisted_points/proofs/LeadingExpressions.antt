@@ -1,5 +1,5 @@
 -- What runs before a hoisted expression leads on to it, and tests hold only code that leads on.
-use Rattle.std.proofs.Common.{ℕ, Bool, true, false, Option, None, List, [], ◌∷◌, ◌++◌, refl}
+use Rattle.std.proofs.Common.{ℕ, Bool, true, false, Option, None, List, refl}
 use Rattle.std.specs.Prelude.{is_none, option_and_then}
 use Rattle.py_tree.specs.declared.names.Place.{Place}
 use Rattle.py_tree.specs.PlainTypes.{PlainTy, TBool}
@@ -9,7 +9,7 @@ use Rattle.py_tree.specs.Flow.{Context}
 use Rattle.py_tree.specs.PlainExpressions.{PlainExpr, PInt, PBool, PStr, PNil, PVar, PSelf, PAttr, PCall, PApply, PIndex, PList, PNeg, PPos, PNot, PChain, PAnd, POr, PCompare, PIsNone, PCond, PlainExprs, PNoExpr, PExpr, PLink, PlainLinks, PNoLink, PMoreLinks}
 use Rattle.call_graph.specs.SuspendingCode.{Leaving, expr_suspends, exprs_suspend}
 use Rattle.flat_tree.specs.PlainFlat.{FSet, FCall, FMake, PlainFlatTest, FAnd, FOr}
-use Rattle.flat_types.specs.DeadCode.{HasNoDead, HaveNoDead, TestHasNoDead, OperandsHaveNoDead}
+use Rattle.flat_types.specs.DeadCode.{HaveNoDead, TestHasNoDead, OperandsHaveNoDead}
 use Rattle.method_hoister.specs.Spots.{Spot, surely, with_temporary, where_shown, ty_at, callee_of, created_of, method_params}
 use Rattle.method_hoister.specs.HoistExpressions.{Hoisted, Tested, Forms, still, if_suspends, settled_unless, kept, lasts, by_value, forms_if, made_of, chosen, with_args, in_turn, call_of, apply_of, by_params, by_function, by_elements, first_wanted, others_wanted, ChainPart, chain_of, so_far, linked_on, begun_anew, either, taken, taken_each, taken_links, taken_operands, forms}
 use Rattle.hoisted_points.proofs.LeadingCode.{AllLead, both_lead, last_leads, live_last, live}

@@ -1,5 +1,5 @@
 -- No part of a hoisted method is dead.
-use Rattle.std.proofs.Common.{◌≡◌, ℕ, Bool, true, false, not, Option, Some, None, List, [], ◌∷◌, ◌++◌, refl, sym, ap, ◌∙◌, subst, true≢false}
+use Rattle.std.proofs.Common.{◌≡◌, ℕ, Bool, true, false, not, Option, Some, None, List, [], ◌∷◌, ◌++◌, if◌then◌else◌, refl, sym, ◌∙◌, true≢false}
 use Rattle.std.specs.Prelude.{◌||◌, is_some}
 use Rattle.py_tree.specs.declared.names.Place.{Place}
 use Rattle.py_tree.specs.declared.expr.BinOp.{BinOp}
@@ -14,12 +14,11 @@ use Rattle.py_tree.specs.Flow.{Context, at_head, target_read, result_at}
 use Rattle.py_tree.specs.PlainExpressions.{PlainExpr, PBool, PPos}
 use Rattle.py_tree.specs.PlainStatements.{PlainOver, PRange, PItems, PlainStmt, PPass, PBreak, PContinue, PDo, PReturn, PRaise, PAssert, PAssign, PAugment, PIf, PWhile, PFor, PlainStmts, PNoStmt, PStmt, PArm, PlainArms, PNoArm, PMoreArms, stmts_of}
 use Rattle.call_graph.specs.SuspendingCode.{Leaving, expr_suspends}
-use Rattle.program_meaning.proofs.TypedParts.{not_false, either_false}
-use Rattle.flat_tree.specs.PlainFlat.{Point, PlainFlatStmt, FMark, FSet, FGive, FFail, FCode, FBreak, FContinue, FIf, FWhile, flat_stmts_of}
+use Rattle.flat_tree.specs.PlainFlat.{Point, PlainFlatStmt, FMark, FGive, FFail, FCode, FBreak, FContinue, flat_stmts_of}
 use Rattle.method_splitter.specs.Split.{always}
 use Rattle.flat_types.specs.DeadCode.{leads_on, HasNoDead, HaveNoDead, ArmsHaveNoDead}
 use Rattle.method_hoister.specs.Spots.{Spot, surely, where_shown, ty_at, item_ty, locals_behind, point_behind}
-use Rattle.method_hoister.specs.HoistExpressions.{Hoisted, built, still, settled, lasts, forms}
+use Rattle.method_hoister.specs.HoistExpressions.{Hoisted, built, still, settled, lasts, taken, forms}
 use Rattle.method_hoister.specs.HoistStatements.{Flattened, stays, code_if, followed, stored, read_of, target_ty, value_or_nil, start_or_zero, list_spot, head_locals, body_spot, list_loop, range_loop, optional, combination, range_start, range_end, for_code, opened, flat_all, flat_arms, other_spot, flat}
 use Rattle.hoisted_points.specs.NoPartIsDead.{NoPartIsDead}
 use Rattle.hoisted_points.proofs.LeadingCode.{AllLead, both_lead, last_leads, live_both, live_one, live_last, live}

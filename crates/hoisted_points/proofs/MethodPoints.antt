@@ -1,5 +1,5 @@
 -- Each point of a method that keeps the rules names variables of the method.
-use Rattle.std.proofs.Common.{◌≡◌, ℕ, Bool, true, false, Option, Some, Ok, List, [], ◌∷◌, ◌++◌, map, refl, sym, ap, ◌∙◌, subst}
+use Rattle.std.proofs.Common.{◌≡◌, ℕ, true, false, Some, Ok, List, [], ◌∷◌, ◌++◌, map, refl, sym, ap, ◌∙◌, subst}
 use Rattle.std.proofs.lemmas.List.Folds.{list_any-append}
 use Rattle.std.specs.List.{list_any}
 use Rattle.std.specs.Prelude.{not}
@@ -17,7 +17,7 @@ use Rattle.block_code.specs.GraphFits.{is_var, var_of, var_of_param, each_once}
 use Rattle.flat_types.specs.FlatTypes.{is_point}
 use Rattle.method_hoister.specs.Spots.{Spot}
 use Rattle.method_hoister.specs.HoistStatements.{flat_all}
-use Rattle.hoisted_points.specs.NamedPoints.{AreAmong, Unused, Named, NamedAt, MethodNames, PointsNameVariables}
+use Rattle.hoisted_points.specs.NamedPoints.{AreAmong, Unused, MethodNames, PointsNameVariables}
 use Rattle.hoisted_points.proofs.NamedLocals.{as_var, by_shapes, no_true, variables_pass}
 use Rattle.hoisted_points.proofs.PointedParts.{among_first}
 use Rattle.hoisted_points.proofs.TypedNames.{MethodParts, method_parts}

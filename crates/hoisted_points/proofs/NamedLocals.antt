@@ -1,5 +1,5 @@
 -- Locals that are variables of the method: more of them, and the points of what is surely assigned of them.
-use Rattle.std.proofs.Common.{◌≡◌, ◌≤◌, ◌+◌, arith, ℕ, Bool, true, false, not, cond, Option, Some, None, List, [], ◌∷◌, ◌++◌, map, if◌then◌else◌, refl, sym, ap, ◌∙◌, subst, true≢false}
+use Rattle.std.proofs.Common.{◌≡◌, ◌≤◌, ◌+◌, arith, ℕ, Bool, true, false, not, cond, Some, None, List, [], ◌∷◌, ◌++◌, map, if◌then◌else◌, refl, sym, ap, ◌∙◌, subst, true≢false}
 use Rattle.std.specs.Prelude.{◌&&◌, ◌||◌, ◌==◌, find}
 use Rattle.std.specs.List.{cons_option, list_all, list_any}
 use Rattle.std.specs.Cmp.Derive.{both_true as both_hold}
@@ -11,13 +11,12 @@ use Rattle.py_tree.specs.FlowEnvironment.{PlainLocal}
 use Rattle.py_tree.specs.ExpressionTypes.{same_ty, inside, read_ty}
 use Rattle.py_tree.proofs.TypeLaws.{same-refl}
 use Rattle.program_meaning.proofs.TypedParts.{both_true, either_false}
-use Rattle.program_meaning.proofs.LocalShapes.{Shape, shape, shapes}
+use Rattle.program_meaning.proofs.LocalShapes.{Shape, shapes}
 use Rattle.block_code.specs.PlainVars.{PlainVar}
 use Rattle.block_code.specs.GraphFits.{is_var, is_inside, var_of, each_once, is_param_of}
 use Rattle.flat_types.specs.FlatTypes.{is_point}
 use Rattle.method_hoister.specs.Spots.{Spot, surely, temporary, with_temporary}
-use Rattle.method_hoister.specs.Spots.{var_of as entry}
-use Rattle.hoisted_points.specs.NamedPoints.{AreAmong, Unused, Named, NamedAt}
+use Rattle.hoisted_points.specs.NamedPoints.{AreAmong, Named, NamedAt}
 
 -- Locals of the same names and types
 
@@ -117,9 +116,9 @@ found_any p q (u ∷ vs) v is h = by (p u) is (found_any p q vs v)
     by false is rest = either_right (q u) _ (rest is h)
 
 reads_inside : (t : PlainTy) (n : Bool) → (same_ty t (if n then inside t else t) || is_inside t (if n then inside t else t)) ≡ true
-reads_inside t false = either_left (same_ty t t) _ (same-refl t)
+reads_inside t false = either_left (same_ty t t) (is_inside t t) (same-refl t)
 reads_inside (TOptional u) true = either_right (same_ty (TOptional u) u) _ (same-refl u)
-reads_inside t true = either_left (same_ty t t) _ (same-refl t)
+reads_inside t true = either_left (same_ty t t) (is_inside t t) (same-refl t)
 
 is_param : (variables : List PlainVar) (v : PlainVar) (ty : PlainTy) → find (is_var v.name) variables ≡ Some v → (same_ty v.ty ty || is_inside v.ty ty) ≡ true → is_param_of variables (record { name = v.name; ty = ty }) ≡ true
 is_param variables v ty is h = found_any (is_var v.name) (λ u. u.name == v.name && (same_ty u.ty ty || is_inside u.ty ty)) variables v is (both_hold (eq-eqb v.name v.name refl) h)

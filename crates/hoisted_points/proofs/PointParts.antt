@@ -1,17 +1,17 @@
 -- Parts of hoisted expressions whose points name variables of the method, one after another.
-use Rattle.std.proofs.Common.{◌≡◌, ◌≤◌, ◌+◌, arith, ℕ, Bool, true, false, Option, Some, None, List, [], ◌∷◌, ◌++◌, refl, sym, ap, subst}
+use Rattle.std.proofs.Common.{◌≡◌, ◌≤◌, arith, ℕ, Bool, true, false, List, [], ◌∷◌, ◌++◌, refl}
 use Rattle.py_tree.specs.declared.names.Place.{Place}
 use Rattle.py_tree.specs.PlainTypes.{PlainTy}
 use Rattle.py_tree.specs.PlainExpressions.{PlainExpr, PlainExprs}
-use Rattle.py_tree.specs.FlowEnvironment.{PlainLocal, shown, narrowed}
+use Rattle.py_tree.specs.FlowEnvironment.{shown, narrowed}
 use Rattle.py_tree.specs.Flow.{Context}
-use Rattle.program_meaning.proofs.LocalShapes.{shapes, shapes_narrowed}
+use Rattle.program_meaning.proofs.LocalShapes.{shapes_narrowed}
 use Rattle.block_code.specs.PlainVars.{PlainVar}
-use Rattle.flat_tree.specs.PlainFlat.{PlainFlatStmt, FSet, FCall, FMake, FIf, PlainFlatTest, FNot, FOperand, PlainOperands, FMoreOperands, flat_stmts_of}
+use Rattle.flat_tree.specs.PlainFlat.{PlainFlatStmt, FSet, FCall, FMake, PlainFlatTest, FNot, FOperand, PlainOperands, FMoreOperands}
 use Rattle.method_splitter.specs.Points.{PointsPass, PointsPassInAll, PointsPassInTest, PointsPassInOperands}
 use Rattle.flat_types.specs.FlatTypes.{is_point}
-use Rattle.method_hoister.specs.Spots.{Spot, surely, temporary, with_temporary, where_shown, callee_of, created_of}
-use Rattle.method_hoister.specs.HoistExpressions.{Hoisted, Tested, still, built, in_turn, taken_into, settled, settled_unless, kept, leaf, made_of, chosen, call_of, apply_of}
+use Rattle.method_hoister.specs.Spots.{Spot, surely, with_temporary, where_shown, callee_of, created_of}
+use Rattle.method_hoister.specs.HoistExpressions.{Hoisted, Tested, still, built, in_turn, taken_into, settled, leaf, chosen, call_of, apply_of}
 use Rattle.hoisted_points.specs.NamedPoints.{NamedAt, CodePasses, Names}
 use Rattle.hoisted_points.proofs.NamedLocals.{named_moved, IsVariable, named_with, point_passes}
 
@@ -48,16 +48,22 @@ module _ (variables : List PlainVar) where
   unfolding PointsPassInAll
   set_passes name e = tt
 
-  -- a spot with the same locals, known otherwise, where fewer temporaries are unused
+  -- a spot where names of the same locals are narrowed, and fewer temporaries are unused
+  pub named_narrowed : (names : List ℕ) (h : Spot) (next : ℕ) → h.next ≤ next → NamedAt variables h → NamedAt variables (record { locals = narrowed names h.locals; next = next })
+  named_narrowed names h next up n = named_moved variables h.locals (narrowed names h.locals) h.next next (shapes_narrowed names h.locals) up n
+
   pub named_shown : (truth : Bool) (test : PlainExpr) (h : Spot) (next : ℕ) → h.next ≤ next → NamedAt variables h → NamedAt variables (where_shown truth test h.locals next)
-  named_shown truth test h next up n = named_moved variables h.locals (narrowed (shown truth test) h.locals) h.next next (shapes_narrowed (shown truth test) h.locals) up n
+  named_shown truth test h next up n = named_narrowed (shown truth test) h next up n
 
   pub named_point : (h : Spot) → NamedAt variables h → is_point variables (surely h.locals) ≡ true
   named_point h n = point_passes variables h.locals h.next n
 
-  -- the point where a test holds, or where it doesn't
+  -- the point where names are narrowed, as where a test holds, or where it doesn't
+  pub narrowed_point : (names : List ℕ) (h : Spot) → NamedAt variables h → is_point variables (surely (narrowed names h.locals)) ≡ true
+  narrowed_point names h n = named_point (record { locals = narrowed names h.locals; next = h.next }) (named_narrowed names h h.next (omega arith) n)
+
   pub shown_point : (truth : Bool) (test : PlainExpr) (h : Spot) → NamedAt variables h → is_point variables (surely (narrowed (shown truth test) h.locals)) ≡ true
-  shown_point truth test h n = named_point (where_shown truth test h.locals h.next) (named_shown truth test h h.next (omega arith) n)
+  shown_point truth test h n = narrowed_point (shown truth test) h n
 
   -- Values
 
@@ -103,10 +109,10 @@ module _ (variables : List PlainVar) where
   not_names test p = p
 
   -- an operand, and those behind it where it doesn't decide
-  pub operand_names : (truth : Bool) (x : PlainExpr) (h : Spot) (t : PlainFlatTest) (next : ℕ) (operands : PlainOperands) → h.next ≤ next → (NamedAt variables h → TestPasses t) → (NamedAt variables (where_shown truth x h.locals next) → OperandsPass operands) → NamedAt variables h
-      → OperandsPass (FMoreOperands (FOperand t (surely (where_shown truth x h.locals next).locals)) operands)
+  pub operand_names : (names : List ℕ) (h : Spot) (t : PlainFlatTest) (next : ℕ) (operands : PlainOperands) → h.next ≤ next → (NamedAt variables h → TestPasses t) → (NamedAt variables (record { locals = narrowed names h.locals; next = next }) → OperandsPass operands) → NamedAt variables h
+      → OperandsPass (FMoreOperands (FOperand t (surely (narrowed names h.locals))) operands)
   unfolding PointsPassInAll
-  operand_names truth x h t next operands up p q n = (p n, shown_point truth x h n, q (named_shown truth x h next up n))
+  operand_names names h t next operands up p q n = (p n, narrowed_point names h n, q (named_narrowed names h next up n))
 
   -- one of two values by a test
   pub chosen_names : (at : Place) (ty : PlainTy) (h : Spot) (test : PlainExpr) (t : Tested PlainFlatTest) (first second : Spot → Hoisted PlainExpr) → h.next ≤ t.next → t.next ≤ (first (where_shown true test h.locals t.next)).spot.next

@@ -1,10 +1,10 @@
 -- What is hoisted, with the temporaries that it makes: where these are variables of the method, its points name variables.
-use Rattle.std.proofs.Common.{◌≡◌, ◌≤◌, ◌+◌, arith, ℕ, Bool, true, false, Option, Some, None, List, [], ◌∷◌, ◌++◌, refl, sym, ap, ◌∙◌, subst, true≢false}
+use Rattle.std.proofs.Common.{◌≡◌, ◌≤◌, ◌+◌, arith, ℕ, Bool, true, false, Option, Some, None, List, [], ◌∷◌, ◌++◌, refl, sym, ap, subst, true≢false}
 use Rattle.std.specs.Prelude.{is_some}
 use Rattle.py_tree.specs.declared.names.Place.{Place}
 use Rattle.py_tree.specs.PlainTypes.{PlainTy}
-use Rattle.py_tree.specs.PlainExpressions.{PlainExpr, PlainLink, PlainExprs}
-use Rattle.py_tree.specs.FlowEnvironment.{PlainLocal}
+use Rattle.py_tree.specs.PlainExpressions.{PlainExpr, PCall, PApply, PlainLink, PlainExprs}
+use Rattle.py_tree.specs.FlowEnvironment.{PlainLocal, shown}
 use Rattle.py_tree.specs.Flow.{Context}
 use Rattle.program_meaning.proofs.LocalShapes.{Shape, shapes, type_in, typed_behind, shapes_more}
 use Rattle.block_code.specs.PlainVars.{PlainVar}
@@ -124,12 +124,12 @@ pub call_pointed : (c : Context) (b : Bool) (at : Place) (ty on_ty : PlainTy) (n
 unfolding PointsPassInAll
 call_pointed c true at ty on_ty name name_at h a p =
     taken_pointed at ty (λ r t. FCall r.0 (callee_of c on_ty name) r.1 t (surely (with_temporary ty a.spot).locals)) h a (λ variables behind. named_point variables (with_temporary ty a.spot) behind) p
-call_pointed c false at ty on_ty name name_at h a p = built_pointed _ h a p
+call_pointed c false at ty on_ty name name_at h a p = built_pointed (λ r. PCall at r.0 name name_at r.1) h a p
 
 pub apply_pointed : (c : Context) (b : Bool) (at : Place) (ty : PlainTy) (name : ℕ) (h : Spot) (a : Hoisted PlainExprs) → Pointed h a → Pointed h (apply_of c b at ty name a)
 unfolding PointsPassInAll
 apply_pointed c true at ty name h a p = taken_pointed at ty (λ r t. FMake (created_of c name) r t (surely (with_temporary ty a.spot).locals)) h a (λ variables behind. named_point variables (with_temporary ty a.spot) behind) p
-apply_pointed c false at ty name h a p = built_pointed _ h a p
+apply_pointed c false at ty name h a p = built_pointed (PApply at name) h a p
 
 -- Forms
 
@@ -158,7 +158,7 @@ operand_pointed truth x h t rest p q = record {
   made = p.made ++ q.made;
   numbered = numbered_both h.next p.made q.made t.next rest.next p.numbered q.numbered;
   passes = λ variables among n.
-      operand_names variables truth x h t.test t.next rest.test (numbered_up h.next p.made t.next p.numbered) (p.passes variables (among_first variables p.made q.made among)) (q.passes variables (among_rest variables p.made q.made among)) n;
+      operand_names variables (shown truth x) h t.test t.next rest.test (numbered_up h.next p.made t.next p.numbered) (p.passes variables (among_first variables p.made q.made among)) (q.passes variables (among_rest variables p.made q.made among)) n;
 }
 
 pub chosen_pointed : (at : Place) (ty : PlainTy) (h : Spot) (test : PlainExpr) (t : Tested PlainFlatTest) (first second : Spot → Hoisted PlainExpr) → TestPassing h t → ((g : Spot) → Pointed g (first g)) → ((g : Spot) → Pointed g (second g)) → Pointed h (chosen at ty h.locals test t first second)

@@ -1,6 +1,6 @@
 -- Each point of a hoisted statement names variables of the method.
-use Rattle.std.proofs.Common.{◌≡◌, ◌≤◌, ◌+◌, arith, ℕ, Bool, true, false, Option, Some, None, Ok, Err, List, [], ◌∷◌, ◌++◌, map, if◌then◌else◌, refl, sym, ap, ◌∙◌, subst, true≢false}
-use Rattle.std.specs.Prelude.{IfSome, is_some}
+use Rattle.std.proofs.Common.{◌≡◌, ◌≤◌, ◌+◌, arith, ℕ, Bool, true, false, Option, Some, None, Ok, Err, List, [], ◌∷◌, ◌++◌, if◌then◌else◌, refl, sym, ◌∙◌, true≢false}
+use Rattle.std.specs.Prelude.{IfSome}
 use Rattle.std.specs.declared.result.Result.{Result}
 use Rattle.py_tree.specs.declared.names.Place.{Place}
 use Rattle.py_tree.specs.declared.rule.RuleFault.{RuleFault}
@@ -10,24 +10,23 @@ use Rattle.py_tree.specs.declared.stmt.Target.TheVariants as target
 use Rattle.py_tree.specs.PlainTypes.{PlainTy, TInt}
 use Rattle.py_tree.specs.PlainExpressions.{PlainExpr, PPos, PChain, PLink, PNoLink, PMoreLinks}
 use Rattle.py_tree.specs.PlainStatements.{PlainOver, PRange, PItems, PlainStmt, PPass, PBreak, PContinue, PDo, PReturn, PRaise, PAssert, PAssign, PAugment, PIf, PWhile, PFor, PlainStmts, PNoStmt, PStmt, PArm, PlainArms, PNoArm, PMoreArms}
-use Rattle.py_tree.specs.FlowEnvironment.{PlainLocal, shown, narrowed}
+use Rattle.py_tree.specs.FlowEnvironment.{PlainLocal, shown}
 use Rattle.py_tree.specs.ExpressionTypes.{right_wanted}
 use Rattle.py_tree.specs.Reachability.{goes_on, assigns, assigned_in, assigned_in_arms}
-use Rattle.py_tree.specs.Flow.{Context, Way, within_loop, begun, at_head, with_local, target_read, result_at, flow}
+use Rattle.py_tree.specs.Flow.{Context, Way, within_loop, begun, at_head, target_read, result_at, flow}
 use Rattle.call_graph.specs.SuspendingCode.{Leaving}
-use Rattle.program_meaning.proofs.LocalShapes.{Shape, shapes, type_in, shapes_narrowed, shapes_at_head}
+use Rattle.program_meaning.proofs.LocalShapes.{Shape, shapes, shapes_narrowed, shapes_at_head}
 use Rattle.block_code.specs.PlainVars.{PlainVar}
-use Rattle.block_code.specs.GraphFits.{var_of}
-use Rattle.flat_tree.specs.PlainFlat.{Point, PlainFlatStmt, FMark, FSet, FGive, FFail, FCode, FBreak, FContinue, PlainFlatTest, PlainFlatArms, flat_stmts_of}
+use Rattle.flat_tree.specs.PlainFlat.{Point, PlainFlatStmt, FMark, FSet, FGive, FFail, FCode, FBreak, FContinue, PlainFlatTest, PlainFlatArms}
 use Rattle.method_splitter.specs.Points.{Passes, PointsPassInAll, PointsPassInArms}
 use Rattle.flat_types.specs.FlatTypes.{is_point}
-use Rattle.flat_types.proofs.FlowStays.{EachTyped, first_typed, later_typed, shapes_with, Stays, stmt_stays}
+use Rattle.flat_types.proofs.FlowStays.{EachTyped, first_typed, later_typed, shapes_with, stmt_stays}
 use Rattle.method_hoister.specs.Spots.{Spot, surely, temporary, with_temporary, where_shown, ty_at, item_ty, locals_of, locals_behind, point_behind}
-use Rattle.method_hoister.specs.HoistExpressions.{Hoisted, Tested, still, built, in_turn, settled, settled_unless, lasts, forms}
+use Rattle.method_hoister.specs.HoistExpressions.{Hoisted, Tested, still, built, settled, settled_unless, lasts, forms}
 use Rattle.method_hoister.specs.HoistStatements.{Flattened, stays, code_if, followed, marked, stored, read_of, target_ty, value_or_nil, start_or_zero, list_spot, head_locals, body_spot, list_loop, range_loop, optional, combination, range_start, range_end, for_code, opened, flat_all, flat_arms, other_spot, flat}
-use Rattle.hoisted_points.specs.NamedPoints.{Numbered, AreAmong, Named, NamedAt, CodePasses}
+use Rattle.hoisted_points.specs.NamedPoints.{Numbered, AreAmong, NamedAt, CodePasses}
 use Rattle.hoisted_points.proofs.NamedLocals.{named_moved, named_with, point_passes}
-use Rattle.hoisted_points.proofs.PointParts.{StmtPasses, TestPasses, more_pass, both_pass, last_passes, named_shown, named_point, shown_point}
+use Rattle.hoisted_points.proofs.PointParts.{StmtPasses, both_pass, last_passes, named_shown, named_point, shown_point}
 use Rattle.hoisted_points.proofs.PointedParts.{made_var, numbered_up, numbered_both, among_first, among_rest, typed_more, typed_moved, Passing, Pointed, TestPassing, still_pointed, built_pointed, turn_pointed, settled_pointed, unless_pointed}
 use Rattle.hoisted_points.proofs.ExpressionPoints.{forms_name}
 

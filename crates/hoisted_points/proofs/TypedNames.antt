@@ -18,9 +18,9 @@ use Rattle.py_tree.specs.ExpressionTypes.{refuse_if}
 use Rattle.py_tree.specs.Reachability.{goes_on, all_go_on, local_assigned, assigns, assigned_in, assigned_in_arms}
 use Rattle.py_tree.specs.Flow.{Context, within_loop, Known, known_at, meet, way, behind_ways, with_local, at_head, settled, assigned, augmentation, combined_stored, Way, on, begun, after_while, after_for, for_head, flow, flow_all, flow_arms, result_at, locals_at_start, sig_at, in_method, method_locals}
 use Rattle.program_meaning.proofs.TypedParts.{done, same_ok, found_ok, refuse_ok}
-use Rattle.program_meaning.proofs.LocalShapes.{Shape, shapes, type_in, is_typed, given_if, new_local, shapes_more, shapes_settled, shapes_behind, Grows}
+use Rattle.program_meaning.proofs.LocalShapes.{Shape, shapes, type_in, is_typed, given_if, new_local, shapes_more, shapes_narrowed, shapes_settled, shapes_behind, Grows, grows_on, grows_same}
 use Rattle.program_meaning.proofs.FlowParts.{local_ok, Augments, augments_ok, put_local_ok}
-use Rattle.program_meaning.proofs.FlowGrows.{WhileParts, while_parts, ForParts, for_parts, all_parts, last_parts, ArmParts, arm_parts, Follows, follows_all, follows_arms}
+use Rattle.program_meaning.proofs.FlowGrows.{WhileParts, while_parts, ForParts, for_parts, all_parts, last_parts, ArmParts, arm_parts, Follows, follows_all}
 use Rattle.flat_types.proofs.FlowStays.{EachTyped, first_typed, later_typed, both_typed, shapes_with}
 use Rattle.hoisted_points.proofs.PointedParts.{each_later, typed_moved}
 
@@ -70,6 +70,19 @@ rest_typed : (b : Bool) (c : Context) (xs : PlainStmts) (rest : Result Way RuleF
 rest_typed true c xs rest next after h k names t = both_typed (shapes after.locals) names (assigned_in xs) (grown next.locals after.locals names (k h).0 t) (k h).1
 rest_typed false c xs rest next after h k names t = both_typed (shapes after.locals) names [] (subst (λ (w : Way). EachTyped (shapes w.locals) names) (same_ok next after h) t) tt
 
+-- through arms locals grow, where they do through what follows these
+arms_grow : (arms : PlainArms) (c : Context) (w : Way) (ended : Option (List Known)) (go : Bool) (other : Way → Result Way RuleFault) (after : Way) → flow_arms c w ended arms go other ≡ Ok after → ((v last : Way) → other v ≡ Ok last → Grows v.locals last.locals) → Grows w.locals after.locals
+arms_grow PNoArm c w ended go other after h k =
+    let a : (last : Way) × (other w ≡ Ok last) × (on last (behind_ways last.locals (meet ended (way go last.locals))) ≡ after) = last_parts c w after ended go other h in
+    subst (λ (v : Way). Grows w.locals v.locals) a.2 (grows_same w.locals w.locals a.0.locals (behind_ways a.0.locals (meet ended (way go a.0.locals))) refl (sym (shapes_behind a.0.locals (meet ended (way go a.0.locals)))) (k w a.0 a.1))
+arms_grow (PMoreArms (PArm test body) more) c w ended go other after h k =
+    let a : ArmParts c w after ended go other test body more = arm_parts c w after ended go other test body more h in
+    let inside : List PlainLocal = narrowed (shown true test) w.locals in
+    let later : List PlainLocal = settled a.end.locals (known_at (narrowed (shown false test) w.locals)) in
+    let arm : Follows (on w inside) a.end = follows_all body c (on w inside) a.end a.arm in
+    grows_on w.locals later after.locals (grows_same inside w.locals a.end.locals later (shapes_narrowed (shown true test) w.locals) (sym (shapes_settled a.end.locals _)) arm.grows)
+    (arms_grow more c (on a.end later) (meet ended (way (all_go_on body) a.end.locals)) go other after a.rest k)
+
 mutual
   unfolding flow assigns
 
@@ -88,7 +101,7 @@ mutual
       let a : (locals : List PlainLocal) × (augmentation c w.locals at x o op_at e ≡ Ok locals) × (done (on w locals) ≡ Ok after) = found_ok (augmentation c w.locals at x o op_at e) (λ locals. Ok (on w locals)) after h in
       let b : Augments c w.locals at x o op_at e a.0 = augments_ok c w.locals at x o op_at e a.0 a.1 in
       subst (λ (v : Way). EachTyped (shapes v.locals) (local_assigned x)) (same_ok (on w a.0) after a.2) (put_typed c w.locals x b.before a.0 b.put)
-  stmt_typed (PIf at arms other) c w after h = arms_typed arms c w None other after h
+  stmt_typed (PIf at arms other) c w after h = arms_typed arms c w None (all_go_on other) (λ last. flow_all c last other) (assigned_in other) after h (λ v last e. ((follows_all other c v last e).grows, all_typed other c v last e))
   stmt_typed (PWhile at test body) c w after h =
       let a : WhileParts c w after test body = while_parts c w after at test body h in
       let head : List PlainLocal = at_head (assigned_in body) w.locals in
@@ -110,25 +123,25 @@ mutual
       let a : (next : Way) × (flow c w x ≡ Ok next) × (cond (goes_on x) (flow_all c next xs) (Ok next) ≡ Ok after) = all_parts c w after x xs h in
       rest_typed (goes_on x) c xs (flow_all c a.0 xs) a.0 after a.2 (λ e. ((follows_all xs c a.0 after e).grows, all_typed xs c a.0 after e)) (assigns x) (stmt_typed x c w a.0 a.1)
 
-  arms_typed : (arms : PlainArms) (c : Context) (w : Way) (ended : Option (List Known)) (other : PlainStmts) (after : Way) → flow_arms c w ended arms (all_go_on other) (λ last. flow_all c last other) ≡ Ok after → EachTyped (shapes after.locals) (assigned_in_arms arms ++ assigned_in other)
-  arms_typed PNoArm c w ended other after h =
-      let a : (last : Way) × (flow_all c w other ≡ Ok last) × (on last (behind_ways last.locals (meet ended (way (all_go_on other) last.locals))) ≡ after) = last_parts c w after ended (all_go_on other) (λ last. flow_all c last other) h in
-      subst (λ (v : Way). EachTyped (shapes v.locals) (assigned_in other)) a.2 (typed_moved a.0.locals (behind_ways a.0.locals (meet ended (way (all_go_on other) a.0.locals))) (assigned_in other) (shapes_behind a.0.locals _) (all_typed other c w a.0 a.1))
-  arms_typed (PMoreArms (PArm test body) more) c w ended other after h =
-      let a : ArmParts c w after ended (all_go_on other) (λ last. flow_all c last other) test body more = arm_parts c w after ended (all_go_on other) (λ last. flow_all c last other) test body more h in
+  arms_typed : (arms : PlainArms) (c : Context) (w : Way) (ended : Option (List Known)) (go : Bool) (other : Way → Result Way RuleFault) (names : List ℕ) (after : Way) → flow_arms c w ended arms go other ≡ Ok after
+      → ((v last : Way) → other v ≡ Ok last → Grows v.locals last.locals × EachTyped (shapes last.locals) names) → EachTyped (shapes after.locals) (assigned_in_arms arms ++ names)
+  arms_typed PNoArm c w ended go other names after h k =
+      let a : (last : Way) × (other w ≡ Ok last) × (on last (behind_ways last.locals (meet ended (way go last.locals))) ≡ after) = last_parts c w after ended go other h in
+      subst (λ (v : Way). EachTyped (shapes v.locals) names) a.2 (typed_moved a.0.locals (behind_ways a.0.locals (meet ended (way go a.0.locals))) names (shapes_behind a.0.locals (meet ended (way go a.0.locals))) (k w a.0 a.1).1)
+  arms_typed (PMoreArms (PArm test body) more) c w ended go other names after h k =
+      let a : ArmParts c w after ended go other test body more = arm_parts c w after ended go other test body more h in
       let true_way : Way = on w (narrowed (shown true test) w.locals) in
       let later : List PlainLocal = settled a.end.locals (known_at (narrowed (shown false test) w.locals)) in
-      let met : Option (List Known) = meet ended (way (all_go_on body) a.end.locals) in
       let ss : List Shape = shapes after.locals in
-      let rest : EachTyped ss (assigned_in_arms more ++ assigned_in other) = arms_typed more c (on a.end later) met other after a.rest in
-      let grows : Follows (on a.end later) after = follows_arms more c (on a.end later) met (all_go_on other) (λ last. flow_all c last other) after a.rest (λ v last e. follows_all other c v last e) in
-      let first : EachTyped ss (assigned_in body) = grown later after.locals (assigned_in body) grows.grows (typed_moved a.end.locals later (assigned_in body) (shapes_settled a.end.locals _) (all_typed body c true_way a.end a.arm)) in
-      both_typed ss (assigned_in body ++ assigned_in_arms more) (assigned_in other)
-      (both_typed ss (assigned_in body) (assigned_in_arms more) first (first_typed ss (assigned_in_arms more) (assigned_in other) rest)) (later_typed ss (assigned_in_arms more) (assigned_in other) rest)
+      let rest : EachTyped ss (assigned_in_arms more ++ names) = arms_typed more c (on a.end later) (meet ended (way (all_go_on body) a.end.locals)) go other names after a.rest k in
+      let grows : Grows later after.locals = arms_grow more c (on a.end later) (meet ended (way (all_go_on body) a.end.locals)) go other after a.rest (λ v last e. (k v last e).0) in
+      let first : EachTyped ss (assigned_in body) = grown later after.locals (assigned_in body) grows (typed_moved a.end.locals later (assigned_in body) (shapes_settled a.end.locals _) (all_typed body c true_way a.end a.arm)) in
+      both_typed ss (assigned_in body ++ assigned_in_arms more) names
+      (both_typed ss (assigned_in body) (assigned_in_arms more) first (first_typed ss (assigned_in_arms more) names rest)) (later_typed ss (assigned_in_arms more) names rest)
 
 -- the locals of a method that keeps the rules: those at its start, with those that its body names
 module _ (tables : List PlainTable) (class number : ℕ) (m : PlainMethod) (locals : List PlainLocal) (is : method_locals tables class number m ≡ Ok locals) where
-  start : List PlainLocal
+  abbrev pub start : List PlainLocal
   start = locals_at_start (sig_at tables class number)
 
   pub record MethodParts : Type 0 where
@@ -137,7 +150,7 @@ module _ (tables : List PlainTable) (class number : ℕ) (m : PlainMethod) (loca
     pub are : shapes locals ≡ shapes start ++ rest
 
   pub method_parts : MethodParts
-  unfolding method_locals start
+  unfolding method_locals
   method_parts =
       let c : Context = in_method tables class number in
       let xs : PlainStmts = stmts_of m.body in
