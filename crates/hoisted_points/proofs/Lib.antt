@@ -6,5 +6,7 @@ pub mod PointParts
 pub mod PointedParts
 mod ExpressionPoints
 pub mod TypedNames
+pub mod ApartLocals
+pub mod AcceptedLocals
 pub mod StatementPoints
-mod MethodPoints
+pub mod MethodPoints

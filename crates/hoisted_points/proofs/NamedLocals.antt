@@ -52,10 +52,10 @@ among_more variables (u ∷ vs) v h is = (h.0, among_more variables vs v h.1 is)
 turned : (a b : ℕ) → (a == b) ≡ false → (b == a) ≡ false
 turned a b e = ne_eqb b a (λ f. true≢false (sym (eq-eqb a b (sym f)) ∙ e))
 
-none_more : (x : ℕ) (vs : List PlainVar) (v : PlainVar) → list_any (is_var x) vs ≡ false → (v.name == x) ≡ false → list_any (is_var x) (vs ++ v ∷ []) ≡ false
+pub none_more : (x : ℕ) (vs : List PlainVar) (v : PlainVar) → list_any (is_var x) vs ≡ false → (v.name == x) ≡ false → list_any (is_var x) (vs ++ v ∷ []) ≡ false
 none_more x vs v h e = list_any-append (is_var x) vs (v ∷ []) ∙ or_from _ _ h (or_from _ _ e refl)
 
-once_more : (vs : List PlainVar) (v : PlainVar) → each_once vs ≡ true → list_any (is_var v.name) vs ≡ false → each_once (vs ++ v ∷ []) ≡ true
+pub once_more : (vs : List PlainVar) (v : PlainVar) → each_once vs ≡ true → list_any (is_var v.name) vs ≡ false → each_once (vs ++ v ∷ []) ≡ true
 once_more [] v once none = refl
 once_more (u ∷ vs) v once none =
     let apart : ((u.name == v.name) ≡ false) × (list_any (is_var v.name) vs ≡ false) = either_false (u.name == v.name) (list_any (is_var v.name) vs) none in
@@ -73,7 +73,7 @@ named_more variables vs next ty is n = record {
   unused = λ x on. none_more x vs _ (n.unused x (omega (arith, on))) (differ next x on);
 }
 
-variables_more : (locals : List PlainLocal) (l : PlainLocal) → map var_of (locals ++ l ∷ []) ≡ map var_of locals ++ var_of l ∷ []
+pub variables_more : (locals : List PlainLocal) (l : PlainLocal) → map var_of (locals ++ l ∷ []) ≡ map var_of locals ++ var_of l ∷ []
 variables_more [] l = refl
 variables_more (m ∷ locals) l = ap (λ vs. var_of m ∷ vs) (variables_more locals l)
 

@@ -46,11 +46,11 @@ local_typed x first ty locals = by (is_some (local_of locals x)) refl (λ e. sha
 grown : (a b : List PlainLocal) (names : List ℕ) → Grows a b → EachTyped (shapes a) names → EachTyped (shapes b) names
 grown a b names g t = subst (λ ss. EachTyped ss names) (sym g.is) (each_later (shapes a) g.rest names t)
 
-behind_while : (test : PlainExpr) (head : List PlainLocal) (end : Way) → shapes (after_while test head end) ≡ shapes end.locals
+pub behind_while : (test : PlainExpr) (head : List PlainLocal) (end : Way) → shapes (after_while test head end) ≡ shapes end.locals
 unfolding after_while
 behind_while test head end = shapes_behind end.locals _
 
-behind_for : (head : List PlainLocal) (end : Way) → shapes (after_for head end) ≡ shapes end.locals
+pub behind_for : (head : List PlainLocal) (end : Way) → shapes (after_for head end) ≡ shapes end.locals
 unfolding after_for
 behind_for head end = shapes_behind end.locals _
 
@@ -145,6 +145,9 @@ module _ (tables : List PlainTable) (class number : ℕ) (m : PlainMethod) (loca
   start = locals_at_start (sig_at tables class number)
 
   pub record MethodParts : Type 0 where
+    pub end : Way
+    pub flows : flow_all (in_method tables class number) (begun start) (stmts_of m.body) ≡ Ok end
+    pub same : shapes locals ≡ shapes end.locals
     pub typed : EachTyped (shapes locals) (assigned_in (stmts_of m.body))
     pub rest : List Shape
     pub are : shapes locals ≡ shapes start ++ rest
@@ -160,4 +163,4 @@ module _ (tables : List PlainTable) (class number : ℕ) (m : PlainMethod) (loca
       let b : found a.0 ≡ Ok locals = (refuse_ok (all_go_on xs && not (has_none (result_at c))) MissingReturn m.place (found a.0) locals a.2).1 in
       let same : shapes locals ≡ shapes a.0.locals = ap shapes (sym (same_ok (settled a.0.locals (known_at start)) locals b)) ∙ shapes_settled a.0.locals (known_at start) in
       let grows : Follows (begun start) a.0 = follows_all xs c (begun start) a.0 a.1 in
-      record { typed = typed_moved a.0.locals locals (assigned_in xs) same (all_typed xs c (begun start) a.0 a.1); rest = grows.grows.rest; are = same ∙ grows.grows.is }
+      record { end = a.0; flows = a.1; same = same; typed = typed_moved a.0.locals locals (assigned_in xs) same (all_typed xs c (begun start) a.0 a.1); rest = grows.grows.rest; are = same ∙ grows.grows.is }

@@ -2,13 +2,14 @@
 --
 -- The variables are the locals of the method, with their types, and its temporaries, each of one type. A point names what is surely
 -- assigned there, with the type that it has there or with what its Optional holds.
-use Rattle.std.specs.Prelude.{◌≡◌, ◌≤◌, ◌+◌, ⊤, ℕ, true, false, List, [], ◌∷◌, map, find, Some, Ok}
+use Rattle.std.specs.Prelude.{◌≡◌, ◌≤◌, ◌+◌, ⊤, ℕ, true, false, List, [], ◌∷◌, ◌++◌, map, length, find, slice_get, Some, Ok}
 use Rattle.std.specs.List.{list_any}
-use Rattle.py_tree.specs.ClassRules.{PlainTable, PlainSig}
+use Rattle.py_tree.specs.ClassRules.{PlainSig, sig_of, methods_of, tables_of}
 use Rattle.py_tree.specs.FlowEnvironment.{PlainLocal}
-use Rattle.py_tree.specs.Flow.{Context, in_method, sig_at, method_locals}
-use Rattle.py_tree.specs.PlainProgram.{PlainMethod}
+use Rattle.py_tree.specs.Flow.{Context, in_method, method_locals}
+use Rattle.py_tree.specs.PlainProgram.{PlainMethod, PlainClass, PlainProgram}
 use Rattle.call_graph.specs.SuspendingCode.{Leaving}
+use Rattle.program_meaning.specs.NothingGoesWrong.{IsKnownAccepted}
 use Rattle.block_code.specs.PlainVars.{PlainVar}
 use Rattle.block_code.specs.GraphFits.{is_var, var_of, var_of_param, each_once}
 use Rattle.flat_tree.specs.PlainFlat.{PlainFlatStmt, flat_stmts_of}
@@ -55,17 +56,21 @@ Names variables h a = NamedAt variables h → CodePasses variables a.before × N
 
 -- Methods
 
--- a method has temporaries with which each of its points names variables; its parameters are a point by its locals alone
+-- A method has temporaries with which each of its points names variables, whatever other variables there are; with its locals they
+-- have one type each. Its parameters are a point by its locals alone.
 pub record MethodNames (leaves : Leaving) (c : Context) (sig : PlainSig) (locals : List PlainLocal) (count : ℕ) (m : PlainMethod) : Type 0 where
   pub made : List PlainVar
   pub next : ℕ
   pub numbered : Numbered count made next
+  pub once : each_once (map var_of locals ++ made) ≡ true
   pub points : (variables : List PlainVar) → AreAmong variables (map var_of locals) → AreAmong variables made → CodePasses variables (flat_body leaves c locals count (Some m))
   pub params : (variables : List PlainVar) → AreAmong variables (map var_of locals) → is_point variables (map var_of_param sig.params) ≡ true
 
--- where the method keeps the rules, each of its locals has a name of its own, and temporaries begin behind them
+-- each method of an accepted program, with all its locals, whichever calls are said to suspend; its temporaries have numbers behind
+-- those of the names
 abbrev pub PointsNameVariables : Type 0
 PointsNameVariables =
-    (leaves : Leaving) (tables : List PlainTable) (class number : ℕ) (sig : PlainSig) (m : PlainMethod) (locals : List PlainLocal) (count : ℕ)
-    → sig_at tables class number ≡ Some sig → method_locals tables class number m ≡ Ok locals → each_once (map var_of locals) ≡ true
-    → Unused count (map var_of locals) → MethodNames leaves (in_method tables class number) sig locals count m
+    (names : List (List ℕ)) (program : PlainProgram) → IsKnownAccepted names program → (class number : ℕ) (k : PlainClass) (m : PlainMethod)
+    → slice_get program class ≡ Some k → slice_get (methods_of names k.members) number ≡ Some m
+    → (locals : List PlainLocal) → method_locals (tables_of names program) class number m ≡ Ok locals
+    → (leaves : Leaving) → MethodNames leaves (in_method (tables_of names program) class number) (sig_of m) locals (length names) m
