@@ -8,5 +8,6 @@ mod ExpressionPoints
 pub mod TypedNames
 pub mod ApartLocals
 pub mod AcceptedLocals
+pub mod StatementParts
 pub mod StatementPoints
 pub mod MethodPoints
