@@ -11,3 +11,4 @@ pub mod AcceptedLocals
 pub mod StatementParts
 pub mod StatementPoints
 pub mod MethodPoints
+pub mod OwnVariables

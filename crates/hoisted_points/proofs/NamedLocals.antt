@@ -49,7 +49,7 @@ among_more : (variables vs : List PlainVar) (v : PlainVar) → AreAmong variable
 among_more variables [] v h is = (is, tt)
 among_more variables (u ∷ vs) v h is = (h.0, among_more variables vs v h.1 is)
 
-turned : (a b : ℕ) → (a == b) ≡ false → (b == a) ≡ false
+pub turned : (a b : ℕ) → (a == b) ≡ false → (b == a) ≡ false
 turned a b e = ne_eqb b a (λ f. true≢false (sym (eq-eqb a b (sym f)) ∙ e))
 
 pub none_more : (x : ℕ) (vs : List PlainVar) (v : PlainVar) → list_any (is_var x) vs ≡ false → (v.name == x) ≡ false → list_any (is_var x) (vs ++ v ∷ []) ≡ false

@@ -1,5 +1,5 @@
 -- Parts of hoisted statements whose points name variables of the method.
-use Rattle.std.proofs.Common.{◌≡◌, ◌≤◌, ◌+◌, arith, ℕ, Bool, true, false, Option, Some, None, Ok, Err, List, [], ◌∷◌, ◌++◌, if◌then◌else◌, refl, sym, ◌∙◌}
+use Rattle.std.proofs.Common.{◌≡◌, ◌≤◌, ◌+◌, arith, ℕ, Bool, true, false, Option, Some, None, Ok, Err, List, [], ◌∷◌, ◌++◌, if◌then◌else◌, refl, ◌∙◌}
 use Rattle.std.specs.Prelude.{IfSome}
 use Rattle.std.specs.declared.result.Result.{Result}
 use Rattle.py_tree.specs.declared.names.Place.{Place}
@@ -12,18 +12,18 @@ use Rattle.py_tree.specs.PlainStatements.{PlainStmt, PlainStmts}
 use Rattle.py_tree.specs.FlowEnvironment.{PlainLocal, shown, narrowed}
 use Rattle.py_tree.specs.Reachability.{goes_on, assigns, assigned_in}
 use Rattle.py_tree.specs.Flow.{Context, Way, within_loop, begun, at_head, flow}
-use Rattle.program_meaning.proofs.LocalShapes.{shapes, type_in, shapes_at_head}
+use Rattle.program_meaning.proofs.LocalShapes.{shapes, shapes_at_head}
 use Rattle.block_code.specs.PlainVars.{PlainVar}
-use Rattle.flat_tree.specs.PlainFlat.{Point, PlainFlatStmt, FMark, FSet, FFail, FCode, FIf, FWhile, FArm, PlainFlatArms, FNoArm, FMoreArms, FNoStmt, PlainFlatTest, flat_stmts_of}
+use Rattle.flat_tree.specs.PlainFlat.{Point, PlainFlatStmt, FMark, FFail, FIf, FWhile, FArm, PlainFlatArms, FNoArm, FMoreArms, FNoStmt, PlainFlatTest, flat_stmts_of}
 use Rattle.method_splitter.specs.Points.{Passes, PointsPassInAll, PointsPassInArms}
 use Rattle.flat_types.specs.FlatTypes.{is_point}
-use Rattle.flat_types.proofs.FlowStays.{EachTyped, shapes_with, Stays, stmt_stays}
-use Rattle.method_hoister.specs.Spots.{Spot, surely, with_temporary, where_shown, locals_of, locals_behind, point_behind}
+use Rattle.flat_types.proofs.FlowStays.{EachTyped, shapes_with, stmt_stays}
+use Rattle.method_hoister.specs.Spots.{Spot, surely, with_temporary, locals_of, locals_behind, point_behind}
 use Rattle.method_hoister.specs.HoistExpressions.{Hoisted}
 use Rattle.method_hoister.specs.HoistStatements.{Flattened, code_if, followed, marked, stored, list_spot, head_locals, body_spot, list_loop, range_loop}
 use Rattle.hoisted_points.specs.NamedPoints.{NamedAt, CodePasses, Names}
 use Rattle.hoisted_points.proofs.NamedLocals.{named_moved, IsVariable, named_with}
-use Rattle.hoisted_points.proofs.PointParts.{StmtPasses, TestPasses, more_pass, none_pass, both_pass, last_passes, named_point, shown_point}
+use Rattle.hoisted_points.proofs.PointParts.{StmtPasses, TestPasses, both_pass, last_passes, named_point, shown_point}
 use Rattle.hoisted_points.proofs.PointedParts.{typed_moved}
 
 -- Names and types stay

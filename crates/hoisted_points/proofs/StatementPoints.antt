@@ -20,10 +20,10 @@ use Rattle.method_hoister.specs.Spots.{Spot, surely, temporary, with_temporary, 
 use Rattle.method_hoister.specs.HoistExpressions.{Hoisted, Tested, still, built, settled, settled_unless, lasts, forms}
 use Rattle.method_hoister.specs.HoistStatements.{Flattened, stays, code_if, followed, marked, stored, read_of, target_ty, value_or_nil, start_or_zero, list_spot, head_locals, body_spot, list_loop, range_loop, optional, combination, range_start, range_end, for_code, opened, flat_all, flat_arms, other_spot, flat}
 use Rattle.hoisted_points.specs.NamedPoints.{Numbered, AreAmong, NamedAt, CodePasses}
-use Rattle.hoisted_points.proofs.PointParts.{StmtPasses, more_pass, none_pass, both_pass, last_passes, set_passes, named_shown}
+use Rattle.hoisted_points.proofs.PointParts.{StmtPasses, none_pass, both_pass, last_passes, set_passes, named_shown}
 use Rattle.hoisted_points.proofs.PointedParts.{made_var, numbered_up, numbered_both, among_first, among_rest, typed_more, typed_moved, Passing, Pointed, TestPassing, still_pointed, built_pointed, turn_pointed, settled_pointed, unless_pointed}
 use Rattle.hoisted_points.proofs.ExpressionPoints.{forms_name}
-use Rattle.hoisted_points.proofs.StatementParts.{behind_shapes, start_shapes, start_typed, ArmsPass, EndPasses, named_there, end_passes, code_passes, followed_passes, mark_passes, marked_passes, stored_passes, asserted_passes, fail_passes, if_passes, no_arm_passes, arm_passes, head_named, head_point, start_named, while_passes, list_passes, range_passes, list_named}
+use Rattle.hoisted_points.proofs.StatementParts.{behind_shapes, start_typed, ArmsPass, EndPasses, named_there, end_passes, code_passes, followed_passes, mark_passes, marked_passes, stored_passes, asserted_passes, fail_passes, if_passes, no_arm_passes, arm_passes, head_named, head_point, start_named, while_passes, list_passes, range_passes, list_named}
 
 abbrev pub CodePassing : Spot → Flattened (List PlainFlatStmt) → Type 0
 CodePassing h f = Passing h f.next (λ variables. CodePasses variables f.code)
