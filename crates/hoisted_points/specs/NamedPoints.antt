@@ -63,7 +63,8 @@ pub record MethodNames (leaves : Leaving) (c : Context) (sig : PlainSig) (locals
   pub next : ℕ
   pub numbered : Numbered count made next
   pub once : each_once (map var_of locals ++ made) ≡ true
-  pub points : (variables : List PlainVar) → AreAmong variables (map var_of locals) → AreAmong variables made → CodePasses variables (flat_body leaves c locals count (Some m))
+  pub points : (variables : List PlainVar) → AreAmong variables (map var_of locals) → AreAmong variables made
+      → CodePasses variables (flat_body leaves c locals count (Some m))
   pub params : (variables : List PlainVar) → AreAmong variables (map var_of locals) → is_point variables (map var_of_param sig.params) ≡ true
 
 -- each method of an accepted program, with all its locals, whichever calls are said to suspend; its temporaries have numbers behind

@@ -11,4 +11,6 @@ use Rattle.method_hoister.specs.HoistMethods.{flat_body}
 
 -- whichever calls are said to suspend, and whatever is known where the method begins; the method needn't keep any rule
 abbrev pub NoPartIsDead : Type 0
-NoPartIsDead = (leaves : Leaving) (c : Context) (locals : List PlainLocal) (count : ℕ) (method : Option PlainMethod) → HaveNoDead (flat_stmts_of (flat_body leaves c locals count method))
+NoPartIsDead =
+    (leaves : Leaving) (c : Context) (locals : List PlainLocal) (count : ℕ) (method : Option PlainMethod)
+    → HaveNoDead (flat_stmts_of (flat_body leaves c locals count method))
