@@ -1,0 +1,10 @@
+pub mod EachLaws
+pub mod SeenLaws
+pub mod NamedParts
+pub mod NamedExpressions
+pub mod WantedTypes
+pub mod AheadLaws
+pub mod AheadParts
+pub mod FlowAhead
+pub mod NamedStatements
+pub mod CalleesStand
