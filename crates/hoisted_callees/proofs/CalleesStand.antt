@@ -106,7 +106,7 @@ module _ (names : List (List ℕ)) (program : PlainProgram) where
 
     -- what is asked of callees and created classes, in one way at most, and stands for those of the class tables
     module _ (P : Callee → Type 0) (Q : Created → Type 0) (one_callee : (a : Callee) → One (P a)) (one_class : (a : Created) → One (Q a)) where
-      method_stands : (class number : ℕ) (m : PlainMethod) → Stand P Q (context class number) (leaving names program marks class) (length names) → slice_get (methods_of names (members_at program class)) number ≡ Some m → EachInAll P Q (flat_code names program marks class number m)
+      method_stands : (class number : ℕ) (m : PlainMethod) → Stand P Q (context class number) (leaving names program marks class) (length names) → slice_get (methods_of names (members_at program class)) number ≡ Some m → EachInAll P Q (flat_stmts_of (flat_code names program marks class number m))
       unfolding method_locals
       method_stands class number m stand is =
           let d : ClassOf class number m = class_of_method class number m is in

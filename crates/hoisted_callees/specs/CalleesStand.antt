@@ -5,11 +5,11 @@ use Rattle.py_tree.specs.PlainProgram.{PlainMethod, PlainProgram}
 use Rattle.py_tree.specs.ClassRules.{methods_of, tables_of}
 use Rattle.py_tree.specs.Acceptance.{members_at}
 use Rattle.py_tree.specs.FlowEnvironment.{PlainLocal}
-use Rattle.py_tree.specs.Flow.{in_method, method_locals}
+use Rattle.py_tree.specs.Flow.{Context, in_method, method_locals}
 use Rattle.call_graph.specs.SuspendingCode.{leaving}
 use Rattle.program_meaning.specs.ClassTables.{Source}
 use Rattle.program_meaning.specs.NothingGoesWrong.{IsKnownAccepted}
-use Rattle.flat_tree.specs.PlainFlat.{PlainFlatStmts, flat_stmts_of}
+use Rattle.flat_tree.specs.PlainFlat.{PlainFlatStmt, flat_stmts_of}
 use Rattle.method_hoister.specs.HoistMethods.{flat_body}
 use Rattle.method_splitter.specs.Callees.{CalleesAreNamed, CalleesAreThere}
 
@@ -26,20 +26,27 @@ module _ (names : List (List ℕ)) (program : PlainProgram) where
   abbrev pub source_of : Source
   source_of = record { program = program; names = names }
 
+  -- where the method of this number stands, in the class of that number
+  abbrev pub context_of : (class number : ℕ) → Context
+  context_of class number = in_method (tables_of names program) class number
+
+  -- all locals that the rules on statements find in a method, with their types, as they are where its body begins
+  abbrev pub start_locals : (class number : ℕ) → PlainMethod → List PlainLocal
+  start_locals class number m = found_locals (method_locals (tables_of names program) class number m)
+
   module _ (marks : List (List Bool)) where
-    -- the flat code of a method: all locals that the rules on statements find have their types where it begins
-    abbrev pub flat_code : (class number : ℕ) → PlainMethod → PlainFlatStmts
+    -- the flat code of a method, from there on
+    abbrev pub flat_code : (class number : ℕ) → PlainMethod → List PlainFlatStmt
     flat_code class number m =
-        flat_stmts_of
-        (flat_body (leaving names program marks class) (in_method (tables_of names program) class number) (found_locals (method_locals (tables_of names program) class number m)) (length names) (Some m))
+        flat_body (leaving names program marks class) (context_of class number) (start_locals class number m) (length names) (Some m)
 
     -- callees and created classes have the numbers of their names
     abbrev pub NamesItsCallees : (class number : ℕ) → PlainMethod → Type 0
-    NamesItsCallees class number m = CalleesAreNamed source_of (flat_code class number m)
+    NamesItsCallees class number m = CalleesAreNamed source_of (flat_stmts_of (flat_code class number m))
 
     -- and the class tables have them
     abbrev pub HasItsCallees : (class number : ℕ) → PlainMethod → Type 0
-    HasItsCallees class number m = CalleesAreThere (tables_of names program) (flat_code class number m)
+    HasItsCallees class number m = CalleesAreThere (tables_of names program) (flat_stmts_of (flat_code class number m))
 
 -- in an accepted program, whichever methods are marked
 abbrev pub CalleesStand : Type 0
