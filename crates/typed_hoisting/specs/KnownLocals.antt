@@ -23,9 +23,14 @@ seen_of (Some l) = if l.assigned then Some (record { ty = l.ty; less = is_option
 abbrev pub seen : List PlainLocal → ℕ → Option Seen
 seen locals x = seen_of (local_of locals x)
 
--- as much is known here as there of each name below the limit
+-- of a name: nothing is known here, or just as much there
+abbrev pub Kept : Option Seen → Option Seen → Type 0
+Kept None o = ⊤
+Kept (Some s) o = o ≡ Some s
+
+-- what is known here of a name below the limit is known so there; of other names more may be known there
 pub record Alike (limit : ℕ) (here there : List PlainLocal) : Type 0 where
-  pub alike : (x : ℕ) → x < limit → seen here x ≡ seen there x
+  pub alike : (x : ℕ) → x < limit → Kept (seen here x) (seen there x)
 
 -- of a name: nothing is known here, or its type, and no less there
 abbrev pub Under : Option Seen → Option Seen → Type 0
@@ -48,7 +53,7 @@ pub record Free (next : ℕ) (locals : List PlainLocal) : Type 0 where
 abbrev pub AreVariables : List PlainVar → List PlainLocal → Type 0
 AreVariables variables env = map var_of env ≡ variables
 
--- of names below the limit as much is known there as here
+-- what is known here of names below the limit is known so there
 pub record Stands (variables : List PlainVar) (limit : ℕ) (locals env : List PlainLocal) : Type 0 where
   pub are : AreVariables variables env
   pub alike : Alike limit locals env

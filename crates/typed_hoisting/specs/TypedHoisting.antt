@@ -18,7 +18,6 @@ use Rattle.flat_tree.specs.PlainFlat.{PlainFlatStmt, PlainFlatTest, flat_stmts_o
 use Rattle.flat_types.specs.FlatTypes.{Nowhere, Supplies, stmts_fit, test_fits}
 use Rattle.method_hoister.specs.Spots.{Spot, surely}
 use Rattle.method_hoister.specs.HoistExpressions.{Hoisted, Tested, Forms, forms}
-use Rattle.typed_hoisting.specs.Runs.{RunsHaveOperators}
 use Rattle.typed_hoisting.specs.KnownLocals.{Alike, Free, Stands, AtLeast}
 
 -- temporaries from one number up to another, one after the other
@@ -84,7 +83,7 @@ module _ (c : Context) (leaves : Leaving) where
 abbrev pub ExpressionsKeepTheRules : Type 1
 ExpressionsKeepTheRules =
     (names : List (List ℕ)) (program : PlainProgram) (marks : List (List Bool)) (class : ℕ) (c : Context) (limit : ℕ) (e : PlainExpr)
-    → ExprNames limit e → RunsHaveOperators e
+    → ExprNames limit e
     → GoodForms c (leaving names program marks class) limit e (forms (leaving names program marks class) c e)
 
 -- Where there is no loop around, and no more is asked than that
@@ -118,5 +117,5 @@ module _ (c : Context) (leaves : Leaving) where
 abbrev pub ExpressionsFit : Type 0
 ExpressionsFit =
     (names : List (List ℕ)) (program : PlainProgram) (marks : List (List Bool)) (class : ℕ) (c : Context) (limit : ℕ) (e : PlainExpr)
-    → ExprNames limit e → RunsHaveOperators e
+    → ExprNames limit e
     → FormsFit c (leaving names program marks class) limit e (forms (leaving names program marks class) c e)
