@@ -9,11 +9,11 @@ use Rattle.py_tree.specs.FlowEnvironment.{PlainLocal, has_name, has_none, local_
 use Rattle.py_tree.specs.Flow.{Known, known_at, known_of, with_known, unassigned, settled, joined, given, with_local, forgotten, at_head}
 use Rattle.program_meaning.proofs.LocalShapes.{Shape, shape, shapes, given_if, new_local}
 use Rattle.typed_hoisting.specs.KnownLocals.{Seen, is_optional, seen_of, seen, Alike}
-use Rattle.typed_hoisting.proofs.LocalLaws.{found_name, changed, or_else, one_more, apart}
+use Rattle.typed_hoisting.proofs.LocalLaws.{kept_same, found_name, changed, or_else, one_more, apart}
 
 -- where as much is known of each name below the limit
 pub alike_by : (limit : ℕ) (here there : List PlainLocal) → ((x : ℕ) → x < limit → seen here x ≡ seen there x) → Alike limit here there
-alike_by limit here there same = record { alike = same }
+alike_by limit here there same = record { alike = λ x below. kept_same (seen here x) (seen there x) (same x below) }
 
 -- By places
 
