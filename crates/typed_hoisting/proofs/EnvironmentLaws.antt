@@ -108,7 +108,7 @@ module _ (variables : List PlainVar) where
   pub as_least : (k : ℕ) (locals env : List PlainLocal) → Stands variables k locals env → AtLeast variables k locals env
   as_least k locals env s = record { are = s.are; under = λ x below. kept_under (seen locals x) (seen env x) (s.alike.alike x below) }
 
-  variables_narrowed : (names : List ℕ) (env : List PlainLocal) → AreVariables variables env → AreVariables variables (narrowed names env)
+  pub variables_narrowed : (names : List ℕ) (env : List PlainLocal) → AreVariables variables env → AreVariables variables (narrowed names env)
   unfolding narrowed
   variables_narrowed names env are = variables_changed (narrow names) (narrow_name names) (narrow_ty names) env ∙ are
 

@@ -144,10 +144,10 @@ seen_as t b = record { ty = t; less = b }
 
 module _ (variables : List PlainVar) where
   -- what is assigned here is a variable of its type
-  abbrev Known : List PlainLocal → Type 0
+  abbrev pub Known : List PlainLocal → Type 0
   Known locals = (x : ℕ) (m : PlainLocal) → local_of locals x ≡ Some m → m.assigned ≡ true → option_map var_ty (find (is_var x) variables) ≡ Some m.ty
 
-  point_stands : (locals : List PlainLocal) → Once locals → Known locals → (n : ℕ) → Stands variables n locals (at_start variables (surely locals))
+  pub point_stands : (locals : List PlainLocal) → Once locals → Known locals → (n : ℕ) → Stands variables n locals (at_start variables (surely locals))
   point_stands locals once known n = record {
     are = start_variables variables (surely locals);
     alike = record {

@@ -1,0 +1,12 @@
+pub mod WantedTypes
+pub mod KnownWays
+pub mod StoredKnown
+pub mod KeptParts
+pub mod FlowKept
+pub mod BegunAnew
+pub mod WaysOn
+pub mod KnownStays
+pub mod CodeLaws
+pub mod SimpleKeep
+pub mod AugmentKeep
+pub mod StillKeep
