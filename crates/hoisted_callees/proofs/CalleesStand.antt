@@ -1,5 +1,5 @@
 -- The callees and created classes of an accepted program's flat code are there and have their names.
-use Rattle.std.proofs.Common.{◌≡◌, ◌+◌, arith, ℕ, Bool, false, cond, Option, Some, None, Ok, List, [], ◌∷◌, length, map as over, append-nil, unwrap_or, refl, sym, ap, ◌∙◌, subst}
+use Rattle.std.proofs.Common.{◌≡◌, ◌+◌, ℕ, Bool, false, cond, Option, Some, None, Ok, List, [], ◌∷◌, length, map as over, append-nil, unwrap_or, refl, sym, ap, ◌∙◌, subst}
 use Rattle.std.specs.Prelude.{◌==◌, ◌&&◌, not, slice_get, option_and_then, is_some}
 use Rattle.std.specs.List.{position_from}
 use Rattle.std.specs.declared.result.Result.{Result}
@@ -23,7 +23,7 @@ use Rattle.py_tree.specs.Flow.{Context, known_at, settled, result_at, Way, begun
 use Rattle.call_graph.specs.SuspendingCode.{Leaving, leaving}
 use Rattle.program_meaning.specs.Evaluation.{class_of}
 use Rattle.program_meaning.specs.NothingGoesWrong.{IsKnownAccepted}
-use Rattle.program_meaning.proofs.LocalShapes.{Shape, shapes, type_found, shapes_settled}
+use Rattle.program_meaning.proofs.LocalShapes.{Shape, shapes, type_in, shapes_settled}
 use Rattle.program_meaning.proofs.FlowGrows.{follows_all}
 use Rattle.program_meaning.proofs.TableFacts.{all_at, mapped_at}
 use Rattle.program_meaning.proofs.MethodFacts.{method_member, body_flows}
@@ -34,11 +34,14 @@ use Rattle.flat_tree.specs.PlainFlat.{flat_stmts_of}
 use Rattle.method_splitter.specs.Callees.{EachInAll, CalleeIsNamed, CreatedIsNamed, CalleeIsThere, CreatedIsThere}
 use Rattle.method_hoister.specs.Spots.{Spot, class_place, method_place, callee_of, created_of}
 use Rattle.method_hoister.specs.HoistMethods.{flat_body}
+use Rattle.typed_hoisting.specs.KnownLocals.{seen}
+use Rattle.typed_hoisting.proofs.LocalLaws.{kept_same}
+use Rattle.typed_methods.proofs.KnownWays.{known_before}
 use Rattle.typed_hoisting.proofs.TypedKinds.{CalleeStands, callee_stands, created_stands}
 use Rattle.hoisted_callees.specs.CalleesStand.{found_locals, source_of, flat_code, CalleesStand}
 use Rattle.hoisted_callees.proofs.EachLaws.{One, all_once}
 use Rattle.hoisted_callees.proofs.NamedExpressions.{Stand}
-use Rattle.hoisted_callees.proofs.AheadLaws.{same_types, grows_longer, Early, early_before, Ahead, settled_later}
+use Rattle.hoisted_callees.proofs.Beforehand.{Early, Ahead}
 use Rattle.hoisted_callees.proofs.NamedStatements.{all_named}
 
 -- a place among items is that among what is made of them
@@ -121,16 +124,15 @@ module _ (names : List (List ℕ)) (program : PlainProgram) where
           let then_end : Way → Result (List PlainLocal) RuleFault = λ v. refuse_if (all_go_on (stmts_of m.body) && not (has_none (result_at c))) MissingReturn m.place (Ok (settled v.locals (known_at first))) in
           let found : method_locals tables class number m ≡ Ok start = ap (λ r. with_found r then_end) b.goes ∙ ap (λ k. refuse_if k MissingReturn m.place (Ok start)) b.ends in
           let grows = (follows_all (stmts_of m.body) c (begun first) end b.goes).grows in
-          let early_end : Early all limit end.locals = record { rest = []; is = sym (append-nil all) } in
-          let early_first : Early all limit first = early_before all limit first end.locals grows early_end in
-          let ahead : Ahead all limit first start = record {
-            typed = λ x below. same_types start end.locals x (shapes_settled end.locals (known_at first)) ∙ type_found end.locals x;
-            alike = λ x below. sym (settled_later all limit end.locals first x early_end early_first (grows_longer first end.locals grows));
+          let early_end : Early all end.locals = record { rest = []; is = sym (append-nil all) } in
+          let ahead : Ahead all first start = record {
+            typed = λ x t i. ap (λ ss. type_in ss x) (shapes_settled end.locals (known_at first)) ∙ i;
+            kept = λ x. kept_same (seen first x) (seen start x) (sym (known_before first end.locals x grows));
           } in
           let h : Spot = record { locals = start; next = limit } in
           subst (λ r. EachInAll P Q (flat_stmts_of (flat_body leaves c (found_locals r) limit (Some m)))) (sym found)
           (∥∥₁_elim accepted.bounded (all_once P Q one_callee one_class _) (λ (bounded : IsBounded names program).
-          (all_named P Q c leaves limit all stand (stmts_of m.body) (names_below class number m d bounded) false (begun first) end h b.goes early_end ahead (omega arith)).each))
+          all_named P Q c leaves limit all stand (stmts_of m.body) (names_below class number m d bounded) false (begun first) end h b.goes early_end ahead))
 
 pub callees_stand : CalleesStand
 callees_stand names program marks accepted = (

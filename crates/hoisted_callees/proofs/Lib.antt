@@ -1,10 +1,6 @@
 pub mod EachLaws
-pub mod SeenLaws
 pub mod NamedParts
 pub mod NamedExpressions
-pub mod WantedTypes
-pub mod AheadLaws
-pub mod AheadParts
-pub mod FlowAhead
+pub mod Beforehand
 pub mod NamedStatements
 pub mod CalleesStand
