@@ -43,7 +43,7 @@ use Rattle.typed_methods.proofs.SimpleKeep.{EachVariable, Begins, forms_good, Go
 
 -- What joins
 
-joins_combined : (o : BinOp) (at : Place) (s t : PlainTy) → Joins o s t → combined o at s t ≡ Ok s
+pub joins_combined : (o : BinOp) (at : Place) (s t : PlainTy) → Joins o s t → combined o at s t ≡ Ok s
 unfolding combined
 joins_combined o at _ _ numbers = refl
 joins_combined _ at _ _ texts = refl

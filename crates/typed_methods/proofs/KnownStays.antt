@@ -64,7 +64,7 @@ module _ (floor : List PlainLocal) where
       by true h = ap (option_map (λ (t : Seen). t.ty)) h
       by false h = absurd (none-some s h)
 
-  stored_above : (x : ℕ) (first ty : PlainTy) (ls : List PlainLocal) → Forgets floor (x ∷ []) → AllUnder floor ls → AllUnder floor (with_local x first ty ls)
+  pub stored_above : (x : ℕ) (first ty : PlainTy) (ls : List PlainLocal) → Forgets floor (x ∷ []) → AllUnder floor ls → AllUnder floor (with_local x first ty ls)
   unfolding has_name
   stored_above x first ty ls forgets under y = subst (Under (seen floor y)) (sym (stored_seen x first ty ls y)) (by (x == y) refl (seen floor y) refl (under y))
     where
@@ -81,11 +81,11 @@ module _ (floor : List PlainLocal) where
       by true f (Some k) e u = here k e f (seen ls y) refl u
       by false f o e u = u
 
-  narrowed_above : (names : List ℕ) (ls : List PlainLocal) → AllUnder floor ls → AllUnder floor (narrowed names ls)
+  pub narrowed_above : (names : List ℕ) (ls : List PlainLocal) → AllUnder floor ls → AllUnder floor (narrowed names ls)
   narrowed_above names ls under x =
       under_then (seen floor x) (seen ls x) (seen (narrowed names ls) x) (under x) (subst (Under (seen ls x)) (sym (narrowed_seen names ls x)) (under_narrowed (has_name names x) (seen ls x)))
 
-  head_above : (names : List ℕ) (ls : List PlainLocal) → Forgets floor names → AllUnder floor ls → AllUnder floor (at_head names ls)
+  pub head_above : (names : List ℕ) (ls : List PlainLocal) → Forgets floor names → AllUnder floor ls → AllUnder floor (at_head names ls)
   head_above names ls forgets under x = subst (Under (seen floor x)) (sym (head_seen names ls x)) (by (has_name names x) refl (seen floor x) refl (seen ls x) (under x))
     where
       by : (b : Bool) → has_name names x ≡ b → (o : Option Seen) → seen floor x ≡ o → (q : Option Seen) → Under o q → Under o (option_map (forget_if b) q)

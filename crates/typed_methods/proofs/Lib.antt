@@ -10,3 +10,8 @@ pub mod CodeLaws
 pub mod SimpleKeep
 pub mod AugmentKeep
 pub mod StillKeep
+pub mod PointsBehind
+pub mod ArmsKeep
+pub mod WhilesKeep
+pub mod StoredAt
+pub mod ForLoops

@@ -30,7 +30,7 @@ pub all_variables : (locals : List PlainLocal) (names : List ℕ) → EachTyped 
 all_variables locals [] h = refl
 all_variables locals (x ∷ xs) h = both_hold (is_typed locals x ∙ h.0) (all_variables locals xs h.1)
 
-some_typed : (o : Option PlainTy) → is_some o ≡ true → (t : PlainTy) × (o ≡ Some t)
+pub some_typed : (o : Option PlainTy) → is_some o ≡ true → (t : PlainTy) × (o ≡ Some t)
 some_typed (Some t) e = (t, refl)
 some_typed None e = absurd (true≢false (sym e))
 
