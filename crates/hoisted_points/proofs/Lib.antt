@@ -1,6 +1,6 @@
 mod LeadingCode
 mod LeadingExpressions
-mod LeadingStatements
+pub mod LeadingStatements
 pub mod NamedLocals
 pub mod PointParts
 pub mod PointedParts
