@@ -14,7 +14,7 @@ use Rattle.program_meaning.specs.RequestRun.{at_first, is_too_heavy}
 use Rattle.block_code.specs.declared.event.Event.{Event}
 use Rattle.block_code.specs.declared.event.EventKind.TheVariants as kind
 use Rattle.block_code.specs.PlainBlocks.{ELeave, PlainBlock}
-use Rattle.block_step.specs.EventStep.{event, lasts, up_to}
+use Rattle.block_runs.specs.EventStep.{event, lasts, up_to}
 use Rattle.operator_graph.specs.Routing.{hash_from}
 use Rattle.operator_graph.specs.Telling.{StepTold}
 use Rattle.interleaving.specs.Turns.{running, noted, after, along}

@@ -17,7 +17,7 @@ use Rattle.aria_batch.proofs.BatchLaws.{committed_is_serial}
 use Rattle.block_code.specs.declared.event.EventKind.{EventKind}
 use Rattle.block_code.specs.declared.event.EventKind.TheVariants as kind
 use Rattle.request_events.specs.RequestEvents.{ended_as}
-use Rattle.request_events.specs.GraphMeans.{source}
+use Rattle.quiet_methods.specs.MarksKeepWithin.{source}
 use Rattle.batch_events.specs.BatchEvents.{Transaction}
 use Rattle.batch_events.specs.BatchRuns.{come_to, AreRuns}
 use Rattle.batch_events.specs.BatchWorks.{written, EachBuffers, CommittedAlongPicksIsSerial}

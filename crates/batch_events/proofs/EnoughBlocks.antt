@@ -33,13 +33,13 @@ use Rattle.block_code.specs.PlainBlocks.{PlainEnd, EJump, EBranch, ELeave, ECall
 use Rattle.block_code.specs.Places.{blocks_of, method_place}
 use Rattle.block_code.specs.GraphFits.{takes_step, BelowRank, NextAreBelow, CatchFits, BlockFits, MethodFits, GraphFits, at_start}
 use Rattle.block_code.specs.EventsFit.{Awaits, catch_of, FrameFits, FramesFit, KindFits}
-use Rattle.block_step.specs.BlockRuns.{Go, Fall, given_then, parts_of_call, method_called, run_items, run_end, fall_at, fall, behind, at_block, run_blocks}
-use Rattle.block_step.specs.EventStep.{Part, Asks, Wants, waiting, has_room, Lasts, lasts, Step, site, finished, from, go_on, catch, resume, step_of, block_of, awaited_by, caught_by}
-use Rattle.block_step.proofs.Steps.{Went, all_takes, items_take, parts_take, items_went}
-use Rattle.block_step.proofs.Ranks.{lower, lower_rank}
-use Rattle.block_step.proofs.Parts.{catch_found}
-use Rattle.block_step.proofs.NamesApart.{IsMethod, method_is}
-use Rattle.block_step.proofs.Frames.{LastFits, lasts_fit}
+use Rattle.block_runs.specs.BlockRuns.{Go, Fall, given_then, parts_of_call, method_called, run_items, run_end, fall_at, fall, behind, at_block, run_blocks}
+use Rattle.block_runs.specs.EventStep.{Part, Asks, Wants, waiting, has_room, Lasts, lasts, Step, site, finished, from, go_on, catch, resume, step_of, block_of, awaited_by, caught_by}
+use Rattle.block_runs.proofs.Steps.{Went, all_takes, items_take, parts_take, items_went}
+use Rattle.block_runs.proofs.Ranks.{lower, lower_rank}
+use Rattle.block_runs.proofs.Parts.{catch_found}
+use Rattle.block_runs.proofs.NamesApart.{IsMethod, method_is}
+use Rattle.block_runs.proofs.Frames.{LastFits, lasts_fit}
 use Rattle.interleaving.specs.AsAlone.{sum_of}
 use Rattle.batch_events.specs.BatchEvents.{above_ranks, enough}
 use Rattle.batch_events.specs.BatchRuns.{EnoughBlocks}

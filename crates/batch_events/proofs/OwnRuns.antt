@@ -25,8 +25,8 @@ use Rattle.block_code.specs.declared.event.EventKind.TheVariants as kind
 use Rattle.block_code.specs.PlainBlocks.{PlainBlock}
 use Rattle.block_code.specs.GraphFits.{GraphFits}
 use Rattle.block_code.specs.EventsFit.{FramesFit, EventFits}
-use Rattle.block_step.specs.EventStep.{Lasts, lasts, Step, event, target_of, step_of, resume}
-use Rattle.block_step.specs.StepFits.{HeldFits, IsThere, IsReady}
+use Rattle.block_runs.specs.EventStep.{Lasts, lasts, Step, event, target_of, step_of, resume}
+use Rattle.block_runs.specs.StepFits.{HeldFits, IsThere, IsReady}
 use Rattle.operator_graph.specs.Telling.{Told}
 use Rattle.request_events.specs.RequestEvents.{steps_behind_first, asked_for, first_event, with_left, Handles, Comes, ended_as}
 use Rattle.request_events.specs.GraphMeans.{EndsAsRun, GraphMeans}

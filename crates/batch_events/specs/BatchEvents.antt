@@ -17,7 +17,7 @@ use Rattle.block_code.specs.declared.event.Event.{Event}
 use Rattle.block_code.specs.declared.event.EventKind.{EventKind}
 use Rattle.block_code.specs.declared.event.EventKind.TheVariants as kind
 use Rattle.block_code.specs.PlainBlocks.{PlainBlock}
-use Rattle.block_step.specs.EventStep.{Step, lasts, target_of, step_of}
+use Rattle.block_runs.specs.EventStep.{Step, lasts, target_of, step_of}
 use Rattle.operator_graph.specs.Routing.{operator_of}
 use Rattle.operator_graph.specs.Telling.{Told, StepTold}
 use Rattle.request_events.specs.RequestEvents.{first_event, behind}

@@ -15,10 +15,11 @@ use Rattle.block_code.specs.declared.event.Event.{Event}
 use Rattle.block_code.specs.PlainBlocks.{PlainBlock}
 use Rattle.block_code.specs.GraphFits.{GraphFits}
 use Rattle.block_code.specs.EventsFit.{EventFits}
-use Rattle.block_step.specs.EventStep.{Step, StepsTo}
+use Rattle.block_runs.specs.EventStep.{Step, StepsTo}
 use Rattle.operator_graph.specs.Telling.{Told}
 use Rattle.request_events.specs.RequestEvents.{ended_as}
-use Rattle.request_events.specs.GraphMeans.{GraphMeans, source}
+use Rattle.request_events.specs.GraphMeans.{GraphMeans}
+use Rattle.quiet_methods.specs.MarksKeepWithin.{source}
 use Rattle.interleaving.specs.AsAlone.{sum_of, Alone, EachEnds, AreAsAlone}
 use Rattle.batch_events.specs.BatchEvents.{Transaction, firsts, step_with_enough, event_told, transactions, batch_after, batch_told, batch_running}
 

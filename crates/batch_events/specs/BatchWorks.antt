@@ -20,7 +20,8 @@ use Rattle.block_code.specs.declared.event.EventKind.{EventKind}
 use Rattle.block_code.specs.declared.event.EventKind.TheVariants as kind
 use Rattle.block_code.specs.PlainBlocks.{PlainBlock}
 use Rattle.block_code.specs.GraphFits.{GraphFits}
-use Rattle.request_events.specs.GraphMeans.{GraphMeans, source}
+use Rattle.request_events.specs.GraphMeans.{GraphMeans}
+use Rattle.quiet_methods.specs.MarksKeepWithin.{source}
 use Rattle.batch_events.specs.BatchEvents.{Transaction, batch_after, batch_running}
 
 -- what counts as written in a world: a request that failed has written nothing

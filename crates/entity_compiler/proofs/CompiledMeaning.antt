@@ -20,7 +20,7 @@ use Rattle.program_meaning.specs.NothingGoesWrong.{IsKnownAccepted}
 use Rattle.program_meaning.proofs.MethodFacts.{method_flows, method_member}
 use Rattle.program_meaning.proofs.StepsTaken.{source_takes}
 use Rattle.block_code.specs.GraphFits.{MethodFits}
-use Rattle.block_step.specs.BlockRuns.{ComesTo}
+use Rattle.block_runs.specs.BlockRuns.{ComesTo}
 use Rattle.flat_tree.specs.PlainFlat.{PlainFlat, flat_stmts_of}
 use Rattle.flat_tree.specs.FlatMeaning.{run_flat}
 use Rattle.method_hoister.proofs.Methods.{flat_methods_mean}
@@ -28,7 +28,7 @@ use Rattle.method_hoister.proofs.Flatness.{flat_by_marks}
 use Rattle.method_splitter.specs.Split.{block, leave, outermost, split_all}
 use Rattle.method_splitter.proofs.BlocksMean.{blocks_mean_flat}
 use Rattle.flat_types.proofs.BlocksFit.{blocks_fit}
-use Rattle.request_events.specs.GraphMeans.{source}
+use Rattle.quiet_methods.specs.MarksKeepWithin.{source}
 use Rattle.request_events.proofs.Requests.{events_mean_their_source}
 use Rattle.entity_compiler.specs.CompiledGraph.{found_locals, context_of, start_locals, flat_method, method_blocks}
 use Rattle.entity_compiler.specs.CodeKeepsRules.{NamesItsCallees, HasTypes}

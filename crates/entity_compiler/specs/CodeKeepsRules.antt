@@ -10,7 +10,7 @@ use Rattle.block_code.specs.GraphFits.{var_of}
 use Rattle.flat_tree.specs.PlainFlat.{flat_stmts_of}
 use Rattle.method_splitter.specs.Callees.{CalleesAreNamed}
 use Rattle.flat_types.specs.SplitFits.{FlatFits}
-use Rattle.request_events.specs.GraphMeans.{source}
+use Rattle.quiet_methods.specs.MarksKeepWithin.{source}
 use Rattle.entity_compiler.specs.CompiledGraph.{context_of, start_locals, flat_method}
 
 module _ (names : List (List ℕ)) (program : PlainProgram) where

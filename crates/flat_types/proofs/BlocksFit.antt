@@ -14,7 +14,7 @@ use Rattle.program_meaning.proofs.TypedParts.{both_true}
 use Rattle.block_code.specs.PlainVars.{PlainVar}
 use Rattle.block_code.specs.PlainBlocks.{IMark, ISet, IPut, IGive, IFail, ECall, EMake, PlainBlock}
 use Rattle.block_code.specs.GraphFits.{Asked, Leads, CatchFits, ItemsFit, at_start, each_once, is_param_of, BlockFits}
-use Rattle.block_step.proofs.Variables.{all_of_each}
+use Rattle.block_runs.proofs.Variables.{all_of_each}
 use Rattle.flat_tree.specs.declared.tree.Callee.{Callee}
 use Rattle.flat_tree.specs.declared.tree.Created.{Created}
 use Rattle.flat_tree.specs.PlainFlat.{Point, PlainFlatStmt, FMark, FSet, FPut, FGive, FFail, FCode, FBreak, FContinue, FCall, FMake, FIf, FWhile, PlainFlatStmts, FNoStmt, FStmt, FArm, PlainFlatArms, FNoArm, FMoreArms, PlainFlatTest, FLeaf, FNot, FAnd, FOr, FOperand, PlainOperands, FNoOperand, FMoreOperands, flat_stmts_of}

@@ -14,7 +14,7 @@ use Rattle.program_meaning.proofs.LocalShapes.{Shape, shape, shapes, type_in, ty
 use Rattle.program_meaning.proofs.Places.{found_at, found_passes}
 use Rattle.block_code.specs.PlainVars.{PlainVar}
 use Rattle.block_code.specs.GraphFits.{is_var, is_inside, local_at, at_start, is_supplied, supplied, each_once, is_param_of}
-use Rattle.block_step.proofs.Variables.{each_passes, any_found}
+use Rattle.block_runs.proofs.Variables.{each_passes, any_found}
 use Rattle.flat_tree.specs.PlainFlat.{Point}
 use Rattle.flat_types.specs.FlatTypes.{is_point, Supplies}
 

@@ -9,7 +9,7 @@ use Rattle.program_meaning.specs.Evaluation.{Site}
 use Rattle.program_meaning.specs.Calls.{bound}
 use Rattle.program_meaning.specs.StepsLeft.{CallsTakeSteps}
 use Rattle.block_code.specs.PlainBlocks.{PlainBlock}
-use Rattle.block_step.specs.BlockRuns.{run_items, run_end, run_blocks, ComesTo}
+use Rattle.block_runs.specs.BlockRuns.{run_items, run_end, run_blocks, ComesTo}
 use Rattle.flat_tree.specs.PlainFlat.{PlainFlat, flat_stmts_of}
 use Rattle.flat_tree.specs.FlatMeaning.{run, run_flat}
 use Rattle.flat_tree.specs.Flatness.{AreFlat}

@@ -9,7 +9,7 @@ use Rattle.program_meaning.specs.Evaluation.{Site, eval}
 use Rattle.program_meaning.specs.Execution.{message}
 use Rattle.program_meaning.specs.StepsLeft.{CallsTakeSteps}
 use Rattle.block_code.specs.PlainBlocks.{ECall, EMake, PlainBlock}
-use Rattle.block_step.specs.BlockRuns.{behind}
+use Rattle.block_runs.specs.BlockRuns.{behind}
 use Rattle.flat_tree.specs.PlainFlat.{PlainFlatStmt, FMark, FSet, FPut, FGive, FFail, FCode, FBreak, FContinue, FCall, FMake, FIf, FWhile, PlainFlatStmts, FNoStmt, FStmt, FArm, PlainFlatArms, FNoArm, FMoreArms, PlainFlatTest, FLeaf, FNot, FAnd, FOr, FOperand, PlainOperands, FNoOperand, FMoreOperands}
 use Rattle.flat_tree.specs.FlatMeaning.{Way, call_gives, creation_gives, into_local, run_stmt, run_stmts, run_arms, decide, decide_each}
 use Rattle.flat_tree.specs.Flatness.{IsFlat, AreFlat, AreFlatArms, IsFlatTest, AreFlatOperands}

@@ -11,7 +11,7 @@ use Rattle.program_meaning.specs.Evaluation.{Site, eval, eval_all, key_in, metho
 use Rattle.program_meaning.specs.StepsLeft.{left_in, CallsTakeSteps}
 use Rattle.program_meaning.proofs.StepsTaken.{eval_takes}
 use Rattle.block_code.specs.PlainBlocks.{ECall, EMake, PlainBlock}
-use Rattle.block_step.specs.BlockRuns.{given_then, parts_of_call, name_if_there, run_items, run_end, fall, run_blocks, recursing}
+use Rattle.block_runs.specs.BlockRuns.{given_then, parts_of_call, name_if_there, run_items, run_end, fall, run_blocks, recursing}
 use Rattle.flat_tree.specs.FlatMeaning.{Way, call_gives, creation_gives, into_local}
 use Rattle.method_splitter.specs.Split.{Target, Rest, Jumps, Holds, branch, Around}
 use Rattle.method_splitter.proofs.RestsRun.{Runs, After, Leads, WayLeads, AsGood}

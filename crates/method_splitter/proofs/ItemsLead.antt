@@ -13,7 +13,7 @@ use Rattle.program_meaning.specs.Reached.{IsReached}
 use Rattle.program_meaning.proofs.StepsTaken.{eval_takes, acts_take}
 use Rattle.program_meaning.proofs.NotReached.{act_reached}
 use Rattle.block_code.specs.PlainBlocks.{PlainItem, IMark, ISet, IPut, IGive, IFail, ICode, PlainEnd, PlainBlock}
-use Rattle.block_step.specs.BlockRuns.{run_item, run_items, run_end, fall, behind, run_blocks, recursing}
+use Rattle.block_runs.specs.BlockRuns.{run_item, run_items, run_end, fall, behind, run_blocks, recursing}
 use Rattle.flat_tree.specs.FlatMeaning.{Way, into_local, into_field}
 use Rattle.flat_tree.proofs.InTurn.{next_nothing}
 use Rattle.method_splitter.specs.Split.{Rest, Jumps, Holds, leave, front, front_code, coded, Around, stops}

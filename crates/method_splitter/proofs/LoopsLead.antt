@@ -7,7 +7,7 @@ use Rattle.program_meaning.specs.Evaluation.{Site, eval}
 use Rattle.program_meaning.specs.Execution.{stepping}
 use Rattle.program_meaning.specs.StepsLeft.{CallsTakeSteps}
 use Rattle.block_code.specs.PlainBlocks.{IMark, PlainBlock}
-use Rattle.block_step.specs.BlockRuns.{behind}
+use Rattle.block_runs.specs.BlockRuns.{behind}
 use Rattle.flat_tree.specs.PlainFlat.{Point, FNoStmt, FStmt, PlainFlatTest, FLeaf, FNot, FAnd, FOr}
 use Rattle.flat_tree.specs.FlatMeaning.{Way, loop_turns, decide}
 use Rattle.method_splitter.specs.Split.{Target, Rest, Jumps, rank_of, front, Numbered, lodge, Around, inside, looped, endless, loop_code, always, split_test}

@@ -11,7 +11,7 @@ use Rattle.program_meaning.specs.Evaluation.{Site}
 use Rattle.program_meaning.specs.Execution.{stepping}
 use Rattle.program_meaning.specs.StepsLeft.{left_at}
 use Rattle.block_code.specs.PlainBlocks.{PlainItem, IMark, PlainBlock}
-use Rattle.block_step.specs.BlockRuns.{Go, run_item, run_items, run_end, fall, behind, at_block, run_blocks, recursing}
+use Rattle.block_runs.specs.BlockRuns.{Go, run_item, run_items, run_end, fall, behind, at_block, run_blocks, recursing}
 use Rattle.flat_tree.specs.FlatMeaning.{Way}
 use Rattle.flat_tree.specs.PlainFlat.{Point}
 use Rattle.method_splitter.specs.Split.{Target, Rest, Jumps, Holds, code_of, end_of, block, front, Around, lodge, joined}

@@ -4,7 +4,7 @@ use Rattle.py_tree.specs.ClassRules.{PlainTable}
 use Rattle.py_tree.specs.Flow.{sig_at}
 use Rattle.program_meaning.specs.ClassTables.{Source, methods_of}
 use Rattle.program_meaning.specs.Evaluation.{class_of}
-use Rattle.block_step.specs.BlockRuns.{name_if_there}
+use Rattle.block_runs.specs.BlockRuns.{name_if_there}
 use Rattle.flat_tree.specs.declared.tree.Callee.{Callee}
 use Rattle.flat_tree.specs.declared.tree.Created.{Created}
 use Rattle.flat_tree.specs.PlainFlat.{PlainFlatStmt, FMark, FSet, FPut, FGive, FFail, FCode, FBreak, FContinue, FCall, FMake, FIf, FWhile, PlainFlatStmts, FNoStmt, FStmt, FArm, PlainFlatArms, FNoArm, FMoreArms, PlainFlatTest, FLeaf, FNot, FAnd, FOr, FOperand, PlainOperands, FNoOperand, FMoreOperands}

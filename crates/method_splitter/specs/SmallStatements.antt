@@ -1,9 +1,11 @@
 -- Where a statement begins that makes no block, and how far statements are reached.
-use Rattle.std.specs.Prelude.{Bool, true, false, List, [], ◌∷◌, if◌then◌else◌}
+use Rattle.std.specs.Prelude.{ℕ, Bool, true, false, List, [], ◌∷◌, if◌then◌else◌}
+use Rattle.py_tree.specs.PlainExpressions.{PlainExpr, PlainExprs}
 use Rattle.py_tree.specs.Reachability.{goes_on}
-use Rattle.block_code.specs.PlainBlocks.{IMark, ISet, IPut, IGive, IFail}
+use Rattle.block_code.specs.PlainBlocks.{IMark, ISet, IPut, IGive, IFail, ECall}
+use Rattle.flat_tree.specs.declared.tree.Callee.{Callee}
 use Rattle.flat_tree.specs.PlainFlat.{PlainFlatStmt, FMark, FSet, FPut, FGive, FFail, FCode, FBreak, FContinue, FCall, FMake, FIf, FWhile}
-use Rattle.method_splitter.specs.Split.{Rest, Around, leave, front, coded, stops}
+use Rattle.method_splitter.specs.Split.{Rest, Holds, Around, leave, front, coded, stops}
 
 abbrev pub is_small : PlainFlatStmt → Bool
 is_small (FCall on callee args into after) = false
@@ -23,6 +25,10 @@ small (FCode x) a c = coded (goes_on x) x c
 small FBreak a c = a.breaks
 small FContinue a c = a.continues
 small _ a c = c
+
+-- what ends with a call, behind which a block goes on
+abbrev pub calling : PlainExpr → Callee → PlainExprs → (into after : ℕ) → Rest
+calling on callee args into after = Holds [] (ECall on callee.class callee.method args into after) 0
 
 -- the statements up to the first behind which nothing goes on
 unfoldable pub reached_part : List PlainFlatStmt → List PlainFlatStmt

@@ -7,7 +7,7 @@ use Rattle.program_meaning.specs.World.{World}
 use Rattle.program_meaning.specs.Evaluation.{Site}
 use Rattle.program_meaning.specs.Calls.{bound}
 use Rattle.program_meaning.specs.StepsLeft.{CallsTakeSteps}
-use Rattle.block_step.specs.BlockRuns.{ComesTo}
+use Rattle.block_runs.specs.BlockRuns.{ComesTo}
 use Rattle.flat_tree.specs.PlainFlat.{PlainFlat, flat_stmts_of}
 use Rattle.flat_tree.specs.FlatMeaning.{run_flat}
 use Rattle.flat_tree.specs.Flatness.{AreFlat}

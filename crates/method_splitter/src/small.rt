@@ -2,7 +2,7 @@
 
 ghost use Rattle.std.specs.Prelude.{◌≡◌, ◌≤◌, true, [], IfOk};
 ghost use Rattle.py_tree.specs.PlainExpressions.{plain_expr, plain_exprs, exprs_of};
-ghost use Rattle.block_code.specs.PlainBlocks.{PlainItem, IGive, IFail, ECall, EMake};
+ghost use Rattle.block_code.specs.PlainBlocks.{PlainItem, IGive, IFail, EMake};
 ghost use Rattle.py_tree.specs.PlainStatements.{plain_option};
 ghost use Rattle.flat_tree.specs.PlainFlat.{plain_flat_stmt};
 ghost use Rattle.method_splitter.specs.Split as spec;
@@ -74,7 +74,7 @@ pub fn call_end(
     into: Name,
     after: u32,
 ) -> Result<Rest, AllocError>
-    ensures { IfOk result (λ made. plain_rest made ≡ spec.Holds [] (ECall (plain_expr on.now) callee.class callee.method (exprs_of (plain_exprs args.now)) into.0 after) 0) }
+    ensures { IfOk result (λ made. plain_rest made ≡ statement.calling (plain_expr on.now) callee (exprs_of (plain_exprs args.now)) into.0 after) }
 {
     let on = on.try_clone(alloc)?;
     let args = args.try_clone(alloc)?;

@@ -34,8 +34,8 @@ use Rattle.program_meaning.proofs.TypedParts.{either_false}
 use Rattle.block_code.specs.PlainVars.{PlainVar}
 use Rattle.block_code.specs.PlainBlocks.{PlainItem, IMark, ISet, IPut, IGive, IFail, ICode}
 use Rattle.block_code.specs.GraphFits.{Asked, HasType, Takes, CodeFits, MessageFits, ItemFits, ItemsFit, ArgsFit, AtEachPoint, AtEachItem}
-use Rattle.block_step.specs.BlockRuns.{parts_of_call, run_item, run_items}
-use Rattle.block_step.proofs.Variables.{Supplied}
+use Rattle.block_runs.specs.BlockRuns.{parts_of_call, run_item, run_items}
+use Rattle.block_runs.proofs.Variables.{Supplied}
 use Rattle.assigned_locals.specs.AssignedLocals.{AgreeOnAssigned, EndsAgree}
 use Rattle.assigned_locals.specs.AssignedLocals as agreed_ends
 use Rattle.assigned_locals.proofs.AssignedLocals.{expressions as assigned_in_expressions, every_argument as assigned_in_arguments, statements as assigned_in_statements}

@@ -33,11 +33,11 @@ use Rattle.block_code.specs.declared.event.Event.{Event}
 use Rattle.block_code.specs.PlainBlocks.{PlainEnd, EJump, EBranch, ELeave, ECall, EMake, PlainBlock}
 use Rattle.block_code.specs.GraphFits.{GraphFits}
 use Rattle.block_code.specs.EventsFit.{CallsIt, MakesIt, awaited_type, result_of_method, entity_of_class, AnswersIt, WaitsSo, FramesFit, OfLast, KindFits, EventFits}
-use Rattle.block_step.specs.EventStep.{resumed, Step, StepsTo, caught, thrown}
-use Rattle.block_step.specs.StepFits.{HeldFits, IsReady, StepsWell}
-use Rattle.block_step.proofs.FuelLaws.{steps_are_one}
-use Rattle.block_step.proofs.Frames.{WaitsFor, last_more, StayFit, caught_fit}
-use Rattle.block_step.proofs.WellSteps.{events_step_well}
+use Rattle.block_runs.specs.EventStep.{resumed, Step, StepsTo, caught, thrown}
+use Rattle.block_runs.specs.StepFits.{HeldFits, IsReady, StepsWell}
+use Rattle.block_runs.proofs.FuelLaws.{steps_are_one}
+use Rattle.block_runs.proofs.Frames.{WaitsFor, last_more, StayFit, caught_fit}
+use Rattle.block_runs.proofs.WellSteps.{events_step_well}
 use Rattle.request_events.proofs.Handling.{back}
 
 -- Entities that were read

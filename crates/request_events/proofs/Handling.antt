@@ -17,7 +17,7 @@ use Rattle.block_code.specs.declared.event.Frame.{Frame}
 use Rattle.block_code.specs.declared.event.Event.{Event}
 use Rattle.block_code.specs.declared.event.EventKind.TheVariants as kind
 use Rattle.block_code.specs.PlainBlocks.{PlainBlock}
-use Rattle.block_step.specs.EventStep.{behind_it, up_to, one_before, lasts, resumed, names_it, block_of, Step, step_of, target_of, given, caught, thrown}
+use Rattle.block_runs.specs.EventStep.{behind_it, up_to, one_before, lasts, resumed, names_it, block_of, Step, step_of, target_of, given, caught, thrown}
 use Rattle.request_events.specs.RequestEvents.{behind, Handles, Comes}
 
 -- Frames with one more behind

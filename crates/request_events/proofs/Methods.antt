@@ -37,11 +37,11 @@ use Rattle.block_code.specs.PlainBlocks.{PlainEnd, EJump, EBranch, ELeave, ECall
 use Rattle.block_code.specs.Places.{blocks_of}
 use Rattle.block_code.specs.GraphFits.{GraphFits, BlockFits, CatchFits, EndFits, Leads, at_start, AtEachItem}
 use Rattle.block_code.specs.EventsFit.{Awaits, awaited, catch_of, kept_params, EventFits}
-use Rattle.block_step.specs.BlockRuns.{Go, given_then, method_called, run_items, run_end, fall_at, fall, behind, at_block, run_blocks, recursing}
-use Rattle.block_step.specs.EventStep.{Part, Gave, Failed, Asks, Wants, waiting, has_room, kept, kept_if, kept_at, names_it, lasts, resumed, event, ref_of, Step, target_of, caught, thrown, frame, site, finish, finished, from, go_on, catch, awaited_by, caught_by, resume, step_of}
-use Rattle.block_step.specs.StepFits.{HeldFits, IsThere}
-use Rattle.block_step.proofs.Variables.{Supplied}
-use Rattle.block_step.proofs.Parts.{catch_found}
+use Rattle.block_runs.specs.BlockRuns.{Go, given_then, method_called, run_items, run_end, fall_at, fall, behind, at_block, run_blocks, recursing}
+use Rattle.block_runs.specs.EventStep.{Part, Gave, Failed, Asks, Wants, waiting, has_room, kept, kept_if, kept_at, names_it, lasts, resumed, event, ref_of, Step, target_of, caught, thrown, frame, site, finish, finished, from, go_on, catch, awaited_by, caught_by, resume, step_of}
+use Rattle.block_runs.specs.StepFits.{HeldFits, IsThere}
+use Rattle.block_runs.proofs.Variables.{Supplied}
+use Rattle.block_runs.proofs.Parts.{catch_found}
 use Rattle.assigned_locals.specs.AssignedLocals.{AgreeOnAssigned}
 use Rattle.request_events.specs.RequestEvents as requests
 use Rattle.request_events.specs.RequestEvents.{Handles}

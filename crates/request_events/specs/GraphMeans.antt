@@ -13,15 +13,13 @@ use Rattle.program_meaning.specs.Calls.{calls_at, in_state, bound, run_body}
 use Rattle.program_meaning.specs.Fits.{StateFits, ActFits}
 use Rattle.program_meaning.specs.RequestRun.{at_first, run}
 use Rattle.program_meaning.specs.NothingGoesWrong.{IsKnownAccepted}
+use Rattle.quiet_methods.specs.MarksKeepWithin.{source}
 use Rattle.block_code.specs.declared.event.Event.{Event}
 use Rattle.block_code.specs.PlainBlocks.{PlainBlock}
 use Rattle.block_code.specs.Places.{blocks_of}
 use Rattle.block_code.specs.GraphFits.{GraphFits}
-use Rattle.block_step.specs.BlockRuns.{ComesTo}
+use Rattle.block_runs.specs.BlockRuns.{ComesTo}
 use Rattle.request_events.specs.RequestEvents.{first_event, Comes, ended_as}
-
-abbrev pub source : List (List ℕ) → PlainProgram → Source
-source names program = record { program = program; names = names }
 
 -- the events of a request come to an end, which is that of the source's run on the same state
 pub record EndsAsRun (src : Source) (tables : List PlainTable) (graph : List (List PlainBlock)) (tx : ℕ) (s : State) (asked : Act) : Type 0 where

@@ -22,7 +22,7 @@ use Rattle.block_code.specs.declared.event.Event.{Event}
 use Rattle.block_code.specs.declared.event.EventKind.{EventKind}
 use Rattle.block_code.specs.declared.event.EventKind.TheVariants as kind
 use Rattle.block_code.specs.PlainBlocks.{PlainBlock}
-use Rattle.block_step.specs.EventStep.{Step, StepsTo, lasts, target_of, event, ref_of}
+use Rattle.block_runs.specs.EventStep.{Step, StepsTo, lasts, target_of, event, ref_of}
 
 -- Where they begin
 

@@ -1,3 +1,4 @@
+pub mod Choosing
 pub mod CopyLaws
 pub mod DiskLaws
 pub mod DiskStateLaws

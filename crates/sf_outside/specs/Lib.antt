@@ -2,6 +2,7 @@ pub mod Bytes
 pub mod CallLog
 pub mod Calls
 pub mod Causes
+pub mod Choices
 pub mod DiskCalls
 pub mod DiskFiles
 pub mod DiskModel

@@ -2,11 +2,13 @@
 //!
 //! A device is a trait. What it holds is optional in its meaning: a form in memory tells it, and
 //! contracts that read it ask nothing where a device doesn't. Each device counts its faults, and
-//! answers [`Failed`] only in a call that was counted. So a caller that met a fault can say whose it was.
+//! answers [`Failed`] only in a call that was counted. So a caller that met a fault can say whose it was. A [`Chooser`], who
+//! decides the order of what may go in any, is no device: its calls can't fail.
 #![tactic(auto)]
 
 mod call_log;
 mod calls;
+mod chooser;
 mod copies;
 mod devices;
 mod disk_files;
@@ -19,6 +21,7 @@ mod mount_book;
 mod store_disk;
 mod synced;
 
+pub use chooser::{Chooser, ListChooser};
 pub use devices::{Failed, Files, Sink, Source};
 pub use gains::{WriteStop, write_line};
 pub use memory_disk::MemDisk;

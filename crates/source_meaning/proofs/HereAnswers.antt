@@ -11,6 +11,7 @@ use Rattle.sf_value.specs.declared.Outcome.{Outcome}
 use Rattle.source_meaning.specs.declared.Stop.{Stop}
 use Rattle.source_meaning.specs.declared.Stop.TheVariants as stop
 use Rattle.source_meaning.specs.declared.here.Ended.{Ended}
+use Rattle.source_meaning.specs.declared.here.Made.{Made}
 use Rattle.program_meaning.specs.declared.vars.Var.{Var}
 use Rattle.source_meaning.specs.declared.walk.Flow.{Flow}
 use Rattle.source_meaning.specs.declared.walk.Flow.TheVariants as flow
@@ -20,9 +21,9 @@ use Rattle.program_meaning.specs.Evaluation.{eval}
 use Rattle.program_meaning.specs.Execution.{act_all}
 use Rattle.program_meaning.specs.Calls.{Held, on_record}
 use Rattle.program_meaning.specs.Serial.{no_state}
-use Rattle.source_meaning.specs.Agrees.{AgreesIn, EndsIn}
+use Rattle.source_meaning.specs.Agrees.{AgreesIn, EndsIn, GivesRecord}
 use Rattle.program_meaning.specs.Here.{at_end, GivesHere}
-use Rattle.source_meaning.specs.HereAnswers.{EndsHere, EndedAs, ComesTo}
+use Rattle.source_meaning.specs.HereAnswers.{EndsHere, EndedAs, ComesTo, MakesHere, MadeAs}
 use Rattle.program_meaning.proofs.ViewLaws.{viewed, viewed_end}
 use Rattle.program_meaning.proofs.HereLaws.{world_in, end_world, held_in, alone, within, alone_record, eval_held, acts_held, eval_keeps, acts_keep}
 
@@ -50,6 +51,11 @@ gives_by : (r : Result Value Stop) (x : Outcome) (w : World) (n : ℕ) (g : Give
 gives_by (Ok v) x w n g f h so gives taken = subst (λ y. GivesHere y h n (viewed f g)) (sym so) (ap (viewed f) gives ∙ ap (λ y. Got v y n) (taken (sym (ap world_in gives))))
 gives_by (Err stop.NoMemory) x w n g f h so gives taken = absurd so
 gives_by (Err (stop.Failed c)) x w n g f h so gives taken = subst (λ y. GivesHere y h n (viewed f g)) (sym so) (ap (viewed f) gives ∙ ap (λ y. Fell c y n) (taken (sym (ap world_in gives))))
+
+pub made_by : (r : Result (List Value) Stop) (x : Made) (n : ℕ) (g : Gives (List Value) Value) → MadeAs r x → GivesRecord r n g → MakesHere x n g
+made_by (Ok fields) x n g so gives = subst (λ y. MakesHere y n g) (sym so) gives
+made_by (Err stop.NoMemory) x n g so gives = absurd so
+made_by (Err (stop.Failed f)) x n g so gives = subst (λ y. MakesHere y n g) (sym so) gives
 
 module _ (src : Source) (me : Key) (d k : ℕ) (room : k ≡ d) (before : Bool) (fields left : List Value) (start w : World) (written : Option (List Value)) (h : Held)
     (began : start ≡ alone me fields)

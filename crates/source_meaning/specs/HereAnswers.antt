@@ -2,6 +2,7 @@
 use Rattle.std.specs.Prelude.{◌≡◌, ℕ, List, Ok, Err}
 use Rattle.std.specs.declared.result.Result.{Result}
 use Rattle.sf_value.specs.declared.value.Value.{Value}
+use Rattle.sf_value.specs.declared.value.Value.TheVariants as value
 use Rattle.sf_value.specs.declared.Outcome.{Outcome}
 use Rattle.sf_value.specs.declared.Outcome.TheVariants as outcome
 use Rattle.source_meaning.specs.declared.Stop.{Stop}
@@ -10,8 +11,10 @@ use Rattle.source_meaning.specs.declared.walk.Flow.{Flow}
 use Rattle.source_meaning.specs.declared.walk.Flow.TheVariants as flow
 use Rattle.source_meaning.specs.declared.here.Ended.{Ended}
 use Rattle.source_meaning.specs.declared.here.Ended.TheVariants as ended
+use Rattle.source_meaning.specs.declared.here.Made.{Made}
+use Rattle.source_meaning.specs.declared.here.Made.TheVariants as making
 use Rattle.program_meaning.specs.declared.vars.Var.{Var}
-use Rattle.program_meaning.specs.World.{Ends, Goes, Returns, Fails}
+use Rattle.program_meaning.specs.World.{Gives, Got, Fell, Ends, Goes, Returns, Fails}
 use Rattle.program_meaning.specs.Calls.{Held}
 use Rattle.program_meaning.specs.Here.{at_end}
 
@@ -35,3 +38,14 @@ abbrev pub ComesTo : Result Value Stop → Outcome → Type 0
 ComesTo (Ok v) x = x ≡ outcome.Value v
 ComesTo (Err stop.NoMemory) x = ⊥
 ComesTo (Err (stop.Failed f)) x = x ≡ outcome.Failed f
+
+-- the record that a creation makes, or its failure, and the steps that are left; of a record that isn't finished nothing is left
+abbrev pub MakesHere : Made → ℕ → Gives (List Value) Value → Type 0
+MakesHere (making.Record r) n g = g ≡ Got value.Nil r.fields n
+MakesHere (making.Failed f) n g = (fields : List Value) × (g ≡ Fell f fields n)
+
+-- what a creation comes to whose record is made so, unless memory ran out
+abbrev pub MadeAs : Result (List Value) Stop → Made → Type 0
+MadeAs (Ok fields) x = x ≡ making.Record (record { fields = fields })
+MadeAs (Err stop.NoMemory) x = ⊥
+MadeAs (Err (stop.Failed f)) x = x ≡ making.Failed f

@@ -18,22 +18,22 @@ pub(crate) const INDEX_ERROR: u8 = 2;
 pub(crate) const ASSERTION_ERROR: u8 = 3;
 
 /// `RecursionError`.
-pub(crate) const RECURSION_ERROR: u8 = 4;
+pub const RECURSION_ERROR: u8 = 4;
 
 /// `OverflowError`.
 pub(crate) const OVERFLOW_ERROR: u8 = 5;
 
 /// `NoEntity`.
-pub(crate) const NO_ENTITY: u8 = 9;
+pub const NO_ENTITY: u8 = 9;
 
 /// `AlreadyExists`.
-pub(crate) const ALREADY_EXISTS: u8 = 10;
+pub const ALREADY_EXISTS: u8 = 10;
 
 /// `SizeLimit`.
 pub(crate) const SIZE_LIMIT: u8 = 11;
 
 /// `StepLimit`.
-pub(crate) const STEP_LIMIT: u8 = 12;
+pub const STEP_LIMIT: u8 = 12;
 
 /// The text without a character.
 pub(crate) fn empty_text(alloc: Global) -> Result<Text, AllocError>
@@ -43,6 +43,14 @@ pub(crate) fn empty_text(alloc: Global) -> Result<Text, AllocError>
 }
 
 /// A failure of a kind, without a message.
+pub fn bare_failure(alloc: Global, kind: u8) -> Result<Failure, AllocError>
+    ensures { IfOk result (λ f. f ≡ failure kind) }
+{
+    let message = empty_text(alloc)?;
+    Ok(Failure { kind, message })
+}
+
+/// Why a run stops that fails with a kind, without a message.
 pub(crate) fn fail(alloc: Global, kind: u8) -> Stop
     ensures { FailsAs result (failure kind) }
 {

@@ -9,19 +9,19 @@ ghost use Rattle.py_tree.specs.PlainStatements.{plain_stmts, stmts_of};
 ghost use Rattle.sf_value.specs.Keys.{key_of};
 ghost use Rattle.program_meaning.specs.Evaluation.{eval};
 ghost use Rattle.program_meaning.specs.Execution.{act_all};
-ghost use Rattle.program_meaning.specs.Calls.{on_record};
+ghost use Rattle.program_meaning.specs.Calls.{on_record, made_record};
 ghost use Rattle.program_meaning.specs.RequestRun.{depth_limit};
 ghost use Rattle.program_meaning.specs.Serial.{no_state};
 ghost use Rattle.program_meaning.specs.Sources.{source_of};
 ghost use Rattle.program_meaning.specs.Here.{held as the_held, GivesHere};
-ghost use Rattle.source_meaning.specs.HereAnswers.{EndsHere, EndedAs, ComesTo};
+ghost use Rattle.source_meaning.specs.HereAnswers.{EndsHere, EndedAs, ComesTo, MakesHere, MadeAs};
 
 use crate::Stop;
 use crate::local::Local;
 use crate::run::Run;
 use crate::site::{DEPTH_LIMIT, Room, Site};
 use crate::transaction::begin;
-use crate::walk::{Flow, evaluate, execute_all};
+use crate::walk::{Flow, evaluate, execute_all, make_record};
 use program_meaning::Vars;
 use py_tree::{Checked, Expr, Stmts};
 use sf_list::{Sequence, TryClone};
@@ -123,6 +123,49 @@ pub fn eval_here(
     outcome_here(given)
 }
 
+/// What a creation comes to.
+#[derive(Drop)]
+pub enum Made {
+    /// The record of the new entity.
+    Record(Record),
+    /// It failed, and there is no record.
+    Failed(Failure),
+}
+
+/// Runs `__init__` for a new entity, which sees nothing but the arguments.
+///
+/// A failure leaves the steps of that moment. It is an error where memory runs out: the steps are
+/// given up then, and their number is of no meaning.
+pub fn make_here(
+    alloc: Global,
+    program: &Checked,
+    at: &Ref,
+    args: &Values,
+    steps: &mut u32,
+) -> Result<Made, AllocError>
+    ensures { IfOk result (λ made. MakesHere made steps.new (made_record (source_of program.now) (key_of at.now) args.now steps.old)) }
+{
+    let empty = Local::new(alloc);
+    let site = Site {
+        alloc,
+        program,
+        state: &empty,
+        me: at,
+        fields: program.fields(at.class),
+        room: Room::Closed,
+    };
+    let mut run = Run {
+        tx: begin(alloc),
+        steps: *steps,
+        nesting: 0,
+    };
+    let made = make_record(&site, at, args, &mut run);
+    *steps = run.steps;
+    drop(run);
+    drop(empty);
+    made_here(made)
+}
+
 /// Moves a record into a state that holds its entity alone, and leaves an empty one.
 fn take_out(alloc: Global, held: &mut Record, me: &Ref) -> Result<Local, AllocError>
     ensures { IfOk result (λ state. state ≡ finite.insert no_state (key_of me.now) held.old.fields) }
@@ -169,6 +212,17 @@ fn outcome_here(given: Result<Value, Stop>) -> Result<Outcome, AllocError>
     match given {
         Ok(value) => Ok(Outcome::Value(value)),
         Err(Stop::Failed(failure)) => Ok(Outcome::Failed(failure)),
+        Err(Stop::NoMemory) => Err(AllocError),
+    }
+}
+
+/// What a creation comes to whose record is made so.
+fn made_here(made: Result<Values, Stop>) -> Result<Made, AllocError>
+    ensures { IfOk result (MadeAs made) }
+{
+    match made {
+        Ok(fields) => Ok(Made::Record(Record { fields })),
+        Err(Stop::Failed(failure)) => Ok(Made::Failed(failure)),
         Err(Stop::NoMemory) => Err(AllocError),
     }
 }

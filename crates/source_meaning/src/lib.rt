@@ -17,11 +17,15 @@ mod transaction;
 mod vars;
 mod walk;
 
-pub use here::{Ended, eval_here, run_here};
+pub use failures::{ALREADY_EXISTS, NO_ENTITY, RECURSION_ERROR, STEP_LIMIT, bare_failure};
+pub use here::{Ended, Made, eval_here, make_here, run_here};
 pub use local::{Attempt, Local};
+pub use operations::{take_text, take_truth};
 use sf_value::Failure;
+pub use site::DEPTH_LIMIT;
 use std::alloc::{AllocError, AllocFailed};
-pub use tables::{init_params, method_at, method_params};
+pub use tables::{init_params, method_at, method_params, new_entity};
+pub use vars::{assign_field, assign_local, bind_moved};
 
 /// Why a part of a run stops without a value.
 #[derive(Drop)]

@@ -90,7 +90,7 @@ pub(crate) fn text(alloc: Global, value: &Value) -> Result<Text, AllocError>
 }
 
 /// Whether a value is True, which is given up.
-pub(crate) fn take_truth(value: Value) -> bool
+pub fn take_truth(value: Value) -> bool
     ensures { result ≡ true_value value }
 {
     let truth = is_true(&value);
@@ -117,7 +117,7 @@ pub(crate) fn take_number(value: Value) -> i128
 }
 
 /// The text that a value is, which is given up.
-pub(crate) fn take_text(alloc: Global, value: Value) -> Result<Text, AllocError>
+pub fn take_text(alloc: Global, value: Value) -> Result<Text, AllocError>
     ensures { IfOk result (λ text. text ≡ text_of value) }
 {
     let made = text(alloc, &value);

@@ -10,7 +10,7 @@ use sf_value::Ref;
 use std::alloc::Global;
 
 /// How many calls and creations may be open at once in a request, its own among them.
-pub(crate) const DEPTH_LIMIT: u32 = 64;
+pub const DEPTH_LIMIT: u32 = 64;
 
 /// What calls and creations may do.
 #[derive(Clone, Copy, Drop)]

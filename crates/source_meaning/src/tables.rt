@@ -100,7 +100,7 @@ fn key_text(alloc: Global, args: &Values, at: Option<usize>) -> Result<Text, All
 }
 
 /// The entity that a creation with these arguments makes.
-pub(crate) fn new_entity(
+pub fn new_entity(
     alloc: Global,
     program: &Checked,
     class: u32,

@@ -1,17 +1,19 @@
 //! The locals of a running method, and the fields of its own record.
 #![tactic(auto, unfolding(program_meaning::specs::World::local_value, program_meaning::specs::World::assigned, program_meaning::specs::World::field_value, program_meaning::specs::World::with_field))]
 
-ghost use Rattle.std.specs.Prelude.{◌≡◌, ◌<◌, IfOk, IfSome, OnOk, map, position, length, nat_eq, unwrap_or};
+ghost use Rattle.std.specs.Prelude.{◌≡◌, ◌<◌, ◌++◌, IfOk, IfSome, OnOk, map, position, length, nat_eq, unwrap_or};
 ghost use Rattle.std.specs.Option.{option_copied};
 ghost use Rattle.sf_value.specs.declared.value.Value.TheVariants as value;
 ghost use Rattle.py_tree.specs.PlainProgram.{plain_params};
 ghost use Rattle.program_meaning.specs.Calls.{bound};
+ghost use Rattle.program_meaning.specs.ClassTables.{fields_of};
+ghost use Rattle.program_meaning.specs.Sources.{source_of};
 ghost use Rattle.program_meaning.specs.World.{local_value, assigned, field_value, with_field, is_named};
 
 use program_meaning::{Var, Vars};
-use py_tree::{Name, Param};
+use py_tree::{Checked, Name, Param};
 use sf_list::{Sequence, TryClone};
-use sf_value::{Value, Values};
+use sf_value::{Record, Value, Values};
 use std::alloc::{AllocError, Global};
 
 /// The value of a local, where there is one.
@@ -41,7 +43,7 @@ fn place_of_local(vars: &[Var], name: Name) -> Option<usize>
 }
 
 /// Assigns a local, which joins the others where it is new.
-pub(crate) fn assign_local(
+pub fn assign_local(
     alloc: Global,
     vars: &mut Vars,
     name: Name,
@@ -85,6 +87,13 @@ pub(crate) fn set_field(names: &[Name], fields: &mut Values, name: Name, value: 
     }
 }
 
+/// Assigns a field in a record of this class.
+pub fn assign_field(program: &Checked, class: u32, held: &mut Record, name: Name, value: Value)
+    ensures { held.new.fields ≡ with_field (fields_of (source_of program.now) class) held.old.fields name.0 value }
+{
+    set_field(program.fields(class), &mut held.fields, name, value);
+}
+
 /// The arguments as the first locals.
 pub(crate) fn bind(alloc: Global, params: &[Param], args: &Values) -> Result<Vars, AllocError>
     ensures { IfOk result (λ vars. vars ≡ bound (plain_params params.now) args.now) }
@@ -104,4 +113,46 @@ pub(crate) fn bind(alloc: Global, params: &[Param], args: &Values) -> Result<Var
         )?;
     }
     Ok(vars)
+}
+
+/// Moves the arguments behind the locals that there are, up to the last parameter.
+fn move_args(
+    alloc: Global,
+    params: &[Param],
+    args: &mut Values,
+    vars: &mut Vars,
+) -> Result<(), AllocError>
+    ensures { OnOk result (vars.new ≡ vars.old ++ bound (plain_params params.now) args.old) }
+{
+    for param in params {
+        if args.is_empty() {
+            return Ok(());
+        }
+        let value = args.remove(0);
+        vars.push(
+            alloc,
+            Var {
+                name: param.name,
+                value,
+            },
+        )?;
+    }
+    Ok(())
+}
+
+/// The arguments as the first locals, moved there.
+pub fn bind_moved(alloc: Global, params: &[Param], args: Values) -> Result<Vars, AllocError>
+    ensures { IfOk result (λ vars. vars ≡ bound (plain_params params.now) args) }
+{
+    let mut args = args;
+    let mut vars = Sequence::new(alloc);
+    let moved = move_args(alloc, params, &mut args, &mut vars);
+    drop(args);
+    match moved {
+        Ok(()) => Ok(vars),
+        Err(error) => {
+            drop(vars);
+            Err(error)
+        }
+    }
 }

@@ -652,7 +652,12 @@ fn create(site: &Site<'_>, at: &Ref, args: &Values, run: &mut Run) -> Result<Val
 /// Makes the record of a creation, in a run of its own that sees nothing else.
 #[cycle(walk)]
 #[inline(never)]
-fn make_record(site: &Site<'_>, at: &Ref, args: &Values, run: &mut Run) -> Result<Values, Stop>
+pub(crate) fn make_record(
+    site: &Site<'_>,
+    at: &Ref,
+    args: &Values,
+    run: &mut Run,
+) -> Result<Values, Stop>
     ensures record { GivesRecord result run.new.steps (record_of_new site.now at.now args.now run.old.steps) }
     ensures kept { run.new.tx ≡ run.old.tx }
 {

@@ -1,7 +1,8 @@
 //! What the devices in memory do, call by call.
 
 use sf_outside::{
-    Disk, Failed, Files, MemDisk, MemFiles, MemSink, MemSource, Sink, Source, StoreFile, write_line,
+    Chooser, Disk, Failed, Files, ListChooser, MemDisk, MemFiles, MemSink, MemSource, Sink, Source,
+    StoreFile, write_line,
 };
 use std::alloc::{AllocError, Global};
 use std::test::Fail;
@@ -55,6 +56,24 @@ fn source_gives_its_bytes_in_pieces(rt: HostRuntime) -> Result<(), Fail> {
     let told = source_told(rt.alloc(), &mut source, 4);
     drop(source);
     assert_eq!(rt; told?.as_str(), "3 68656c, failed, 2 6c6f00, 0 000000");
+    Ok(())
+}
+
+/// Three picks of a chooser, which is then started anew, and one more.
+fn picks_told(chooser: &mut ListChooser) -> (u32, u32, u32, u32) {
+    let first = chooser.pick(9);
+    let second = chooser.pick(1);
+    let third = chooser.pick(9);
+    chooser.start(7);
+    (first, second, third, chooser.pick(9))
+}
+
+#[test]
+fn list_is_picked_then_0_and_anew_behind_a_start(rt: HostRuntime) -> Result<(), Fail> {
+    let mut chooser = ListChooser::new(rt.alloc(), &[5, 3])?;
+    let told = picks_told(&mut chooser);
+    drop(chooser);
+    assert_eq!(rt; told, (5, 3, 0, 5));
     Ok(())
 }
 
