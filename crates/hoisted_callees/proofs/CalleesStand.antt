@@ -27,7 +27,7 @@ use Rattle.program_meaning.proofs.LocalShapes.{Shape, shapes, type_in, shapes_se
 use Rattle.program_meaning.proofs.FlowGrows.{follows_all}
 use Rattle.program_meaning.proofs.TableFacts.{all_at, mapped_at}
 use Rattle.program_meaning.proofs.MethodFacts.{method_member, body_flows}
-use Rattle.block_step.specs.BlockRuns.{name_if_there}
+use Rattle.block_runs.specs.BlockRuns.{name_if_there}
 use Rattle.flat_tree.specs.declared.tree.Callee.{Callee}
 use Rattle.flat_tree.specs.declared.tree.Created.{Created}
 use Rattle.flat_tree.specs.PlainFlat.{flat_stmts_of}
