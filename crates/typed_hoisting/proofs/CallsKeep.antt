@@ -21,6 +21,8 @@ use Rattle.typed_hoisting.specs.TypedHoisting.{Around, Typed, Good, GoodForms}
 use Rattle.typed_hoisting.proofs.Assignable.{assigned_itself}
 use Rattle.typed_hoisting.proofs.EnvironmentLaws.{kept_at, more_free, as_least}
 use Rattle.typed_hoisting.proofs.PointLaws.{IsVariable, supplies, stands_behind}
+use Rattle.method_splitter.specs.Points.{PointsPass}
+use Rattle.typed_hoisting.proofs.PassingPoints.{point_passes}
 use Rattle.typed_hoisting.proofs.StoredLaws.{takes, stored_stands}
 use Rattle.typed_hoisting.proofs.GoodParts.{up, still_good, built_good, turn_good, taken_good, kept_good}
 use Rattle.typed_hoisting.proofs.TypedLists.{TypedEach, SuitParams, ArgumentTypes, each_stay_typed, as_many, params_as_many, from_arguments, to_arguments}
@@ -114,7 +116,7 @@ module _ (c : Context) (leaves : Leaving) (limit : ℕ) where
 
   call_good : (b : Bool) (h : Spot) (at : Place) (name : ℕ) (name_at : Place) (wanted : Option PlainTy) (class : ℕ) (sig : PlainSig) (ts : List PlainTy) (a : Hoisted (PlainExpr × PlainExprs)) → method_of c.tables class name ≡ Some sig → SuitParams ts sig.params
       → (b ≡ false → leaves a.rest.0 name ≡ false) → Good c leaves h a (CallParts class sig ts) → Good c leaves h (call_of c b at sig.result (TEntity class) name name_at a) (Typed c leaves wanted sig.result)
-  unfolding stmt_fits
+  unfolding stmt_fits PointsPass
   call_good false h at name name_at wanted class sig ts a found suit stays g =
       built_good c leaves h a (λ r. PCall at r.0 name name_at r.1) (Typed c leaves wanted sig.result) g (λ there x.
       (call_typed c leaves there wanted at name name_at class sig ts a.rest.0 a.rest.1 found x.0.0 x.1.0 suit, call_stays at a.rest.0 name name_at a.rest.1 x.0.1 x.1.1 (stays refl)))
@@ -132,7 +134,7 @@ module _ (c : Context) (leaves : Leaving) (limit : ℕ) where
           takes = behind.0;
         },
         behind.1,
-      ))
+      )) (λ variables free typed. point_passes variables (a.spot.locals ++ temporary a.spot.next sig.result ∷ []) free.once typed)
 
   -- a receiver that is `self` stays
   self_stays : (later : Bool) (at : Place) (ty : PlainTy) (on : PlainExpr) (h : Spot) → is_self on ≡ true → (kept later (lasts leaves on) at ty (part on None h)).rest ≡ on

@@ -12,15 +12,15 @@ use Rattle.py_tree.specs.ExpressionTypes.{type_of}
 use Rattle.py_tree.specs.Flow.{Context, env_of, type_at}
 use Rattle.block_code.specs.PlainVars.{PlainVar}
 use Rattle.method_hoister.specs.Spots.{temporary}
-use Rattle.typed_hoisting.specs.KnownLocals.{is_optional, seen_of, seen, Alike, Under, Once, Free, AreVariables, Stands, AtLeast}
-use Rattle.typed_hoisting.proofs.LocalLaws.{changed, once_changed, variables_changed, narrowed_more, narrow, narrow_name, narrow_ty, narrowed_seen, read_seen, or_else, one_more, apart, under_itself, under_narrowed, under_forgotten, under_unnarrowed, under_both, narrowed_twice, has_either}
+use Rattle.typed_hoisting.specs.KnownLocals.{is_optional, seen_of, seen, Alike, Kept, Under, Once, Free, AreVariables, Stands, AtLeast}
+use Rattle.typed_hoisting.proofs.LocalLaws.{changed, once_changed, variables_changed, narrowed_more, narrow, narrow_name, narrow_ty, narrowed_seen, read_seen, or_else, one_more, apart, kept_same, kept_on, kept_seen, kept_narrowed, kept_under, under_kept, under_narrowed, under_forgotten, under_unnarrowed, under_both, narrowed_twice, has_either}
 use Rattle.typed_hoisting.proofs.KeptTypes.{Near, type_kept}
 
 pub alike_itself : (k : ℕ) (a : List PlainLocal) → Alike k a a
-alike_itself k a = record { alike = λ x below. refl }
+alike_itself k a = record { alike = λ x below. kept_same (seen a x) (seen a x) refl }
 
 pub alike_on : (k n : ℕ) (a b d : List PlainLocal) → k ≤ n → Alike k a b → Alike n b d → Alike k a d
-alike_on k n a b d up f g = record { alike = λ x below. f.alike x below ∙ g.alike x (omega (arith, below, up)) }
+alike_on k n a b d up f g = record { alike = λ x below. kept_on (seen a x) (seen b x) (seen d x) (f.alike x below) (g.alike x (omega (arith, below, up))) }
 
 pub near_by : (c : Context) (limit k : ℕ) (a b : List PlainLocal) → limit ≤ k → Alike k a b → Near limit (env_of c a) (env_of c b)
 near_by c limit k a b up f = record { class = refl; locals = λ x below. f.alike x (omega (arith, below, up)) }
@@ -45,7 +45,7 @@ module _ (k : ℕ) (locals : List PlainLocal) (t : PlainTy) where
   other_local x e = one_more locals (temporary k t) x ∙ ap (λ b. or_else (local_of locals x) (cond b (Some (temporary k t)) None)) e ∙ or_none (local_of locals x)
 
   pub more_alike : Alike k locals (locals ++ temporary k t ∷ [])
-  more_alike = record { alike = λ x below. sym (ap seen_of (other_local x (differ_back k x below))) }
+  more_alike = record { alike = λ x below. kept_same (seen locals x) (seen (locals ++ temporary k t ∷ []) x) (sym (ap seen_of (other_local x (differ_back k x below)))) }
 
   none_found : (m : PlainLocal) (o : Option PlainLocal) (b : Bool) → cond b (Some m) o ≡ None → b ≡ false
   none_found m o true h = absurd (none-some m (sym h))
@@ -82,7 +82,7 @@ module _ (k : ℕ) (locals : List PlainLocal) (t : PlainTy) where
 
     pub reads_temporary : (c : Context) (there : List PlainLocal) (wanted : Option PlainTy) (at : Place) → Alike (k + 1) (locals ++ temporary k t ∷ []) there → type_at c there wanted (PVar at k) ≡ Ok t
     unfolding type_of
-    reads_temporary c there wanted at f = read_seen there at k (record { ty = t; less = false }) (sym (f.alike k (omega arith)) ∙ temporary_seen)
+    reads_temporary c there wanted at f = read_seen there at k (record { ty = t; less = false }) (kept_seen (seen (locals ++ temporary k t ∷ []) k) (seen there k) (record { ty = t; less = false }) (f.alike k (omega arith)) temporary_seen)
 
 pub free_later : (k n : ℕ) (locals : List PlainLocal) → k ≤ n → Free k locals → Free n locals
 free_later k n locals up free = record { free = λ x later. free.free x (omega (arith, up, later)); once = free.once }
@@ -106,9 +106,9 @@ found_below k x locals m free e = by (nat_le k x) refl
 
 module _ (variables : List PlainVar) where
   pub as_least : (k : ℕ) (locals env : List PlainLocal) → Stands variables k locals env → AtLeast variables k locals env
-  as_least k locals env s = record { are = s.are; under = λ x below. subst (Under (seen locals x)) (s.alike.alike x below) (under_itself (seen locals x)) }
+  as_least k locals env s = record { are = s.are; under = λ x below. kept_under (seen locals x) (seen env x) (s.alike.alike x below) }
 
-  variables_narrowed : (names : List ℕ) (env : List PlainLocal) → AreVariables variables env → AreVariables variables (narrowed names env)
+  pub variables_narrowed : (names : List ℕ) (env : List PlainLocal) → AreVariables variables env → AreVariables variables (narrowed names env)
   unfolding narrowed
   variables_narrowed names env are = variables_changed (narrow names) (narrow_name names) (narrow_ty names) env ∙ are
 
@@ -118,10 +118,11 @@ module _ (variables : List PlainVar) where
   narrowed_least k n names others here there env up more f s = record {
     are = variables_narrowed others env s.are;
     under = λ x below.
-        let same : seen here x ≡ seen env x = f.alike x below ∙ s.alike.alike x (omega (arith, below, up)) in
-        subst (λ o. Under o (seen (narrowed others env) x)) (sym (narrowed_seen names here x))
-        (subst (Under (option_map (narrowed_more (has_name names x)) (seen here x))) (ap (option_map (narrowed_more (has_name others x))) same ∙ sym (narrowed_seen others env x))
-        (under_both (has_name names x) (has_name others x) (seen here x) (more x)));
+        let same : Kept (seen here x) (seen env x) = kept_on (seen here x) (seen there x) (seen env x) (f.alike x below) (s.alike.alike x (omega (arith, below, up))) in
+        let more : Under (seen (narrowed names here) x) (seen (narrowed others here) x) =
+        subst (λ o. Under o (seen (narrowed others here) x)) (sym (narrowed_seen names here x))
+        (subst (Under (option_map (narrowed_more (has_name names x)) (seen here x))) (sym (narrowed_seen others here x)) (under_both (has_name names x) (has_name others x) (seen here x) (more x))) in
+        under_kept (seen (narrowed names here) x) (seen (narrowed others here) x) (seen (narrowed others env) x) more (kept_narrowed others here env x same);
   }
 
   -- narrowing may be forgotten
@@ -148,5 +149,7 @@ module _ (variables : List PlainVar) where
   pub least_behind : (k n m : ℕ) (names : List ℕ) (locals inside env : List PlainLocal) → k ≤ n → n ≤ m → Alike n (narrowed names locals) inside → Stands variables m inside env → AtLeast variables k locals env
   least_behind k n m names locals inside env up on f s = record {
     are = s.are;
-    under = λ x below. subst (Under (seen locals x)) (sym (narrowed_seen names locals x) ∙ f.alike x (omega (arith, below, up)) ∙ s.alike.alike x (omega (arith, below, up, on))) (under_narrowed (has_name names x) (seen locals x));
+    under = λ x below.
+        under_kept (seen locals x) (seen (narrowed names locals) x) (seen env x) (subst (Under (seen locals x)) (sym (narrowed_seen names locals x)) (under_narrowed (has_name names x) (seen locals x)))
+        (kept_on (seen (narrowed names locals) x) (seen inside x) (seen env x) (f.alike x (omega (arith, below, up))) (s.alike.alike x (omega (arith, below, up, on))));
   }

@@ -16,7 +16,6 @@ use Rattle.flat_tree.specs.PlainFlat.{FAnd, FOr, PlainFlatTest}
 use Rattle.method_hoister.specs.Spots.{Spot, surely, where_shown, ty_at, found_ty}
 use Rattle.method_hoister.specs.HoistExpressions.{Hoisted, Tested, Forms, by_value, made_of, chosen, truth_of, taken, taken_operands, forms}
 use Rattle.typed_hoisting.specs.KnownLocals.{Free}
-use Rattle.typed_hoisting.specs.Runs.{RunsHaveOperators, AllRunsHaveOperators, RightsHaveOperators}
 use Rattle.typed_hoisting.specs.TypedHoisting.{Around, Typed, Good, GoodTest, GoodForms, ExpressionsKeepTheRules, IsTyped, ValueFits, TestFits, FormsFit, ExpressionsFit}
 use Rattle.typed_hoisting.proofs.PointLaws.{supplies}
 use Rattle.flat_types.specs.FlatTypes.{Nowhere, Supplies}
@@ -25,7 +24,7 @@ use Rattle.typed_hoisting.proofs.Assignable.{join_suits}
 use Rattle.typed_hoisting.proofs.EnvironmentLaws.{free_narrowed}
 use Rattle.typed_hoisting.proofs.GoodParts.{numbered_up, built_good, by_value_good, still_forms, forms_if_good}
 use Rattle.typed_hoisting.proofs.GoodTests.{asked_of_each, not_test, no_and, no_or, and_more, or_more, and_test, or_test, chosen_good, truth_good}
-use Rattle.typed_hoisting.proofs.TypedKinds.{shows_nothing, none_shows, neg_typed, pos_typed, not_parts, not_typed, none_typed, condition_parts, and_parts, or_parts_of, compare_parts, compare_typed, index_typed}
+use Rattle.typed_hoisting.proofs.TypedKinds.{shows_nothing, none_shows, neg_typed, pos_typed, not_parts, not_typed, none_typed, condition_parts, and_parts, or_parts_of, compare_parts, compare_typed, index_typed, chain_alone, alone_typed}
 use Rattle.typed_hoisting.proofs.CallsKeep.{part, GoodExpr, GoodTaken, GoodEach, no_expr, each_step, two_good, Own, call_step}
 use Rattle.typed_hoisting.proofs.OthersKeep.{apply_step, list_step, GoodLinks, link_step, chain_step}
 
@@ -160,91 +159,96 @@ module _ (c : Context) (leaves : Leaving) (own : Own leaves) (limit : ℕ) where
   no_links t ty h at r below typed g = g
 
   mutual
-    unfolding taken ExprNames RunsHaveOperators expr_suspends shown
+    unfolding taken ExprNames expr_suspends shown
 
-    taken_keeps : (e : PlainExpr) → ExprNames limit e → RunsHaveOperators e → GoodTaken c leaves limit e
-    taken_keeps (PInt at n) named full = still_forms c leaves limit (PInt at n) named refl
-    taken_keeps (PBool at n) named full = still_forms c leaves limit (PBool at n) named refl
-    taken_keeps (PStr at n) named full = still_forms c leaves limit (PStr at n) named refl
-    taken_keeps (PNil at) named full = still_forms c leaves limit (PNil at) named refl
-    taken_keeps (PVar at x) named full = still_forms c leaves limit (PVar at x) named refl
-    taken_keeps (PSelf at) named full = still_forms c leaves limit (PSelf at) named refl
-    taken_keeps (PAttr at on x x_at) named full = still_forms c leaves limit (PAttr at on x x_at) named refl
-    taken_keeps (PCall at on name name_at args) named full =
-        silent_good (PCall at on name name_at args) _ (call_step c leaves limit own at on name name_at args named.2 (as_part on named.0 (taken_keeps on named.0 full.0)) (each_keeps args named.2 full.1))
+    taken_keeps : (e : PlainExpr) → ExprNames limit e → GoodTaken c leaves limit e
+    taken_keeps (PInt at n) named = still_forms c leaves limit (PInt at n) named refl
+    taken_keeps (PBool at n) named = still_forms c leaves limit (PBool at n) named refl
+    taken_keeps (PStr at n) named = still_forms c leaves limit (PStr at n) named refl
+    taken_keeps (PNil at) named = still_forms c leaves limit (PNil at) named refl
+    taken_keeps (PVar at x) named = still_forms c leaves limit (PVar at x) named refl
+    taken_keeps (PSelf at) named = still_forms c leaves limit (PSelf at) named refl
+    taken_keeps (PAttr at on x x_at) named = still_forms c leaves limit (PAttr at on x x_at) named refl
+    taken_keeps (PCall at on name name_at args) named =
+        silent_good (PCall at on name name_at args) _ (call_step c leaves limit own at on name name_at args named.2 (as_part on named.0 (taken_keeps on named.0)) (each_keeps args named.2))
         (λ b. refl)
-    taken_keeps (PApply at name args) named full =
-        silent_good (PApply at name args) _ (λ wanted h ty below free is. apply_step c leaves limit at name args named.1 (each_keeps args named.1 full) wanted h below free ty is)
+    taken_keeps (PApply at name args) named =
+        silent_good (PApply at name args) _ (λ wanted h ty below free is. apply_step c leaves limit at name args named.1 (each_keeps args named.1) wanted h below free ty is)
         (λ b. refl)
-    taken_keeps (PIndex at on index) named full =
+    taken_keeps (PIndex at on index) named =
         silent_good (PIndex at on index) _
         (λ wanted h ty below free is.
         let p = typed_index c.tables (env_of c h.locals) wanted at ty on index is in
-        two_good c leaves limit h below free on index named.1 (as_part on named.0 (taken_keeps on named.0 full.0)) (as_part index named.1 (taken_keeps index named.1 full.1)) (TList ty) TInt p.0 p.1 (PIndex at) (Typed c leaves wanted ty)
+        two_good c leaves limit h below free on index named.1 (as_part on named.0 (taken_keeps on named.0)) (as_part index named.1 (taken_keeps index named.1)) (TList ty) TInt p.0 p.1 (PIndex at) (Typed c leaves wanted ty)
         (λ there x y a b. index_typed c leaves there wanted at x y ty a b))
         (λ b. refl)
-    taken_keeps (PList at items) named full = silent_good (PList at items) _ (list_step c leaves limit at items (each_keeps items named full)) (λ b. refl)
-    taken_keeps (PNeg at a) named full =
+    taken_keeps (PList at items) named = silent_good (PList at items) _ (list_step c leaves limit at items (each_keeps items named)) (λ b. refl)
+    taken_keeps (PNeg at a) named =
         silent_good (PNeg at a) _
         (λ wanted h ty below free is.
         let p = neg_parts h.locals wanted at a ty is in
-        built_good c leaves h (part c leaves limit a None h) (PNeg at) (Typed c leaves wanted ty) ((as_part a named (taken_keeps a named full)).value None h TInt below free p.0) (λ there x. neg_typed c leaves there wanted at _ ty p.1 x))
+        built_good c leaves h (part c leaves limit a None h) (PNeg at) (Typed c leaves wanted ty) ((as_part a named (taken_keeps a named)).value None h TInt below free p.0) (λ there x. neg_typed c leaves there wanted at _ ty p.1 x))
         (λ b. refl)
-    taken_keeps (PPos at a) named full =
+    taken_keeps (PPos at a) named =
         silent_good (PPos at a) _
         (λ wanted h ty below free is.
         let p = pos_parts h.locals wanted at a ty is in
-        built_good c leaves h (part c leaves limit a None h) (PPos at) (Typed c leaves wanted ty) ((as_part a named (taken_keeps a named full)).value None h TInt below free p.0) (λ there x. pos_typed c leaves there wanted at _ ty p.1 x))
+        built_good c leaves h (part c leaves limit a None h) (PPos at) (Typed c leaves wanted ty) ((as_part a named (taken_keeps a named)).value None h TInt below free p.0) (λ there x. pos_typed c leaves there wanted at _ ty p.1 x))
         (λ b. refl)
-    taken_keeps (PNot at a) named full = not_good at a (as_part a named (taken_keeps a named full))
-    taken_keeps (PChain at first PNoLink) named full = absurd full.0
-    taken_keeps (PChain at first (PMoreLinks l more)) named full =
-        silent_good (PChain at first (PMoreLinks l more)) _ (chain_step c leaves limit at first l more (as_part first named.0 (taken_keeps first named.0 full.1)) (links_keep (PMoreLinks l more) named.1 full.2))
+    taken_keeps (PNot at a) named = not_good at a (as_part a named (taken_keeps a named))
+    taken_keeps (PChain at first PNoLink) named =
+        silent_good (PChain at first PNoLink) _
+        (λ wanted h ty below free is.
+        built_good c leaves h (part c leaves limit first None h) (λ r. PChain at r PNoLink) (Typed c leaves wanted ty) ((as_part first named.0 (taken_keeps first named.0)).value None h ty below free (chain_alone c leaves h.locals wanted at first ty is))
+        (λ there x. alone_typed c leaves there wanted at _ ty x))
         (λ b. refl)
-    taken_keeps (PAnd at items) named full = and_good at items (ands_keep items named full)
-    taken_keeps (POr at items) named full = or_good at items (ors_keep items named full)
-    taken_keeps (PCompare at op op_at left right) named full =
+    taken_keeps (PChain at first (PMoreLinks l more)) named =
+        silent_good (PChain at first (PMoreLinks l more)) _ (chain_step c leaves limit at first l more (as_part first named.0 (taken_keeps first named.0)) (links_keep (PMoreLinks l more) named.1))
+        (λ b. refl)
+    taken_keeps (PAnd at items) named = and_good at items (ands_keep items named)
+    taken_keeps (POr at items) named = or_good at items (ors_keep items named)
+    taken_keeps (PCompare at op op_at left right) named =
         silent_good (PCompare at op op_at left right) _
         (λ wanted h ty below free is.
         let p = compare_parts c leaves h.locals wanted at op op_at left right ty is in
-        two_good c leaves limit h below free left right named.1 (as_part left named.0 (taken_keeps left named.0 full.0)) (as_part right named.1 (taken_keeps right named.1 full.1)) p.0 p.1 p.2 p.3 (PCompare at op op_at) (Typed c leaves wanted ty)
+        two_good c leaves limit h below free left right named.1 (as_part left named.0 (taken_keeps left named.0)) (as_part right named.1 (taken_keeps right named.1)) p.0 p.1 p.2 p.3 (PCompare at op op_at) (Typed c leaves wanted ty)
         (λ there x y a b. compare_typed c leaves there wanted at op op_at right x y p.0 p.1 ty p.4 a b))
         (λ b. refl)
-    taken_keeps (PIsNone at a positive) named full =
+    taken_keeps (PIsNone at a positive) named =
         by_value_good c leaves limit (PIsNone at a positive) _
         (λ wanted h ty below free is.
         let p = typed_none_test c.tables (env_of c h.locals) wanted at ty a positive is in
-        built_good c leaves h (part c leaves limit a None h) (λ r. PIsNone at r positive) (Typed c leaves wanted ty) ((as_part a named (taken_keeps a named full)).value None h p.0 below free p.1) (λ there x. none_typed c leaves there wanted at _ positive p.0 ty p.2 x))
+        built_good c leaves h (part c leaves limit a None h) (λ r. PIsNone at r positive) (Typed c leaves wanted ty) ((as_part a named (taken_keeps a named)).value None h p.0 below free p.1) (λ there x. none_typed c leaves there wanted at _ positive p.0 ty p.2 x))
         (λ h. none_shows at a (part c leaves limit a None h).rest positive (variable_stays a h))
-    taken_keeps (PCond at test a b) named full =
-        silent_good (PCond at test a b) _ (cond_value at test a b (as_part test named.0 (taken_keeps test named.0 full.0)) (as_part a named.1 (taken_keeps a named.1 full.1)) (as_part b named.2 (taken_keeps b named.2 full.2)))
+    taken_keeps (PCond at test a b) named =
+        silent_good (PCond at test a b) _ (cond_value at test a b (as_part test named.0 (taken_keeps test named.0)) (as_part a named.1 (taken_keeps a named.1)) (as_part b named.2 (taken_keeps b named.2)))
         (λ b. refl)
 
-    each_keeps : (es : PlainExprs) → ExprsNames limit es → AllRunsHaveOperators es → GoodEach c leaves limit es
-    each_keeps PNoExpr named full = λ wanted ts h below free typed. no_expr c leaves limit wanted ts h free typed
-    each_keeps (PExpr x xs) named full = λ wanted ts h below free typed. each_step c leaves limit x xs named.1 (as_part x named.0 (taken_keeps x named.0 full.0)) (each_keeps xs named.1 full.1) wanted ts h below free typed
+    each_keeps : (es : PlainExprs) → ExprsNames limit es → GoodEach c leaves limit es
+    each_keeps PNoExpr named = λ wanted ts h below free typed. no_expr c leaves limit wanted ts h free typed
+    each_keeps (PExpr x xs) named = λ wanted ts h below free typed. each_step c leaves limit x xs named.1 (as_part x named.0 (taken_keeps x named.0)) (each_keeps xs named.1) wanted ts h below free typed
 
-    links_keep : (ls : PlainLinks) → LinksNames limit ls → RightsHaveOperators ls → GoodLinks c leaves limit ls
-    links_keep PNoLink named full = no_links
-    links_keep (PMoreLinks (PLink op op_at right) more) named full = link_step c leaves limit op op_at right more named.0 (as_part right named.0 (taken_keeps right named.0 full.0)) (links_keep more named.1 full.1)
+    links_keep : (ls : PlainLinks) → LinksNames limit ls → GoodLinks c leaves limit ls
+    links_keep PNoLink named = no_links
+    links_keep (PMoreLinks (PLink op op_at right) more) named = link_step c leaves limit op op_at right more named.0 (as_part right named.0 (taken_keeps right named.0)) (links_keep more named.1)
 
-    ands_keep : (items : PlainExprs) → ExprsNames limit items → AllRunsHaveOperators items → GoodAnd items
-    ands_keep PNoExpr named full = and_none
-    ands_keep (PExpr x xs) named full = and_step x xs (as_part x named.0 (taken_keeps x named.0 full.0)) (ands_keep xs named.1 full.1)
+    ands_keep : (items : PlainExprs) → ExprsNames limit items → GoodAnd items
+    ands_keep PNoExpr named = and_none
+    ands_keep (PExpr x xs) named = and_step x xs (as_part x named.0 (taken_keeps x named.0)) (ands_keep xs named.1)
 
-    ors_keep : (items : PlainExprs) → ExprsNames limit items → AllRunsHaveOperators items → GoodOr items
-    ors_keep PNoExpr named full = or_none
-    ors_keep (PExpr x xs) named full = or_step x xs (as_part x named.0 (taken_keeps x named.0 full.0)) (ors_keep xs named.1 full.1)
+    ors_keep : (items : PlainExprs) → ExprsNames limit items → GoodOr items
+    ors_keep PNoExpr named = or_none
+    ors_keep (PExpr x xs) named = or_step x xs (as_part x named.0 (taken_keeps x named.0)) (ors_keep xs named.1)
 
-  pub each_expression_keeps : (e : PlainExpr) → ExprNames limit e → RunsHaveOperators e → GoodForms c leaves limit e (forms leaves c e)
-  each_expression_keeps e named full = as_part e named (taken_keeps e named full)
+  pub each_expression_keeps : (e : PlainExpr) → ExprNames limit e → GoodForms c leaves limit e (forms leaves c e)
+  each_expression_keeps e named = as_part e named (taken_keeps e named)
 
 -- by the marks of a program only calls on `self` stay
-own_by_marks : (names : List (List ℕ)) (program : PlainProgram) (marks : List (List Bool)) (class : ℕ) → Own (leaving names program marks class)
+pub own_by_marks : (names : List (List ℕ)) (program : PlainProgram) (marks : List (List Bool)) (class : ℕ) → Own (leaving names program marks class)
 own_by_marks names program marks class on name h = not_false (is_self on) (either_false (not (is_self on)) (method_leaves marks class (method_named names program class name)) h).0
 
 pub expressions_keep_the_rules : ExpressionsKeepTheRules
-expressions_keep_the_rules names program marks class c limit e named full = each_expression_keeps c (leaving names program marks class) (own_by_marks names program marks class) limit e named full
+expressions_keep_the_rules names program marks class c limit e named = each_expression_keeps c (leaving names program marks class) (own_by_marks names program marks class) limit e named
 
 -- Where there is no loop around
 
@@ -259,6 +263,7 @@ module _ (c : Context) (leaves : Leaving) (limit : ℕ) (e : PlainExpr) (both : 
       record {
         made = g.made;
         numbered = g.numbered;
+        points = g.points;
         fits = λ variables among env stands. g.before (outside variables) among env stands (IsTyped c leaves a.rest ty) (λ after there. record { wanted = wanted; typed = (g.rest after there.alike).0; stays = (g.rest after there.alike).1 });
       }
 
@@ -268,6 +273,7 @@ module _ (c : Context) (leaves : Leaving) (limit : ℕ) (e : PlainExpr) (both : 
       record {
         made = g.made;
         numbered = g.numbered;
+        points = g.points;
         fits = λ variables among env stands. g.sides (outside variables) among env stands (Supplies (surely (narrowed (shown true e) h.locals))) (Supplies (surely (narrowed (shown false e) h.locals)))
             (λ after least. supplies variables h.next (narrowed (shown true e) h.locals) after (free_narrowed h.next h.next (shown true e) h.locals (omega arith) free) least)
             (λ after least. supplies variables h.next (narrowed (shown false e) h.locals) after (free_narrowed h.next h.next (shown false e) h.locals (omega arith) free) least);
@@ -277,6 +283,6 @@ module _ (c : Context) (leaves : Leaving) (limit : ℕ) (e : PlainExpr) (both : 
   forms_fit = (value_fits, test_fits_so)
 
 pub expressions_fit : ExpressionsFit
-expressions_fit names program marks class c limit e named full =
+expressions_fit names program marks class c limit e named =
     let leaves : Leaving = leaving names program marks class in
-    forms_fit c leaves limit e (forms leaves c e) (expressions_keep_the_rules names program marks class c limit e named full)
+    forms_fit c leaves limit e (forms leaves c e) (expressions_keep_the_rules names program marks class c limit e named)

@@ -1,26 +1,35 @@
 -- Parts that keep the rules, one after another, and the values that go into temporaries.
-use Rattle.std.proofs.Common.{◌≡◌, ◌≤◌, ◌+◌, arith, ℕ, Bool, true, false, Option, None, Ok, List, [], ◌∷◌, ◌++◌, refl, sym, ap, subst}
+use Rattle.std.proofs.Common.{◌≡◌, ◌≤◌, ◌+◌, arith, ℕ, Bool, true, false, cond, Option, Some, None, Ok, List, [], ◌∷◌, ◌++◌, refl, sym, ap, ◌∙◌, subst}
+use Rattle.std.specs.Prelude.{◌==◌, find, option_map}
+use Rattle.std.proofs.lemmas.Bool.{eqb-true}
+use Rattle.std.proofs.lemmas.Option.{same_Some, none-some}
 use Rattle.py_tree.specs.declared.names.Place.{Place}
 use Rattle.py_tree.specs.PlainTypes.{PlainTy, TBool}
 use Rattle.py_tree.specs.PlainExpressions.{PlainExpr, PVar}
 use Rattle.py_tree.specs.Bounded.{ExprNames}
-use Rattle.py_tree.specs.FlowEnvironment.{PlainLocal, has_name, shown, narrowed}
+use Rattle.py_tree.specs.FlowEnvironment.{PlainLocal, local_of, has_name, shown, narrowed}
 use Rattle.py_tree.specs.Flow.{Context, type_at}
 use Rattle.call_graph.specs.SuspendingCode.{Leaving, expr_suspends}
 use Rattle.block_code.specs.PlainVars.{PlainVar}
-use Rattle.block_code.specs.GraphFits.{Asked}
+use Rattle.block_code.specs.GraphFits.{Asked, is_var}
 use Rattle.flat_tree.specs.PlainFlat.{PlainFlatStmt, FSet, FNoStmt}
-use Rattle.flat_types.specs.FlatTypes.{LeafFits, stmt_fits, stmts_fit, test_fits}
+use Rattle.method_splitter.specs.Points.{PointsPass}
+use Rattle.flat_types.specs.FlatTypes.{is_point, LeafFits, stmt_fits, stmts_fit, test_fits}
 use Rattle.method_hoister.specs.Spots.{Spot, temporary}
 use Rattle.method_hoister.specs.HoistExpressions.{Hoisted, Forms, still, built, in_turn, taken_into, settled, settled_unless, kept, leaf, by_value, forms_if}
 use Rattle.typed_hoisting.specs.KnownLocals.{Alike, Free, Stands}
-use Rattle.typed_hoisting.specs.TypedHoisting.{Numbered, AreAmong, Around, code_fits, asked_of, Typed, Good, GoodTest, GoodForms}
+use Rattle.typed_hoisting.specs.TypedHoisting.{Numbered, AreAmong, AreTyped, Adds, Around, code_fits, asked_of, Typed, Good, GoodTest, GoodForms}
+use Rattle.typed_hoisting.proofs.LocalLaws.{or_else, one_more}
 use Rattle.typed_hoisting.proofs.Assignable.{assigned_itself}
 use Rattle.typed_hoisting.proofs.EnvironmentLaws.{alike_itself, alike_on, kept_at, more_alike, more_free, reads_temporary, narrowed_least}
 use Rattle.typed_hoisting.proofs.PointLaws.{IsVariable}
+use Rattle.typed_hoisting.proofs.PassingPoints.{passes_both}
 use Rattle.typed_hoisting.proofs.StoredLaws.{takes, stored_stands}
 
 -- Temporaries
+
+abbrev type_of_local : PlainLocal → PlainTy
+type_of_local l = l.ty
 
 abbrev pub made_var : ℕ → PlainTy → PlainVar
 made_var n ty = record { name = n; ty = ty }
@@ -44,6 +53,33 @@ pub among_rest : (variables a b : List PlainVar) → AreAmong variables (a ++ b)
 among_rest variables [] b h = h
 among_rest variables (v ∷ a) b h = among_rest variables a b h.1
 
+-- Names and their types
+
+pub adds_nothing : (locals : List PlainLocal) → Adds [] locals locals
+adds_nothing locals = record { keeps = λ x ty h. h; only = λ variables among typed. typed }
+
+pub adds_on : (first more : List PlainVar) (a b d : List PlainLocal) → Adds first a b → Adds more b d → Adds (first ++ more) a d
+adds_on first more a b d f g = record { keeps = λ x ty h. g.keeps x ty (f.keeps x ty h); only = λ variables among typed. g.only variables (among_rest variables first more among) (f.only variables (among_first variables first more among) typed) }
+
+pub adds_behind : (first made : List PlainVar) (a b : List PlainLocal) → Adds made a b → Adds (first ++ made) a b
+adds_behind first made a b f = record { keeps = f.keeps; only = λ variables among typed. f.only variables (among_rest variables first made among) typed }
+
+pub adds_temporary : (n : ℕ) (ty : PlainTy) (locals : List PlainLocal) → Adds (made_var n ty ∷ []) locals (locals ++ temporary n ty ∷ [])
+adds_temporary n ty locals = record {
+  keeps = λ x t h. ap (option_map type_of_local) (one_more locals (temporary n ty) x) ∙ first (local_of locals x) x t h;
+  only = λ variables among typed x t h. by variables among.0 x t (local_of locals x) (typed x t) (n == x) refl (sym (ap (option_map type_of_local) (one_more locals (temporary n ty) x)) ∙ h);
+}
+  where
+    first : (o : Option PlainLocal) (x : ℕ) (t : PlainTy) → option_map type_of_local o ≡ Some t → option_map type_of_local (or_else o (cond (n == x) (Some (temporary n ty)) None)) ≡ Some t
+    first None x t h = absurd (none-some t h)
+    first (Some l) x t h = h
+
+    by : (variables : List PlainVar) → find (is_var n) variables ≡ Some (made_var n ty) → (x : ℕ) (t : PlainTy) (o : Option PlainLocal) → (option_map type_of_local o ≡ Some t → find (is_var x) variables ≡ Some (made_var x t))
+        → (b : Bool) → (n == x) ≡ b → option_map type_of_local (or_else o (cond b (Some (temporary n ty)) None)) ≡ Some t → find (is_var x) variables ≡ Some (made_var x t)
+    by variables is x t (Some l) typed b e h = typed h
+    by variables is x t None typed true e h = subst (λ y. find (is_var y) variables ≡ Some (made_var y t)) (eqb-true n x e) (is ∙ ap (λ u. Some (made_var n u)) (same_Some _ _ h))
+    by variables is x t None typed false e h = absurd (none-some t h)
+
 module _ (c : Context) (leaves : Leaving) where
   -- one list of code after another
   pub code_both : (m : Around) (xs ys : List PlainFlatStmt) (goal : Asked) → code_fits c leaves m (xs ++ ys) goal ≡ code_fits c leaves m xs (code_fits c leaves m ys goal)
@@ -59,12 +95,12 @@ module _ (c : Context) (leaves : Leaving) where
 
   -- what stays
   pub still_good : {R : Type 0} (h : Spot) (e : R) (Rest : List PlainLocal → R → Type 0) → Free h.next h.locals → ((there : List PlainLocal) → Alike h.next h.locals there → Rest there e) → Good c leaves h (still e h) Rest
-  unfolding stmts_fit
-  still_good h e Rest free rest = record { made = []; numbered = refl; free = free; alike = alike_itself h.next h.locals; rest = rest; before = λ m among env stands goal goes. goes env stands }
+  unfolding stmts_fit PointsPass
+  still_good h e Rest free rest = record { made = []; numbered = refl; free = free; adds = adds_nothing h.locals; alike = alike_itself h.next h.locals; rest = rest; before = λ m among env stands goal goes. goes env stands; points = λ variables among typed. tt }
 
   -- something is made of what is left
   pub built_good : {R S : Type 0} (h : Spot) (a : Hoisted R) (f : R → S) {RA : List PlainLocal → R → Type 0} (RB : List PlainLocal → S → Type 0) → Good c leaves h a RA → ((there : List PlainLocal) → RA there a.rest → RB there (f a.rest)) → Good c leaves h (built f a) RB
-  built_good h a f RB g make = record { made = g.made; numbered = g.numbered; free = g.free; alike = g.alike; rest = λ there alike. make there (g.rest there alike); before = g.before }
+  built_good h a f RB g make = record { made = g.made; numbered = g.numbered; free = g.free; adds = g.adds; alike = g.alike; rest = λ there alike. make there (g.rest there alike); before = g.before; points = g.points }
 
   -- a part, and one behind it
   pub turn_good : {R S T : Type 0} (h : Spot) (f : R → S → T) (a : Hoisted R) (b : Spot → Hoisted S) {RA : List PlainLocal → R → Type 0} {RB : List PlainLocal → S → Type 0} (RC : List PlainLocal → T → Type 0)
@@ -76,12 +112,16 @@ module _ (c : Context) (leaves : Leaving) where
         made = ga.made ++ gb.made;
         numbered = numbered_both h.next ga.made gb.made a.spot.next next ga.numbered gb.numbered;
         free = gb.free;
+        adds = adds_on ga.made gb.made h.locals a.spot.locals locals ga.adds gb.adds;
         alike = alike_on h.next a.spot.next h.locals a.spot.locals locals (up h a ga) ga.alike gb.alike;
         rest = λ there alike. both there (ga.rest there (alike_on a.spot.next next a.spot.locals locals there (up a.spot (b a.spot) gb) gb.alike alike)) (gb.rest there alike);
         before = λ m among env stands goal goes.
             code_then m a.before (b a.spot).before goal env
             (ga.before m (among_first m.variables ga.made gb.made among) env stands (code_fits c leaves m (b a.spot).before goal)
             (λ after there. gb.before m (among_rest m.variables ga.made gb.made among) after there goal goes));
+        points = λ variables among typed.
+            let first : AreAmong variables ga.made = among_first variables ga.made gb.made among in
+            passes_both variables a.before (b a.spot).before (ga.points variables first typed) (gb.points variables (among_rest variables ga.made gb.made among) (ga.adds.only variables first typed));
       }
 
   -- Values in temporaries
@@ -96,31 +136,40 @@ module _ (c : Context) (leaves : Leaving) where
       (m : Around) (env : List PlainLocal) → Stands m.variables a.spot.next a.spot.locals env → IsVariable m.variables a.spot.next ty → RA env a.rest
       → (goal : Asked) → ((after : List PlainLocal) → Stands m.variables (a.spot.next + 1) (a.spot.locals ++ temporary a.spot.next ty ∷ []) after → goal after) → stmt_fits c leaves m.variables m.breaks m.continues x goal env
 
+  -- its point names variables, if the next temporary is one
+  abbrev pub PassesNext : {R : Type 0} → PlainTy → Hoisted R → PlainFlatStmt → Type 0
+  PassesNext ty a x = (variables : List PlainVar) → Free (a.spot.next + 1) (a.spot.locals ++ temporary a.spot.next ty ∷ []) → AreTyped variables (a.spot.locals ++ temporary a.spot.next ty ∷ []) → PointsPass (is_point variables) x
+
   pub taken_good : {R : Type 0} (h : Spot) (a : Hoisted R) {RA : List PlainLocal → R → Type 0} (at : Place) (ty : PlainTy) (wanted : Option PlainTy) (f : R → ℕ → PlainFlatStmt)
-      → Good c leaves h a RA → PutsNext ty a (f a.rest a.spot.next) RA → Good c leaves h (taken_into at ty f a) (Typed c leaves wanted ty)
-  unfolding stmts_fit
-  taken_good h a at ty wanted f g puts =
+      → Good c leaves h a RA → PutsNext ty a (f a.rest a.spot.next) RA → PassesNext ty a (f a.rest a.spot.next) → Good c leaves h (taken_into at ty f a) (Typed c leaves wanted ty)
+  unfolding stmts_fit PointsPass
+  taken_good h a at ty wanted f g puts passes =
       let n : ℕ = a.spot.next in
       let last : List PlainVar = made_var n ty ∷ [] in
       record {
         made = g.made ++ last;
         numbered = numbered_both h.next g.made last n (n + 1) g.numbered (one_numbered n ty);
         free = more_free n a.spot.locals ty g.free;
+        adds = adds_on g.made last h.locals a.spot.locals (a.spot.locals ++ temporary n ty ∷ []) g.adds (adds_temporary n ty a.spot.locals);
         alike = alike_on h.next n h.locals a.spot.locals (a.spot.locals ++ temporary n ty ∷ []) (up h a g) g.alike (more_alike n a.spot.locals ty);
         rest = λ there alike. (reads_temporary n a.spot.locals ty g.free c there wanted at alike, variable_stays at n);
         before = λ m among env stands goal goes.
             code_then m a.before (f a.rest n ∷ []) goal env
             (g.before m (among_first m.variables g.made last among) env stands (code_fits c leaves m (f a.rest n ∷ []) goal)
             (λ after there. puts m after there (among_rest m.variables g.made last among).0 (g.rest after there.alike) (stmts_fit c leaves m.variables m.breaks m.continues FNoStmt goal) goes));
+        points = λ variables among typed.
+            let first : AreAmong variables g.made = among_first variables g.made last among in
+            passes_both variables a.before (f a.rest n ∷ []) (g.points variables first typed)
+            (passes variables (more_free n a.spot.locals ty g.free) ((adds_temporary n ty a.spot.locals).only variables (among_rest variables g.made last among) (g.adds.only variables first typed)), tt);
       }
 
   settled_good : (h : Spot) (a : Hoisted PlainExpr) (at : Place) (wanted : Option PlainTy) (ty : PlainTy) → Good c leaves h a (Typed c leaves wanted ty) → Good c leaves h (settled at ty a) (Typed c leaves wanted ty)
-  unfolding stmts_fit
+  unfolding stmts_fit PointsPass
   settled_good h a at wanted ty g = taken_good h a at ty wanted (λ r t. FSet t r) g (λ m env stands is rest goal goes. (
     ty,
     record { wanted = wanted; typed = rest.0; stays = rest.1 },
     takes m.variables a.spot.next ty ty env stands.are is (assigned_itself ty) goal (goes _ (stored_stands m.variables a.spot.next ty env a.spot.locals g.free stands is)),
-  ))
+  )) (λ variables free typed. tt)
 
   pub settled_unless_good : (lasting : Bool) (h : Spot) (a : Hoisted PlainExpr) (at : Place) (wanted : Option PlainTy) (s ty : PlainTy) → s ≡ ty → Good c leaves h a (Typed c leaves wanted ty) → Good c leaves h (settled_unless lasting at s a) (Typed c leaves wanted ty)
   settled_unless_good true h a at wanted s ty e g = g
@@ -138,8 +187,9 @@ module _ (c : Context) (leaves : Leaving) where
 
   pub leaf_good : (h : Spot) (e : PlainExpr) (a : Hoisted PlainExpr) → Shows e a.rest → Good c leaves h a (Typed c leaves None TBool)
       → GoodTest c leaves h (asked_of c leaves (leaf a).test) (leaf a).next (narrowed (shown true e) h.locals) (narrowed (shown false e) h.locals)
-  unfolding test_fits
+  unfolding test_fits PointsPass
   leaf_good h e a shows g = record {
+    points = g.points;
     made = g.made;
     numbered = g.numbered;
     sides = λ m among env stands yes' no' holds fails. g.before m among env stands (LeafFits c leaves a.rest yes' no') (λ after there. (

@@ -10,21 +10,26 @@ use Rattle.call_graph.specs.SuspendingCode.{Leaving, expr_suspends}
 use Rattle.block_code.specs.PlainVars.{PlainVar}
 use Rattle.block_code.specs.GraphFits.{Asked, at_start}
 use Rattle.flat_tree.specs.PlainFlat.{FSet, PlainFlatTest, FNot, FAnd, FOr, FOperand, PlainOperands, FNoOperand, FMoreOperands, FNoStmt}
-use Rattle.flat_types.specs.FlatTypes.{Supplies, Behind, stmts_fit, test_fits, each_fits}
+use Rattle.method_splitter.specs.Points.{PointsPass, PointsPassInOperands}
+use Rattle.flat_types.specs.FlatTypes.{is_point, Supplies, Behind, stmts_fit, test_fits, each_fits}
 use Rattle.method_hoister.specs.Spots.{Spot, surely, temporary, where_shown}
 use Rattle.method_hoister.specs.HoistExpressions.{Hoisted, Tested, still, chosen, truth_of, made_of}
 use Rattle.typed_hoisting.specs.KnownLocals.{Free, Stands, AtLeast}
-use Rattle.typed_hoisting.specs.TypedHoisting.{AreAmong, Around, AskedOfTest, code_fits, asked_of, Typed, Good, GoodTest}
+use Rattle.typed_hoisting.specs.TypedHoisting.{AreAmong, AreTyped, Around, AskedOfTest, code_fits, asked_of, Typed, Good, GoodTest}
 use Rattle.typed_hoisting.proofs.Assignable.{assigned_itself}
 use Rattle.typed_hoisting.proofs.EnvironmentLaws.{alike_itself, alike_on, more_alike, more_free, free_later, free_narrowed, reads_temporary, as_least, narrowed_least, forgotten_least, joined_least, unnarrowed_least, least_behind}
 use Rattle.typed_hoisting.proofs.PointLaws.{IsVariable, supplies, stands_behind}
+use Rattle.typed_hoisting.proofs.PassingPoints.{point_passes, typed_narrowed, passes_both}
 use Rattle.typed_hoisting.proofs.StoredLaws.{takes, stored_least}
-use Rattle.typed_hoisting.proofs.GoodParts.{made_var, numbered_up, numbered_both, one_numbered, among_first, among_rest, code_then, still_good, variable_stays}
+use Rattle.typed_hoisting.proofs.GoodParts.{made_var, numbered_up, numbered_both, one_numbered, among_first, among_rest, adds_behind, adds_temporary, code_then, still_good, variable_stays}
 
 module _ (c : Context) (leaves : Leaving) where
   -- what is asked of operands
   abbrev pub asked_of_each : Bool → PlainOperands → AskedOfTest
-  asked_of_each truth operands m holds fails locals = each_fits c leaves m.variables truth m.breaks m.continues operands holds fails locals
+  asked_of_each truth operands = record {
+    fits = λ m holds fails locals. each_fits c leaves m.variables truth m.breaks m.continues operands holds fails locals;
+    passes = λ variables. PointsPassInOperands (is_point variables) operands;
+  }
 
   -- where names are narrowed, the point leads to where as much is known
   narrowed_behind : (m : Around) (h : Spot) (names : List ℕ) (env : List PlainLocal) → Free h.next h.locals → Stands m.variables h.next h.locals env → (n : ℕ) → Stands m.variables n (narrowed names h.locals) (at_start m.variables (surely (narrowed names h.locals)))
@@ -39,16 +44,16 @@ module _ (c : Context) (leaves : Leaving) where
 
   pub not_test : (h : Spot) (at : Place) (a : PlainExpr) (t : Tested PlainFlatTest) → GoodTest c leaves h (asked_of c leaves t.test) t.next (narrowed (shown true a) h.locals) (narrowed (shown false a) h.locals)
       → GoodTest c leaves h (asked_of c leaves (made_of FNot t).test) t.next (narrowed (shown true (PNot at a)) h.locals) (narrowed (shown false (PNot at a)) h.locals)
-  unfolding test_fits shown
-  not_test h at a t g = record { made = g.made; numbered = g.numbered; sides = λ m among env stands yes' no' holds fails. g.sides m among env stands no' yes' fails holds }
+  unfolding test_fits shown PointsPass
+  not_test h at a t g = record { points = g.points; made = g.made; numbered = g.numbered; sides = λ m among env stands yes' no' holds fails. g.sides m among env stands no' yes' fails holds }
 
   pub no_and : (h : Spot) → GoodTest c leaves h (asked_of_each true FNoOperand) h.next (narrowed (shown_by_each true PNoExpr) h.locals) h.locals
-  unfolding each_fits shown
-  no_and h = record { made = []; numbered = refl; sides = λ m among env stands yes' no' holds fails. holds env (unnarrowed_least m.variables h.next h.locals env (as_least m.variables h.next h.locals env stands)) }
+  unfolding each_fits shown PointsPass
+  no_and h = record { points = λ variables among typed. tt; made = []; numbered = refl; sides = λ m among env stands yes' no' holds fails. holds env (unnarrowed_least m.variables h.next h.locals env (as_least m.variables h.next h.locals env stands)) }
 
   pub no_or : (h : Spot) → GoodTest c leaves h (asked_of_each false FNoOperand) h.next h.locals (narrowed (shown_by_each false PNoExpr) h.locals)
-  unfolding each_fits shown
-  no_or h = record { made = []; numbered = refl; sides = λ m among env stands yes' no' holds fails. fails env (unnarrowed_least m.variables h.next h.locals env (as_least m.variables h.next h.locals env stands)) }
+  unfolding each_fits shown PointsPass
+  no_or h = record { points = λ variables among typed. tt; made = []; numbered = refl; sides = λ m among env stands yes' no' holds fails. fails env (unnarrowed_least m.variables h.next h.locals env (as_least m.variables h.next h.locals env stands)) }
 
   module _ (h : Spot) (free : Free h.next h.locals) (names others later : List ℕ) (t : PlainFlatTest) (mid : ℕ) (operands : PlainOperands) (next : ℕ) where
     abbrev there : Spot
@@ -59,8 +64,13 @@ module _ (c : Context) (leaves : Leaving) where
 
     more_and : GoodTest c leaves h (asked_of c leaves t) mid (narrowed names h.locals) (narrowed others h.locals) → GoodTest c leaves there (asked_of_each true operands) next (narrowed later (narrowed names h.locals)) (narrowed names h.locals)
         → GoodTest c leaves h (asked_of_each true all_operands) next (narrowed (names ++ later) h.locals) h.locals
-    unfolding each_fits
+    unfolding each_fits PointsPass
     more_and a b = record {
+      points = λ variables among typed. (
+        a.points variables (among_first variables a.made b.made among) typed,
+        point_passes variables (narrowed names h.locals) (free_narrowed h.next h.next names h.locals (omega arith) free).once (typed_narrowed variables names h.locals typed),
+        b.points variables (among_rest variables a.made b.made among) (typed_narrowed variables names h.locals typed),
+      );
       made = a.made ++ b.made;
       numbered = numbered_both h.next a.made b.made mid next a.numbered b.numbered;
       sides = λ m among env stands yes' no' holds fails. (
@@ -75,8 +85,13 @@ module _ (c : Context) (leaves : Leaving) where
 
     more_or : GoodTest c leaves h (asked_of c leaves t) mid (narrowed others h.locals) (narrowed names h.locals) → GoodTest c leaves there (asked_of_each false operands) next (narrowed names h.locals) (narrowed later (narrowed names h.locals))
         → GoodTest c leaves h (asked_of_each false all_operands) next h.locals (narrowed (names ++ later) h.locals)
-    unfolding each_fits
+    unfolding each_fits PointsPass
     more_or a b = record {
+      points = λ variables among typed. (
+        a.points variables (among_first variables a.made b.made among) typed,
+        point_passes variables (narrowed names h.locals) (free_narrowed h.next h.next names h.locals (omega arith) free).once (typed_narrowed variables names h.locals typed),
+        b.points variables (among_rest variables a.made b.made among) (typed_narrowed variables names h.locals typed),
+      );
       made = a.made ++ b.made;
       numbered = numbered_both h.next a.made b.made mid next a.numbered b.numbered;
       sides = λ m among env stands yes' no' holds fails. (
@@ -106,8 +121,9 @@ module _ (c : Context) (leaves : Leaving) where
 
   pub and_test : (h : Spot) (at : Place) (items : PlainExprs) (t : Tested PlainOperands) → GoodTest c leaves h (asked_of_each true t.test) t.next (narrowed (shown_by_each true items) h.locals) h.locals
       → GoodTest c leaves h (asked_of c leaves (made_of FAnd t).test) t.next (narrowed (shown true (PAnd at items)) h.locals) (narrowed (shown false (PAnd at items)) h.locals)
-  unfolding test_fits shown
+  unfolding test_fits shown PointsPass
   and_test h at items t g = record {
+    points = g.points;
     made = g.made;
     numbered = g.numbered;
     sides = λ m among env stands yes' no' holds fails. g.sides m among env stands yes' no' holds (λ after least. fails after (unnarrowed_least m.variables h.next h.locals after least));
@@ -115,8 +131,9 @@ module _ (c : Context) (leaves : Leaving) where
 
   pub or_test : (h : Spot) (at : Place) (items : PlainExprs) (t : Tested PlainOperands) → GoodTest c leaves h (asked_of_each false t.test) t.next h.locals (narrowed (shown_by_each false items) h.locals)
       → GoodTest c leaves h (asked_of c leaves (made_of FOr t).test) t.next (narrowed (shown true (POr at items)) h.locals) (narrowed (shown false (POr at items)) h.locals)
-  unfolding test_fits shown
+  unfolding test_fits shown PointsPass
   or_test h at items t g = record {
+    points = g.points;
     made = g.made;
     numbered = g.numbered;
     sides = λ m among env stands yes' no' holds fails. g.sides m among env stands yes' no' (λ after least. holds after (unnarrowed_least m.variables h.next h.locals after least)) fails;
@@ -149,7 +166,7 @@ module _ (c : Context) (leaves : Leaving) where
       → Good c leaves (where_shown true test h.locals t.next) (first (where_shown true test h.locals t.next)) (Typed c leaves wanted s)
       → Good c leaves (where_shown false test h.locals (first (where_shown true test h.locals t.next)).spot.next) (second (where_shown false test h.locals (first (where_shown true test h.locals t.next)).spot.next)) (Typed c leaves wanted u)
       → assignable s ty ≡ true → assignable u ty ≡ true → Good c leaves h (chosen at ty h.locals test t first second) (Typed c leaves wanted ty)
-  unfolding stmts_fit
+  unfolding stmts_fit PointsPass
   chosen_good h free at ty test t first second wanted s u gt ga gb es eu =
       let a : Hoisted PlainExpr = first (where_shown true test h.locals t.next) in
       let b : Hoisted PlainExpr = second (where_shown false test h.locals a.spot.next) in
@@ -165,8 +182,29 @@ module _ (c : Context) (leaves : Leaving) where
         numbered = numbered_both h.next gt.made (ga.made ++ (gb.made ++ last)) t.next (n + 1) gt.numbered
             (numbered_both t.next ga.made (gb.made ++ last) a.spot.next (n + 1) ga.numbered (numbered_both a.spot.next gb.made last n (n + 1) gb.numbered (one_numbered n ty)));
         free = more_free n h.locals ty open';
+        adds = adds_behind gt.made (ga.made ++ (gb.made ++ last)) h.locals (h.locals ++ temporary n ty ∷ [])
+            (adds_behind ga.made (gb.made ++ last) h.locals (h.locals ++ temporary n ty ∷ []) (adds_behind gb.made last h.locals (h.locals ++ temporary n ty ∷ []) (adds_temporary n ty h.locals)));
         alike = alike_on h.next n h.locals h.locals (h.locals ++ temporary n ty ∷ []) below (alike_itself h.next h.locals) (more_alike n h.locals ty);
         rest = λ there alike. (reads_temporary n h.locals ty open' c there wanted at alike, variable_stays c leaves at n);
+        points = λ variables among typed.
+            let rest1 : AreAmong variables (ga.made ++ (gb.made ++ last)) = among_rest variables gt.made (ga.made ++ (gb.made ++ last)) among in
+            let rest2 : AreAmong variables (gb.made ++ last) = among_rest variables ga.made (gb.made ++ last) rest1 in
+            let point : (names : List ℕ) → is_point variables (surely (narrowed names h.locals)) ≡ true = λ names.
+            point_passes variables (narrowed names h.locals) (free_narrowed h.next h.next names h.locals (omega arith) free).once (typed_narrowed variables names h.locals typed) in
+            let more : AreTyped variables (h.locals ++ temporary n ty ∷ []) = (adds_temporary n ty h.locals).only variables (among_rest variables gb.made last rest2) typed in (
+              (
+                (
+                  gt.points variables (among_first variables gt.made (ga.made ++ (gb.made ++ last)) among) typed,
+                  point (shown true test),
+                  passes_both variables a.before (FSet n a.rest ∷ []) (ga.points variables (among_first variables ga.made (gb.made ++ last) rest1) (typed_narrowed variables (shown true test) h.locals typed)) (tt, tt),
+                  point (shown false test),
+                  tt,
+                ),
+                passes_both variables b.before (FSet n b.rest ∷ []) (gb.points variables (among_first variables gb.made last rest2) (typed_narrowed variables (shown false test) h.locals typed)) (tt, tt),
+                point_passes variables (h.locals ++ temporary n ty ∷ []) (more_free n h.locals ty open').once more,
+              ),
+              tt,
+            );
         before = λ m among env stands goal goes.
             let rest1 : AreAmong m.variables (ga.made ++ (gb.made ++ last)) = among_rest m.variables gt.made (ga.made ++ (gb.made ++ last)) among in
             let rest2 : AreAmong m.variables (gb.made ++ last) = among_rest m.variables ga.made (gb.made ++ last) rest1 in

@@ -1,6 +1,6 @@
--- What has a type keeps it wherever as much is known of the locals that it names.
+-- What has a type keeps it wherever what is known of the locals that it names is known so.
 use Rattle.std.proofs.Common.{◌≡◌, ◌<◌, ℕ, Bool, true, false, not, Option, Some, None, Result, Ok, List, [], ◌∷◌, length, sym, ap, ◌∙◌}
-use Rattle.std.specs.Prelude.{◌==◌, if◌then◌else◌, option_map, option_and_then}
+use Rattle.std.specs.Prelude.{◌==◌, if◌then◌else◌, option_and_then}
 use Rattle.py_tree.specs.declared.names.Place.{Place}
 use Rattle.py_tree.specs.declared.rule.RuleFault.{RuleFault}
 use Rattle.py_tree.specs.declared.rule.Rule.{Rule}
@@ -8,52 +8,52 @@ use Rattle.py_tree.specs.declared.rule.Rule.TheVariants.{RemoteField, UnknownFie
 use Rattle.py_tree.specs.Bounded.{ExprNames, ExprsNames, LinksNames}
 use Rattle.py_tree.specs.PlainTypes.{PlainTy, TInt, TStr, TEntity}
 use Rattle.py_tree.specs.ClassRules.{PlainTable, PlainSigParam, is_self}
-use Rattle.py_tree.specs.FlowEnvironment.{PlainLocal, PlainEnv, has_name, has_none, shown, where_test}
+use Rattle.py_tree.specs.FlowEnvironment.{PlainLocal, PlainEnv, has_none, shown, where_test}
 use Rattle.py_tree.specs.ExpressionTypes.{Function, Length, Text, Absolute, Least, Greatest, function_of, type_of_name, needs, refuse_if, with_found, as_condition, place_of, count_of, applied, table_named, type_of, conditions, arguments, each_is, list_of, elements, linked, combined, operand, right_wanted, inside, assignable, self_ty, field_of, class_of_ty, method_of, element_of, element_wanted, is_str_or_list, is_int}
 use Rattle.py_tree.specs.PlainExpressions.{PlainExpr, PInt, PBool, PStr, PNil, PVar, PSelf, PAttr, PCall, PApply, PIndex, PList, PNeg, PPos, PNot, PChain, PAnd, POr, PCompare, PIsNone, PCond, PlainExprs, PNoExpr, PExpr, PLink, PlainLinks, PNoLink, PMoreLinks}
 use Rattle.program_meaning.proofs.TypedParts.{found_ok}
-use Rattle.typed_hoisting.specs.KnownLocals.{Seen, seen}
-use Rattle.typed_hoisting.proofs.LocalLaws.{narrowed_more, narrowed_seen, read_seen, seen_read}
+use Rattle.typed_hoisting.specs.KnownLocals.{Seen, seen, Kept}
+use Rattle.typed_hoisting.proofs.LocalLaws.{kept_seen, kept_narrowed, read_seen, seen_read}
 
 -- what is found first is found second
 pub record Keeps {A : Type 0} (first second : Result A RuleFault) : Type 0 where
   pub keeps : (t : A) → first ≡ Ok t → second ≡ Ok t
 
-itself : {A : Type 0} {r : Result A RuleFault} → Keeps r r
+pub itself : {A : Type 0} {r : Result A RuleFault} → Keeps r r
 itself = record { keeps = λ t h. h }
 
-equal_keeps : {A : Type 0} (r q : Result A RuleFault) → r ≡ q → Keeps r q
+pub equal_keeps : {A : Type 0} (r q : Result A RuleFault) → r ≡ q → Keeps r q
 equal_keeps r q e = record { keeps = λ t h. sym e ∙ h }
 
 -- Steps of the rules
 
-found_keeps : {X A : Type 0} {r q : Result X RuleFault} {f g : X → Result A RuleFault} → Keeps r q → ((x : X) → Keeps (f x) (g x)) → Keeps (with_found r f) (with_found q g)
+pub found_keeps : {X A : Type 0} {r q : Result X RuleFault} {f g : X → Result A RuleFault} → Keeps r q → ((x : X) → Keeps (f x) (g x)) → Keeps (with_found r f) (with_found q g)
 found_keeps {X} {A} {r} {q} {f} {g} a later = record {
   keeps = λ t h.
       let p : (x : X) × (r ≡ Ok x) × (f x ≡ Ok t) = found_ok r f t h in
       ap (λ o. with_found o g) (a.keeps p.0 p.1) ∙ (later p.0).keeps t p.2;
 }
 
-needs_keeps : {X A : Type 0} (o : Option X) (rule : Rule) (at : Place) {f g : X → Result A RuleFault} → ((x : X) → Keeps (f x) (g x)) → Keeps (needs o rule at f) (needs o rule at g)
+pub needs_keeps : {X A : Type 0} (o : Option X) (rule : Rule) (at : Place) {f g : X → Result A RuleFault} → ((x : X) → Keeps (f x) (g x)) → Keeps (needs o rule at f) (needs o rule at g)
 needs_keeps None rule at later = itself
 needs_keeps (Some x) rule at later = later x
 
-refuse_keeps : {A : Type 0} (b : Bool) (rule : Rule) (at : Place) {r q : Result A RuleFault} → Keeps r q → Keeps (refuse_if b rule at r) (refuse_if b rule at q)
+pub refuse_keeps : {A : Type 0} (b : Bool) (rule : Rule) (at : Place) {r q : Result A RuleFault} → Keeps r q → Keeps (refuse_if b rule at r) (refuse_if b rule at q)
 refuse_keeps true rule at a = itself
 refuse_keeps false rule at a = a
 
-operand_keeps : {A : Type 0} (t : PlainTy) (test : PlainTy → Bool) (at : Place) {r q : Result A RuleFault} → Keeps r q → Keeps (operand t test at r) (operand t test at q)
+pub operand_keeps : {A : Type 0} (t : PlainTy) (test : PlainTy → Bool) (at : Place) {r q : Result A RuleFault} → Keeps r q → Keeps (operand t test at r) (operand t test at q)
 operand_keeps t test at a = refuse_keeps (has_none t) NoneUse at (refuse_keeps (not (test t)) Operand at a)
 
-condition_keeps : (at : Place) {r q : Result PlainTy RuleFault} → Keeps r q → Keeps (as_condition at r) (as_condition at q)
+pub condition_keeps : (at : Place) {r q : Result PlainTy RuleFault} → Keeps r q → Keeps (as_condition at r) (as_condition at q)
 unfolding as_condition
 condition_keeps at a = found_keeps a (λ t. itself)
 
-name_keeps : (here there : List PlainLocal) (at : Place) (x : ℕ) → seen here x ≡ seen there x → Keeps (type_of_name here at x) (type_of_name there at x)
+name_keeps : (here there : List PlainLocal) (at : Place) (x : ℕ) → Kept (seen here x) (seen there x) → Keeps (type_of_name here at x) (type_of_name there at x)
 name_keeps here there at x e = record {
   keeps = λ t h.
       let p : (s : Seen) × (seen here x ≡ Some s) × (t ≡ (if s.less then inside s.ty else s.ty)) = seen_read here at x t h in
-      read_seen there at x p.0 (sym e ∙ p.1) ∙ ap Ok (sym p.2);
+      read_seen there at x p.0 (kept_seen (seen here x) (seen there x) p.0 e p.1) ∙ ap Ok (sym p.2);
 }
 
 applied_keeps : (o : Option Function) (class : Option PlainTable) (at : Place) (count : ℕ) {each each2 : (PlainTy → Bool) → PlainTy → Result PlainTy RuleFault} {fit fit2 : List PlainSigParam → PlainTy → Result PlainTy RuleFault}
@@ -66,16 +66,16 @@ applied_keeps (Some Least) class at count e f = refuse_keeps (not (count == 2)) 
 applied_keeps (Some Greatest) class at count e f = refuse_keeps (not (count == 2)) _ _ (e is_int TInt)
 applied_keeps None class at count e f = needs_keeps class _ _ (λ c. refuse_keeps (not (count == length c.init)) _ _ (f c.init (TEntity c.name)))
 
--- in one method, as much is known of each name below the limit
+-- in one method, what is known here of a name below the limit is known so there
 pub record Near (limit : ℕ) (here there : PlainEnv) : Type 0 where
   pub class : here.class ≡ there.class
-  pub locals : (x : ℕ) → x < limit → seen here.locals x ≡ seen there.locals x
+  pub locals : (x : ℕ) → x < limit → Kept (seen here.locals x) (seen there.locals x)
 
 near_where : {limit : ℕ} {here there : PlainEnv} (truth : Bool) (test : PlainExpr) → Near limit here there → Near limit (where_test truth test here) (where_test truth test there)
 unfolding where_test
 near_where {limit} {here} {there} truth test near = record {
   class = near.class;
-  locals = λ x below. narrowed_seen (shown truth test) here.locals x ∙ ap (option_map (narrowed_more (has_name (shown truth test) x))) (near.locals x below) ∙ sym (narrowed_seen (shown truth test) there.locals x);
+  locals = λ x below. kept_narrowed (shown truth test) here.locals there.locals x (near.locals x below);
 }
 
 -- Expressions

@@ -3,6 +3,7 @@ pub mod KeptTypes
 pub mod EnvironmentLaws
 pub mod Assignable
 pub mod PointLaws
+pub mod PassingPoints
 pub mod StoredLaws
 pub mod GoodParts
 pub mod GoodTests

@@ -1,5 +1,5 @@
 -- What is known of a name, as locals are narrowed, read and added.
-use Rattle.std.proofs.Common.{◌≡◌, ℕ, Bool, true, false, not, cond, Option, Some, None, Ok, List, [], ◌∷◌, ◌++◌, map, if◌then◌else◌, refl, sym, ap, ◌∙◌, true≢false}
+use Rattle.std.proofs.Common.{◌≡◌, ℕ, Bool, true, false, not, cond, Option, Some, None, Ok, List, [], ◌∷◌, ◌++◌, map, if◌then◌else◌, refl, sym, ap, ◌∙◌, subst, true≢false}
 use Rattle.std.specs.Prelude.{◌&&◌, ◌||◌, ◌==◌, option_map}
 use Rattle.std.proofs.lemmas.Bool.{eqb-true}
 use Rattle.std.proofs.lemmas.Option.{same_Some, none-some}
@@ -11,7 +11,7 @@ use Rattle.py_tree.specs.ExpressionTypes.{inside, read_ty, needs, refuse_if, typ
 use Rattle.program_meaning.proofs.TypedParts.{err_ok, same_ok}
 use Rattle.block_code.specs.PlainVars.{PlainVar}
 use Rattle.block_code.specs.GraphFits.{var_of}
-use Rattle.typed_hoisting.specs.KnownLocals.{Seen, is_optional, seen_of, seen, Under, Once}
+use Rattle.typed_hoisting.specs.KnownLocals.{Seen, is_optional, seen_of, seen, Kept, Under, Once}
 
 -- the local that is found has the name that it is found by
 pub found_name : (locals : List PlainLocal) (x : ℕ) (l : PlainLocal) → local_of locals x ≡ Some l → l.name ≡ x
@@ -152,7 +152,39 @@ apart a b differ = by (a == b) refl
     by true e = absurd (differ (eqb-true a b e))
     by false e = refl
 
+-- Just as much
+
+pub kept_same : (o q : Option Seen) → o ≡ q → Kept o q
+kept_same None q e = tt
+kept_same (Some s) q e = sym e
+
+pub kept_on : (o q r : Option Seen) → Kept o q → Kept q r → Kept o r
+kept_on None q r f g = tt
+kept_on (Some s) q r f g = subst (λ o. Kept o r) f g
+
+pub kept_over : (f : Seen → Seen) (o q : Option Seen) → Kept o q → Kept (option_map f o) (option_map f q)
+kept_over f None q h = tt
+kept_over f (Some s) q h = ap (option_map f) h
+
+-- what is known so there
+pub kept_seen : (o q : Option Seen) (s : Seen) → Kept o q → o ≡ Some s → q ≡ Some s
+kept_seen o q s h e = subst (λ p. Kept p q) e h
+
+pub kept_narrowed : (names : List ℕ) (here there : List PlainLocal) (x : ℕ) → Kept (seen here x) (seen there x) → Kept (seen (narrowed names here) x) (seen (narrowed names there) x)
+kept_narrowed names here there x h =
+    let f : Seen → Seen = narrowed_more (has_name names x) in
+    subst (λ o. Kept o (seen (narrowed names there) x)) (sym (narrowed_seen names here x)) (subst (Kept (option_map f (seen here x))) (sym (narrowed_seen names there x)) (kept_over f (seen here x) (seen there x) h))
+
 -- At least as much
+
+pub kept_under : (o q : Option Seen) → Kept o q → Under o q
+kept_under None q h = tt
+kept_under (Some s) q h = subst (Under (Some s)) (sym h) (refl, λ e. e)
+
+pub under_kept : (o q r : Option Seen) → Under o q → Kept q r → Under o r
+under_kept None q r f g = tt
+under_kept (Some s) None r f g = absurd f
+under_kept (Some s) (Some t) r f g = subst (Under (Some s)) (sym g) f
 
 pub under_itself : (o : Option Seen) → Under o o
 under_itself None = tt

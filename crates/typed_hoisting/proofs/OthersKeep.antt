@@ -17,11 +17,13 @@ use Rattle.call_graph.specs.SuspendingCode.{Leaving, expr_suspends, exprs_suspen
 use Rattle.program_meaning.proofs.TypedParts.{found_ok, arguments_result, each_result, elements_result, typed_creation, type_given}
 use Rattle.flat_tree.specs.PlainFlat.{FMake}
 use Rattle.flat_types.specs.FlatTypes.{stmt_fits}
-use Rattle.method_hoister.specs.Spots.{Spot, surely, with_temporary, ty_at, found_ty, created_of, init_params}
+use Rattle.method_hoister.specs.Spots.{Spot, surely, temporary, with_temporary, ty_at, found_ty, created_of, init_params}
 use Rattle.method_hoister.specs.HoistExpressions.{Hoisted, built, settled_unless, lasts, apply_of, by_params, by_function, by_elements, each_wanted, chain, ChainPart, chain_of, so_far, linked_on, begun_anew, either, taken, taken_each, taken_links}
 use Rattle.typed_hoisting.specs.KnownLocals.{Alike, Free}
 use Rattle.typed_hoisting.specs.TypedHoisting.{Typed, Good}
 use Rattle.typed_hoisting.proofs.EnvironmentLaws.{alike_on, kept_at}
+use Rattle.method_splitter.specs.Points.{PointsPass}
+use Rattle.typed_hoisting.proofs.PassingPoints.{point_passes}
 use Rattle.typed_hoisting.proofs.GoodParts.{up, built_good, turn_good, taken_good, settled_unless_good}
 use Rattle.typed_hoisting.proofs.TypedLists.{TypedEach, SuitElement, ArgumentTypes, OperandTypes, ElementTypes, as_many, params_as_many, from_arguments, to_arguments, from_each, to_each, from_elements, to_elements}
 use Rattle.typed_hoisting.proofs.TypedKinds.{FunctionTakes, function_takes, created_stands, RunTyped, no_link_typed, one_link_typed, more_links_typed, run_typed, run_stays, link_parts, last_link}
@@ -62,7 +64,7 @@ module _ (c : Context) (leaves : Leaving) (limit : ℕ) where
         ))
 
     creation_good : (ty : PlainTy) → Applied None (count_of args) h.locals args ≡ Ok ty → Good c leaves h (apply_of c true at ty name (pieces None)) (Typed c leaves wanted ty)
-    unfolding stmt_fits
+    unfolding stmt_fits PointsPass
     creation_good ty typed =
         let p = typed_creation (table_named c.tables name) at (count_of args) (λ test result. each_is test c.tables (env_of c h.locals) args result) (λ params result. arguments c.tables (env_of c h.locals) args params result) ty typed in
         let table : PlainTable = p.0 in
@@ -81,7 +83,7 @@ module _ (c : Context) (leaves : Leaving) (limit : ℕ) where
             takes = behind.0;
           },
           behind.1,
-        )) in
+        )) (λ variables free typed. point_passes variables (a.spot.locals ++ temporary a.spot.next (TEntity table.name) ∷ []) free.once typed) in
         subst (λ o. Good c leaves h (apply_of c true at ty name (parts c leaves limit (by_params (init_params o)) args h)) (Typed c leaves wanted ty)) (sym p.1)
         (subst (λ t. Good c leaves h (apply_of c true at t name a) (Typed c leaves wanted t)) result whole)
 
@@ -114,7 +116,7 @@ module _ (c : Context) (leaves : Leaving) (limit : ℕ) where
   ListGood o at ty items h = Good c leaves h (taken_each leaves c (by_elements c o h.locals items) items h) (λ there r. (list_of c.tables (env_of c there) o at r ≡ Ok ty) × (exprs_suspend leaves r ≡ false))
 
   as_made : {h : Spot} {a : Hoisted PlainExprs} {RA RB : List PlainLocal → PlainExprs → Type 0} → Good c leaves h a RA → ((there : List PlainLocal) → RA there a.rest → RB there a.rest) → Good c leaves h a RB
-  as_made g f = record { made = g.made; numbered = g.numbered; free = g.free; alike = g.alike; rest = λ there alike. f there (g.rest there alike); before = g.before }
+  as_made g f = record { made = g.made; numbered = g.numbered; free = g.free; adds = g.adds; alike = g.alike; rest = λ there alike. f there (g.rest there alike); before = g.before; points = g.points }
 
   list_again : (there : List PlainLocal) (element : PlainTy) (at : Place) (source : PlainExprs) (ts : List PlainTy) (r : PlainExprs) → count_of source ≡ length ts → TypedEach c (each_wanted (Some element) source) ts there r → SuitElement element ts → list_of c.tables (env_of c there) (Some element) at r ≡ Ok (TList element)
   unfolding type_of
@@ -202,12 +204,14 @@ module _ (c : Context) (leaves : Leaving) (limit : ℕ) where
         made = g.made;
         numbered = g.numbered;
         free = g.free;
+        adds = g.adds;
         alike = g.alike;
         rest = λ there alike.
             let x : RunTyped c leaves t there (r.left, r.links) = g.rest there alike in
             let same : Alike h.next h.locals there = alike_on h.next r.spot.next h.locals r.spot.locals there (up c leaves h (run_of r) g) g.alike alike in
             (x.0, more_links_typed c leaves t there r.links (PLink o op_at right) x.1 (one_link_typed c leaves t u there o op_at right both (kept_at c limit h.next h.locals there below same (right_wanted o t) right u named is, e)));
         before = g.before;
+        points = g.points;
       }
 
   -- a list of links, of which each right side keeps the rules

@@ -17,7 +17,7 @@ use Rattle.flat_types.specs.FlatTypes.{Supplies}
 use Rattle.method_hoister.specs.Spots.{surely}
 use Rattle.method_hoister.specs.Spots.{var_of as entry}
 use Rattle.typed_hoisting.specs.KnownLocals.{Seen, is_optional, seen_of, seen, Under, Once, Free, AreVariables, Stands, AtLeast}
-use Rattle.typed_hoisting.proofs.LocalLaws.{apart}
+use Rattle.typed_hoisting.proofs.LocalLaws.{apart, kept_same}
 use Rattle.typed_hoisting.proofs.EnvironmentLaws.{found_below}
 use Rattle.typed_hoisting.proofs.Assignable.{assigned_itself, inside_suits}
 
@@ -144,13 +144,16 @@ seen_as t b = record { ty = t; less = b }
 
 module _ (variables : List PlainVar) where
   -- what is assigned here is a variable of its type
-  abbrev Known : List PlainLocal → Type 0
+  abbrev pub Known : List PlainLocal → Type 0
   Known locals = (x : ℕ) (m : PlainLocal) → local_of locals x ≡ Some m → m.assigned ≡ true → option_map var_ty (find (is_var x) variables) ≡ Some m.ty
 
-  point_stands : (locals : List PlainLocal) → Once locals → Known locals → (n : ℕ) → Stands variables n locals (at_start variables (surely locals))
+  pub point_stands : (locals : List PlainLocal) → Once locals → Known locals → (n : ℕ) → Stands variables n locals (at_start variables (surely locals))
   point_stands locals once known n = record {
     are = start_variables variables (surely locals);
-    alike = record { alike = λ x below. by x (find (is_var x) variables) refl (local_of locals x) refl ∙ sym (ap seen_of (start_local variables (surely locals) x)) };
+    alike = record {
+      alike = λ x below.
+          kept_same (seen locals x) (seen (at_start variables (surely locals)) x) (by x (find (is_var x) variables) refl (local_of locals x) refl ∙ sym (ap seen_of (start_local variables (surely locals) x)));
+    };
   }
     where
       gone : (x : ℕ) (m : PlainLocal) → find (is_var x) variables ≡ None → local_of locals x ≡ Some m → (b : Bool) → m.assigned ≡ b → (if b then Some (seen_as m.ty (is_optional m.ty && m.not_none)) else None) ≡ None

@@ -10,8 +10,8 @@ use Rattle.program_meaning.proofs.LocalShapes.{given_if}
 use Rattle.block_code.specs.PlainVars.{PlainVar}
 use Rattle.block_code.specs.GraphFits.{Asked, Takes}
 use Rattle.method_hoister.specs.Spots.{temporary}
-use Rattle.typed_hoisting.specs.KnownLocals.{is_optional, seen_of, seen, Under, Free, AreVariables, Stands, AtLeast}
-use Rattle.typed_hoisting.proofs.LocalLaws.{found_name, changed, variables_changed, apart}
+use Rattle.typed_hoisting.specs.KnownLocals.{is_optional, seen_of, seen, Kept, Under, Free, AreVariables, Stands, AtLeast}
+use Rattle.typed_hoisting.proofs.LocalLaws.{found_name, changed, variables_changed, apart, kept_same}
 use Rattle.typed_hoisting.proofs.EnvironmentLaws.{other_local, temporary_seen}
 use Rattle.typed_hoisting.proofs.PointLaws.{IsVariable, Found, found_local}
 
@@ -101,10 +101,11 @@ module _ (variables : List PlainVar) (n : ℕ) (t : PlainTy) (env : List PlainLo
   pub stored_stands : Stands variables (n + 1) (locals ++ temporary n t ∷ []) (with_local n t t env)
   stored_stands = record { are = stored_variables variables n t t env stands.are is; alike = record { alike = λ x below. by x below (x == n) refl } }
     where
-      by : (x : ℕ) → x < n + 1 → (b : Bool) → (x == n) ≡ b → seen (locals ++ temporary n t ∷ []) x ≡ seen (with_local n t t env) x
+      by : (x : ℕ) → x < n + 1 → (b : Bool) → (x == n) ≡ b → Kept (seen (locals ++ temporary n t ∷ []) x) (seen (with_local n t t env) x)
       by x below true e =
-          ap (seen (locals ++ temporary n t ∷ [])) (eqb-true x n e) ∙ temporary_seen n locals t free
-          ∙ sym (ap (seen (with_local n t t env)) (eqb-true x n e) ∙ stored_seen variables n t t env stands.are is ∙ ap (λ b. Some (record { ty = t; less = b })) (given_less t))
+          kept_same (seen (locals ++ temporary n t ∷ []) x) (seen (with_local n t t env) x)
+          (ap (seen (locals ++ temporary n t ∷ [])) (eqb-true x n e) ∙ temporary_seen n locals t free
+          ∙ sym (ap (seen (with_local n t t env)) (eqb-true x n e) ∙ stored_seen variables n t t env stands.are is ∙ ap (λ b. Some (record { ty = t; less = b })) (given_less t)))
       by x below false e =
-          ap seen_of (other_local n locals t x (turned variables n t t env stands.are is n (omega arith) locals free x e))
-          ∙ stands.alike.alike x (strictly variables n t t env stands.are is n (omega arith) locals free x below e) ∙ sym (other_seen variables n t t env stands.are is x e)
+          subst (λ o. Kept o (seen (with_local n t t env) x)) (sym (ap seen_of (other_local n locals t x (turned variables n t t env stands.are is n (omega arith) locals free x e))))
+          (subst (Kept (seen locals x)) (sym (other_seen variables n t t env stands.are is x e)) (stands.alike.alike x (strictly variables n t t env stands.are is n (omega arith) locals free x below e)))

@@ -14,7 +14,7 @@ use Rattle.py_tree.specs.declared.expr.Cmp.TheVariants as cmp
 use Rattle.py_tree.specs.PlainTypes.{PlainTy, TInt, TBool, TList, TEntity}
 use Rattle.py_tree.specs.ClassRules.{PlainTable, PlainSig, PlainSigParam}
 use Rattle.py_tree.specs.FlowEnvironment.{PlainLocal, has_name, has_none, shown, narrowed, where_test, says_not_none, variable_in}
-use Rattle.py_tree.specs.PlainExpressions.{PlainExpr, PCall, PIndex, PNeg, PPos, PNot, PAnd, POr, PCompare, PIsNone, PlainExprs, PExpr, PlainLink, PLink, PlainLinks, PNoLink, PMoreLinks, links_of}
+use Rattle.py_tree.specs.PlainExpressions.{PlainExpr, PCall, PIndex, PNeg, PPos, PNot, PChain, PAnd, POr, PCompare, PIsNone, PlainExprs, PExpr, PlainLink, PLink, PlainLinks, PNoLink, PMoreLinks, links_of}
 use Rattle.py_tree.specs.ExpressionTypes.{Function, Length, Text, Absolute, Least, Greatest, is_int, is_bool, is_str_or_list, operand, as_condition, place_of, count_of, refuse_if, needs, with_found, compared, comparison, combined, right_wanted, class_of_ty, element_of, table_named, method_of, method_in, applied, join, type_of, conditions, arguments, linked}
 use Rattle.py_tree.specs.Flow.{Context, env_of, type_at}
 use Rattle.call_graph.specs.SuspendingCode.{Leaving, expr_suspends, links_suspend}
@@ -252,3 +252,14 @@ module _ (c : Context) (leaves : Leaving) where
   pub last_link : (t ty : PlainTy) (locals : List PlainLocal) → linked c.tables (env_of c locals) t PNoLink ≡ Ok ty → t ≡ ty
   unfolding type_of
   last_link t ty locals h = same_ok t ty h
+
+  -- a run without links
+  pub chain_alone : (locals : List PlainLocal) (wanted : Option PlainTy) (at : Place) (first : PlainExpr) (ty : PlainTy) → type_at c locals wanted (PChain at first PNoLink) ≡ Ok ty → type_at c locals None first ≡ Ok ty
+  unfolding type_of
+  chain_alone locals wanted at first ty h =
+      let p : (t : PlainTy) × (type_at c locals None first ≡ Ok t) × (linked c.tables (env_of c locals) t PNoLink ≡ Ok ty) = found_ok (type_at c locals None first) (λ t. linked c.tables (env_of c locals) t PNoLink) ty h in
+      p.1 ∙ ap Ok (last_link p.0 ty locals p.2)
+
+  pub alone_typed : (there : List PlainLocal) (wanted : Option PlainTy) (at : Place) (r : PlainExpr) (ty : PlainTy) → T None ty there r → T wanted ty there (PChain at r PNoLink)
+  unfolding type_of expr_suspends
+  alone_typed there wanted at r ty h = (ap (λ q. with_found q (λ t. linked c.tables (env_of c there) t PNoLink)) h.0, or_from _ _ h.1 refl)

@@ -15,11 +15,11 @@ use Rattle.call_graph.specs.SuspendingCode.{Leaving, leaving, expr_suspends}
 use Rattle.block_code.specs.PlainVars.{PlainVar}
 use Rattle.block_code.specs.GraphFits.{Asked, HasType, is_var}
 use Rattle.flat_tree.specs.PlainFlat.{PlainFlatStmt, PlainFlatTest, flat_stmts_of}
-use Rattle.flat_types.specs.FlatTypes.{Nowhere, Supplies, stmts_fit, test_fits}
+use Rattle.method_splitter.specs.Points.{PointsPassInAll, PointsPassInTest}
+use Rattle.flat_types.specs.FlatTypes.{is_point, Nowhere, Supplies, stmts_fit, test_fits}
 use Rattle.method_hoister.specs.Spots.{Spot, surely}
 use Rattle.method_hoister.specs.HoistExpressions.{Hoisted, Tested, Forms, forms}
-use Rattle.typed_hoisting.specs.Runs.{RunsHaveOperators}
-use Rattle.typed_hoisting.specs.KnownLocals.{Alike, Free, Stands, AtLeast}
+use Rattle.typed_hoisting.specs.KnownLocals.{HasTy, Alike, Free, Stands, AtLeast}
 
 -- temporaries from one number up to another, one after the other
 abbrev pub Numbered : ℕ → List PlainVar → ℕ → Type 0
@@ -31,37 +31,56 @@ abbrev pub AreAmong : List PlainVar → List PlainVar → Type 0
 AreAmong variables [] = ⊤
 AreAmong variables (v ∷ made) = (find (is_var v.name) variables ≡ Some v) × AreAmong variables made
 
+-- names that have types are variables of the method, of those types
+abbrev pub AreTyped : List PlainVar → List PlainLocal → Type 0
+AreTyped variables locals = (x : ℕ) (ty : PlainTy) → HasTy locals x ty → find (is_var x) variables ≡ Some (record { name = x; ty = ty })
+
+-- names keep their types, and what has a type besides is a temporary that was made
+pub record Adds (made : List PlainVar) (before after : List PlainLocal) : Type 0 where
+  pub keeps : (x : ℕ) (ty : PlainTy) → HasTy before x ty → HasTy after x ty
+  pub only : (variables : List PlainVar) → AreAmong variables made → AreTyped variables before → AreTyped variables after
+
 -- the variables of a method, and what is asked at a `break` and at a `continue`
 pub record Around : Type 1 where
   pub variables : List PlainVar
   pub breaks : Asked
   pub continues : Asked
 
--- what is asked of a test, by what is asked where it holds and where it doesn't
-abbrev pub AskedOfTest : Type 1
-AskedOfTest = Around → (holds fails : Asked) → Asked
+-- each point in code names variables of the method
+abbrev pub CodePasses : List PlainVar → List PlainFlatStmt → Type 0
+CodePasses variables code = PointsPassInAll (is_point variables) (flat_stmts_of code)
+
+-- what is asked of a test, by what is asked where it holds and where it doesn't; and that each of its points names variables
+pub record AskedOfTest : Type 1 where
+  pub fits : Around → (holds fails : Asked) → Asked
+  pub passes : List PlainVar → Type 0
 
 module _ (c : Context) (leaves : Leaving) where
   abbrev pub code_fits : Around → List PlainFlatStmt → Asked → Asked
   code_fits m code goal locals = stmts_fit c leaves m.variables m.breaks m.continues (flat_stmts_of code) goal locals
 
   abbrev pub asked_of : PlainFlatTest → AskedOfTest
-  asked_of test m holds fails locals = test_fits c leaves m.variables m.breaks m.continues test holds fails locals
+  asked_of test = record {
+    fits = λ m holds fails locals. test_fits c leaves m.variables m.breaks m.continues test holds fails locals;
+    passes = λ variables. PointsPassInTest (is_point variables) test;
+  }
 
   -- what doesn't suspend, and has this type
   abbrev pub Typed : Option PlainTy → PlainTy → List PlainLocal → PlainExpr → Type 0
   Typed wanted ty locals e = (type_at c locals wanted e ≡ Ok ty) × (expr_suspends leaves e ≡ false)
 
-  -- what is hoisted at a spot keeps the rules, and so is what is left
+  -- what is hoisted at a spot keeps the rules, and so does what is left; and points name variables
   pub record Good {R : Type 0} (h : Spot) (a : Hoisted R) (Rest : List PlainLocal → R → Type 0) : Type 1 where
     pub made : List PlainVar
     pub numbered : Numbered h.next made a.spot.next
     pub free : Free a.spot.next a.spot.locals
+    pub adds : Adds made h.locals a.spot.locals
     pub alike : Alike h.next h.locals a.spot.locals
     pub rest : (there : List PlainLocal) → Alike a.spot.next a.spot.locals there → Rest there a.rest
     pub before : (m : Around) → AreAmong m.variables made → (env : List PlainLocal) → Stands m.variables h.next h.locals env
         → (goal : Asked) → ((after : List PlainLocal) → Stands m.variables a.spot.next a.spot.locals after → goal after)
         → code_fits m a.before goal env
+    pub points : (variables : List PlainVar) → AreAmong variables made → AreTyped variables h.locals → CodePasses variables a.before
 
   -- a test leads to either side, where at least as much is known as here
   pub record GoodTest (h : Spot) (fit : AskedOfTest) (next : ℕ) (holds fails : List PlainLocal) : Type 1 where
@@ -70,7 +89,8 @@ module _ (c : Context) (leaves : Leaving) where
     pub sides : (m : Around) → AreAmong m.variables made → (env : List PlainLocal) → Stands m.variables h.next h.locals env
         → (yes no : Asked) → ((after : List PlainLocal) → AtLeast m.variables h.next holds after → yes after)
         → ((after : List PlainLocal) → AtLeast m.variables h.next fails after → no after)
-        → fit m yes no env
+        → fit.fits m yes no env
+    pub points : (variables : List PlainVar) → AreAmong variables made → AreTyped variables h.locals → fit.passes variables
 
   -- of an expression whose names are below the limit, at each spot whose temporaries are not
   pub record GoodForms (limit : ℕ) (e : PlainExpr) (both : Forms) : Type 1 where
@@ -84,7 +104,7 @@ module _ (c : Context) (leaves : Leaving) where
 abbrev pub ExpressionsKeepTheRules : Type 1
 ExpressionsKeepTheRules =
     (names : List (List ℕ)) (program : PlainProgram) (marks : List (List Bool)) (class : ℕ) (c : Context) (limit : ℕ) (e : PlainExpr)
-    → ExprNames limit e → RunsHaveOperators e
+    → ExprNames limit e
     → GoodForms c (leaving names program marks class) limit e (forms (leaving names program marks class) c e)
 
 -- Where there is no loop around, and no more is asked than that
@@ -93,19 +113,21 @@ module _ (c : Context) (leaves : Leaving) where
   abbrev pub IsTyped : PlainExpr → PlainTy → Asked
   IsTyped e ty locals = HasType c leaves locals e ty
 
-  -- what runs before keeps the rules, and what is left has this type behind that
+  -- what runs before keeps the rules, and what is left has this type behind that; and points name variables
   pub record ValueFits (h : Spot) (a : Hoisted PlainExpr) (ty : PlainTy) : Type 0 where
     pub made : List PlainVar
     pub numbered : Numbered h.next made a.spot.next
     pub fits : (variables : List PlainVar) → AreAmong variables made → (env : List PlainLocal) → Stands variables h.next h.locals env
         → stmts_fit c leaves variables Nowhere Nowhere (flat_stmts_of a.before) (IsTyped a.rest ty) env
+    pub points : (variables : List PlainVar) → AreAmong variables made → AreTyped variables h.locals → CodePasses variables a.before
 
-  -- a test keeps the rules, and leads where this is known
+  -- a test keeps the rules, and leads where this is known; and its points name variables
   pub record TestFits (h : Spot) (t : Tested PlainFlatTest) (holds fails : List PlainLocal) : Type 0 where
     pub made : List PlainVar
     pub numbered : Numbered h.next made t.next
     pub fits : (variables : List PlainVar) → AreAmong variables made → (env : List PlainLocal) → Stands variables h.next h.locals env
         → test_fits c leaves variables Nowhere Nowhere t.test (Supplies (surely holds)) (Supplies (surely fails)) env
+    pub points : (variables : List PlainVar) → AreAmong variables made → AreTyped variables h.locals → PointsPassInTest (is_point variables) t.test
 
   -- as a value, and as a test
   abbrev pub FormsFit : ℕ → PlainExpr → Forms → Type 0
@@ -118,5 +140,5 @@ module _ (c : Context) (leaves : Leaving) where
 abbrev pub ExpressionsFit : Type 0
 ExpressionsFit =
     (names : List (List ℕ)) (program : PlainProgram) (marks : List (List Bool)) (class : ℕ) (c : Context) (limit : ℕ) (e : PlainExpr)
-    → ExprNames limit e → RunsHaveOperators e
+    → ExprNames limit e
     → FormsFit c (leaving names program marks class) limit e (forms (leaving names program marks class) c e)

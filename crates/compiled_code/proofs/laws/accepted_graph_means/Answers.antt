@@ -1,0 +1,5 @@
+use Rattle.compiled_code.proofs.CompiledCode.{accepted_graph_means}
+use Rattle.compiled_code.proofs.laws.accepted_graph_means.Goals as goal
+
+pub returns : goal.returns
+returns c = accepted_graph_means

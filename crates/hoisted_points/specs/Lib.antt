@@ -1,0 +1,2 @@
+pub mod NoPartIsDead
+pub mod NamedPoints
