@@ -144,7 +144,7 @@ pub(crate) fn store(
 
 /// The entity that a value is.
 #[inline(never)]
-pub(crate) fn target_entity(alloc: Global, on: &Value) -> Result<Ref, AllocError>
+pub fn target_entity(alloc: Global, on: &Value) -> Result<Ref, AllocError>
     ensures { IfOk result (λ at. key_of at ≡ key_in on.now) }
 {
     match on {

@@ -17,6 +17,7 @@ mod transaction;
 mod vars;
 mod walk;
 
+pub use direct::target_entity;
 pub use failures::{ALREADY_EXISTS, NO_ENTITY, RECURSION_ERROR, STEP_LIMIT, bare_failure};
 pub use here::{Ended, Made, eval_here, make_here, run_here};
 pub use local::{Attempt, Local};
