@@ -25,7 +25,7 @@ split_last (y ∷ []) (suc n) x long at = absurd (none-some x at)
 split_last (y ∷ z ∷ xs) zero x long at = absurd (omega (arith, long))
 split_last (y ∷ z ∷ xs) (suc n) x long at = ap (λ l. y ∷ l) (split_last (z ∷ xs) n x (omega (arith, long)) at)
 
-lasts_behind : (fs : List Frame) (x : Frame) → lasts (fs ++ x ∷ []) ≡ Some (record { before = fs; last = x })
+pub lasts_behind : (fs : List Frame) (x : Frame) → lasts (fs ++ x ∷ []) ≡ Some (record { before = fs; last = x })
 unfolding lasts
 lasts_behind [] x = refl
 lasts_behind (f ∷ fs) x = ap (one_before f) (lasts_behind fs x)

@@ -25,7 +25,7 @@ use Rattle.block_code.specs.declared.event.EventKind.TheVariants as kind
 use Rattle.block_code.specs.PlainVars.{PlainVar}
 use Rattle.block_code.specs.PlainBlocks.{PlainCatch, PlainBlock}
 use Rattle.block_code.specs.Places.{blocks_of}
-use Rattle.block_code.specs.GraphFits.{GraphFits, MethodFits, BlockFits, CatchFits, BelowRank}
+use Rattle.block_code.specs.GraphFits.{GraphFits, MethodFits, BlockFits, CatchFits, BelowRank, at_start}
 use Rattle.block_code.specs.EventsFit.{FramesFit, KindFits, EventFits}
 use Rattle.block_step.specs.EventStep.{Lasts, lasts, Step, StepsTo, target_of}
 use Rattle.block_step.specs.StepFits.{HeldFits, IsReady, StepsWell}
@@ -43,7 +43,8 @@ catch_falls : (c : Context) (blocks : List PlainBlock) (b : PlainBlock) (start :
 catch_falls c blocks b start k f target is = subst (λ (t : PlainBlock). t.rank < b.rank) (same_Some _ _ (sym f.is ∙ is)) f.below
 
 ranks_fall : (c : Context) (leaves : Leaving) (variables : List PlainVar) (blocks bs : List PlainBlock) → All (BlockFits c leaves variables blocks) bs → All (RankFalls blocks) bs
-ranks_fall c leaves variables blocks bs each = All-weaker _ _ (λ b f. record { ends = f.ranks; catches = All-weaker _ _ (λ k g. catch_falls c blocks b _ k g) b.catches f.catches }) bs each
+ranks_fall c leaves variables blocks bs each = All-weaker (BlockFits c leaves variables blocks) (RankFalls blocks)
+    (λ b f. record { ends = f.ranks; catches = All-weaker (CatchFits c blocks b (at_start variables b.params)) (λ (k : PlainCatch). BelowRank blocks b.rank k.to) (λ k g. catch_falls c blocks b (at_start variables b.params) k g) b.catches f.catches }) bs each
 
 module _ (code : Code) (same : tables_in code ≡ tables_of (checked_names code.program.now) (checked_program code.program.now)) (fits : GraphFits (checked_names code.program.now) (checked_program code.program.now) (blocks_in code)) where
   abbrev names : List (List ℕ)
