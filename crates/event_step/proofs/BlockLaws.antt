@@ -1,10 +1,9 @@
 -- A method from one of its blocks on: one block, and then what follows it.
-use Rattle.std.proofs.Common.{◌≡◌, ◌<◌, ◌+◌, ◌*◌, ◌-◌, ℕ, zero, suc, Bool, Option, Some, None, Ok, List, sym, ap, ◌∙◌, subst}
+use Rattle.std.proofs.Common.{◌≡◌, ◌<◌, ◌+◌, ◌*◌, ◌-◌, ℕ, zero, suc, Some, None, Ok, List, sym, ◌∙◌, subst}
 use Rattle.std.specs.Prelude.{slice_get}
-use Rattle.std.proofs.lemmas.Option.{same_Some, none-some}
-use Rattle.program_meaning.specs.Calls.{Held, own_held}
+use Rattle.std.proofs.lemmas.Option.{none-some}
+use Rattle.program_meaning.specs.Calls.{own_held}
 use Rattle.program_meaning.specs.StepsLeft.{CallsTakeSteps}
-use Rattle.program_meaning.specs.Evaluation.{Site}
 use Rattle.program_meaning.specs.RequestRun.{depth_limit}
 use Rattle.program_meaning.specs.Sources.{source_of}
 use Rattle.program_meaning.proofs.StepsTaken.{own_calls_take}

@@ -1,6 +1,6 @@
 -- Frames and what they keep: the last frame, those that stay, and variables that move.
-use Rattle.std.proofs.Common.{◌≡◌, ◌<◌, ◌≤◌, ◌+◌, ℕ, zero, suc, arith, Bool, true, false, cond, not, ◌||◌, ◌&&◌, ◌-◌, true≢false, Option, Some, None, List, [], ◌∷◌, ◌++◌, length, take, drop, get_or, if◌then◌else◌, refl, sym, ap, ◌∙◌, subst, add-one, drop-cons}
-use Rattle.std.specs.Prelude.{◌==◌, slice_get, filter, nat_eq}
+use Rattle.std.proofs.Common.{◌≡◌, ◌<◌, ◌≤◌, ◌+◌, ℕ, zero, suc, arith, Bool, true, false, not, ◌||◌, ◌&&◌, ◌-◌, true≢false, Some, None, List, [], ◌∷◌, ◌++◌, length, take, drop, get_or, if◌then◌else◌, refl, sym, ap, ◌∙◌, add-one, drop-cons}
+use Rattle.std.specs.Prelude.{◌==◌, slice_get, nat_eq}
 use Rattle.std.specs.List.{list_any, flat_map}
 use Rattle.std.proofs.lemmas.Bool.{eqb-true}
 use Rattle.std.proofs.lemmas.List.{append-nil, drop_all}
@@ -14,7 +14,7 @@ use Rattle.block_code.specs.declared.vars.VarType.{VarType}
 use Rattle.block_code.specs.PlainVars.{PlainVar, plain_vars}
 use Rattle.block_code.specs.PlainBlocks.{PlainCatch, PlainBlock, plain_catch, plain_catches}
 use Rattle.block_code.specs.EventsFit.{Awaits, catch_of, params_if_there, kept_params}
-use Rattle.block_step.specs.EventStep.{kept, behind_it, up_to, Lasts, one_before, lasts}
+use Rattle.block_step.specs.EventStep.{kept, behind_it, up_to, one_before, lasts}
 
 -- The last frame
 

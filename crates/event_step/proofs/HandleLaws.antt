@@ -1,10 +1,9 @@
 -- An event that is ready is due, and what it leaves fits.
-use Rattle.std.proofs.Common.{◌≡◌, ◌<◌, ℕ, Bool, true, false, Option, Some, None, List, [], ◌∷◌, refl, sym, ap, ◌∙◌, subst, true≢false}
+use Rattle.std.proofs.Common.{◌≡◌, ◌<◌, ℕ, true, Option, Some, None, List, refl, sym, ◌∙◌, subst, true≢false}
 use Rattle.std.specs.Prelude.{slice_get, is_some}
 use Rattle.std.specs.List.{All}
 use Rattle.std.proofs.lemmas.List.Elements.{All-weaker}
 use Rattle.std.proofs.lemmas.Option.{same_Some, none-some}
-use Rattle.py_tree.specs.declared.checked.Checked.{Checked}
 use Rattle.py_tree.specs.CheckedViews.{checked_program, checked_names}
 use Rattle.py_tree.specs.PlainProgram.{PlainProgram}
 use Rattle.py_tree.specs.ClassRules.{PlainSig, PlainTable, tables_of}
@@ -14,10 +13,9 @@ use Rattle.call_graph.specs.SuspendingCode.{Leaving}
 use Rattle.sf_value.specs.declared.value.Value.{Value}
 use Rattle.sf_value.specs.declared.value.Ref.{Ref}
 use Rattle.program_meaning.specs.Fits.{HasTable}
-use Rattle.program_meaning.specs.Sources.{source_of}
 use Rattle.program_meaning.specs.NothingGoesWrong.{IsKnownAccepted}
 use Rattle.program_meaning.proofs.Soundness.{checked_are_known}
-use Rattle.program_meaning.proofs.TableFacts.{all_at, then_found}
+use Rattle.program_meaning.proofs.TableFacts.{then_found}
 use Rattle.block_code.specs.declared.event.Frame.{Frame}
 use Rattle.block_code.specs.declared.event.Event.{Event}
 use Rattle.block_code.specs.declared.event.EventKind.{EventKind}
@@ -27,7 +25,7 @@ use Rattle.block_code.specs.PlainBlocks.{PlainCatch, PlainBlock}
 use Rattle.block_code.specs.Places.{blocks_of}
 use Rattle.block_code.specs.GraphFits.{GraphFits, MethodFits, BlockFits, CatchFits, BelowRank, at_start}
 use Rattle.block_code.specs.EventsFit.{FramesFit, KindFits, EventFits}
-use Rattle.block_step.specs.EventStep.{Lasts, lasts, Step, StepsTo, target_of}
+use Rattle.block_step.specs.EventStep.{lasts, Step, StepsTo, target_of}
 use Rattle.block_step.specs.StepFits.{HeldFits, IsReady, StepsWell}
 use Rattle.block_step.proofs.FuelLaws.{steps_are_one}
 use Rattle.block_step.proofs.Frames.{lasts_fit}
@@ -35,7 +33,7 @@ use Rattle.block_step.proofs.NamesApart.{IsMethod, method_is}
 use Rattle.block_step.proofs.WellSteps.{events_step_well}
 use Rattle.event_step.specs.declared.handling.Code.{Code}
 use Rattle.event_step.specs.Turns.{RankFalls, RanksFall}
-use Rattle.event_step.specs.Steps.{source_in, tables_in, blocks_in, step_in, ComesTo, RanksOf, RanksFor, IsDue, FitsAt, TargetFits}
+use Rattle.event_step.specs.Steps.{source_in, tables_in, blocks_in, step_in, ComesTo, RanksFor, IsDue, FitsAt, TargetFits}
 
 -- Ranks
 

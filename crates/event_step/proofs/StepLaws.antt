@@ -1,5 +1,5 @@
 -- One event: what is meant, and what the code finds.
-use Rattle.std.proofs.Common.{◌≡◌, ◌-◌, ℕ, Bool, false, Option, Some, None, Result, List, [], ◌∷◌, ◌++◌, length, refl, sym, ap, ◌∙◌, subst}
+use Rattle.std.proofs.Common.{◌≡◌, ◌-◌, ℕ, false, Option, Some, None, Result, List, [], ◌∷◌, ◌++◌, length, refl, sym, ap, ◌∙◌, subst}
 use Rattle.std.specs.Prelude.{nat_lt, IfOk}
 use Rattle.std.specs.declared.alloc.AllocError.{AllocError}
 use Rattle.std.proofs.lemmas.Option.{same_Some, none-some}

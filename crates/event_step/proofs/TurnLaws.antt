@@ -1,5 +1,5 @@
 -- What follows a block, as the code finds it.
-use Rattle.std.proofs.Common.{◌≡◌, ℕ, Bool, true, false, Option, Some, None, Ok, Result, List, [], refl, sym, ap, ◌∙◌, subst, true≢false}
+use Rattle.std.proofs.Common.{◌≡◌, ℕ, Bool, true, false, Option, Some, None, Ok, Result, List, sym, ap, ◌∙◌, subst}
 use Rattle.std.specs.Prelude.{if◌then◌else◌}
 use Rattle.std.proofs.lemmas.Option.{same_Some, none-some}
 use Rattle.std.specs.declared.alloc.AllocError.{AllocError}
@@ -10,16 +10,15 @@ use Rattle.sf_value.specs.declared.value.Value.TheVariants as value
 use Rattle.sf_value.specs.declared.value.Ref.{Ref}
 use Rattle.py_tree.specs.PlainExpressions.{PlainExpr, PlainExprs}
 use Rattle.program_meaning.specs.declared.vars.Var.{Var}
-use Rattle.program_meaning.specs.World.{Gives, Got, Fell, Ends, Goes, Returns, Breaks, Continues, Fails, step_limit}
+use Rattle.program_meaning.specs.World.{Gives, Got, Fell, Ends, Goes, Returns, Breaks, Continues, Fails}
 use Rattle.program_meaning.specs.Operations.{is_true}
 use Rattle.program_meaning.specs.Evaluation.{key_in}
 use Rattle.program_meaning.specs.Sources.{source_of}
 use Rattle.program_meaning.specs.Calls.{Held}
 use Rattle.block_code.specs.PlainBlocks.{EJump, EBranch, ELeave, ECall, EMake, PlainCatch, PlainBlock}
 use Rattle.block_code.specs.EventsFit.{catch_of}
-use Rattle.block_step.specs.BlockRuns.{Go, given_then, method_called, run_items, run_end, fall_at, behind}
-use Rattle.block_step.specs.EventStep.{Part as BlockPart, Gave, Failed, Asks, Wants, waiting}
-use Rattle.source_meaning.specs.declared.here.Ended.{Ended}
+use Rattle.block_step.specs.BlockRuns.{Go, given_then, method_called, run_end, fall_at, behind}
+use Rattle.block_step.specs.EventStep.{Part as BlockPart, Asks, Wants, waiting}
 use Rattle.source_meaning.specs.declared.here.Ended.TheVariants as ended
 use Rattle.event_step.specs.declared.method.Place.{Place}
 use Rattle.event_step.specs.declared.method.Running.{Running}
@@ -29,7 +28,7 @@ use Rattle.event_step.specs.declared.method.Turn.TheVariants as turn
 use Rattle.event_step.specs.Running.{site_of, room_of, held_of}
 use Rattle.event_step.specs.Values.{value_at, values_at, parts_at}
 use Rattle.event_step.specs.ItemEnds.{EndsSo, EndsNow, items_at}
-use Rattle.event_step.specs.Turns.{Goings, exits_of, falling, ending_at, asking_at, wanting_at, block_at, TurnsTo, TurnsAs, FallsAs, after_wait, Waited}
+use Rattle.event_step.specs.Turns.{Goings, exits_of, falling, ending_at, asking_at, wanting_at, block_at, TurnsTo, TurnsAs, FallsAs, Waited}
 
 -- Failures
 

@@ -7,7 +7,7 @@ use Rattle.sf_value.specs.declared.Outcome.TheVariants as outcome
 use Rattle.py_tree.specs.declared.expr.Expr.{Expr}
 use Rattle.py_tree.specs.PlainExpressions.{plain_expr, plain_exprs, exprs_of}
 use Rattle.program_meaning.specs.declared.vars.Var.{Var}
-use Rattle.program_meaning.specs.World.{Gives, Got, Fell, ◌>>=◌}
+use Rattle.program_meaning.specs.World.{Got, Fell, ◌>>=◌}
 use Rattle.program_meaning.specs.Evaluation.{Site, eval, eval_all}
 use Rattle.program_meaning.specs.Calls.{Held}
 use Rattle.program_meaning.specs.Here.{GivesHere}

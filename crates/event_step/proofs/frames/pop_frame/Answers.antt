@@ -1,4 +1,4 @@
-use Rattle.std.proofs.Common.{arith, ◌≡◌, suc, length, sym, ap, ◌∙◌}
+use Rattle.std.proofs.Common.{arith, sym, ◌∙◌}
 use Rattle.event_step.proofs.FrameLaws.{none_waits, popped}
 use Rattle.event_step.proofs.frames.pop_frame.Goals as goal
 

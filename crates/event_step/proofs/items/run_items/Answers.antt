@@ -1,5 +1,5 @@
-use Rattle.std.proofs.Common.{subst, drop}
-use Rattle.block_code.specs.PlainBlocks.{plain_item, plain_items}
+use Rattle.std.proofs.Common.{subst}
+use Rattle.block_code.specs.PlainBlocks.{plain_item}
 use Rattle.source_meaning.specs.declared.here.Ended.TheVariants as ended
 use Rattle.event_step.specs.Running.{site_of, held_of}
 use Rattle.event_step.specs.ItemEnds.{EndsNow, item_at}

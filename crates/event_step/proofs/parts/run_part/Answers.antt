@@ -1,4 +1,4 @@
-use Rattle.std.proofs.Common.{◌≡◌, ◌<◌, Ok, sym, subst}
+use Rattle.std.proofs.Common.{◌<◌, Ok, sym, subst}
 use Rattle.block_code.specs.PlainBlocks.{plain_block, plain_blocks}
 use Rattle.block_step.specs.EventStep.{Part as BlockPart}
 use Rattle.event_step.specs.Turns.{Runs, TurnsAs, block_at}

@@ -1,5 +1,5 @@
-use Rattle.std.proofs.Common.{◌≡◌, ◌∙◌, ◌+◌, ap, sym, subst, List, drop}
-use Rattle.py_tree.specs.PlainExpressions.{plain_expr, plain_exprs, exprs_of}
+use Rattle.std.proofs.Common.{◌∙◌, ◌+◌, sym, drop}
+use Rattle.py_tree.specs.PlainExpressions.{plain_exprs, exprs_of}
 use Rattle.program_meaning.specs.Evaluation.{eval_all}
 use Rattle.program_meaning.proofs.EvalLaws.{all_end}
 use Rattle.event_step.specs.Running.{site_of, held_of}

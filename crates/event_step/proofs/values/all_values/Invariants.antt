@@ -1,4 +1,4 @@
-use Rattle.std.proofs.Common.{◌≡◌, [], drop}
+use Rattle.std.proofs.Common.{◌≡◌, drop}
 use Rattle.py_tree.specs.PlainExpressions.{plain_exprs, exprs_of}
 use Rattle.program_meaning.specs.Evaluation.{eval_all}
 use Rattle.event_step.specs.Running.{site_of, held_of}
