@@ -1,20 +1,22 @@
 -- Frames and what they keep: the last frame, those that stay, and variables that move.
-use Rattle.std.proofs.Common.{◌≡◌, ◌<◌, ◌≤◌, ◌+◌, ℕ, zero, suc, arith, Bool, true, false, not, ◌||◌, ◌&&◌, ◌-◌, true≢false, Some, None, List, [], ◌∷◌, ◌++◌, length, take, drop, get_or, if◌then◌else◌, refl, sym, ap, ◌∙◌, add-one, drop-cons}
-use Rattle.std.specs.Prelude.{◌==◌, slice_get, nat_eq}
+use Rattle.std.proofs.Common.{Option, ◌≡◌, ◌<◌, ◌≤◌, ◌+◌, ℕ, zero, suc, arith, Bool, true, false, not, ◌||◌, ◌&&◌, ◌-◌, true≢false, Some, None, List, [], ◌∷◌, ◌++◌, length, take, drop, get_or, if◌then◌else◌, refl, sym, ap, ◌∙◌, add-one, drop-cons}
+use Rattle.std.specs.Prelude.{option_map, ◌==◌, slice_get, nat_eq}
 use Rattle.std.specs.List.{list_any, flat_map}
 use Rattle.std.proofs.lemmas.Bool.{eqb-true}
 use Rattle.std.proofs.lemmas.List.{append-nil, drop_all}
 use Rattle.std.proofs.lemmas.List.Folds.{list_any-append}
 use Rattle.std.proofs.lemmas.Map.Views.{any-filter_same}
 use Rattle.std.proofs.lemmas.Option.{same_Some, none-some}
+use Rattle.sf_value.specs.declared.Outcome.{Outcome}
 use Rattle.program_meaning.specs.declared.vars.Var.{Var}
+use Rattle.block_code.specs.declared.event.EventKind.TheVariants as kind
 use Rattle.block_code.specs.declared.event.Frame.{Frame}
 use Rattle.block_code.specs.declared.block.Catch.{Catch}
 use Rattle.block_code.specs.declared.vars.VarType.{VarType}
 use Rattle.block_code.specs.PlainVars.{PlainVar, plain_vars}
 use Rattle.block_code.specs.PlainBlocks.{PlainCatch, PlainBlock, plain_catch, plain_catches}
 use Rattle.block_code.specs.EventsFit.{Awaits, catch_of, params_if_there, kept_params}
-use Rattle.block_step.specs.EventStep.{kept, behind_it, up_to, one_before, lasts}
+use Rattle.block_step.specs.EventStep.{kept, behind_it, up_to, Lasts, one_before, lasts, target_of}
 
 -- The last frame
 
@@ -83,6 +85,20 @@ none_waits (f ∷ fs) none = absurd (omega (arith, none))
 pub none_stays : (passes : Frame → Bool) (fs : List Frame) → fs ≡ [] → fs ≡ up_to passes fs
 unfolding up_to
 none_stays passes fs none = none ∙ ap (up_to passes) (sym none)
+
+-- the entity of the last frame
+pub no_entity_waits : (fs : List Frame) → length fs ≡ 0 → None ≡ option_map (λ (l : Lasts). l.last.at) (lasts fs)
+no_entity_waits fs none = ap (option_map (λ (l : Lasts). l.last.at)) (sym (none_waits fs none))
+
+pub entity_waits : (fs : List Frame) (at : ℕ) (x : Frame) → length fs ≡ suc at → Some x ≡ slice_get fs at → Some x.at ≡ option_map (λ (l : Lasts). l.last.at) (lasts fs)
+entity_waits fs at x long is = ap (option_map (λ (l : Lasts). l.last.at)) (sym (popped fs (take at fs ++ drop (at + 1) fs) at x long (sym is) refl))
+
+pub entity_is_there : (fs : List Frame) (at : ℕ) → length fs ≡ suc at → None ≡ slice_get fs at → ⊥
+entity_is_there fs at long is = let x : (x : Frame) × (slice_get fs at ≡ Some x) = last_there fs at long in none-some x.0 (is ∙ x.1)
+
+pub resumes_entity : (o : Outcome) (l : Option Lasts) → option_map (λ (l : Lasts). l.last.at) l ≡ target_of (kind.Resume o) l
+resumes_entity o None = refl
+resumes_entity o (Some l) = refl
 
 -- What is kept
 

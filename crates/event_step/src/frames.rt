@@ -1,19 +1,20 @@
 //! The frames of the methods that wait: what one keeps, the last one, and those that stay where a
 //! failure goes on.
 
-ghost use Rattle.std.specs.Prelude.{◌≡◌, ◌<◌, [], ◌∷◌, ◌++◌, Some, length, slice_get, IfOk, OnOk};
+ghost use Rattle.std.specs.Prelude.{◌≡◌, ◌<◌, [], ◌∷◌, ◌++◌, Some, length, slice_get, option_map, IfOk, OnOk};
 ghost use Rattle.block_code.specs.PlainBlocks.{plain_block, plain_blocks};
 ghost use Rattle.block_code.specs.EventsFit.{kept_params};
 ghost use Rattle.block_code.specs.GraphViews.{graph_tables, graph_blocks};
 ghost use Rattle.block_code.specs.Places.{block_at};
-ghost use Rattle.block_step.specs.EventStep.{kept, kept_at, names_it, resumed as the_resumed};
+ghost use Rattle.std.specs.Option.{option_copied};
+ghost use Rattle.block_step.specs.EventStep.{kept, kept_at, lasts, names_it, resumed as the_resumed};
 ghost use Rattle.event_step.specs.Frames.{Popped, plain_awaits, staying};
 
 use crate::blocks::{Awaits, awaited, block_of, catch_of, is_kept};
 use block_code::{Block, EventKind, Frame, Frames, Graph};
 use program_meaning::{Var, Vars};
 use sf_list::Sequence;
-use sf_value::{Failure, Outcome};
+use sf_value::{Failure, Outcome, Ref};
 use std::alloc::{AllocError, Global};
 
 /// Moves a variable behind those that are kept, or drops it.
@@ -106,6 +107,18 @@ pub(crate) fn pop_frame(frames: &mut Frames) -> Option<Frame>
         return None;
     }
     Some(frames.remove(count - 1))
+}
+
+/// The entity of the last frame.
+pub(crate) fn last_entity(frames: &Frames) -> Option<&Ref>
+    ensures { option_copied result ≡ option_map (λ l. l.last.at) (lasts frames.now) }
+{
+    let count = frames.len();
+    if count == 0 {
+        return None;
+    }
+    let frame = frames.get(count - 1)?;
+    Some(&frame.at)
 }
 
 /// Whether the block at whose end the frame at this place waits has a catch for a failure.

@@ -8,13 +8,14 @@ ghost use Rattle.program_meaning.specs.Sources.{source_of};
 ghost use Rattle.block_code.specs.GraphFits.{GraphFits};
 ghost use Rattle.block_code.specs.GraphViews.{graph_tables, graph_blocks};
 ghost use Rattle.block_code.specs.EventsFit.{EventFits};
-ghost use Rattle.block_step.specs.EventStep.{StepsTo};
+ghost use Rattle.block_step.specs.EventStep.{StepsTo, lasts, target_of};
+ghost use Rattle.std.specs.Option.{option_copied};
 ghost use Rattle.block_step.specs.StepFits.{IsReady};
 ghost use Rattle.event_step.specs.declared.method.Part.TheVariants as part;
 ghost use Rattle.event_step.specs.Steps.{CallsThere, ComesTo, Due, DueToResume, FinishFits, FinishesAs, IsDue, TargetFits, as_step, catching_in, created_in, entering_in, fields_lent, fields_of, frame_in, from_in, given_now, going_on_in, handled_failed, handled_given, handled_waiting, making_in, resuming_in, step_in, thrown_in};
 
 use crate::blocks::{awaited, catch_of};
-use crate::frames::{drop_to_catch, kept_there, pop_frame, resumed};
+use crate::frames::{drop_to_catch, kept_there, last_entity, pop_frame, resumed};
 use crate::method::{Part, Place, Running, depth_behind};
 use crate::parts::run_part;
 use block_code::{End, Event, EventKind, Frame, Frames, Graph};
@@ -653,6 +654,17 @@ fn handle_kind(
         }
         // nothing is left to do
         EventKind::Done(_) => unreachable!(),
+    }
+}
+
+/// The entity of an event, on whose record it is handled; there is none where nothing is left to do.
+pub fn target(event: &Event) -> Option<&Ref>
+    ensures { option_copied result ≡ target_of event.now.kind (lasts event.now.frames) }
+{
+    match &event.kind {
+        EventKind::Enter { to, .. } | EventKind::Make { to, .. } => Some(to),
+        EventKind::Resume(_) => last_entity(&event.frames),
+        EventKind::Done(_) => None,
     }
 }
 

@@ -14,4 +14,4 @@ mod method;
 mod parts;
 mod values;
 
-pub use handling::{Handled, handle};
+pub use handling::{Handled, handle, target};
