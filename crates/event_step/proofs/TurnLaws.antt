@@ -47,16 +47,15 @@ module _ (place : Place) (number : ℕ) (catches : List PlainCatch) where
     abbrev later : Running
     later = record { held = r.held; wrote = r.wrote; vars = r.vars; steps = after }
 
-    pub asked : (on : Value) (called : ℕ) (args : List Value) (to : Ref) → Waited None place r.steps after → key_of to ≡ key_in on
-        → TurnsAs (Ok (turn.Ends (part.Asks to args number))) later (asking_at place number catches on called args r)
-    asked on called args to waited same go p h =
-        let comes : Some (Asks (key_in on) called args number r.vars (held_of r) after) ≡ Some p =
-        sym (waited (λ f n. falling place catches go f r.vars (held_of r) n) (λ n. Some (Asks (key_in on) called args number r.vars (held_of r) n))) ∙ h in
-        (called, sym (same_Some _ _ comes) ∙ ap (λ (k : Key). Asks k called args number r.vars (held_of r) after) (sym same))
+    pub asked : (called : ℕ) (args : List Value) (to : Ref) → Waited None place r.steps after → TurnsAs (Ok (turn.Ends (part.Asks to args number))) later (asking_at place number catches (key_of to) called args r)
+    asked called args to waited go p h =
+        let comes : Some (Asks (key_of to) called args number r.vars (held_of r) after) ≡ Some p =
+        sym (waited (λ f n. falling place catches go f r.vars (held_of r) n) (λ n. Some (Asks (key_of to) called args number r.vars (held_of r) n))) ∙ h in
+        (called, sym (same_Some _ _ comes))
 
-    pub ask_fails : (on : Value) (called : ℕ) (args : List Value) (f : Failure) (t : Turn) → Waited (Some f) place r.steps after → FallsAs t catches f → TurnsAs (Ok t) later (asking_at place number catches on called args r)
-    ask_fails on called args f t waited falls go p h =
-        falls (room_of place) later go p (sym (waited (λ f n. falling place catches go f r.vars (held_of r) n) (λ n. Some (Asks (key_in on) called args number r.vars (held_of r) n))) ∙ h)
+    pub ask_fails : (to : Key) (called : ℕ) (args : List Value) (f : Failure) (t : Turn) → Waited (Some f) place r.steps after → FallsAs t catches f → TurnsAs (Ok t) later (asking_at place number catches to called args r)
+    ask_fails to called args f t waited falls go p h =
+        falls (room_of place) later go p (sym (waited (λ f n. falling place catches go f r.vars (held_of r) n) (λ n. Some (Asks to called args number r.vars (held_of r) n))) ∙ h)
 
     pub wanted : (class : ℕ) (args : List Value) → Waited None place r.steps after → TurnsAs (Ok (turn.Ends (part.Wants class args number))) later (wanting_at place number catches class args r)
     wanted class args waited go p h =
@@ -112,7 +111,7 @@ module _ (place : Place) (number : ℕ) (catches : List PlainCatch) where
         (exits_of place).calls number (key_in q.0) (method_called (source_of place.program.now) (key_in q.0).0 class method) q.1 0 0 go (falling place catches go) vars w n
 
     pub call_given : (on : PlainExpr) (class method : ℕ) (args : PlainExprs) (into to : ℕ) (v : Value) (vs : List Value) (result : Result Turn AllocError) (after : Running) → parts_at place on args before ≡ Got (v, vs) (held_of r) r.steps
-        → ((called : ℕ) → TurnsAs result after (asking_at place number catches v called vs r)) → TurnsAs result after (ending_at place number catches (ECall on class method args into to) before)
+        → ((called : ℕ) → TurnsAs result after (asking_at place number catches (key_in v) called vs r)) → TurnsAs result after (ending_at place number catches (ECall on class method args into to) before)
     unfolding run_end
     call_given on class method args into to v vs result after gives turns =
         passed (v, vs) result after (parts_at place on args before) (asking class method) gives (turns (method_called (source_of place.program.now) (key_in v).0 class method))

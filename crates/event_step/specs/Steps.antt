@@ -39,8 +39,8 @@ use Rattle.event_step.specs.Frames.{staying}
 abbrev pub fields_of : Option Record → Option (List Value)
 fields_of held = option_map (λ (r : Record). r.fields) held
 
-abbrev pub fields_lent : Option (Bor Record) → Option (List Value)
-fields_lent held = option_map (λ (r : Bor Record). r.now.fields) held
+abbrev pub lent : Option (Bor Record) → Option (List Value)
+lent held = option_map (λ (r : Bor Record). r.now.fields) held
 
 abbrev pub as_step : Handled → Step
 as_step h = record { held = fields_of h.held; wrote = h.wrote; next = h.next }

@@ -4,13 +4,13 @@ use Rattle.std.specs.declared.option.Option.{Option}
 use Rattle.std.specs.declared.result.Result.{Result}
 use Rattle.std.specs.List.{All, list_any}
 use Rattle.std.specs.declared.alloc.AllocError.{AllocError}
-use Rattle.sf_value.specs.Keys.{key_of}
+use Rattle.sf_value.specs.Keys.{Key, key_of}
 use Rattle.sf_value.specs.declared.Failure.{Failure}
 use Rattle.sf_value.specs.declared.value.Value.{Value}
 use Rattle.program_meaning.specs.World.{step, step_limit, recursion_error}
-use Rattle.program_meaning.specs.Evaluation.{key_in}
+use Rattle.py_tree.specs.PlainExpressions.{PlainExpr, PlainExprs}
 use Rattle.program_meaning.specs.Calls.{Held}
-use Rattle.block_code.specs.PlainBlocks.{PlainEnd, PlainCatch, PlainBlock}
+use Rattle.block_code.specs.PlainBlocks.{PlainEnd, ECall, EMake, PlainCatch, PlainBlock}
 use Rattle.block_code.specs.GraphFits.{takes_step, BelowRank, NextAreBelow}
 use Rattle.block_step.specs.BlockRuns.{Go, Fall, Exits, run_items, run_end, fall, behind, run_blocks}
 use Rattle.block_step.specs.EventStep.{Part as BlockPart, Gave, Failed, Asks, Wants, waiting}
@@ -37,10 +37,10 @@ falling place catches go = fall (exits_of place) catches go
 abbrev pub ending_at : Place → ℕ → List PlainCatch → PlainEnd → Running → Goings → Option BlockPart
 ending_at place number catches end r go = run_end (site_of place) (exits_of place) number go (falling place catches go) end r.vars (held_of r) r.steps
 
-abbrev pub asking_at : Place → ℕ → List PlainCatch → Value → ℕ → List Value → Running → Goings → Option BlockPart
-asking_at place number catches on called args r go =
+abbrev pub asking_at : Place → ℕ → List PlainCatch → Key → ℕ → List Value → Running → Goings → Option BlockPart
+asking_at place number catches to called args r go =
     step r.steps (falling place catches go step_limit r.vars (held_of r) r.steps) (λ n.
-    if room_of place then Some (Asks (key_in on) called args number r.vars (held_of r) n) else falling place catches go recursion_error r.vars (held_of r) n)
+    if room_of place then Some (Asks to called args number r.vars (held_of r) n) else falling place catches go recursion_error r.vars (held_of r) n)
 
 abbrev pub wanting_at : Place → ℕ → List PlainCatch → ℕ → List Value → Running → Goings → Option BlockPart
 wanting_at place number catches class args r go =
@@ -70,8 +70,18 @@ TurnsTo (turn.Ends x) go r p = ComesAs x r p
 abbrev pub TurnsAs : Result Turn AllocError → Running → (Goings → Option BlockPart) → Type 0
 TurnsAs result r meant = (go : Goings) (p : BlockPart) → meant go ≡ Some p → IfOk result (λ t. TurnsTo t go r p)
 
+-- whatever is called, and whatever goes on with its result
+abbrev pub CallsAs : Result Turn AllocError → Place → ℕ → List PlainCatch → PlainExpr → PlainExprs → Running → Running → Type 0
+CallsAs result place number catches on args before after =
+    (class method into to : ℕ) → TurnsAs result after (ending_at place number catches (ECall on class method args into to) before)
+
+abbrev pub MakesAs : Result Turn AllocError → Place → ℕ → List PlainCatch → ℕ → PlainExprs → Running → Running → Type 0
+MakesAs result place number catches class args before after =
+    (into to : ℕ) → TurnsAs result after (ending_at place number catches (EMake class args into to) before)
+
 abbrev pub FallsAs : Turn → List PlainCatch → Failure → Type 0
-FallsAs t catches f = (room : Bool) (r : Running) (go : Goings) (p : BlockPart) → fall (waiting room) catches go f r.vars (held_of r) r.steps ≡ Some p → TurnsTo t go r p
+FallsAs t catches f =
+    (room : Bool) (r : Running) (go : Goings) (p : BlockPart) → fall (waiting room) catches go f r.vars (held_of r) r.steps ≡ Some p → TurnsTo t go r p
 
 -- a call or a creation took its step and has room, or fails
 abbrev pub after_wait : Option Failure → (Failure → ℕ → Option BlockPart) → (ℕ → Option BlockPart) → ℕ → Option BlockPart

@@ -4,7 +4,7 @@ ghost use Rattle.std.specs.Prelude.{◌≡◌, ◌==◌, ◌&&◌, not, nat_eq, 
 ghost use Rattle.std.specs.List.{list_any, flat_map};
 ghost use Rattle.block_code.specs.PlainBlocks.{plain_end, plain_block, plain_blocks, plain_catches};
 ghost use Rattle.block_code.specs.EventsFit.{catch_of as the_catch_of, awaited as the_awaited, params_if_there, kept_params};
-ghost use Rattle.event_step.specs.Frames.{plain_awaits};
+ghost use Rattle.event_step.specs.Frames.{has_name, plain_awaits};
 
 use block_code::{Block, Catch, End, VarType};
 use py_tree::Name;
@@ -62,7 +62,7 @@ fn is_among(params: &[VarType], name: Name) -> bool
 
 /// Whether a name is one of the parameters of the block of this number.
 fn is_param(blocks: &[Block], number: u32, name: Name) -> bool
-    ensures { result ≡ list_any (λ p. p.name == name.0) (params_if_there (slice_get (plain_blocks blocks.now) number)) }
+    ensures { result ≡ has_name name.0 (params_if_there (slice_get (plain_blocks blocks.now) number)) }
 {
     match block_of(blocks, number) {
         Some(block) => is_among(block.params.as_slice(), name),
@@ -72,7 +72,7 @@ fn is_param(blocks: &[Block], number: u32, name: Name) -> bool
 
 /// Whether a name is one of the parameters of the blocks where these catches lead.
 fn is_caught_param(blocks: &[Block], catches: &[Catch], name: Name) -> bool
-    ensures { result ≡ list_any (λ p. p.name == name.0) (flat_map (λ c. params_if_there (slice_get (plain_blocks blocks.now) c.to)) (plain_catches catches.now)) }
+    ensures { result ≡ has_name name.0 (flat_map (λ c. params_if_there (slice_get (plain_blocks blocks.now) c.to)) (plain_catches catches.now)) }
 {
     for catch in catches {
         if is_param(blocks, catch.to, name) {
@@ -84,7 +84,7 @@ fn is_caught_param(blocks: &[Block], catches: &[Catch], name: Name) -> bool
 
 /// Whether a name is a parameter of the block that goes on, and not what the result is assigned to.
 fn is_read_after(blocks: &[Block], awaits: Awaits, name: Name) -> bool
-    ensures { result ≡ (not (name.0 == awaits.into.0) && list_any (λ p. p.name == name.0) (params_if_there (slice_get (plain_blocks blocks.now) awaits.after))) }
+    ensures { result ≡ (not (name.0 == awaits.into.0) && has_name name.0 (params_if_there (slice_get (plain_blocks blocks.now) awaits.after))) }
 {
     if name.0 == awaits.into.0 {
         return false;
@@ -94,7 +94,7 @@ fn is_read_after(blocks: &[Block], awaits: Awaits, name: Name) -> bool
 
 /// Whether a variable of this name is read once a method goes on that waits at the end of this block.
 pub(crate) fn is_kept(blocks: &[Block], block: &Block, awaits: Awaits, name: Name) -> bool
-    ensures { result ≡ list_any (λ p. p.name == name.0) (kept_params (plain_blocks blocks.now) (plain_block block.now) (plain_awaits awaits)) }
+    ensures { result ≡ has_name name.0 (kept_params (plain_blocks blocks.now) (plain_block block.now) (plain_awaits awaits)) }
 {
     if is_read_after(blocks, awaits, name) {
         return true;

@@ -1,11 +1,11 @@
 //! The end of a block, and what follows it.
 
-ghost use Rattle.std.specs.Prelude.{◌≡◌, ℕ, IfOk};
+ghost use Rattle.std.specs.Prelude.{ℕ, IfOk};
 ghost use Rattle.py_tree.specs.PlainExpressions.{plain_expr, plain_exprs, exprs_of};
 ghost use Rattle.sf_value.specs.Keys.{key_of};
 ghost use Rattle.program_meaning.specs.Evaluation.{key_in};
-ghost use Rattle.block_code.specs.PlainBlocks.{EBranch, ECall, EMake, plain_catches, plain_end, plain_block};
-ghost use Rattle.event_step.specs.Turns.{FallsAs, TurnsAs, Waited, ending_at, asking_at, wanting_at, block_at};
+ghost use Rattle.block_code.specs.PlainBlocks.{EBranch, plain_catches, plain_end, plain_block};
+ghost use Rattle.event_step.specs.Turns.{CallsAs, FallsAs, MakesAs, TurnsAs, Waited, ending_at, asking_at, wanting_at, block_at};
 
 use crate::blocks::catch_of;
 use crate::items::run_items;
@@ -79,7 +79,7 @@ fn ask_entity(
     catches: &[Catch],
     running: &mut Running,
 ) -> Result<Turn, AllocError>
-    ensures { (on : Value) (called : ℕ) → key_of to ≡ key_in on → TurnsAs result running.new (asking_at place.now number (plain_catches catches.now) on called args running.old) }
+    ensures { (called : ℕ) → TurnsAs result running.new (asking_at place.now number (plain_catches catches.now) (key_of to) called args running.old) }
 {
     match wait(place, &mut running.steps) {
         Ok(None) => Ok(Turn::Ends(Part::Asks {
@@ -109,7 +109,7 @@ fn ask(
     catches: &[Catch],
     running: &mut Running,
 ) -> Result<Turn, AllocError>
-    ensures { (called : ℕ) → TurnsAs result running.new (asking_at place.now number (plain_catches catches.now) on called args running.old) }
+    ensures { (called : ℕ) → TurnsAs result running.new (asking_at place.now number (plain_catches catches.now) (key_in on) called args running.old) }
 {
     let to = target_entity(place.alloc, &on);
     drop(on);
@@ -131,7 +131,7 @@ fn call(
     catches: &[Catch],
     running: &mut Running,
 ) -> Result<Turn, AllocError>
-    ensures { (class method into after : ℕ) → TurnsAs result running.new (ending_at place.now number (plain_catches catches.now) (ECall (plain_expr on.now) class method (exprs_of (plain_exprs args.now)) into after) running.old) }
+    ensures { CallsAs result place.now number (plain_catches catches.now) (plain_expr on.now) (exprs_of (plain_exprs args.now)) running.old running.new }
 {
     match call_parts(place, on, args, running)? {
         CallParts::Given(on, args) => ask(place, number, on, args, catches, running),
@@ -176,7 +176,7 @@ fn make(
     catches: &[Catch],
     running: &mut Running,
 ) -> Result<Turn, AllocError>
-    ensures { (into after : ℕ) → TurnsAs result running.new (ending_at place.now number (plain_catches catches.now) (EMake class (exprs_of (plain_exprs args.now)) into after) running.old) }
+    ensures { MakesAs result place.now number (plain_catches catches.now) class (exprs_of (plain_exprs args.now)) running.old running.new }
 {
     match all_values(place, args.as_slice(), running)? {
         All::Given(args) => want(place, number, class, args, catches, running),

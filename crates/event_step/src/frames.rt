@@ -5,10 +5,9 @@ ghost use Rattle.std.specs.Prelude.{◌≡◌, ◌<◌, [], ◌∷◌, ◌++◌,
 ghost use Rattle.block_code.specs.PlainBlocks.{plain_block, plain_blocks};
 ghost use Rattle.block_code.specs.EventsFit.{kept_params};
 ghost use Rattle.block_code.specs.GraphViews.{graph_tables, graph_blocks};
-ghost use Rattle.block_code.specs.Places.{block_at};
 ghost use Rattle.std.specs.Option.{option_copied};
-ghost use Rattle.block_step.specs.EventStep.{kept, kept_at, lasts, names_it, resumed as the_resumed};
-ghost use Rattle.event_step.specs.Frames.{Popped, plain_awaits, staying};
+ghost use Rattle.block_step.specs.EventStep.{kept, kept_at, lasts, resumed as the_resumed};
+ghost use Rattle.event_step.specs.Frames.{Popped, is_catching, plain_awaits, staying};
 
 use crate::blocks::{Awaits, awaited, block_of, catch_of, is_kept};
 use block_code::{Block, EventKind, Frame, Frames, Graph};
@@ -122,9 +121,9 @@ pub(crate) fn last_entity(frames: &Frames) -> Option<&Ref>
 }
 
 /// Whether the block at whose end the frame at this place waits has a catch for a failure.
-fn is_catching(graph: &Graph, frames: &Frames, at: usize, failure: &Failure) -> bool
+fn catches_at(graph: &Graph, frames: &Frames, at: usize, failure: &Failure) -> bool
     requires { at < length frames.now }
-    ensures { (f : Frame) → slice_get frames.now at ≡ Some f → result ≡ names_it (block_at (graph_tables graph.now) (graph_blocks graph.now) f.at.class f.method f.block) failure.now }
+    ensures { (f : Frame) → slice_get frames.now at ≡ Some f → result ≡ is_catching (graph_tables graph.now) (graph_blocks graph.now) failure.now f }
 {
     let Some(frame) = frames.get(at) else {
         return false;
@@ -141,7 +140,7 @@ pub(crate) fn drop_to_catch(graph: &Graph, frames: &mut Frames, failure: &Failur
 {
     'frames: while !frames.is_empty() {
         let last = frames.len() - 1;
-        if is_catching(graph, frames, last, failure) {
+        if catches_at(graph, frames, last, failure) {
             return;
         }
         drop(frames.remove(last));

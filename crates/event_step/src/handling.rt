@@ -12,7 +12,7 @@ ghost use Rattle.block_step.specs.EventStep.{StepsTo, lasts, target_of};
 ghost use Rattle.std.specs.Option.{option_copied};
 ghost use Rattle.block_step.specs.StepFits.{IsReady};
 ghost use Rattle.event_step.specs.declared.method.Part.TheVariants as part;
-ghost use Rattle.event_step.specs.Steps.{CallsThere, ComesTo, Due, DueToResume, FinishFits, FinishesAs, IsDue, TargetFits, as_step, catching_in, created_in, entering_in, fields_lent, fields_of, frame_in, from_in, given_now, going_on_in, handled_failed, handled_given, handled_waiting, making_in, resuming_in, step_in, thrown_in};
+ghost use Rattle.event_step.specs.Steps.{CallsThere, ComesTo, Due, DueToResume, FinishFits, FinishesAs, IsDue, TargetFits, as_step, catching_in, created_in, entering_in, lent, fields_of, frame_in, from_in, given_now, going_on_in, handled_failed, handled_given, handled_waiting, making_in, resuming_in, step_in, thrown_in};
 
 use crate::blocks::{awaited, catch_of};
 use crate::frames::{drop_to_catch, kept_there, last_entity, pop_frame, resumed};
@@ -579,7 +579,7 @@ fn resume(
 
 /// A copy of a record, where there is one.
 fn copied(alloc: Global, held: Option<&Record>) -> Result<Option<Record>, AllocError>
-    ensures { IfOk result (λ made. fields_of made ≡ fields_lent held.entry) }
+    ensures { IfOk result (λ made. fields_of made ≡ lent held.entry) }
 {
     match held {
         Some(held) => Ok(Some(held.try_clone(alloc)?)),
@@ -680,8 +680,8 @@ pub fn handle(
 ) -> Result<Handled, AllocError>
     requires tables { graph_tables graph.now ≡ tables_of (checked_names program.now) (checked_program program.now) }
     requires graph { GraphFits (checked_names program.now) (checked_program program.now) (graph_blocks graph.now) }
-    requires event { IsReady (graph_tables graph.now) (graph_blocks graph.now) event (fields_lent held) }
-    ensures step { IfOk result (λ h. StepsTo (source_of program.now) (graph_tables graph.now) (graph_blocks graph.now) event (fields_lent held.entry) (as_step h)) }
+    requires event { IsReady (graph_tables graph.now) (graph_blocks graph.now) event (lent held) }
+    ensures step { IfOk result (λ h. StepsTo (source_of program.now) (graph_tables graph.now) (graph_blocks graph.now) event (lent held.entry) (as_step h)) }
     ensures record { IfOk result (λ h. TargetFits (graph_tables graph.now) event (fields_of h.held)) }
     ensures next { IfOk result (λ h. EventFits (graph_tables graph.now) (graph_blocks graph.now) h.next) }
 {
