@@ -9,9 +9,9 @@ use Rattle.program_meaning.specs.Sources.{source_of}
 use Rattle.program_meaning.proofs.StepsTaken.{own_calls_take}
 use Rattle.sf_value.specs.Keys.{key_of}
 use Rattle.block_code.specs.PlainBlocks.{PlainBlock}
-use Rattle.block_step.specs.BlockRuns.{run_items, run_end, fall, behind, at_block, run_blocks}
-use Rattle.block_step.specs.EventStep.{Part as BlockPart}
-use Rattle.block_step.proofs.Ranks.{above}
+use Rattle.block_runs.specs.BlockRuns.{run_items, run_end, fall, behind, at_block, run_blocks}
+use Rattle.block_runs.specs.EventStep.{Part as BlockPart}
+use Rattle.block_runs.proofs.Ranks.{above}
 use Rattle.event_step.specs.declared.method.Place.{Place}
 use Rattle.event_step.specs.declared.method.Running.{Running}
 use Rattle.event_step.specs.declared.method.Part.{Part}

@@ -16,7 +16,7 @@ use Rattle.block_code.specs.declared.vars.VarType.{VarType}
 use Rattle.block_code.specs.PlainVars.{PlainVar, plain_vars}
 use Rattle.block_code.specs.PlainBlocks.{PlainCatch, PlainBlock, plain_catch, plain_catches}
 use Rattle.block_code.specs.EventsFit.{Awaits, catch_of, params_if_there, kept_params}
-use Rattle.block_step.specs.EventStep.{kept, behind_it, up_to, Lasts, one_before, lasts, target_of}
+use Rattle.block_runs.specs.EventStep.{kept, behind_it, up_to, Lasts, one_before, lasts, target_of}
 
 -- The last frame
 

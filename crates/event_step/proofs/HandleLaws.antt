@@ -25,12 +25,12 @@ use Rattle.block_code.specs.PlainBlocks.{PlainCatch, PlainBlock}
 use Rattle.block_code.specs.Places.{blocks_of}
 use Rattle.block_code.specs.GraphFits.{GraphFits, MethodFits, BlockFits, CatchFits, BelowRank, at_start}
 use Rattle.block_code.specs.EventsFit.{FramesFit, KindFits, EventFits}
-use Rattle.block_step.specs.EventStep.{lasts, Step, StepsTo, target_of}
-use Rattle.block_step.specs.StepFits.{HeldFits, IsReady, StepsWell}
-use Rattle.block_step.proofs.FuelLaws.{steps_are_one}
-use Rattle.block_step.proofs.Frames.{lasts_fit}
-use Rattle.block_step.proofs.NamesApart.{IsMethod, method_is}
-use Rattle.block_step.proofs.WellSteps.{events_step_well}
+use Rattle.block_runs.specs.EventStep.{lasts, Step, StepsTo, target_of}
+use Rattle.block_runs.specs.StepFits.{HeldFits, IsReady, StepsWell}
+use Rattle.block_runs.proofs.FuelLaws.{steps_are_one}
+use Rattle.block_runs.proofs.Frames.{lasts_fit}
+use Rattle.block_runs.proofs.NamesApart.{IsMethod, method_is}
+use Rattle.block_runs.proofs.WellSteps.{events_step_well}
 use Rattle.event_step.specs.declared.handling.Code.{Code}
 use Rattle.event_step.specs.Turns.{RankFalls, RanksFall}
 use Rattle.event_step.specs.Steps.{source_in, tables_in, blocks_in, step_in, ComesTo, RanksFor, IsDue, FitsAt, TargetFits}

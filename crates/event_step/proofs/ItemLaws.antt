@@ -18,7 +18,7 @@ use Rattle.program_meaning.specs.Sources.{source_of}
 use Rattle.program_meaning.specs.Calls.{Held}
 use Rattle.block_code.specs.declared.item.Item.{Item}
 use Rattle.block_code.specs.PlainBlocks.{PlainItem, IMark, ISet, IPut, IGive, IFail, ICode, plain_item, plain_items}
-use Rattle.block_step.specs.BlockRuns.{run_item, run_items}
+use Rattle.block_runs.specs.BlockRuns.{run_item, run_items}
 use Rattle.source_meaning.specs.declared.here.Ended.{Ended}
 use Rattle.source_meaning.specs.declared.here.Ended.TheVariants as ended
 use Rattle.source_meaning.specs.HereAnswers.{EndsHere}

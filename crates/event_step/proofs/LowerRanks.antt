@@ -16,11 +16,11 @@ use Rattle.program_meaning.proofs.TableFacts.{all_at}
 use Rattle.block_code.specs.PlainBlocks.{PlainEnd, EJump, EBranch, ELeave, ECall, EMake, PlainCatch, PlainBlock}
 use Rattle.block_code.specs.GraphFits.{takes_step, BelowRank, NextAreBelow}
 use Rattle.block_code.specs.EventsFit.{catch_of}
-use Rattle.block_step.specs.BlockRuns.{Go, Fall, Exits, given_then, parts_of_call, run_items, run_end, fall_at, fall, behind, at_block, run_blocks}
-use Rattle.block_step.specs.EventStep.{Part, waiting}
-use Rattle.block_step.proofs.Steps.{Went, all_takes, items_take, parts_take, items_went}
-use Rattle.block_step.proofs.Ranks.{above, rank_below, lower, lower_rank}
-use Rattle.block_step.proofs.Parts.{catch_found}
+use Rattle.block_runs.specs.BlockRuns.{Go, Fall, Exits, given_then, parts_of_call, run_items, run_end, fall_at, fall, behind, at_block, run_blocks}
+use Rattle.block_runs.specs.EventStep.{Part, waiting}
+use Rattle.block_runs.proofs.Steps.{Went, all_takes, items_take, parts_take, items_went}
+use Rattle.block_runs.proofs.Ranks.{above, rank_below, lower, lower_rank}
+use Rattle.block_runs.proofs.Parts.{catch_found}
 use Rattle.event_step.specs.Turns.{RankFalls, RanksFall}
 
 abbrev pub rank_of : Option PlainBlock → ℕ

@@ -21,9 +21,9 @@ use Rattle.block_code.specs.declared.event.EventKind.TheVariants as kind
 use Rattle.block_code.specs.Places.{blocks_of, block_at}
 use Rattle.block_code.specs.PlainBlocks.{PlainBlock}
 use Rattle.block_code.specs.EventsFit.{Awaits, awaited, catch_of, CallsIt, WaitsSo, EventFits}
-use Rattle.block_step.specs.BlockRuns.{run_blocks}
-use Rattle.block_step.specs.EventStep.{Part as BlockPart, Asks, lasts, Step, waiting, has_room, finished, site, go_on, awaited_by, catch, caught_by, resume}
-use Rattle.block_step.proofs.Frames.{last_holds}
+use Rattle.block_runs.specs.BlockRuns.{run_blocks}
+use Rattle.block_runs.specs.EventStep.{Part as BlockPart, Asks, lasts, Step, waiting, has_room, finished, site, go_on, awaited_by, catch, caught_by, resume}
+use Rattle.block_runs.proofs.Frames.{last_holds}
 use Rattle.event_step.specs.declared.method.Place.{Place}
 use Rattle.event_step.specs.declared.method.Running.{Running}
 use Rattle.event_step.specs.declared.method.Part.{Part}

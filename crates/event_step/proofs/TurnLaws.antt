@@ -17,8 +17,8 @@ use Rattle.program_meaning.specs.Sources.{source_of}
 use Rattle.program_meaning.specs.Calls.{Held}
 use Rattle.block_code.specs.PlainBlocks.{EJump, EBranch, ELeave, ECall, EMake, PlainCatch, PlainBlock}
 use Rattle.block_code.specs.EventsFit.{catch_of}
-use Rattle.block_step.specs.BlockRuns.{Go, given_then, method_called, run_end, fall_at, behind}
-use Rattle.block_step.specs.EventStep.{Part as BlockPart, Asks, Wants, waiting}
+use Rattle.block_runs.specs.BlockRuns.{Go, given_then, method_called, run_end, fall_at, behind}
+use Rattle.block_runs.specs.EventStep.{Part as BlockPart, Asks, Wants, waiting}
 use Rattle.source_meaning.specs.declared.here.Ended.TheVariants as ended
 use Rattle.event_step.specs.declared.method.Place.{Place}
 use Rattle.event_step.specs.declared.method.Running.{Running}

@@ -9,7 +9,7 @@ use Rattle.block_code.specs.PlainVars.{PlainVar}
 use Rattle.block_code.specs.PlainBlocks.{PlainBlock}
 use Rattle.block_code.specs.Places.{block_at}
 use Rattle.block_code.specs.EventsFit.{Awaits as PlainAwaits}
-use Rattle.block_step.specs.EventStep.{names_it, up_to, lasts}
+use Rattle.block_runs.specs.EventStep.{names_it, up_to, lasts}
 use Rattle.event_step.specs.declared.blocks.Awaits.{Awaits}
 
 -- a name is one of those of parameters

@@ -4,7 +4,7 @@ use Rattle.program_meaning.specs.declared.vars.Var.{Var}
 use Rattle.program_meaning.specs.World.{Ends, Goes, Returns, Breaks, Continues, Fails}
 use Rattle.program_meaning.specs.Calls.{Held}
 use Rattle.block_code.specs.PlainBlocks.{PlainItem}
-use Rattle.block_step.specs.BlockRuns.{run_item, run_items}
+use Rattle.block_runs.specs.BlockRuns.{run_item, run_items}
 use Rattle.source_meaning.specs.declared.here.Ended.{Ended}
 use Rattle.source_meaning.specs.HereAnswers.{EndsHere}
 use Rattle.event_step.specs.declared.method.Place.{Place}

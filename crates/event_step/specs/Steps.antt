@@ -24,8 +24,8 @@ use Rattle.block_code.specs.GraphViews.{graph_tables, graph_blocks}
 use Rattle.block_code.specs.PlainBlocks.{PlainBlock}
 use Rattle.block_code.specs.Places.{blocks_of, block_at}
 use Rattle.block_code.specs.EventsFit.{CallsIt, EventFits}
-use Rattle.block_step.specs.EventStep.{Part as BlockPart, Lasts, lasts, event, resumed, Step, target_of, block_of, frame, finish, from, created, enter, make, go_on, awaited_by, catch, caught_by, resume, step_of}
-use Rattle.block_step.specs.StepFits.{HeldFits}
+use Rattle.block_runs.specs.EventStep.{Part as BlockPart, Lasts, lasts, event, resumed, Step, target_of, block_of, frame, finish, from, created, enter, make, go_on, awaited_by, catch, caught_by, resume, step_of}
+use Rattle.block_runs.specs.StepFits.{HeldFits}
 use Rattle.event_step.specs.declared.method.Running.{Running}
 use Rattle.event_step.specs.declared.method.Part.{Part}
 use Rattle.event_step.specs.declared.handling.Handled.{Handled}

@@ -12,8 +12,8 @@ use Rattle.py_tree.specs.PlainExpressions.{PlainExpr, PlainExprs}
 use Rattle.program_meaning.specs.Calls.{Held}
 use Rattle.block_code.specs.PlainBlocks.{PlainEnd, ECall, EMake, PlainCatch, PlainBlock}
 use Rattle.block_code.specs.GraphFits.{takes_step, BelowRank, NextAreBelow}
-use Rattle.block_step.specs.BlockRuns.{Go, Fall, Exits, run_items, run_end, fall, behind, run_blocks}
-use Rattle.block_step.specs.EventStep.{Part as BlockPart, Gave, Failed, Asks, Wants, waiting}
+use Rattle.block_runs.specs.BlockRuns.{Go, Fall, Exits, run_items, run_end, fall, behind, run_blocks}
+use Rattle.block_runs.specs.EventStep.{Part as BlockPart, Gave, Failed, Asks, Wants, waiting}
 use Rattle.event_step.specs.declared.method.Place.{Place}
 use Rattle.event_step.specs.declared.method.Running.{Running}
 use Rattle.event_step.specs.declared.method.Part.{Part}

@@ -7,7 +7,7 @@ use Rattle.program_meaning.specs.World.{Gives, Got, Fell}
 use Rattle.program_meaning.specs.Evaluation.{eval, eval_all}
 use Rattle.program_meaning.specs.Calls.{Held}
 use Rattle.program_meaning.specs.Here.{GivesHere}
-use Rattle.block_step.specs.BlockRuns.{parts_of_call}
+use Rattle.block_runs.specs.BlockRuns.{parts_of_call}
 use Rattle.event_step.specs.declared.method.Place.{Place}
 use Rattle.event_step.specs.declared.method.Running.{Running}
 use Rattle.event_step.specs.declared.values.All.{All}

@@ -6,7 +6,7 @@ ghost use Rattle.block_code.specs.PlainBlocks.{plain_block, plain_blocks};
 ghost use Rattle.block_code.specs.EventsFit.{kept_params};
 ghost use Rattle.block_code.specs.GraphViews.{graph_tables, graph_blocks};
 ghost use Rattle.std.specs.Option.{option_copied};
-ghost use Rattle.block_step.specs.EventStep.{kept, kept_at, lasts, resumed as the_resumed};
+ghost use Rattle.block_runs.specs.EventStep.{kept, kept_at, lasts, resumed as the_resumed};
 ghost use Rattle.event_step.specs.Frames.{Popped, is_catching, plain_awaits, staying};
 
 use crate::blocks::{Awaits, awaited, block_of, catch_of, is_kept};

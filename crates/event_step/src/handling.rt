@@ -8,9 +8,9 @@ ghost use Rattle.program_meaning.specs.Sources.{source_of};
 ghost use Rattle.block_code.specs.GraphFits.{GraphFits};
 ghost use Rattle.block_code.specs.GraphViews.{graph_tables, graph_blocks};
 ghost use Rattle.block_code.specs.EventsFit.{EventFits};
-ghost use Rattle.block_step.specs.EventStep.{StepsTo, lasts, target_of};
+ghost use Rattle.block_runs.specs.EventStep.{StepsTo, lasts, target_of};
 ghost use Rattle.std.specs.Option.{option_copied};
-ghost use Rattle.block_step.specs.StepFits.{IsReady};
+ghost use Rattle.block_runs.specs.StepFits.{IsReady};
 ghost use Rattle.event_step.specs.declared.method.Part.TheVariants as part;
 ghost use Rattle.event_step.specs.Steps.{CallsThere, ComesTo, Due, DueToResume, FinishFits, FinishesAs, IsDue, TargetFits, as_step, catching_in, created_in, entering_in, lent, fields_of, frame_in, from_in, given_now, going_on_in, handled_failed, handled_given, handled_waiting, making_in, resuming_in, step_in, thrown_in};
 

@@ -2,7 +2,7 @@
 
 ghost use Rattle.std.specs.Prelude.{IfOk};
 ghost use Rattle.block_code.specs.PlainBlocks.{plain_blocks};
-ghost use Rattle.block_step.specs.EventStep.{Part as BlockPart};
+ghost use Rattle.block_runs.specs.EventStep.{Part as BlockPart};
 ghost use Rattle.event_step.specs.Turns.{ComesAs, CanRun, Runs, RanksFall};
 
 use crate::blocks::block_of;

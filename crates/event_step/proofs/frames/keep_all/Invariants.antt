@@ -1,7 +1,7 @@
 use Rattle.std.proofs.Common.{◌≡◌, ◌++◌, length}
 use Rattle.block_code.specs.PlainBlocks.{plain_block, plain_blocks}
 use Rattle.block_code.specs.EventsFit.{kept_params}
-use Rattle.block_step.specs.EventStep.{kept}
+use Rattle.block_runs.specs.EventStep.{kept}
 use Rattle.event_step.specs.Frames.{plain_awaits}
 use Rattle.event_step.proofs.frames.keep_all.Given as goal
 

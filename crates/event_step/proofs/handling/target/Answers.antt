@@ -1,5 +1,5 @@
 use Rattle.std.proofs.Common.{ap, sym, ◌∙◌}
-use Rattle.block_step.specs.EventStep.{lasts, target_of}
+use Rattle.block_runs.specs.EventStep.{lasts, target_of}
 use Rattle.event_step.proofs.FrameLaws.{resumes_entity}
 use Rattle.event_step.proofs.handling.target.Goals as goal
 

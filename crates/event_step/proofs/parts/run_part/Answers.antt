@@ -1,6 +1,6 @@
 use Rattle.std.proofs.Common.{◌<◌, Ok, sym, subst}
 use Rattle.block_code.specs.PlainBlocks.{plain_block, plain_blocks}
-use Rattle.block_step.specs.EventStep.{Part as BlockPart}
+use Rattle.block_runs.specs.EventStep.{Part as BlockPart}
 use Rattle.event_step.specs.Turns.{Runs, TurnsAs, block_at}
 use Rattle.event_step.proofs.LowerRanks.{left}
 use Rattle.event_step.proofs.BlockLaws.{goes_on, ends_there, is_there}

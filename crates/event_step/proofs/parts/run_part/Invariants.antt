@@ -1,5 +1,5 @@
 use Rattle.block_code.specs.PlainBlocks.{plain_blocks}
-use Rattle.block_step.specs.EventStep.{Part as BlockPart}
+use Rattle.block_runs.specs.EventStep.{Part as BlockPart}
 use Rattle.event_step.specs.Turns.{CanRun, Runs}
 use Rattle.event_step.proofs.LowerRanks.{left}
 use Rattle.event_step.proofs.parts.run_part.Given as goal
