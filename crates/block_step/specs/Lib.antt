@@ -1,0 +1,2 @@
+pub mod Compilation
+pub mod CompiledViews
