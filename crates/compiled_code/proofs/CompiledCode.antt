@@ -1,10 +1,10 @@
 -- The compiled graph of an accepted program fits it and means it.
 use Rattle.std.proofs.Common.{Some, length}
 use Rattle.call_graph.specs.SuspendingCode.{leaving}
-use Rattle.entity_compiler.specs.CompiledGraph.{context_of, start_locals}
-use Rattle.entity_compiler.proofs.CompiledMeaning.{graph_fits, graph_means}
+use Rattle.compiled_graph.specs.CompiledGraph.{context_of, start_locals}
+use Rattle.compiled_graph.proofs.CompiledMeaning.{graph_fits, graph_means}
 use Rattle.hoisted_callees.proofs.CalleesStand.{callees_stand}
-use Rattle.hoisted_points.proofs.LeadingStatements.{no_part_is_dead}
+use Rattle.reached_code.proofs.LeadingStatements.{no_part_is_dead}
 use Rattle.typed_methods.proofs.MethodsKeep.{methods_have_types}
 use Rattle.compiled_code.specs.CompiledCode.{AcceptedCodeKeepsRules, AcceptedGraphFits, AcceptedGraphMeans}
 

@@ -5,8 +5,8 @@ use Rattle.call_graph.specs.Marks.{IsGraph}
 use Rattle.program_meaning.specs.NothingGoesWrong.{IsKnownAccepted}
 use Rattle.block_code.specs.GraphFits.{GraphFits}
 use Rattle.request_events.specs.GraphMeans.{GraphMeans}
-use Rattle.entity_compiler.specs.CompiledGraph.{compiled}
-use Rattle.entity_compiler.specs.CodeKeepsRules.{CodeKeepsRules}
+use Rattle.compiled_graph.specs.CompiledGraph.{compiled}
+use Rattle.compiled_graph.specs.CodeKeepsRules.{CodeKeepsRules}
 
 -- whichever calls the marks say suspend
 abbrev pub AcceptedCodeKeepsRules : Type 0

@@ -23,18 +23,18 @@ use Rattle.block_code.specs.GraphFits.{MethodFits}
 use Rattle.block_runs.specs.BlockRuns.{ComesTo}
 use Rattle.flat_tree.specs.PlainFlat.{PlainFlat, flat_stmts_of}
 use Rattle.flat_tree.specs.FlatMeaning.{run_flat}
-use Rattle.method_hoister.proofs.Methods.{flat_methods_mean}
-use Rattle.method_hoister.proofs.Flatness.{flat_by_marks}
+use Rattle.hoisting.proofs.Methods.{flat_methods_mean}
+use Rattle.hoisting.proofs.Flatness.{flat_by_marks}
 use Rattle.method_splitter.specs.Split.{block, leave, outermost, split_all}
 use Rattle.method_splitter.proofs.BlocksMean.{blocks_mean_flat}
 use Rattle.flat_types.proofs.BlocksFit.{blocks_fit}
 use Rattle.quiet_methods.specs.MarksKeepWithin.{source}
 use Rattle.request_events.proofs.Requests.{events_mean_their_source}
-use Rattle.entity_compiler.specs.CompiledGraph.{found_locals, context_of, start_locals, flat_method, method_blocks}
-use Rattle.entity_compiler.specs.CodeKeepsRules.{NamesItsCallees, HasTypes}
-use Rattle.entity_compiler.specs.CompiledMeaning.{CompiledMethodsMean, CompiledFits, CompiledMeans}
-use Rattle.entity_compiler.proofs.NamesAreBelow.{body_below}
-use Rattle.entity_compiler.proofs.Places.{ClassOf, class_of_method, sig_stands, blocks_stand}
+use Rattle.compiled_graph.specs.CompiledGraph.{found_locals, context_of, start_locals, flat_method, method_blocks}
+use Rattle.compiled_graph.specs.CodeKeepsRules.{NamesItsCallees, HasTypes}
+use Rattle.compiled_graph.specs.CompiledMeaning.{CompiledMethodsMean, CompiledFits, CompiledMeans}
+use Rattle.compiled_graph.proofs.NamesAreBelow.{body_below}
+use Rattle.compiled_graph.proofs.Places.{ClassOf, class_of_method, sig_stands, blocks_stand}
 
 -- what was found is what is found
 found_again : (r : Result (List PlainLocal) RuleFault) (locals : List PlainLocal) → r ≡ Ok locals → r ≡ Ok (found_locals r)

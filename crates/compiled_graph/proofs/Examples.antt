@@ -22,16 +22,16 @@ use Rattle.call_graph.specs.SuspendingCode.{expr_suspends, stmt_suspends}
 use Rattle.block_code.specs.PlainVars.{PlainVar}
 use Rattle.block_code.specs.PlainBlocks.{IMark, IGive, ICode, PlainItem, PlainEnd, ELeave, ECall, PlainBlock}
 use Rattle.flat_tree.specs.Flatness.{jumps}
-use Rattle.method_hoister.specs.HoistExpressions.{taken}
-use Rattle.method_hoister.specs.HoistStatements.{opened}
+use Rattle.hoisting.specs.HoistExpressions.{taken}
+use Rattle.hoisting.specs.HoistStatements.{opened}
 use Rattle.method_splitter.specs.Split.{split}
 use Rattle.method_splitter.specs.Callees.{Each}
 use Rattle.method_splitter.specs.Points.{PointsPass}
 use Rattle.flat_types.specs.FlatTypes.{stmt_fits}
 use Rattle.flat_types.specs.DeadCode.{HasNoDead}
 use Rattle.block_code.specs.GraphFits.{at_start}
-use Rattle.entity_compiler.specs.CodeKeepsRules.{OfEachMethod, NamesItsCallees, HasTypes, CodeKeepsRules}
-use Rattle.entity_compiler.specs.CompiledGraph.{methods_compiled, classes_compiled, compiled}
+use Rattle.compiled_graph.specs.CodeKeepsRules.{OfEachMethod, NamesItsCallees, HasTypes, CodeKeepsRules}
+use Rattle.compiled_graph.specs.CompiledGraph.{methods_compiled, classes_compiled, compiled}
 
 abbrev at : Place
 at = record { line = 1; col = 1 }

@@ -11,8 +11,8 @@ use Rattle.block_code.specs.PlainBlocks.{PlainBlock}
 use Rattle.block_code.specs.Places.{firsts_from}
 use Rattle.block_code.specs.GraphFits.{method_count}
 use Rattle.block_code.proofs.GraphLaws.{found_or}
-use Rattle.entity_compiler.specs.CompiledGraph.{method_blocks, methods_compiled, classes_compiled, compiled}
-use Rattle.entity_compiler.specs.CompiledMeaning.{HasItsBlocks, CompiledBlocksStand}
+use Rattle.compiled_graph.specs.CompiledGraph.{method_blocks, methods_compiled, classes_compiled, compiled}
+use Rattle.compiled_graph.specs.CompiledMeaning.{HasItsBlocks, CompiledBlocksStand}
 
 -- what stands in the first of two lists, and in the second
 in_first : {A : Type 0} (xs ys : List A) (j : ℕ) (x : A) → slice_get xs j ≡ Some x → slice_get (xs ++ ys) j ≡ Some x

@@ -11,7 +11,7 @@ use Rattle.flat_tree.specs.PlainFlat.{flat_stmts_of}
 use Rattle.method_splitter.specs.Callees.{CalleesAreNamed}
 use Rattle.flat_types.specs.SplitFits.{FlatFits}
 use Rattle.quiet_methods.specs.MarksKeepWithin.{source}
-use Rattle.entity_compiler.specs.CompiledGraph.{context_of, start_locals, flat_method}
+use Rattle.compiled_graph.specs.CompiledGraph.{context_of, start_locals, flat_method}
 
 module _ (names : List (List ℕ)) (program : PlainProgram) where
   -- so it is for each method, by the number of its class and its own

@@ -12,7 +12,7 @@ use Rattle.call_graph.specs.SuspendingCode.{leaving}
 use Rattle.block_code.specs.PlainBlocks.{PlainBlock}
 use Rattle.block_code.specs.GraphFits.{var_of_param}
 use Rattle.flat_tree.specs.PlainFlat.{PlainFlat}
-use Rattle.method_hoister.specs.HoistMethods.{flat_body}
+use Rattle.hoisting.specs.HoistMethods.{flat_body}
 use Rattle.method_splitter.specs.Split.{split_blocks}
 
 -- locals that were found; a method that breaks a rule has none

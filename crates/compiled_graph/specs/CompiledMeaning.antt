@@ -7,8 +7,8 @@ use Rattle.program_meaning.specs.NothingGoesWrong.{IsKnownAccepted}
 use Rattle.block_code.specs.Places.{blocks_of}
 use Rattle.block_code.specs.GraphFits.{method_count, GraphFits}
 use Rattle.request_events.specs.GraphMeans.{MethodsMean, GraphMeans}
-use Rattle.entity_compiler.specs.CompiledGraph.{method_blocks, compiled}
-use Rattle.entity_compiler.specs.CodeKeepsRules.{OfEachMethod, NamesItsCallees, CodeKeepsRules}
+use Rattle.compiled_graph.specs.CompiledGraph.{method_blocks, compiled}
+use Rattle.compiled_graph.specs.CodeKeepsRules.{OfEachMethod, NamesItsCallees, CodeKeepsRules}
 
 module _ (names : List (List ℕ)) (program : PlainProgram) (marks : List (List Bool)) where
   -- where a graph has the blocks of a method, the compiled one has those of its flat method

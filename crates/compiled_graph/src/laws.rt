@@ -1,6 +1,6 @@
 //! What the compiled graph is, and what it means.
 
-ghost use Rattle.entity_compiler.specs.CompiledMeaning.{CompiledBlocksStand, CompiledFits, CompiledMeans, CompiledMethodsMean};
+ghost use Rattle.compiled_graph.specs.CompiledMeaning.{CompiledBlocksStand, CompiledFits, CompiledMeans, CompiledMethodsMean};
 
 /// The compiled graph has the blocks of as many methods as the class tables tell, and those of each flat method stand where a
 /// graph has them.

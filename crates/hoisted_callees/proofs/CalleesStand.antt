@@ -32,8 +32,8 @@ use Rattle.flat_tree.specs.declared.tree.Callee.{Callee}
 use Rattle.flat_tree.specs.declared.tree.Created.{Created}
 use Rattle.flat_tree.specs.PlainFlat.{flat_stmts_of}
 use Rattle.method_splitter.specs.Callees.{EachInAll, CalleeIsNamed, CreatedIsNamed, CalleeIsThere, CreatedIsThere}
-use Rattle.method_hoister.specs.Spots.{Spot, class_place, method_place, callee_of, created_of}
-use Rattle.method_hoister.specs.HoistMethods.{flat_body}
+use Rattle.hoisting.specs.Spots.{Spot, class_place, method_place, callee_of, created_of}
+use Rattle.hoisting.specs.HoistMethods.{flat_body}
 use Rattle.typed_hoisting.specs.KnownLocals.{seen}
 use Rattle.typed_hoisting.proofs.LocalLaws.{kept_same}
 use Rattle.typed_methods.proofs.KnownWays.{known_before}

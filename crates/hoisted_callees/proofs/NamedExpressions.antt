@@ -20,8 +20,8 @@ use Rattle.flat_tree.specs.declared.tree.Callee.{Callee}
 use Rattle.flat_tree.specs.declared.tree.Created.{Created}
 use Rattle.flat_tree.specs.PlainFlat.{FCall, FMake, PlainFlatTest, FAnd, FOr}
 use Rattle.method_splitter.specs.Callees.{Each, EachInOperands}
-use Rattle.method_hoister.specs.Spots.{Spot, surely, with_temporary, where_shown, ty_at, found_ty, callee_of, created_of, method_params}
-use Rattle.method_hoister.specs.HoistExpressions.{Hoisted, Tested, if_suspends, in_turn, kept, settled_unless, lasts, made_of, with_args, call_of, apply_of, by_params, by_function, by_elements, first_wanted, others_wanted, chain_of, ChainPart, so_far, linked_on, begun_anew, either, chosen, taken, taken_each, taken_links, taken_operands, forms}
+use Rattle.hoisting.specs.Spots.{Spot, surely, with_temporary, where_shown, ty_at, found_ty, callee_of, created_of, method_params}
+use Rattle.hoisting.specs.HoistExpressions.{Hoisted, Tested, if_suspends, in_turn, kept, settled_unless, lasts, made_of, with_args, call_of, apply_of, by_params, by_function, by_elements, first_wanted, others_wanted, chain_of, ChainPart, so_far, linked_on, begun_anew, either, chosen, taken, taken_each, taken_links, taken_operands, forms}
 use Rattle.typed_hoisting.proofs.TypedLists.{TypedEach, from_arguments, from_each, from_elements}
 use Rattle.typed_hoisting.proofs.TypedKinds.{not_parts, condition_parts, and_parts, or_parts_of, link_parts}
 use Rattle.typed_hoisting.proofs.OthersKeep.{run_of}

@@ -15,8 +15,8 @@ use Rattle.flat_tree.specs.declared.tree.Callee.{Callee}
 use Rattle.flat_tree.specs.declared.tree.Created.{Created}
 use Rattle.flat_tree.specs.PlainFlat.{PlainFlatStmt, FSet, PlainFlatTest, flat_stmts_of}
 use Rattle.method_splitter.specs.Callees.{Each, EachInAll, EachInTest}
-use Rattle.method_hoister.specs.Spots.{Spot, temporary, with_temporary, where_shown}
-use Rattle.method_hoister.specs.HoistExpressions.{Hoisted, Tested, Forms, still, if_suspends, built, in_turn, taken_into, settled, settled_unless, kept, leaf, by_value, forms_if, chosen, truth_of}
+use Rattle.hoisting.specs.Spots.{Spot, temporary, with_temporary, where_shown}
+use Rattle.hoisting.specs.HoistExpressions.{Hoisted, Tested, Forms, still, if_suspends, built, in_turn, taken_into, settled, settled_unless, kept, leaf, by_value, forms_if, chosen, truth_of}
 use Rattle.typed_hoisting.specs.KnownLocals.{seen_of, seen, Kept}
 use Rattle.typed_hoisting.proofs.LocalLaws.{kept_same, or_else, one_more}
 use Rattle.typed_hoisting.proofs.EnvironmentLaws.{kept_at}

@@ -28,9 +28,9 @@ use Rattle.flat_tree.specs.declared.tree.Callee.{Callee}
 use Rattle.flat_tree.specs.declared.tree.Created.{Created}
 use Rattle.flat_tree.specs.PlainFlat.{PlainFlatStmt, FMark, FGive, FFail, flat_stmts_of}
 use Rattle.method_splitter.specs.Callees.{Each, EachInAll, EachInArms, EachInTest}
-use Rattle.method_hoister.specs.Spots.{Spot, where_shown, ty_at, found_ty, with_temporary, item_ty, locals_of, locals_behind}
-use Rattle.method_hoister.specs.HoistExpressions.{Hoisted, still, built, settled, lasts, forms}
-use Rattle.method_hoister.specs.HoistStatements.{Flattened, stays, code_if, followed, stored, read_of, target_ty, marked, value_or_nil, body_spot, optional, combination, range_start, range_end, opened, flat_all, flat_arms, other_spot}
+use Rattle.hoisting.specs.Spots.{Spot, where_shown, ty_at, found_ty, with_temporary, item_ty, locals_of, locals_behind}
+use Rattle.hoisting.specs.HoistExpressions.{Hoisted, still, built, settled, lasts, forms}
+use Rattle.hoisting.specs.HoistStatements.{Flattened, stays, code_if, followed, stored, read_of, target_ty, marked, value_or_nil, body_spot, optional, combination, range_start, range_end, opened, flat_all, flat_arms, other_spot}
 use Rattle.typed_hoisting.specs.KnownLocals.{seen}
 use Rattle.typed_hoisting.proofs.LocalLaws.{kept_on}
 use Rattle.typed_methods.proofs.KeptParts.{in_loop_if}

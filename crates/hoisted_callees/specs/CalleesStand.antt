@@ -10,7 +10,7 @@ use Rattle.call_graph.specs.SuspendingCode.{leaving}
 use Rattle.program_meaning.specs.ClassTables.{Source}
 use Rattle.program_meaning.specs.NothingGoesWrong.{IsKnownAccepted}
 use Rattle.flat_tree.specs.PlainFlat.{PlainFlatStmt, flat_stmts_of}
-use Rattle.method_hoister.specs.HoistMethods.{flat_body}
+use Rattle.hoisting.specs.HoistMethods.{flat_body}
 use Rattle.method_splitter.specs.Callees.{CalleesAreNamed, CalleesAreThere}
 
 -- locals that were found; a method that breaks a rule has none

@@ -19,8 +19,8 @@ use Rattle.flat_tree.specs.PlainFlat.{FMark, FSet, FPut, FGive, FCode, FBreak, F
 use Rattle.flat_tree.specs.Flatness.{jumps}
 use Rattle.flat_tree.specs.declared.tree.Callee.{Callee}
 use Rattle.block_code.specs.PlainVars.{PlainVar}
-use Rattle.method_hoister.specs.HoistExpressions.{taken}
-use Rattle.method_hoister.specs.HoistStatements.{opened, flat_all}
+use Rattle.hoisting.specs.HoistExpressions.{taken}
+use Rattle.hoisting.specs.HoistStatements.{opened, flat_all}
 
 abbrev at : Place
 at = record { line = 1; col = 1 }

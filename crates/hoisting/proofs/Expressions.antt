@@ -25,10 +25,10 @@ use Rattle.flat_tree.specs.FlatMeaning.{run_stmt, decide, decide_each, run}
 use Rattle.flat_tree.proofs.NamesBelow.{AgreeBelow, agree_with_itself, agree_on, agree_back, agree_within}
 use Rattle.flat_tree.proofs.SameNames.{eval_same, eval_all_same, follows_same}
 use Rattle.flat_tree.proofs.InTurn.{gives_itself, run_in_turn, Leads, leads, falls, Holds, holds, Decides, leads_through, leads_behind, holds_then, leaf_decides, not_decides, no_operand_decides, operand_decides, and_decides, or_decides}
-use Rattle.method_hoister.specs.Spots.{Spot, surely, where_shown, ty_at, method_params}
-use Rattle.method_hoister.specs.HoistExpressions.{Hoisted, Tested, Forms, still, if_suspends, in_turn, settled_unless, kept, lasts, by_value, forms_if, made_of, truth_of, with_args, by_params, by_function, by_elements, first_wanted, others_wanted, ChainPart, chain_of, so_far, linked_on, begun_anew, either, taken, taken_each, taken_links, taken_operands, forms}
-use Rattle.method_hoister.proofs.Temporaries.{le_on, if_rises, turn_rises, settled_rises, each_rises, operands_rise, forms_rise, still_up}
-use Rattle.method_hoister.proofs.PartsMean.{nothing_before, no_form_before, Means, MeansBy, means_there, means_at_once, settled_means, turn_leads, call_means, apply_means, chosen_means, truth_again, chain_behind, link_then_more, ChainMeans, either_means}
+use Rattle.hoisting.specs.Spots.{Spot, surely, where_shown, ty_at, method_params}
+use Rattle.hoisting.specs.HoistExpressions.{Hoisted, Tested, Forms, still, if_suspends, in_turn, settled_unless, kept, lasts, by_value, forms_if, made_of, truth_of, with_args, by_params, by_function, by_elements, first_wanted, others_wanted, ChainPart, chain_of, so_far, linked_on, begun_anew, either, taken, taken_each, taken_links, taken_operands, forms}
+use Rattle.hoisting.proofs.Temporaries.{le_on, if_rises, turn_rises, settled_rises, each_rises, operands_rise, forms_rise, still_up}
+use Rattle.hoisting.proofs.PartsMean.{nothing_before, no_form_before, Means, MeansBy, means_there, means_at_once, settled_means, turn_leads, call_means, apply_means, chosen_means, truth_again, chain_behind, link_then_more, ChainMeans, either_means}
 
 module _ {W : Type 0} (s : Site W) (leaves : Leaving) (c : Context) (calls : CallsGiveLight s.calls) (own_light : IsLight (entity s.me)) (limit : ℕ) (vs : List Var) where
   pub given_light : (e : PlainExpr) (w : W) (n : ℕ) → GivesLight (eval s e vs w n)

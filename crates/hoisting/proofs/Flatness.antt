@@ -19,10 +19,10 @@ use Rattle.py_tree.specs.Acceptance.{method_named}
 use Rattle.call_graph.specs.SuspendingCode.{Leaving, leaving, method_leaves, expr_suspends, exprs_suspend, links_suspend, stmt_suspends}
 use Rattle.flat_tree.specs.PlainFlat.{Point, PlainFlatStmt, FMark, FSet, FGive, FFail, FCode, FBreak, FContinue, FCall, FMake, PlainFlatTest, FAnd, FOr, flat_stmts_of}
 use Rattle.flat_tree.specs.Flatness.{jumps, IsFlat, AreFlat, AreFlatArms, IsFlatTest, AreFlatOperands}
-use Rattle.method_hoister.specs.Spots.{Spot, surely, with_temporary, where_shown, ty_at, item_ty, callee_of, created_of, method_params, locals_behind, point_behind}
-use Rattle.method_hoister.specs.HoistExpressions.{Hoisted, Tested, Forms, still, if_suspends, built, in_turn, settled, settled_unless, kept, lasts, by_value, forms_if, made_of, chosen, with_args, call_of, apply_of, by_params, by_function, by_elements, first_wanted, others_wanted, chain, ChainPart, chain_of, so_far, linked_on, begun_anew, either, taken, taken_each, taken_links, taken_operands, forms}
-use Rattle.method_hoister.specs.HoistStatements.{Flattened, stays, code_if, followed, stored, read_of, target_ty, value_or_nil, start_or_zero, list_spot, head_locals, body_spot, list_loop, range_loop, optional, combination, range_start, range_end, for_code, opened, flat_all, flat_arms, other_spot, flat}
-use Rattle.method_hoister.specs.HoistMethods.{FlatMethodsAreFlat, FlatByMarks}
+use Rattle.hoisting.specs.Spots.{Spot, surely, with_temporary, where_shown, ty_at, item_ty, callee_of, created_of, method_params, locals_behind, point_behind}
+use Rattle.hoisting.specs.HoistExpressions.{Hoisted, Tested, Forms, still, if_suspends, built, in_turn, settled, settled_unless, kept, lasts, by_value, forms_if, made_of, chosen, with_args, call_of, apply_of, by_params, by_function, by_elements, first_wanted, others_wanted, chain, ChainPart, chain_of, so_far, linked_on, begun_anew, either, taken, taken_each, taken_links, taken_operands, forms}
+use Rattle.hoisting.specs.HoistStatements.{Flattened, stays, code_if, followed, stored, read_of, target_ty, value_or_nil, start_or_zero, list_spot, head_locals, body_spot, list_loop, range_loop, optional, combination, range_start, range_end, for_code, opened, flat_all, flat_arms, other_spot, flat}
+use Rattle.hoisting.specs.HoistMethods.{FlatMethodsAreFlat, FlatByMarks}
 
 module _ (leaves : Leaving) where
   -- Lists of flat statements

@@ -18,8 +18,8 @@ use Rattle.flat_tree.specs.FlatMeaning.{Way, loop_turns, run_stmt, decide, run}
 use Rattle.flat_tree.proofs.NamesBelow.{AgreeBelow, agree_within, agree_past, assigned_here, assigned_elsewhere}
 use Rattle.flat_tree.proofs.RelatedEnds.{Carries, EndsRelated, both_go, both_return, both_break, both_continue, both_fail}
 use Rattle.flat_tree.proofs.InTurn.{run_alone, Holds, holds, loses}
-use Rattle.method_hoister.specs.HoistStatements.{plus, list_test, list_turn, list_loop}
-use Rattle.method_hoister.proofs.Loops.{few, empty_light, items_list_light, place_before, place_past, local_gives, number_gives, empty_gives, items_give, place_up, place_below, element_gives, set_runs}
+use Rattle.hoisting.specs.HoistStatements.{plus, list_test, list_turn, list_loop}
+use Rattle.hoisting.proofs.Loops.{few, empty_light, items_list_light, place_before, place_past, local_gives, number_gives, empty_gives, items_give, place_up, place_below, element_gives, set_runs}
 
 get_there : (bs : List Value) (v : Value) (vs : List Value) → slice_get (bs ++ v ∷ vs) (length bs) ≡ Some v
 get_there [] v vs = refl

@@ -26,7 +26,7 @@ use Rattle.program_meaning.specs.LightValues.{IsLight}
 use Rattle.program_meaning.proofs.LightOperations.{light_weighed, int_light}
 use Rattle.flat_tree.specs.PlainFlat.{PlainFlatStmt, FSet}
 use Rattle.flat_tree.specs.FlatMeaning.{into_local, run_stmt, run}
-use Rattle.method_hoister.specs.HoistStatements.{plus}
+use Rattle.hoisting.specs.HoistStatements.{plus}
 
 -- Light lists
 

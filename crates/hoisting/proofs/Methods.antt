@@ -19,9 +19,9 @@ use Rattle.program_meaning.proofs.StepsTaken.{source_takes}
 use Rattle.flat_tree.specs.FlatMeaning.{run, run_flat}
 use Rattle.flat_tree.proofs.NamesBelow.{AgreeBelow, agree_with_itself, agree_on, agree_back, agree_assigned}
 use Rattle.flat_tree.proofs.RelatedEnds.{Carries, result_related}
-use Rattle.method_hoister.specs.HoistMethods.{flat_body, FlatMethodsMean}
-use Rattle.method_hoister.proofs.Temporaries.{le_itself}
-use Rattle.method_hoister.proofs.Statements.{all_mean}
+use Rattle.hoisting.specs.HoistMethods.{flat_body, FlatMethodsMean}
+use Rattle.hoisting.proofs.Temporaries.{le_itself}
+use Rattle.hoisting.proofs.Statements.{all_mean}
 
 -- agreement on the names of the source is carried
 agreement_carries : (count : ℕ) → Carries count count (AgreeBelow count)

@@ -10,10 +10,10 @@ use Rattle.flat_tree.specs.declared.tree.FlatStmt.{FlatStmt}
 use Rattle.flat_tree.specs.declared.tree.FlatStmt as s
 use Rattle.flat_tree.specs.PlainFlat.{FSet, plain_flat_stmt, plain_flat_stmts}
 use Rattle.flat_tree.proofs.FlatViews.{flat-Set}
-use Rattle.method_hoister.specs.declared.spots.Spot.{Spot}
-use Rattle.method_hoister.specs.Spots.{with_temporary}
-use Rattle.method_hoister.specs.HoistExpressions.{settled}
-use Rattle.method_hoister.specs.Views.{plain_spot, hoisted_at}
+use Rattle.hoisting.specs.declared.spots.Spot.{Spot}
+use Rattle.hoisting.specs.Spots.{with_temporary}
+use Rattle.hoisting.specs.HoistExpressions.{settled}
+use Rattle.hoisting.specs.Views.{plain_spot, hoisted_at}
 
 pub pushed : (xs ys : List FlatStmt) (x : FlatStmt) → ys ≡ xs ++ x ∷ [] → plain_flat_stmts ys ≡ plain_flat_stmts xs ++ plain_flat_stmt x ∷ []
 pushed xs ys x is = ap plain_flat_stmts is ∙ map-append plain_flat_stmt xs (x ∷ [])

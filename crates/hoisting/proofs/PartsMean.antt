@@ -20,9 +20,9 @@ use Rattle.flat_tree.specs.FlatMeaning.{Way, into_local, call_gives, creation_gi
 use Rattle.flat_tree.proofs.NamesBelow.{AgreeBelow, agree_with_itself}
 use Rattle.flat_tree.proofs.SameNames.{behind_same}
 use Rattle.flat_tree.proofs.InTurn.{next_nothing, follows_behind, run_in_turn, run_alone, run_last, run_nothing, Leads, leads, falls, Holds, loses, Decides, leads_behind, held_leads, holds_then, holds_from, set_holds}
-use Rattle.method_hoister.specs.Spots.{Spot, surely, with_temporary, where_shown, callee_of, created_of}
-use Rattle.method_hoister.specs.HoistExpressions.{Hoisted, Tested, still, if_suspends, taken_into, settled_unless, kept, forms_if, Forms, chosen, call_of, apply_of, chain, ChainPart, so_far, either}
-use Rattle.method_hoister.proofs.Temporaries.{settled_rises, le_on}
+use Rattle.hoisting.specs.Spots.{Spot, surely, with_temporary, where_shown, callee_of, created_of}
+use Rattle.hoisting.specs.HoistExpressions.{Hoisted, Tested, still, if_suspends, taken_into, settled_unless, kept, forms_if, Forms, chosen, call_of, apply_of, chain, ChainPart, so_far, either}
+use Rattle.hoisting.proofs.Temporaries.{settled_rises, le_on}
 
 -- nothing runs before what stays
 pub nothing_before : {R : Type 0} (b : Bool) (e : R) (h : Spot) (a : Hoisted R) → b ≡ false → (if_suspends b e h a).before ≡ []

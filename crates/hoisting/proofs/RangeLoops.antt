@@ -17,8 +17,8 @@ use Rattle.flat_tree.specs.FlatMeaning.{Way, into_local, loop_turns, run_stmt, d
 use Rattle.flat_tree.proofs.NamesBelow.{AgreeBelow, agree_within, agree_past, assigned_here, assigned_elsewhere}
 use Rattle.flat_tree.proofs.RelatedEnds.{Carries, EndsRelated, both_go, both_return, both_break, both_continue, both_fail, either_related}
 use Rattle.flat_tree.proofs.InTurn.{run_alone}
-use Rattle.method_hoister.specs.HoistStatements.{plus, range_test, range_turn, range_loop}
-use Rattle.method_hoister.proofs.Loops.{local_gives, up_gives, below_gives, set_runs}
+use Rattle.hoisting.specs.HoistStatements.{plus, range_test, range_turn, range_loop}
+use Rattle.hoisting.proofs.Loops.{local_gives, up_gives, below_gives, set_runs}
 
 module _ {W : Type 0} (s : Site W) (at : Place) (t u : ℕ) (to : ℤ) where
   -- the next number and the end stand in their temporaries

@@ -19,8 +19,8 @@ use Rattle.flat_tree.specs.Flatness.{jumps}
 use Rattle.flat_tree.specs.declared.tree.Callee.{Callee}
 use Rattle.flat_tree.specs.declared.tree.Created.{Created}
 use Rattle.block_code.specs.PlainVars.{PlainVar}
-use Rattle.method_hoister.specs.HoistExpressions.{taken, each_wanted}
-use Rattle.method_hoister.specs.HoistStatements.{opened, flat}
+use Rattle.hoisting.specs.HoistExpressions.{taken, each_wanted}
+use Rattle.hoisting.specs.HoistStatements.{opened, flat}
 
 abbrev at : Place
 at = record { line = 1; col = 1 }

@@ -11,10 +11,10 @@ use Rattle.py_tree.specs.Reachability.{goes_on, assigned_in}
 use Rattle.py_tree.specs.Flow.{Context, at_head, target_read, result_at}
 use Rattle.call_graph.specs.SuspendingCode.{Leaving}
 use Rattle.flat_tree.specs.PlainFlat.{Point, PlainFlatStmt}
-use Rattle.method_hoister.specs.Spots.{Spot, ty_at, item_ty, locals_behind, point_behind}
-use Rattle.method_hoister.specs.HoistExpressions.{Hoisted, still, settled, lasts, forms}
-use Rattle.method_hoister.specs.HoistStatements.{Flattened, stays, code_if, followed, target_ty, start_or_zero, list_spot, body_spot, read_of, optional, combination, range_start, range_end, for_code, opened, flat_all, flat_arms, flat}
-use Rattle.method_hoister.proofs.Temporaries.{le_itself, le_on, le_one_more, settled_rises, forms_rise}
+use Rattle.hoisting.specs.Spots.{Spot, ty_at, item_ty, locals_behind, point_behind}
+use Rattle.hoisting.specs.HoistExpressions.{Hoisted, still, settled, lasts, forms}
+use Rattle.hoisting.specs.HoistStatements.{Flattened, stays, code_if, followed, target_ty, start_or_zero, list_spot, body_spot, read_of, optional, combination, range_start, range_end, for_code, opened, flat_all, flat_arms, flat}
+use Rattle.hoisting.proofs.Temporaries.{le_itself, le_on, le_one_more, settled_rises, forms_rise}
 
 pub code_if_rises : (b : Bool) (x : PlainStmt) (h : Spot) (f : Flattened (List PlainFlatStmt)) → h.next ≤ f.next → h.next ≤ (code_if b x h f).next
 code_if_rises true x h f up = le_itself h.next

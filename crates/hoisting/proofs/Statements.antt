@@ -34,16 +34,16 @@ use Rattle.flat_tree.proofs.NamesBelow.{AgreeBelow, agree_with_itself, agree_on,
 use Rattle.flat_tree.proofs.SameNames.{behind_same}
 use Rattle.flat_tree.proofs.RelatedEnds.{Carries, EndsRelated, both_go, both_return, both_break, both_continue, both_fail, WaysRelated, next_related, store_related, act_related}
 use Rattle.flat_tree.proofs.InTurn.{gives_itself, run_in_turn, run_alone, run_last, Leads, leads, Holds, holds, loses, leads_through, holds_then, leads_related, decided_related, loop_related}
-use Rattle.method_hoister.specs.Spots.{Spot, surely, where_shown, ty_at, item_ty, locals_behind, point_behind}
-use Rattle.method_hoister.specs.HoistExpressions.{Hoisted, Tested, still, built, settled, settled_unless, lasts, forms}
-use Rattle.method_hoister.specs.HoistStatements.{Flattened, stays, code_if, followed, stored, read_of, target_ty, value_or_nil, start_or_zero, list_spot, head_locals, body_spot, list_loop, range_loop, optional, combination, failure_of, range_start, range_end, for_code, opened, flat_all, flat_arms, other_spot, flat}
-use Rattle.method_hoister.proofs.Temporaries.{le_itself, le_on, settled_rises, forms_rise}
-use Rattle.method_hoister.proofs.StatementTemporaries.{flat_rises, all_rise, arms_rise}
-use Rattle.method_hoister.proofs.PartsMean.{means_there, means_at_once, settled_means}
-use Rattle.method_hoister.proofs.Expressions.{expression_means}
-use Rattle.method_hoister.proofs.Loops.{local_read}
-use Rattle.method_hoister.proofs.ListLoops.{AtPlace, related_carries as list_carries, list_related}
-use Rattle.method_hoister.proofs.RangeLoops.{Counts, related_carries as range_carries, range_related}
+use Rattle.hoisting.specs.Spots.{Spot, surely, where_shown, ty_at, item_ty, locals_behind, point_behind}
+use Rattle.hoisting.specs.HoistExpressions.{Hoisted, Tested, still, built, settled, settled_unless, lasts, forms}
+use Rattle.hoisting.specs.HoistStatements.{Flattened, stays, code_if, followed, stored, read_of, target_ty, value_or_nil, start_or_zero, list_spot, head_locals, body_spot, list_loop, range_loop, optional, combination, failure_of, range_start, range_end, for_code, opened, flat_all, flat_arms, other_spot, flat}
+use Rattle.hoisting.proofs.Temporaries.{le_itself, le_on, settled_rises, forms_rise}
+use Rattle.hoisting.proofs.StatementTemporaries.{flat_rises, all_rise, arms_rise}
+use Rattle.hoisting.proofs.PartsMean.{means_there, means_at_once, settled_means}
+use Rattle.hoisting.proofs.Expressions.{expression_means}
+use Rattle.hoisting.proofs.Loops.{local_read}
+use Rattle.hoisting.proofs.ListLoops.{AtPlace, related_carries as list_carries, list_related}
+use Rattle.hoisting.proofs.RangeLoops.{Counts, related_carries as range_carries, range_related}
 
 pub carries_further : {limit i j : ℕ} {R : List Var → List Var → Type 0} → i ≤ j → Carries limit i R → Carries limit j R
 carries_further le carries = record { agree = carries.agree; assign = carries.assign; change = λ agree r. carries.change (agree_within le agree) r }

@@ -9,8 +9,8 @@ use Rattle.py_tree.specs.Flow.{Context}
 use Rattle.py_tree.specs.PlainExpressions.{PlainExpr, PInt, PBool, PStr, PNil, PVar, PSelf, PAttr, PCall, PApply, PIndex, PList, PNeg, PPos, PNot, PChain, PAnd, POr, PCompare, PIsNone, PCond, PlainExprs, PNoExpr, PExpr, PLink, PlainLinks, PNoLink, PMoreLinks}
 use Rattle.call_graph.specs.SuspendingCode.{Leaving, expr_suspends, exprs_suspend}
 use Rattle.flat_tree.specs.PlainFlat.{PlainFlatTest, FAnd, FOr}
-use Rattle.method_hoister.specs.Spots.{Spot, where_shown, ty_at, method_params}
-use Rattle.method_hoister.specs.HoistExpressions.{with_args, by_params, by_function, first_wanted, others_wanted, made_of, Hoisted, Tested, Forms, still, if_suspends, in_turn, settled_unless, kept, lasts, by_value, forms_if, chosen, call_of, apply_of, ChainPart, chain_of, so_far, linked_on, begun_anew, either, taken, taken_each, taken_links, taken_operands, forms}
+use Rattle.hoisting.specs.Spots.{Spot, where_shown, ty_at, method_params}
+use Rattle.hoisting.specs.HoistExpressions.{with_args, by_params, by_function, first_wanted, others_wanted, made_of, Hoisted, Tested, Forms, still, if_suspends, in_turn, settled_unless, kept, lasts, by_value, forms_if, chosen, call_of, apply_of, ChainPart, chain_of, so_far, linked_on, begun_anew, either, taken, taken_each, taken_links, taken_operands, forms}
 
 pub le_itself : (k : ℕ) → k ≤ k
 le_itself k = omega arith

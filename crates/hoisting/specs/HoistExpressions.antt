@@ -13,7 +13,7 @@ use Rattle.py_tree.specs.Flow.{Context}
 use Rattle.py_tree.specs.PlainExpressions.{PlainExpr, PInt, PBool, PNil, PVar, PSelf, PCall, PApply, PIndex, PList, PNeg, PPos, PNot, PChain, PAnd, POr, PCompare, PIsNone, PCond, PlainExprs, PNoExpr, PExpr, PlainLink, PLink, PlainLinks, PNoLink, PMoreLinks, links_of}
 use Rattle.call_graph.specs.SuspendingCode.{Leaving, expr_suspends, exprs_suspend}
 use Rattle.flat_tree.specs.PlainFlat.{PlainFlatStmt, FSet, FCall, FMake, FIf, FArm, FNoArm, FMoreArms, PlainFlatTest, FLeaf, FNot, FAnd, FOr, FOperand, PlainOperands, FNoOperand, FMoreOperands, flat_stmts_of}
-use Rattle.method_hoister.specs.Spots.{Spot, surely, with_temporary, where_shown, ty_at, callee_of, created_of, method_params, init_params}
+use Rattle.hoisting.specs.Spots.{Spot, surely, with_temporary, where_shown, ty_at, callee_of, created_of, method_params, init_params}
 
 -- what runs before, what is left to evaluate, and what is known behind what runs before
 pub record Hoisted (R : Type 0) : Type 0 where

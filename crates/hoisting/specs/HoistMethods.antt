@@ -19,7 +19,7 @@ use Rattle.program_meaning.specs.Calls.{run_body, calls_at, in_state}
 use Rattle.flat_tree.specs.PlainFlat.{PlainFlatStmt, flat_stmts_of}
 use Rattle.flat_tree.specs.FlatMeaning.{run_flat}
 use Rattle.flat_tree.specs.Flatness.{AreFlat}
-use Rattle.method_hoister.specs.HoistStatements.{flat_all}
+use Rattle.hoisting.specs.HoistStatements.{flat_all}
 
 -- the body of a method as flat code: its locals are known so where it begins, and its temporaries have the numbers from this one on
 abbrev pub flat_body : Leaving → Context → List PlainLocal → ℕ → Option PlainMethod → List PlainFlatStmt

@@ -19,8 +19,8 @@ use Rattle.py_tree.specs.Flow.{Context, at_head, earlier, result_at, target_read
 use Rattle.call_graph.specs.SuspendingCode.{Leaving, stmt_suspends}
 use Rattle.flat_tree.specs.PlainFlat.{Point, PlainFlatStmt, FMark, FSet, FPut, FGive, FFail, FCode, FBreak, FContinue, FIf, FWhile, FNoStmt, FArm, PlainFlatArms, FNoArm, FMoreArms, FLeaf, PlainFlatTest, flat_stmts_of}
 use Rattle.flat_tree.specs.Flatness.{jumps}
-use Rattle.method_hoister.specs.Spots.{Spot, surely, with_temporary, where_shown, ty_at, locals_behind, point_behind, item_ty}
-use Rattle.method_hoister.specs.HoistExpressions.{Hoisted, still, built, in_turn, settled, settled_unless, lasts, forms}
+use Rattle.hoisting.specs.Spots.{Spot, surely, with_temporary, where_shown, ty_at, locals_behind, point_behind, item_ty}
+use Rattle.hoisting.specs.HoistExpressions.{Hoisted, still, built, in_turn, settled, settled_unless, lasts, forms}
 
 -- flat code, and the number of the next temporary
 pub record Flattened (T : Type 0) : Type 0 where

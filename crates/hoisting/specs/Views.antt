@@ -6,11 +6,11 @@ use Rattle.py_tree.specs.PlainExpressions.{PlainExpr, plain_expr}
 use Rattle.entity_tables.specs.Views.{plain_tables}
 use Rattle.entity_types.specs.Views.{plain_locals}
 use Rattle.flat_tree.specs.PlainFlat.{plain_flat_stmts}
-use Rattle.method_hoister.specs.declared.parts.Hoisted.{Hoisted}
-use Rattle.method_hoister.specs.declared.spots.Spot.{Spot}
-use Rattle.method_hoister.specs.declared.setting.Setting.{Setting}
-use Rattle.method_hoister.specs.HoistExpressions.{Hoisted as PlainHoisted}
-use Rattle.method_hoister.specs.Spots as spec
+use Rattle.hoisting.specs.declared.parts.Hoisted.{Hoisted}
+use Rattle.hoisting.specs.declared.spots.Spot.{Spot}
+use Rattle.hoisting.specs.declared.setting.Setting.{Setting}
+use Rattle.hoisting.specs.HoistExpressions.{Hoisted as PlainHoisted}
+use Rattle.hoisting.specs.Spots as spec
 
 abbrev pub plain_spot : Spot → spec.Spot
 plain_spot h = record { locals = plain_locals h.env.locals; next = h.next }

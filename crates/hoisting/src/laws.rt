@@ -1,6 +1,6 @@
 //! What flat methods mean.
 
-ghost use Rattle.method_hoister.specs.HoistMethods.{FlatMethodsMean, FlatMethodsAreFlat, FlatByMarks};
+ghost use Rattle.hoisting.specs.HoistMethods.{FlatMethodsMean, FlatMethodsAreFlat, FlatByMarks};
 
 /// The flat method means the method: for every state, arguments, steps and open calls both come to the
 /// same outcome, with the same state, reads, writes and steps left.

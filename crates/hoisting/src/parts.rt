@@ -3,8 +3,8 @@
 ghost use Rattle.std.specs.Prelude.{◌≡◌, ◌+◌, ◌<◌, IfOk};
 ghost use Rattle.py_tree.specs.PlainTypes.{plain_ty};
 ghost use Rattle.py_tree.specs.PlainExpressions.{plain_expr};
-ghost use Rattle.method_hoister.specs.HoistExpressions as spec;
-ghost use Rattle.method_hoister.specs.Views.{plain_spot, hoisted_at};
+ghost use Rattle.hoisting.specs.HoistExpressions as spec;
+ghost use Rattle.hoisting.specs.Views.{plain_spot, hoisted_at};
 
 use crate::spots::Spot;
 use flat_tree::{FlatStmt, FlatStmts};

@@ -4,7 +4,7 @@ ghost use Rattle.std.specs.Prelude.{◌≡◌, Some, IfOk};
 ghost use Rattle.py_tree.specs.PlainTypes.{plain_ty};
 ghost use Rattle.py_tree.specs.PlainExpressions.{plain_expr};
 ghost use Rattle.entity_types.specs.Views.{plain_wanted};
-ghost use Rattle.method_hoister.specs.Views.{ty_in};
+ghost use Rattle.hoisting.specs.Views.{ty_in};
 
 use crate::spots::Spot;
 use call_graph::CallGraph;

@@ -5,8 +5,8 @@ ghost use Rattle.py_tree.specs.PlainTypes.{plain_ty};
 ghost use Rattle.py_tree.specs.ExpressionTypes as types;
 ghost use Rattle.entity_types.specs.Views.{plain_local, plain_locals};
 ghost use Rattle.block_code.specs.PlainVars.{plain_var, plain_vars};
-ghost use Rattle.method_hoister.specs.Spots as spec;
-ghost use Rattle.method_hoister.specs.Views.{plain_spot};
+ghost use Rattle.hoisting.specs.Spots as spec;
+ghost use Rattle.hoisting.specs.Views.{plain_spot};
 
 use block_code::{VarType, VarTypes};
 use entity_types::types::inside;

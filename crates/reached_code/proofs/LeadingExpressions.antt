@@ -10,9 +10,9 @@ use Rattle.py_tree.specs.PlainExpressions.{PlainExpr, PInt, PBool, PStr, PNil, P
 use Rattle.call_graph.specs.SuspendingCode.{Leaving, expr_suspends, exprs_suspend}
 use Rattle.flat_tree.specs.PlainFlat.{FSet, FCall, FMake, PlainFlatTest, FAnd, FOr}
 use Rattle.flat_types.specs.DeadCode.{HaveNoDead, TestHasNoDead, OperandsHaveNoDead}
-use Rattle.method_hoister.specs.Spots.{Spot, surely, with_temporary, where_shown, ty_at, callee_of, created_of, method_params}
-use Rattle.method_hoister.specs.HoistExpressions.{Hoisted, Tested, Forms, still, if_suspends, settled_unless, kept, lasts, by_value, forms_if, made_of, chosen, with_args, in_turn, call_of, apply_of, by_params, by_function, by_elements, first_wanted, others_wanted, ChainPart, chain_of, so_far, linked_on, begun_anew, either, taken, taken_each, taken_links, taken_operands, forms}
-use Rattle.hoisted_points.proofs.LeadingCode.{AllLead, both_lead, last_leads, live_last, live}
+use Rattle.hoisting.specs.Spots.{Spot, surely, with_temporary, where_shown, ty_at, callee_of, created_of, method_params}
+use Rattle.hoisting.specs.HoistExpressions.{Hoisted, Tested, Forms, still, if_suspends, settled_unless, kept, lasts, by_value, forms_if, made_of, chosen, with_args, in_turn, call_of, apply_of, by_params, by_function, by_elements, first_wanted, others_wanted, ChainPart, chain_of, so_far, linked_on, begun_anew, either, taken, taken_each, taken_links, taken_operands, forms}
+use Rattle.reached_code.proofs.LeadingCode.{AllLead, both_lead, last_leads, live_last, live}
 
 pub record FormsLead (both : Forms) : Type 0 where
   pub value : (wanted : Option PlainTy) (h : Spot) → AllLead (both.value wanted h).before

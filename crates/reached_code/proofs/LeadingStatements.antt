@@ -17,12 +17,12 @@ use Rattle.call_graph.specs.SuspendingCode.{Leaving, expr_suspends}
 use Rattle.flat_tree.specs.PlainFlat.{Point, PlainFlatStmt, FMark, FGive, FFail, FCode, FBreak, FContinue, flat_stmts_of}
 use Rattle.method_splitter.specs.Split.{always}
 use Rattle.flat_types.specs.DeadCode.{leads_on, HasNoDead, HaveNoDead, ArmsHaveNoDead}
-use Rattle.method_hoister.specs.Spots.{Spot, surely, where_shown, ty_at, item_ty, locals_behind, point_behind}
-use Rattle.method_hoister.specs.HoistExpressions.{Hoisted, built, still, settled, lasts, taken, forms}
-use Rattle.method_hoister.specs.HoistStatements.{Flattened, stays, code_if, followed, stored, read_of, target_ty, value_or_nil, start_or_zero, list_spot, head_locals, body_spot, list_loop, range_loop, optional, combination, range_start, range_end, for_code, opened, flat_all, flat_arms, other_spot, flat}
-use Rattle.hoisted_points.specs.NoPartIsDead.{NoPartIsDead}
-use Rattle.hoisted_points.proofs.LeadingCode.{AllLead, both_lead, last_leads, live_both, live_one, live_last, live}
-use Rattle.hoisted_points.proofs.LeadingExpressions.{settled_leads, forms_lead}
+use Rattle.hoisting.specs.Spots.{Spot, surely, where_shown, ty_at, item_ty, locals_behind, point_behind}
+use Rattle.hoisting.specs.HoistExpressions.{Hoisted, built, still, settled, lasts, taken, forms}
+use Rattle.hoisting.specs.HoistStatements.{Flattened, stays, code_if, followed, stored, read_of, target_ty, value_or_nil, start_or_zero, list_spot, head_locals, body_spot, list_loop, range_loop, optional, combination, range_start, range_end, for_code, opened, flat_all, flat_arms, other_spot, flat}
+use Rattle.reached_code.specs.NoPartIsDead.{NoPartIsDead}
+use Rattle.reached_code.proofs.LeadingCode.{AllLead, both_lead, last_leads, live_both, live_one, live_last, live}
+use Rattle.reached_code.proofs.LeadingExpressions.{settled_leads, forms_lead}
 
 -- the code of a statement: none of it is dead, and it leads on where the statement goes on
 pub record Reached (on : Bool) (code : List PlainFlatStmt) : Type 0 where

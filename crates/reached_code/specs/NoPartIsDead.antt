@@ -7,7 +7,7 @@ use Rattle.py_tree.specs.PlainProgram.{PlainMethod}
 use Rattle.call_graph.specs.SuspendingCode.{Leaving}
 use Rattle.flat_tree.specs.PlainFlat.{flat_stmts_of}
 use Rattle.flat_types.specs.DeadCode.{HaveNoDead}
-use Rattle.method_hoister.specs.HoistMethods.{flat_body}
+use Rattle.hoisting.specs.HoistMethods.{flat_body}
 
 -- whichever calls are said to suspend, and whatever is known where the method begins; the method needn't keep any rule
 abbrev pub NoPartIsDead : Type 0

@@ -14,8 +14,8 @@ use Rattle.program_meaning.proofs.TypedParts.{typed_call, arguments_result}
 use Rattle.block_code.specs.GraphFits.{Asked, at_start, Takes}
 use Rattle.flat_tree.specs.PlainFlat.{FCall}
 use Rattle.flat_types.specs.FlatTypes.{Supplies, stmt_fits}
-use Rattle.method_hoister.specs.Spots.{Spot, surely, temporary, with_temporary, ty_at, found_ty, callee_of, method_params, params_of_sig}
-use Rattle.method_hoister.specs.HoistExpressions.{Hoisted, still, if_suspends, in_turn, kept, lasts, with_args, call_of, by_params, first_wanted, others_wanted, taken, taken_each, forms}
+use Rattle.hoisting.specs.Spots.{Spot, surely, temporary, with_temporary, ty_at, found_ty, callee_of, method_params, params_of_sig}
+use Rattle.hoisting.specs.HoistExpressions.{Hoisted, still, if_suspends, in_turn, kept, lasts, with_args, call_of, by_params, first_wanted, others_wanted, taken, taken_each, forms}
 use Rattle.typed_hoisting.specs.KnownLocals.{Free, Stands}
 use Rattle.typed_hoisting.specs.TypedHoisting.{Around, Typed, Good, GoodForms}
 use Rattle.typed_hoisting.proofs.Assignable.{assigned_itself}

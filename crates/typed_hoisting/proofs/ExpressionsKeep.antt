@@ -13,8 +13,8 @@ use Rattle.py_tree.specs.Flow.{Context, env_of, type_at}
 use Rattle.call_graph.specs.SuspendingCode.{Leaving, leaving, method_leaves, expr_suspends}
 use Rattle.program_meaning.proofs.TypedParts.{not_false, either_false, typed_index, typed_number, typed_none_test, typed_cond, conditions_result}
 use Rattle.flat_tree.specs.PlainFlat.{FAnd, FOr, PlainFlatTest}
-use Rattle.method_hoister.specs.Spots.{Spot, surely, where_shown, ty_at, found_ty}
-use Rattle.method_hoister.specs.HoistExpressions.{Hoisted, Tested, Forms, by_value, made_of, chosen, truth_of, taken, taken_operands, forms}
+use Rattle.hoisting.specs.Spots.{Spot, surely, where_shown, ty_at, found_ty}
+use Rattle.hoisting.specs.HoistExpressions.{Hoisted, Tested, Forms, by_value, made_of, chosen, truth_of, taken, taken_operands, forms}
 use Rattle.typed_hoisting.specs.KnownLocals.{Free}
 use Rattle.typed_hoisting.specs.TypedHoisting.{Around, Typed, Good, GoodTest, GoodForms, ExpressionsKeepTheRules, IsTyped, ValueFits, TestFits, FormsFit, ExpressionsFit}
 use Rattle.typed_hoisting.proofs.PointLaws.{supplies}

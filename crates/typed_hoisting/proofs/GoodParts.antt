@@ -15,8 +15,8 @@ use Rattle.block_code.specs.GraphFits.{Asked, is_var}
 use Rattle.flat_tree.specs.PlainFlat.{PlainFlatStmt, FSet, FNoStmt}
 use Rattle.method_splitter.specs.Points.{PointsPass}
 use Rattle.flat_types.specs.FlatTypes.{is_point, LeafFits, stmt_fits, stmts_fit, test_fits}
-use Rattle.method_hoister.specs.Spots.{Spot, temporary}
-use Rattle.method_hoister.specs.HoistExpressions.{Hoisted, Forms, still, built, in_turn, taken_into, settled, settled_unless, kept, leaf, by_value, forms_if}
+use Rattle.hoisting.specs.Spots.{Spot, temporary}
+use Rattle.hoisting.specs.HoistExpressions.{Hoisted, Forms, still, built, in_turn, taken_into, settled, settled_unless, kept, leaf, by_value, forms_if}
 use Rattle.typed_hoisting.specs.KnownLocals.{Alike, Free, Stands}
 use Rattle.typed_hoisting.specs.TypedHoisting.{Numbered, AreAmong, AreTyped, Adds, Around, code_fits, asked_of, Typed, Good, GoodTest, GoodForms}
 use Rattle.typed_hoisting.proofs.LocalLaws.{or_else, one_more}

@@ -12,8 +12,8 @@ use Rattle.block_code.specs.GraphFits.{Asked, at_start}
 use Rattle.flat_tree.specs.PlainFlat.{FSet, PlainFlatTest, FNot, FAnd, FOr, FOperand, PlainOperands, FNoOperand, FMoreOperands, FNoStmt}
 use Rattle.method_splitter.specs.Points.{PointsPass, PointsPassInOperands}
 use Rattle.flat_types.specs.FlatTypes.{is_point, Supplies, Behind, stmts_fit, test_fits, each_fits}
-use Rattle.method_hoister.specs.Spots.{Spot, surely, temporary, where_shown}
-use Rattle.method_hoister.specs.HoistExpressions.{Hoisted, Tested, still, chosen, truth_of, made_of}
+use Rattle.hoisting.specs.Spots.{Spot, surely, temporary, where_shown}
+use Rattle.hoisting.specs.HoistExpressions.{Hoisted, Tested, still, chosen, truth_of, made_of}
 use Rattle.typed_hoisting.specs.KnownLocals.{Free, Stands, AtLeast}
 use Rattle.typed_hoisting.specs.TypedHoisting.{AreAmong, AreTyped, Around, AskedOfTest, code_fits, asked_of, Typed, Good, GoodTest}
 use Rattle.typed_hoisting.proofs.Assignable.{assigned_itself}

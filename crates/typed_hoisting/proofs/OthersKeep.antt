@@ -17,8 +17,8 @@ use Rattle.call_graph.specs.SuspendingCode.{Leaving, expr_suspends, exprs_suspen
 use Rattle.program_meaning.proofs.TypedParts.{found_ok, arguments_result, each_result, elements_result, typed_creation, type_given}
 use Rattle.flat_tree.specs.PlainFlat.{FMake}
 use Rattle.flat_types.specs.FlatTypes.{stmt_fits}
-use Rattle.method_hoister.specs.Spots.{Spot, surely, temporary, with_temporary, ty_at, found_ty, created_of, init_params}
-use Rattle.method_hoister.specs.HoistExpressions.{Hoisted, built, settled_unless, lasts, apply_of, by_params, by_function, by_elements, each_wanted, chain, ChainPart, chain_of, so_far, linked_on, begun_anew, either, taken, taken_each, taken_links}
+use Rattle.hoisting.specs.Spots.{Spot, surely, temporary, with_temporary, ty_at, found_ty, created_of, init_params}
+use Rattle.hoisting.specs.HoistExpressions.{Hoisted, built, settled_unless, lasts, apply_of, by_params, by_function, by_elements, each_wanted, chain, ChainPart, chain_of, so_far, linked_on, begun_anew, either, taken, taken_each, taken_links}
 use Rattle.typed_hoisting.specs.KnownLocals.{Alike, Free}
 use Rattle.typed_hoisting.specs.TypedHoisting.{Typed, Good}
 use Rattle.typed_hoisting.proofs.EnvironmentLaws.{alike_on, kept_at}

@@ -12,7 +12,7 @@ use Rattle.py_tree.specs.FlowEnvironment.{PlainLocal, has_none}
 use Rattle.py_tree.specs.ExpressionTypes.{assignable, place_of, count_of, refuse_if, with_found, fits, operand, arguments, each_is, elements, type_of}
 use Rattle.py_tree.specs.Flow.{Context, env_of, type_at}
 use Rattle.program_meaning.proofs.TypedParts.{found_ok, refuse_ok, passes_ok}
-use Rattle.method_hoister.specs.HoistExpressions.{by_params, each_wanted, first_wanted, others_wanted}
+use Rattle.hoisting.specs.HoistExpressions.{by_params, each_wanted, first_wanted, others_wanted}
 use Rattle.typed_hoisting.specs.KnownLocals.{Alike}
 use Rattle.typed_hoisting.proofs.EnvironmentLaws.{kept_at}
 

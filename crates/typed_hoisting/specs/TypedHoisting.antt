@@ -17,8 +17,8 @@ use Rattle.block_code.specs.GraphFits.{Asked, HasType, is_var}
 use Rattle.flat_tree.specs.PlainFlat.{PlainFlatStmt, PlainFlatTest, flat_stmts_of}
 use Rattle.method_splitter.specs.Points.{PointsPassInAll, PointsPassInTest}
 use Rattle.flat_types.specs.FlatTypes.{is_point, Nowhere, Supplies, stmts_fit, test_fits}
-use Rattle.method_hoister.specs.Spots.{Spot, surely}
-use Rattle.method_hoister.specs.HoistExpressions.{Hoisted, Tested, Forms, forms}
+use Rattle.hoisting.specs.Spots.{Spot, surely}
+use Rattle.hoisting.specs.HoistExpressions.{Hoisted, Tested, Forms, forms}
 use Rattle.typed_hoisting.specs.KnownLocals.{HasTy, Alike, Free, Stands, AtLeast}
 
 -- temporaries from one number up to another, one after the other

@@ -18,9 +18,9 @@ use Rattle.flat_tree.specs.PlainFlat.{PlainFlatStmt, PlainFlatArms, PlainFlatTes
 use Rattle.method_splitter.specs.Points.{PointsPass, PointsPassInArms}
 use Rattle.flat_types.specs.FlatTypes.{is_point, Supplies, Ends, stmts_fit, arms_fit}
 use Rattle.flat_types.proofs.FlowStays.{EachTyped, all_stay, stmt_stays, first_typed, later_typed}
-use Rattle.method_hoister.specs.Spots.{Spot, surely, locals_behind, point_behind}
-use Rattle.method_hoister.specs.HoistExpressions.{Tested, forms}
-use Rattle.method_hoister.specs.HoistStatements.{Flattened, opened, flat_all, flat_arms, other_spot}
+use Rattle.hoisting.specs.Spots.{Spot, surely, locals_behind, point_behind}
+use Rattle.hoisting.specs.HoistExpressions.{Tested, forms}
+use Rattle.hoisting.specs.HoistStatements.{Flattened, opened, flat_all, flat_arms, other_spot}
 use Rattle.typed_hoisting.specs.KnownLocals.{Free, AreVariables}
 use Rattle.typed_hoisting.specs.TypedHoisting.{Numbered, AreAmong, CodePasses, Around, asked_of, GoodTest}
 use Rattle.typed_hoisting.proofs.EnvironmentLaws.{free_later, free_narrowed}

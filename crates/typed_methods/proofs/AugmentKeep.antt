@@ -23,9 +23,9 @@ use Rattle.program_meaning.proofs.TypedParts.{done, same_ok, found_ok, needs_ok,
 use Rattle.program_meaning.proofs.FlowParts.{Augments, augments_ok, put_local_ok, put_field_ok}
 use Rattle.method_splitter.specs.Points.{PointsPass}
 use Rattle.flat_types.specs.FlatTypes.{stmts_fit}
-use Rattle.method_hoister.specs.Spots.{Spot, ty_at, found_ty}
-use Rattle.method_hoister.specs.HoistExpressions.{Hoisted, still, in_turn, settled, forms}
-use Rattle.method_hoister.specs.HoistStatements.{stored as store, read_of, combination, opened}
+use Rattle.hoisting.specs.Spots.{Spot, ty_at, found_ty}
+use Rattle.hoisting.specs.HoistExpressions.{Hoisted, still, in_turn, settled, forms}
+use Rattle.hoisting.specs.HoistStatements.{stored as store, read_of, combination, opened}
 use Rattle.typed_hoisting.specs.KnownLocals.{Free}
 use Rattle.typed_hoisting.specs.TypedHoisting.{Typed, Good}
 use Rattle.typed_hoisting.proofs.LocalLaws.{read_seen, seen_read}

@@ -11,8 +11,8 @@ use Rattle.block_code.specs.GraphFits.{Asked, is_var, at_start}
 use Rattle.flat_tree.specs.PlainFlat.{PlainFlatStmt, FMark, FNoStmt}
 use Rattle.method_splitter.specs.Points.{PointsPass}
 use Rattle.flat_types.specs.FlatTypes.{is_point, Supplies, stmt_fits, stmts_fit}
-use Rattle.method_hoister.specs.Spots.{Spot, surely}
-use Rattle.method_hoister.specs.HoistExpressions.{Hoisted}
+use Rattle.hoisting.specs.Spots.{Spot, surely}
+use Rattle.hoisting.specs.HoistExpressions.{Hoisted}
 use Rattle.typed_hoisting.specs.KnownLocals.{HasTy, seen, Free, AreVariables, Stands}
 use Rattle.typed_hoisting.specs.TypedHoisting.{Numbered, AreAmong, AreTyped, CodePasses, Around, code_fits, Good}
 use Rattle.typed_hoisting.proofs.LocalLaws.{kept_on, kept_narrowed}

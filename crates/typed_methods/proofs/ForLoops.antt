@@ -22,8 +22,8 @@ use Rattle.flat_tree.specs.PlainFlat.{Point, PlainFlatStmt, FSet, FWhile, FLeaf,
 use Rattle.method_splitter.specs.Points.{PointsPass}
 use Rattle.flat_types.specs.FlatTypes.{is_point, Supplies, Ends, Behind, LoopFits, stmt_fits, stmts_fit}
 use Rattle.flat_types.proofs.FlowStays.{EachTyped, all_stay, stmt_stays, shapes_with}
-use Rattle.method_hoister.specs.Spots.{surely, locals_behind, point_behind}
-use Rattle.method_hoister.specs.HoistStatements.{Flattened, flat_all, plus}
+use Rattle.hoisting.specs.Spots.{surely, locals_behind, point_behind}
+use Rattle.hoisting.specs.HoistStatements.{Flattened, flat_all, plus}
 use Rattle.typed_hoisting.specs.KnownLocals.{seen, Kept, Under, Free, AreVariables}
 use Rattle.typed_hoisting.specs.TypedHoisting.{Numbered, AreAmong, CodePasses, Around, code_fits, Typed}
 use Rattle.typed_hoisting.proofs.LocalLaws.{apart}

@@ -20,9 +20,9 @@ use Rattle.block_code.specs.GraphFits.{Asked}
 use Rattle.flat_tree.specs.PlainFlat.{PlainFlatStmt, FMark, FSet, FWhile, flat_stmts_of}
 use Rattle.method_splitter.specs.Points.{PointsPass}
 use Rattle.flat_types.specs.FlatTypes.{stmts_fit}
-use Rattle.method_hoister.specs.Spots.{Spot, surely, temporary, found_ty, item_ty, point_behind}
-use Rattle.method_hoister.specs.HoistExpressions.{Hoisted, settled, forms}
-use Rattle.method_hoister.specs.HoistStatements.{Flattened, opened, flat_all, plus, list_spot, head_locals, body_spot, list_test, list_turn, list_loop}
+use Rattle.hoisting.specs.Spots.{Spot, surely, temporary, found_ty, item_ty, point_behind}
+use Rattle.hoisting.specs.HoistExpressions.{Hoisted, settled, forms}
+use Rattle.hoisting.specs.HoistStatements.{Flattened, opened, flat_all, plus, list_spot, head_locals, body_spot, list_test, list_turn, list_loop}
 use Rattle.typed_hoisting.specs.KnownLocals.{seen, seen_of, Kept, Free}
 use Rattle.typed_hoisting.specs.TypedHoisting.{AreAmong, Adds, Around, Typed, Good}
 use Rattle.typed_hoisting.proofs.LocalLaws.{apart, kept_seen}

@@ -30,16 +30,16 @@ use Rattle.flat_tree.specs.PlainFlat.{PlainFlat, flat_stmts_of}
 use Rattle.flat_types.specs.FlatTypes.{is_point, Nowhere, Behind, stmts_fit}
 use Rattle.flat_types.specs.SplitFits.{EndsWithNone}
 use Rattle.flat_types.proofs.FlowStays.{all_stay}
-use Rattle.method_hoister.specs.Spots.{surely}
-use Rattle.method_hoister.specs.HoistStatements.{flat_all}
+use Rattle.hoisting.specs.Spots.{surely}
+use Rattle.hoisting.specs.HoistStatements.{flat_all}
 use Rattle.typed_hoisting.specs.KnownLocals.{seen, Free}
 use Rattle.typed_hoisting.specs.TypedHoisting.{Numbered, AreAmong, Around}
 use Rattle.typed_hoisting.proofs.LocalLaws.{kept_same}
 use Rattle.typed_hoisting.proofs.CallsKeep.{Own}
 use Rattle.typed_hoisting.proofs.ExpressionsKeep.{own_by_marks}
-use Rattle.entity_compiler.specs.CompiledGraph.{found_locals}
-use Rattle.entity_compiler.proofs.Places.{ClassOf, class_of_method, sig_stands}
-use Rattle.entity_compiler.proofs.NamesAreBelow.{body_below}
+use Rattle.compiled_graph.specs.CompiledGraph.{found_locals}
+use Rattle.compiled_graph.proofs.Places.{ClassOf, class_of_method, sig_stands}
+use Rattle.compiled_graph.proofs.NamesAreBelow.{body_below}
 use Rattle.typed_methods.specs.TypedMethods.{behind_temporaries, MethodKeepsTypes, KeepsTypes, MethodsHaveTypes, MethodsKeepTypes}
 use Rattle.typed_methods.proofs.KnownWays.{MetUnder, known_before}
 use Rattle.typed_methods.proofs.StoredKnown.{AllKept, free_same}

@@ -18,9 +18,9 @@ use Rattle.block_code.specs.PlainVars.{PlainVar}
 use Rattle.flat_tree.specs.PlainFlat.{PlainFlatStmt, FMark, FSet}
 use Rattle.method_splitter.specs.Points.{PointsPass}
 use Rattle.flat_types.specs.FlatTypes.{stmts_fit}
-use Rattle.method_hoister.specs.Spots.{Spot, surely, point_behind}
-use Rattle.method_hoister.specs.HoistExpressions.{Hoisted, built, in_turn, settled, forms}
-use Rattle.method_hoister.specs.HoistStatements.{Flattened, opened, flat_all, plus, start_or_zero, head_locals, range_loop}
+use Rattle.hoisting.specs.Spots.{Spot, surely, point_behind}
+use Rattle.hoisting.specs.HoistExpressions.{Hoisted, built, in_turn, settled, forms}
+use Rattle.hoisting.specs.HoistStatements.{Flattened, opened, flat_all, plus, start_or_zero, head_locals, range_loop}
 use Rattle.typed_hoisting.specs.KnownLocals.{HasTy, seen, Free}
 use Rattle.typed_hoisting.specs.TypedHoisting.{AreAmong, Typed, Good}
 use Rattle.typed_hoisting.proofs.LocalLaws.{kept_seen}

@@ -24,9 +24,9 @@ use Rattle.flat_tree.specs.PlainFlat.{Point, FGive, FFail}
 use Rattle.method_splitter.specs.Points.{PointsPass}
 use Rattle.flat_types.specs.FlatTypes.{is_point, Supplies, stmts_fit}
 use Rattle.flat_types.proofs.FlowStays.{EachTyped}
-use Rattle.method_hoister.specs.Spots.{Spot, surely, ty_at, found_ty}
-use Rattle.method_hoister.specs.HoistExpressions.{Hoisted, Tested, settled_unless, lasts, forms}
-use Rattle.method_hoister.specs.HoistStatements.{stored as store, optional, opened}
+use Rattle.hoisting.specs.Spots.{Spot, surely, ty_at, found_ty}
+use Rattle.hoisting.specs.HoistExpressions.{Hoisted, Tested, settled_unless, lasts, forms}
+use Rattle.hoisting.specs.HoistStatements.{stored as store, optional, opened}
 use Rattle.typed_hoisting.specs.KnownLocals.{Free}
 use Rattle.typed_hoisting.specs.TypedHoisting.{code_fits, Typed, Good, GoodTest, GoodForms}
 use Rattle.typed_hoisting.proofs.EnvironmentLaws.{free_later, free_narrowed, forgotten_least}

@@ -16,8 +16,8 @@ use Rattle.flat_tree.specs.Flatness.{jumps}
 use Rattle.method_splitter.specs.Points.{PointsPass}
 use Rattle.flat_types.specs.FlatTypes.{stmts_fit}
 use Rattle.flat_types.proofs.FlowStays.{EachTyped, stmt_stays, first_typed, later_typed}
-use Rattle.method_hoister.specs.Spots.{locals_behind}
-use Rattle.method_hoister.specs.HoistStatements.{Flattened, code_if, followed, opened, flat_all}
+use Rattle.hoisting.specs.Spots.{locals_behind}
+use Rattle.hoisting.specs.HoistStatements.{Flattened, code_if, followed, opened, flat_all}
 use Rattle.typed_hoisting.specs.TypedHoisting.{code_fits}
 use Rattle.typed_hoisting.proofs.EnvironmentLaws.{free_later}
 use Rattle.typed_hoisting.proofs.PassingPoints.{passes_both}

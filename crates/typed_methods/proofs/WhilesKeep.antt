@@ -18,9 +18,9 @@ use Rattle.method_splitter.specs.Points.{PointsPass}
 use Rattle.flat_types.specs.FlatTypes.{is_point, Supplies, Ends, Behind, LoopFits, stmts_fit, test_fits}
 use Rattle.flat_types.proofs.FlowStays.{EachTyped, all_stay, stmt_stays}
 use Rattle.method_splitter.specs.Split.{always}
-use Rattle.method_hoister.specs.Spots.{Spot, surely, locals_behind, point_behind}
-use Rattle.method_hoister.specs.HoistExpressions.{Tested, forms}
-use Rattle.method_hoister.specs.HoistStatements.{opened, flat_all}
+use Rattle.hoisting.specs.Spots.{Spot, surely, locals_behind, point_behind}
+use Rattle.hoisting.specs.HoistExpressions.{Tested, forms}
+use Rattle.hoisting.specs.HoistStatements.{opened, flat_all}
 use Rattle.typed_hoisting.specs.KnownLocals.{Seen, seen, Kept, Under, Free, AreVariables, AtLeast}
 use Rattle.typed_hoisting.specs.TypedHoisting.{AreAmong, Around, asked_of, code_fits, GoodTest}
 use Rattle.typed_hoisting.proofs.LocalLaws.{kept_same, narrowed_more, narrowed_seen}

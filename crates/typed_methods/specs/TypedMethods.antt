@@ -17,10 +17,10 @@ use Rattle.method_splitter.specs.Points.{PointsPassInAll}
 use Rattle.flat_types.specs.FlatTypes.{is_point, Nowhere, Behind, stmts_fit}
 use Rattle.flat_types.specs.DeadCode.{HaveNoDead}
 use Rattle.flat_types.specs.SplitFits.{EndsWithNone}
-use Rattle.method_hoister.specs.HoistStatements.{flat_all}
+use Rattle.hoisting.specs.HoistStatements.{flat_all}
 use Rattle.typed_hoisting.specs.TypedHoisting.{Numbered}
-use Rattle.entity_compiler.specs.CompiledGraph.{context_of, start_locals, flat_method}
-use Rattle.entity_compiler.specs.CodeKeepsRules.{OfEachMethod, HasTypes}
+use Rattle.compiled_graph.specs.CompiledGraph.{context_of, start_locals, flat_method}
+use Rattle.compiled_graph.specs.CodeKeepsRules.{OfEachMethod, HasTypes}
 
 -- with these locals and temporaries
 abbrev pub variables_of : List PlainLocal → List PlainVar → List PlainVar

@@ -1,5 +1,5 @@
-use Rattle.entity_compiler.proofs.CompiledMeaning.{graph_fits}
-use Rattle.entity_compiler.proofs.laws.compiled_fits.Goals as goal
+use Rattle.compiled_graph.proofs.CompiledMeaning.{graph_fits}
+use Rattle.compiled_graph.proofs.laws.compiled_fits.Goals as goal
 
 pub returns : goal.returns
 returns c = graph_fits

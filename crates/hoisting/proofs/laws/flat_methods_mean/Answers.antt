@@ -1,5 +1,5 @@
-use Rattle.method_hoister.proofs.Methods.{flat_methods_mean}
-use Rattle.method_hoister.proofs.laws.flat_methods_mean.Goals as goal
+use Rattle.hoisting.proofs.Methods.{flat_methods_mean}
+use Rattle.hoisting.proofs.laws.flat_methods_mean.Goals as goal
 
 pub returns : goal.returns
 returns c = flat_methods_mean

@@ -1,6 +1,6 @@
 use Rattle.py_tree.specs.PlainTypes.{plain_ty}
-use Rattle.method_hoister.proofs.PartLaws.{settled_is}
-use Rattle.method_hoister.proofs.parts.settle.Goals as goal
+use Rattle.hoisting.proofs.PartLaws.{settled_is}
+use Rattle.hoisting.proofs.parts.settle.Goals as goal
 
 pub returns : goal.returns
 returns c = record {
