@@ -38,7 +38,9 @@ use Rattle.typed_hoisting.specs.KnownLocals.{seen}
 use Rattle.typed_hoisting.proofs.LocalLaws.{kept_same}
 use Rattle.typed_methods.proofs.KnownWays.{known_before}
 use Rattle.typed_hoisting.proofs.TypedKinds.{CalleeStands, callee_stands, created_stands}
-use Rattle.hoisted_callees.specs.CalleesStand.{found_locals, source_of, flat_code, CalleesStand}
+use Rattle.quiet_methods.specs.MarksKeepWithin.{source}
+use Rattle.compiled_graph.specs.CompiledGraph.{found_locals, flat_method}
+use Rattle.hoisted_callees.specs.CalleesStand.{CalleesStand}
 use Rattle.hoisted_callees.proofs.EachLaws.{One, all_once}
 use Rattle.hoisted_callees.proofs.NamedExpressions.{Stand}
 use Rattle.hoisted_callees.proofs.Beforehand.{Early, Ahead}
@@ -59,7 +61,7 @@ module _ (names : List (List ℕ)) (program : PlainProgram) where
   unfolding table_of
   methods_in_table c table e = sym (ap (λ (t : PlainTable). t.methods) e)
 
-  called_named : (c : Context) → c.tables ≡ tables → (class name : ℕ) (sig : PlainSig) → method_of c.tables class name ≡ Some sig → CalleeIsNamed (source_of names program) (callee_of c (TEntity class) name)
+  called_named : (c : Context) → c.tables ≡ tables → (class name : ℕ) (sig : PlainSig) → method_of c.tables class name ≡ Some sig → CalleeIsNamed (source names program) (callee_of c (TEntity class) name)
   called_named c are class name sig h =
       let s : CalleeStands c class name sig = callee_stands c class name sig h in
       let there : slice_get tables (class_place c class) ≡ Some s.table = ap (λ ts. slice_get ts (class_place c class)) (sym are) ∙ s.has_table in
@@ -67,7 +69,7 @@ module _ (names : List (List ℕ)) (program : PlainProgram) where
       let m = mapped_at sig_of (methods_of names k.0.members) (method_place c class name) sig (ap (λ ms. slice_get ms (method_place c class name)) (sym (methods_in_table k.0 s.table k.2)) ∙ s.has_method) in
       ap (λ o. name_if_there (slice_get (methods_of names (members_of o)) (method_place c class name))) k.1 ∙ ap name_if_there m.1 ∙ ap (λ (d : PlainSig). d.name) m.2 ∙ s.signed
 
-  created_named : (c : Context) → c.tables ≡ tables → (name : ℕ) → CreatedIsNamed (source_of names program) (created_of c name)
+  created_named : (c : Context) → c.tables ≡ tables → (name : ℕ) → CreatedIsNamed (source names program) (created_of c name)
   unfolding class_of table_of
   created_named c are name = sym (ap (λ ts. unwrap_or (position_from (λ (t : PlainTable). t.name == name) 0 ts) 0) are ∙ ap (λ o. unwrap_or o 0) (place_over (table_of names) (λ (t : PlainTable). t.name == name) 0 program))
 
@@ -109,7 +111,7 @@ module _ (names : List (List ℕ)) (program : PlainProgram) where
 
     -- what is asked of callees and created classes, in one way at most, and stands for those of the class tables
     module _ (P : Callee → Type 0) (Q : Created → Type 0) (one_callee : (a : Callee) → One (P a)) (one_class : (a : Created) → One (Q a)) where
-      method_stands : (class number : ℕ) (m : PlainMethod) → Stand P Q (context class number) (leaving names program marks class) (length names) → slice_get (methods_of names (members_at program class)) number ≡ Some m → EachInAll P Q (flat_stmts_of (flat_code names program marks class number m))
+      method_stands : (class number : ℕ) (m : PlainMethod) → Stand P Q (context class number) (leaving names program marks class) (length names) → slice_get (methods_of names (members_at program class)) number ≡ Some m → EachInAll P Q (flat_stmts_of (flat_method names program marks class number m).body)
       unfolding method_locals
       method_stands class number m stand is =
           let d : ClassOf class number m = class_of_method class number m is in
@@ -138,7 +140,7 @@ pub callees_stand : CalleesStand
 callees_stand names program marks accepted = (
   λ class number m is.
       let c : Context = in_method (tables_of names program) class number in
-      method_stands names program marks accepted (CalleeIsNamed (source_of names program)) (CreatedIsNamed (source_of names program)) (λ a. ℕ_set _ _) (λ a. ℕ_set _ _) class number m
+      method_stands names program marks accepted (CalleeIsNamed (source names program)) (CreatedIsNamed (source names program)) (λ a. ℕ_set _ _) (λ a. ℕ_set _ _) class number m
       (record { called = called_named names program c refl; created = λ name table h. created_named names program c refl name }) is,
   λ class number m is.
       let c : Context = in_method (tables_of names program) class number in
