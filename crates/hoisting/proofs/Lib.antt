@@ -9,6 +9,7 @@ pub mod Statements
 pub mod Methods
 pub mod Flatness
 mod Examples
+pub mod MethodStands
 pub mod SpotLaws
 pub mod PartLaws
 mod SmallExamples

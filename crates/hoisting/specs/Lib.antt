@@ -2,4 +2,5 @@ pub mod Spots
 pub mod HoistExpressions
 pub mod HoistStatements
 pub mod HoistMethods
+pub mod FlatMethods
 pub mod Views

@@ -1,28 +1,51 @@
--- What is known at a point, as a plain spot, and a method where it stands.
-use Rattle.py_tree.specs.Flow.{Context, in_method}
+-- The trees that functions make, as the definition has them, and the method where they stand.
+use Rattle.std.specs.Prelude.{List}
 use Rattle.std.specs.declared.option.Option.{Option}
+use Rattle.py_tree.specs.declared.expr.Expr.{Expr}
 use Rattle.py_tree.specs.PlainTypes.{PlainTy}
-use Rattle.py_tree.specs.PlainExpressions.{PlainExpr, plain_expr}
+use Rattle.py_tree.specs.PlainExpressions.{PlainExpr, PlainExprs, plain_expr, plain_exprs, exprs_of}
+use Rattle.py_tree.specs.FlowEnvironment.{PlainLocal}
+use Rattle.py_tree.specs.Flow.{Context, in_method}
+use Rattle.call_graph.specs.SuspendingCode.{Leaving, leaving_in}
 use Rattle.entity_tables.specs.Views.{plain_tables}
 use Rattle.entity_types.specs.Views.{plain_locals}
 use Rattle.flat_tree.specs.PlainFlat.{plain_flat_stmts}
 use Rattle.hoisting.specs.declared.parts.Hoisted.{Hoisted}
+use Rattle.hoisting.specs.declared.parts.HoistedEach.{HoistedEach}
+use Rattle.hoisting.specs.declared.parts.HoistedCall.{HoistedCall}
+use Rattle.hoisting.specs.declared.parts.HoistedTwo.{HoistedTwo}
 use Rattle.hoisting.specs.declared.spots.Spot.{Spot}
 use Rattle.hoisting.specs.declared.setting.Setting.{Setting}
-use Rattle.hoisting.specs.HoistExpressions.{Hoisted as PlainHoisted}
+use Rattle.hoisting.specs.HoistExpressions.{Hoisted as PlainHoisted, Forms, forms}
 use Rattle.hoisting.specs.Spots as spec
 
 abbrev pub plain_spot : Spot → spec.Spot
-plain_spot h = record { locals = plain_locals h.env.locals; next = h.next }
+plain_spot h = record { locals = plain_locals h.locals; next = h.next }
 
--- where the method stands that is made flat
+-- where the method stands that is made flat, and which calls leave there
 abbrev pub context_of : Setting → Context
 context_of s = in_method (plain_tables s.tables.now) s.class s.method
 
+abbrev pub leaves_of : Setting → Leaving
+leaves_of s = leaving_in s.program.now s.calls.now s.class
+
 -- the type of an expression there
-abbrev pub ty_in : Setting → Spot → Option PlainTy → PlainExpr → PlainTy
-ty_in s h wanted e = spec.ty_at (context_of s) wanted (plain_locals h.env.locals) e
+abbrev pub ty_in : Setting → List PlainLocal → Option PlainTy → PlainExpr → PlainTy
+ty_in s locals wanted e = spec.ty_at (context_of s) wanted locals e
 
 -- what is hoisted, with what is known behind what runs before
 abbrev pub hoisted_at : Hoisted → Spot → PlainHoisted PlainExpr
 hoisted_at a h = record { before = plain_flat_stmts a.before; rest = plain_expr a.rest; spot = plain_spot h }
+
+abbrev pub each_at : HoistedEach → Spot → PlainHoisted PlainExprs
+each_at a h = record { before = plain_flat_stmts a.before; rest = exprs_of (plain_exprs a.rest); spot = plain_spot h }
+
+abbrev pub call_at : HoistedCall → Spot → PlainHoisted (PlainExpr × PlainExprs)
+call_at a h = record { before = plain_flat_stmts a.before; rest = (plain_expr a.on, exprs_of (plain_exprs a.args)); spot = plain_spot h }
+
+abbrev pub two_at : HoistedTwo → Spot → PlainHoisted (PlainExpr × PlainExpr)
+two_at a h = record { before = plain_flat_stmts a.before; rest = (plain_expr a.first, plain_expr a.second); spot = plain_spot h }
+
+-- an expression as a value and as a test
+abbrev pub forms_of : Setting → Expr → Forms
+forms_of s e = forms (leaves_of s) (context_of s) (plain_expr e)

@@ -1,7 +1,8 @@
 //! What is known where code is hoisted, and the points that are made of it.
 
-ghost use Rattle.std.specs.Prelude.{◌≡◌, ◌+◌, ◌<◌, [], ◌∷◌, ◌++◌, IfOk, OnOk};
+ghost use Rattle.std.specs.Prelude.{◌≡◌, [], ◌∷◌, ◌++◌, IfOk, OnOk};
 ghost use Rattle.py_tree.specs.PlainTypes.{plain_ty};
+ghost use Rattle.py_tree.specs.PlainExpressions.{plain_expr};
 ghost use Rattle.py_tree.specs.ExpressionTypes as types;
 ghost use Rattle.entity_types.specs.Views.{plain_local, plain_locals};
 ghost use Rattle.block_code.specs.PlainVars.{plain_var, plain_vars};
@@ -9,16 +10,17 @@ ghost use Rattle.hoisting.specs.Spots as spec;
 ghost use Rattle.hoisting.specs.Views.{plain_spot};
 
 use block_code::{VarType, VarTypes};
+use entity_types::narrow_here;
 use entity_types::types::inside;
 use flow_types::{FlowEnv, Local, Locals};
-use py_tree::{Name, Ty};
+use py_tree::{Expr, Name, Ty};
 use sf_list::{Sequence, TryClone};
 use std::alloc::{AllocError, Global};
 
-/// What is known at a point: the locals and the temporaries of the statement at hand.
+/// What is known at a point: the locals, with the temporaries of the statement at hand behind them.
 #[derive(Drop)]
 pub struct Spot {
-    pub env: FlowEnv,
+    pub locals: Locals,
     /// The number of the next temporary.
     pub next: u32,
 }
@@ -65,15 +67,58 @@ pub fn surely(alloc: Global, locals: &Locals) -> Result<VarTypes, AllocError>
     Ok(made)
 }
 
+/// A copy of locals.
+#[tactic(auto, using(entity_types::proofs::EnvLaws::copied_locals))]
+pub fn copy_locals(alloc: Global, locals: &Locals) -> Result<Locals, AllocError>
+    ensures { IfOk result (λ made. plain_locals made ≡ plain_locals locals.now) }
+{
+    locals.try_clone(alloc)
+}
+
+/// Where a test is True, or False, and temporaries from this number on are unused.
+#[tactic(auto, unfolding(py_tree::specs::FlowEnvironment::where_test))]
+pub fn where_shown(
+    alloc: Global,
+    locals: &Locals,
+    test: &Expr,
+    truth: bool,
+    next: u32,
+) -> Result<Spot, AllocError>
+    ensures { IfOk result (λ made. plain_spot made ≡ spec.where_shown truth (plain_expr test.now) (plain_locals locals.now) next) }
+{
+    let mut env = FlowEnv {
+        class: 0,
+        method: None,
+        locals: copy_locals(alloc, locals)?,
+    };
+    narrow_here(&mut env, test, truth);
+    Ok(Spot {
+        locals: env.locals,
+        next,
+    })
+}
+
 impl Spot {
-    /// Puts a value of this type into the next temporary.
+    pub fn copied(&self, alloc: Global) -> Result<Spot, AllocError>
+        ensures { IfOk result (λ made. plain_spot made ≡ plain_spot self.now) }
+    {
+        let locals = copy_locals(alloc, &self.locals)?;
+        Ok(Spot {
+            locals,
+            next: self.next,
+        })
+    }
+
+    /// Puts a value of this type into the next temporary. Where no number is left below 2^32, it answers
+    /// want of memory.
     pub fn add_temporary(&mut self, alloc: Global, ty: Ty) -> Result<Name, AllocError>
-        requires { self.old.next + 1 < 4294967296 }
         ensures known { OnOk result (plain_spot self.new ≡ spec.with_temporary (plain_ty ty) (plain_spot self.old)) }
         ensures name { IfOk result (λ name. name.0 ≡ self.old.next) }
-        ensures class { self.new.env.class ≡ self.old.env.class }
-        ensures method { self.new.env.method ≡ self.old.env.method }
     {
+        if self.next == u32::MAX {
+            drop(ty);
+            return Err(AllocError);
+        }
         let name = Name(self.next);
         let local = Local {
             name,
@@ -81,7 +126,7 @@ impl Spot {
             assigned: true,
             not_none: false,
         };
-        self.env.locals.push(alloc, local)?;
+        self.locals.push(alloc, local)?;
         self.next += 1;
         Ok(name)
     }

@@ -1,0 +1,5 @@
+pub mod AnswerLaws
+pub mod WantLaws
+pub mod KindViews
+pub mod KindLaws
+pub mod InRow

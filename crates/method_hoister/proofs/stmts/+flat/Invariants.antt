@@ -1,0 +1,58 @@
+use Rattle.std.proofs.Common.{◌≡◌, ◌+◌, ◌*◌, drop}
+use Rattle.py_tree.specs.declared.stmt.Arm.{out-Arm}
+use Rattle.py_tree.specs.Bounded.{stmt_size, stmts_size, arms_size}
+use Rattle.py_tree.specs.PlainStatements.{plain_stmt, plain_stmts, stmts_of, plain_arms, arms_of}
+use Rattle.entity_types.specs.Views.{plain_locals}
+use Rattle.flat_tree.specs.PlainFlat.{plain_flat_stmts, plain_flat_arms}
+use Rattle.hoisting.specs.HoistStatements.{flat_all, flat_arms, other_spot}
+use Rattle.hoisting.specs.Views.{plain_spot, context_of, leaves_of}
+use Rattle.method_hoister.proofs.StatementsInRow.{after_code, after_arms}
+use Rattle.method_hoister.proofs.stmts.+flat.Given as goal
+
+abbrev pub invariant-flat_all-loop-stmt : goal.invariant-flat_all-loop-stmt
+invariant-flat_all-loop-stmt l =
+    after_code (plain_flat_stmts l.code) (flat_all (leaves_of l.setting) (context_of l.setting) (stmts_of (plain_stmts (drop l.stmt-index l.stmts))) (plain_spot l.spot))
+    ≡ flat_all (leaves_of l.setting) (context_of l.setting) (stmts_of (plain_stmts l.stmts)) (plain_spot l.initial.spot)
+
+abbrev pub invariant-arms_code-loop-arm : goal.invariant-arms_code-loop-arm
+invariant-arms_code-loop-arm l = record {
+  arms :
+    after_arms (plain_flat_arms l.made) (flat_arms (leaves_of l.setting) (context_of l.setting) (arms_of (plain_arms (drop l.arm-index l.arms))) (plain_spot l.behind))
+    ≡ flat_arms (leaves_of l.setting) (context_of l.setting) (arms_of (plain_arms l.arms)) (plain_spot l.spot);
+  behind :
+    (other_spot (leaves_of l.setting) (context_of l.setting) (arms_of (plain_arms (drop l.arm-index l.arms))) (plain_spot l.behind)).locals
+    ≡ (other_spot (leaves_of l.setting) (context_of l.setting) (arms_of (plain_arms l.arms)) (plain_spot l.spot)).locals;
+}
+
+abbrev pub decreases-statement : goal.decreases-statement
+decreases-statement l = 8 * (stmt_size (plain_stmt l.stmt.now)) + 2
+
+abbrev pub decreases-opened : goal.decreases-opened
+decreases-opened l = 8 * (stmt_size (plain_stmt l.stmt.now)) + 1
+
+abbrev pub decreases-flat_all : goal.decreases-flat_all
+decreases-flat_all l = 8 * (stmts_size (stmts_of (plain_stmts l.stmts.now))) + 3
+
+abbrev pub decreases-body_where : goal.decreases-body_where
+decreases-body_where l = 8 * (stmts_size (stmts_of (plain_stmts l.body.now))) + 4
+
+abbrev pub decreases-arm_code : goal.decreases-arm_code
+decreases-arm_code l = 8 * (stmts_size (stmts_of (plain_stmts (out-Arm l.arm.now).body))) + 5
+
+abbrev pub decreases-arms_code : goal.decreases-arms_code
+decreases-arms_code l = 8 * (arms_size (arms_of (plain_arms l.arms.now))) + 6
+
+abbrev pub decreases-choice : goal.decreases-choice
+decreases-choice l = 8 * (arms_size (arms_of (plain_arms l.arms.now)) + stmts_size (stmts_of (plain_stmts l.other.now))) + 7
+
+abbrev pub decreases-while_loop : goal.decreases-while_loop
+decreases-while_loop l = 8 * (stmts_size (stmts_of (plain_stmts l.body.now))) + 5
+
+abbrev pub decreases-list_loop : goal.decreases-list_loop
+decreases-list_loop l = 8 * (stmts_size (stmts_of (plain_stmts l.body.now))) + 4
+
+abbrev pub decreases-range_loop : goal.decreases-range_loop
+decreases-range_loop l = 8 * (stmts_size (stmts_of (plain_stmts l.body.now))) + 4
+
+abbrev pub decreases-for_loop : goal.decreases-for_loop
+decreases-for_loop l = 8 * (stmts_size (stmts_of (plain_stmts l.body.now))) + 5

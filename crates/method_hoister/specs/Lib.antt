@@ -1,0 +1,2 @@
+pub mod SmallCode
+pub mod StatementViews

@@ -1,0 +1,334 @@
+//! Flat code of statements that hold no others.
+
+ghost use Rattle.std.specs.Prelude.{◌≡◌, ◌∷◌, ◌++◌, [], Some, None, IfOk};
+ghost use Rattle.py_tree.specs.PlainTypes.{plain_ty};
+ghost use Rattle.py_tree.specs.PlainExpressions.{plain_expr, PChain, PLink, PMoreLinks, PNoLink};
+ghost use Rattle.py_tree.specs.PlainStatements.{plain_option, plain_stmt};
+ghost use Rattle.entity_types.specs.Views.{plain_locals, plain_wanted};
+ghost use Rattle.flat_tree.specs.PlainFlat.{plain_flat_stmt, plain_flat_stmts, plain_flat_arm, FMark, FCode};
+ghost use Rattle.hoisting.specs.HoistExpressions as hoist;
+ghost use Rattle.hoisting.specs.HoistStatements as spec;
+ghost use Rattle.method_hoister.specs.SmallCode as code;
+ghost use Rattle.hoisting.specs.Views.{plain_spot, context_of, leaves_of, ty_in, forms_of, hoisted_at};
+ghost use Rattle.expression_hoister.specs.ExpressionViews.{plain_tested};
+ghost use Rattle.method_hoister.specs.StatementViews.{maybe_at, plain_flattened};
+
+use expression_hoister::choices::{Tested, if_stmt};
+use expression_hoister::{test, value};
+use hoisting::parts::{Hoisted, lasts, settle};
+use hoisting::Setting;
+use hoisting::{Spot, surely, where_shown};
+use crate::targets::{read_of, stored, target_read, target_ty};
+use entity_types::types::right_wanted;
+use flat_tree::{FlatArm, FlatStmt, FlatStmts};
+use flow_types::Locals;
+use py_tree::nodes::{chain, link_of, nil_of};
+use py_tree::{BinOp, Expr, Place, Stmt, Target, Ty};
+use sf_list::{Sequence, TryClone};
+use std::alloc::{AllocError, Global};
+
+/// Flat code, and the number of the next temporary.
+#[derive(Drop)]
+pub struct Flattened {
+    pub code: FlatStmts,
+    pub next: u32,
+}
+
+/// What is hoisted where there may be no expression.
+#[derive(Drop)]
+pub struct HoistedMaybe {
+    pub before: FlatStmts,
+    pub rest: Option<Expr>,
+}
+
+/// A statement's step, and what runs.
+#[tactic(auto, using(crate::proofs::CodeLaws::marked_laws))]
+pub fn stepped(alloc: Global, before: FlatStmts, next: u32) -> Result<Flattened, AllocError>
+    ensures { IfOk result (λ made. plain_flattened made ≡ record { code = FMark ∷ plain_flat_stmts before; next = next }) }
+{
+    let mut code = Sequence::new(alloc);
+    code.push(alloc, FlatStmt::Mark)?;
+    code.append(alloc, before)?;
+    Ok(Flattened { code, next })
+}
+
+/// A statement's step, what runs before, and a statement over what is left.
+#[tactic(auto, using(crate::proofs::CodeLaws::marked_laws))]
+pub fn marked(
+    alloc: Global,
+    before: FlatStmts,
+    last: FlatStmt,
+    next: u32,
+) -> Result<Flattened, AllocError>
+    ensures { IfOk result (λ made. plain_flattened made ≡ record { code = FMark ∷ plain_flat_stmts before ++ plain_flat_stmt last ∷ []; next = next }) }
+{
+    let mut code = before;
+    code.push(alloc, last)?;
+    stepped(alloc, code, next)
+}
+
+/// A statement that stays as it is.
+#[tactic(auto, using(flat_tree::proofs::FlatViews::flat_views))]
+pub fn code_of(alloc: Global, stmt: &Stmt, next: u32) -> Result<Flattened, AllocError>
+    ensures { IfOk result (λ made. plain_flattened made ≡ record { code = FCode (plain_stmt stmt.now) ∷ []; next = next }) }
+{
+    let copy = stmt.try_clone(alloc)?;
+    let mut code = Sequence::new(alloc);
+    code.push(alloc, FlatStmt::Code(copy))?;
+    Ok(Flattened { code, next })
+}
+
+/// The value of an expression, in a temporary unless it lasts.
+pub fn settled_value(
+    alloc: Global,
+    setting: &Setting<'_>,
+    spot: &mut Spot,
+    place: Place,
+    expr: &Expr,
+) -> Result<Hoisted, AllocError>
+    ensures { IfOk result (λ made. hoisted_at made spot.new ≡ hoist.settled_unless (hoist.lasts (leaves_of setting.now) (plain_expr expr.now)) place (ty_in setting.now (plain_locals spot.old.locals) None (plain_expr expr.now)) ((forms_of setting.now expr.now).value None (plain_spot spot.old))) }
+{
+    if lasts(setting, expr) {
+        return value(alloc, setting, spot, None, expr);
+    }
+    let ty = setting.ty_at(alloc, &spot.locals, None, expr)?;
+    let hoisted = value(alloc, setting, spot, None, expr)?;
+    settle(alloc, spot, place, ty, hoisted)
+}
+
+/// An expression as a statement.
+pub fn evaluated(
+    alloc: Global,
+    setting: &Setting<'_>,
+    spot: &mut Spot,
+    place: Place,
+    expr: &Expr,
+) -> Result<Flattened, AllocError>
+    ensures { IfOk result (λ made. plain_flattened made ≡ code.evaluated (leaves_of setting.now) (context_of setting.now) place (plain_expr expr.now) (plain_spot spot.old)) }
+{
+    let hoisted = settled_value(alloc, setting, spot, place, expr)?;
+    stepped(alloc, hoisted.before, spot.next)
+}
+
+/// An expression, where there is one.
+pub fn optional(
+    alloc: Global,
+    setting: &Setting<'_>,
+    spot: &mut Spot,
+    wanted: Option<&Ty>,
+    expr: &Option<Expr>,
+) -> Result<HoistedMaybe, AllocError>
+    ensures { IfOk result (λ made. maybe_at made spot.new ≡ spec.optional (leaves_of setting.now) (context_of setting.now) (plain_wanted wanted.entry) (plain_option plain_expr expr.now) (plain_spot spot.old)) }
+{
+    match expr {
+        None => Ok(HoistedMaybe {
+            before: Sequence::new(alloc),
+            rest: None,
+        }),
+        Some(expr) => {
+            let hoisted = value(alloc, setting, spot, wanted, expr)?;
+            Ok(HoistedMaybe {
+                before: hoisted.before,
+                rest: Some(hoisted.rest),
+            })
+        }
+    }
+}
+
+/// A value, or None where there is none.
+fn value_or_nil(place: Place, expr: Option<Expr>) -> Expr
+    ensures { plain_expr result ≡ spec.value_or_nil place (plain_option plain_expr expr) }
+{
+    match expr {
+        None => nil_of(place),
+        Some(expr) => expr,
+    }
+}
+
+/// `return`.
+#[tactic(auto, using(flat_tree::proofs::FlatViews::flat_views))]
+pub fn returned(
+    alloc: Global,
+    setting: &Setting<'_>,
+    spot: &mut Spot,
+    place: Place,
+    expr: &Option<Expr>,
+) -> Result<Flattened, AllocError>
+    ensures { IfOk result (λ made. plain_flattened made ≡ code.returned (leaves_of setting.now) (context_of setting.now) place (plain_option plain_expr expr.now) (plain_spot spot.old)) }
+{
+    let ty = setting.result_ty(alloc)?;
+    let hoisted = optional(alloc, setting, spot, Some(&ty), expr)?;
+    drop(ty);
+    let last = FlatStmt::Give(value_or_nil(place, hoisted.rest));
+    marked(alloc, hoisted.before, last, spot.next)
+}
+
+/// `raise`.
+#[tactic(auto, using(flat_tree::proofs::FlatViews::flat_views))]
+pub fn raised(
+    alloc: Global,
+    setting: &Setting<'_>,
+    spot: &mut Spot,
+    kind: u8,
+    expr: &Option<Expr>,
+) -> Result<Flattened, AllocError>
+    ensures { IfOk result (λ made. plain_flattened made ≡ code.raised (leaves_of setting.now) (context_of setting.now) kind (plain_option plain_expr expr.now) (plain_spot spot.old)) }
+{
+    let hoisted = optional(alloc, setting, spot, None, expr)?;
+    let last = FlatStmt::Fail(kind, hoisted.rest);
+    marked(alloc, hoisted.before, last, spot.next)
+}
+
+/// What fails where an `assert` doesn't hold.
+#[tactic(auto, using(hoisting::proofs::PartLaws::pushed_fail))]
+fn failure_of(
+    alloc: Global,
+    setting: &Setting<'_>,
+    spot: &mut Spot,
+    expr: &Option<Expr>,
+) -> Result<Flattened, AllocError>
+    ensures { IfOk result (λ made. plain_flattened made ≡ spec.failure_of (leaves_of setting.now) (context_of setting.now) (plain_option plain_expr expr.now) (plain_spot spot.old)) }
+{
+    let hoisted = optional(alloc, setting, spot, None, expr)?;
+    let mut code = hoisted.before;
+    code.push(alloc, FlatStmt::Fail(3, hoisted.rest))?;
+    Ok(Flattened {
+        code,
+        next: spot.next,
+    })
+}
+
+/// The arm of an `assert`, in which nothing runs.
+fn assert_arm(
+    alloc: Global,
+    locals: &Locals,
+    decider: &Expr,
+    tested: Tested,
+) -> Result<FlatArm, AllocError>
+    ensures { IfOk result (λ made. plain_flat_arm made ≡ code.assert_arm (plain_locals locals.now) (plain_expr decider.now) (plain_tested tested)) }
+{
+    let holds = where_shown(alloc, locals, decider, true, tested.next)?;
+    let start = surely(alloc, &holds.locals)?;
+    drop(holds);
+    let rest = surely(alloc, locals)?;
+    Ok(FlatArm {
+        test: tested.test,
+        start,
+        body: Sequence::new(alloc),
+        rest,
+    })
+}
+
+/// `assert`.
+pub fn asserted(
+    alloc: Global,
+    setting: &Setting<'_>,
+    spot: &mut Spot,
+    decider: &Expr,
+    message: &Option<Expr>,
+) -> Result<Flattened, AllocError>
+    ensures { IfOk result (λ made. plain_flattened made ≡ spec.asserted (leaves_of setting.now) (context_of setting.now) (plain_expr decider.now) (plain_option plain_expr message.now) (plain_spot spot.old)) }
+{
+    let tested = test(alloc, setting, spot, decider)?;
+    let holds = where_shown(alloc, &spot.locals, decider, true, tested.next)?;
+    let behind = surely(alloc, &holds.locals)?;
+    drop(holds);
+    spot.next = tested.next;
+    let arm = assert_arm(alloc, &spot.locals, decider, tested)?;
+    let failure = failure_of(alloc, setting, spot, message)?;
+    let choice = if_stmt(alloc, arm, failure.code, behind)?;
+    marked(alloc, Sequence::new(alloc), choice, failure.next)
+}
+
+/// `x = e`.
+pub fn assigned(
+    alloc: Global,
+    setting: &Setting<'_>,
+    spot: &mut Spot,
+    target: Target,
+    expr: &Expr,
+) -> Result<Flattened, AllocError>
+    ensures { IfOk result (λ made. plain_flattened made ≡ code.assigned (leaves_of setting.now) (context_of setting.now) target (plain_expr expr.now) (plain_spot spot.old)) }
+{
+    let wanted = target_ty(alloc, setting, &spot.locals, target)?;
+    let hoisted = value(alloc, setting, spot, wanted.as_ref(), expr)?;
+    drop(wanted);
+    marked(alloc, hoisted.before, stored(target, hoisted.rest), spot.next)
+}
+
+/// The target of `x op= e`, read before e.
+fn held_target(
+    alloc: Global,
+    spot: &mut Spot,
+    place: Place,
+    target: Target,
+    ty: &Ty,
+) -> Result<Hoisted, AllocError>
+    ensures { IfOk result (λ made. hoisted_at made spot.new ≡ hoist.settled place (plain_ty ty.now) (hoist.still (spec.read_of place target) (plain_spot spot.old))) }
+{
+    let ty = ty.try_clone(alloc)?;
+    let read = Hoisted {
+        before: Sequence::new(alloc),
+        rest: read_of(alloc, place, target)?,
+    };
+    settle(alloc, spot, place, ty, read)
+}
+
+/// One operator over what is left of two expressions.
+fn combined(
+    alloc: Global,
+    spot: &Spot,
+    place: Place,
+    op: BinOp,
+    op_place: Place,
+    left: Hoisted,
+    right: Hoisted,
+) -> Result<Hoisted, AllocError>
+    ensures { IfOk result (λ made. hoisted_at made spot.now ≡ hoist.in_turn (λ l r. PChain place l (PMoreLinks (PLink op op_place r) PNoLink)) (hoisted_at left spot.now) (λ g. hoisted_at right spot.now)) }
+{
+    let mut before = left.before;
+    before.append(alloc, right.before)?;
+    let mut links = Sequence::new(alloc);
+    links.push(alloc, link_of(op, op_place, right.rest))?;
+    let rest = chain(alloc, place, left.rest, links)?;
+    Ok(Hoisted { before, rest })
+}
+
+/// What is assigned by `x op= e`.
+fn combination(
+    alloc: Global,
+    setting: &Setting<'_>,
+    spot: &mut Spot,
+    place: Place,
+    target: Target,
+    op: BinOp,
+    op_place: Place,
+    expr: &Expr,
+) -> Result<Hoisted, AllocError>
+    ensures { IfOk result (λ made. hoisted_at made spot.new ≡ spec.combination (leaves_of setting.now) (context_of setting.now) place target op op_place (plain_expr expr.now) (plain_spot spot.old)) }
+{
+    let read = target_read(alloc, place, target)?;
+    let ty = setting.ty_at(alloc, &spot.locals, None, &read)?;
+    drop(read);
+    let left = held_target(alloc, spot, place, target, &ty)?;
+    let right = value(alloc, setting, spot, right_wanted(op, &ty), expr)?;
+    drop(ty);
+    combined(alloc, spot, place, op, op_place, left, right)
+}
+
+/// `x op= e`.
+pub fn augmented(
+    alloc: Global,
+    setting: &Setting<'_>,
+    spot: &mut Spot,
+    place: Place,
+    target: Target,
+    op: BinOp,
+    op_place: Place,
+    expr: &Expr,
+) -> Result<Flattened, AllocError>
+    ensures { IfOk result (λ made. plain_flattened made ≡ code.augmented (leaves_of setting.now) (context_of setting.now) place target op op_place (plain_expr expr.now) (plain_spot spot.old)) }
+{
+    let hoisted = combination(alloc, setting, spot, place, target, op, op_place, expr)?;
+    marked(alloc, hoisted.before, stored(target, hoisted.rest), spot.next)
+}

@@ -1,0 +1,54 @@
+//! Whether a statement leaves a loop around it.
+
+ghost use Rattle.std.specs.Prelude.{◌≡◌};
+ghost use Rattle.py_tree.specs.PlainStatements.{plain_stmt, plain_stmts, stmts_of, plain_arms, arms_of};
+ghost use Rattle.flat_tree.specs.Flatness as spec;
+
+use py_tree::{Arm, Stmt, StmtKind};
+
+/// Whether there is a `break` or `continue` of a loop around it.
+#[cycle(jumps)]
+#[tactic(auto, using(crate::proofs::JumpLaws::jump_rules))]
+pub fn jumps(stmt: &Stmt) -> bool
+    ensures { result ≡ spec.jumps (plain_stmt stmt.now) }
+{
+    match &stmt.kind {
+        StmtKind::Break | StmtKind::Continue => true,
+        StmtKind::If { arms, other } => arms_jump(arms.as_slice()) || all_jump(other.as_slice()),
+        StmtKind::Pass
+        | StmtKind::Expr(_)
+        | StmtKind::Return(_)
+        | StmtKind::Raise(..)
+        | StmtKind::Assert(..)
+        | StmtKind::Assign { .. }
+        | StmtKind::Augment { .. }
+        | StmtKind::While { .. }
+        | StmtKind::For { .. } => false,
+    }
+}
+
+#[cycle(jumps)]
+#[tactic(auto, using(crate::proofs::JumpLaws::stmts_rules))]
+fn all_jump(stmts: &[Stmt]) -> bool
+    ensures { result ≡ spec.all_jump (stmts_of (plain_stmts stmts.now)) }
+{
+    for stmt in stmts {
+        if jumps(stmt) {
+            return true;
+        }
+    }
+    false
+}
+
+#[cycle(jumps)]
+#[tactic(auto, using(crate::proofs::JumpLaws::arms_rules))]
+fn arms_jump(arms: &[Arm]) -> bool
+    ensures { result ≡ spec.arms_jump (arms_of (plain_arms arms.now)) }
+{
+    for arm in arms {
+        if all_jump(arm.body.as_slice()) {
+            return true;
+        }
+    }
+    false
+}

@@ -1,0 +1,177 @@
+//! What runs before a `for` goes round: the list or the ends of the range, in temporaries, and what is known where it begins.
+
+ghost use Rattle.std.specs.Prelude.{◌≡◌, ◌+◌, ◌++◌, None, IfOk, OnOk};
+ghost use Rattle.py_tree.specs.PlainTypes.{plain_ty};
+ghost use Rattle.py_tree.specs.PlainExpressions.{plain_expr};
+ghost use Rattle.py_tree.specs.PlainStatements.{plain_option, plain_stmts, stmts_of};
+ghost use Rattle.flat_tree.specs.PlainFlat.{plain_flat_stmts};
+ghost use Rattle.block_code.specs.PlainVars.{plain_vars};
+ghost use Rattle.hoisting.specs.HoistStatements as spec;
+ghost use Rattle.method_hoister.specs.SmallCode as code;
+ghost use Rattle.hoisting.specs.Views.{plain_spot, context_of, leaves_of, forms_of};
+
+use expression_hoister::value;
+use expression_hoister::kinds::posed;
+use crate::loops::{ListNames, head_locals, list_start, with_local};
+use hoisting::parts::settle;
+use hoisting::Setting;
+use hoisting::{Spot, surely};
+use block_code::VarTypes;
+use flat_tree::FlatStmts;
+use py_tree::nodes::int_of;
+use py_tree::{Expr, Name, Place, Stmts, Ty};
+use sf_list::TryClone;
+use std::alloc::{AllocError, Global};
+
+/// What runs before a loop over a list.
+#[derive(Drop)]
+pub struct ListBefore {
+    pub before: FlatStmts,
+    pub names: ListNames,
+}
+
+/// A list of this type, in a temporary, as it is before a loop over it.
+pub fn list_before(
+    alloc: Global,
+    setting: &Setting<'_>,
+    spot: &mut Spot,
+    place: Place,
+    ty: &Ty,
+    expr: &Expr,
+) -> Result<ListBefore, AllocError>
+    ensures list { IfOk result (λ made. made.names.list.0 ≡ ((forms_of setting.now expr.now).value None (plain_spot spot.old)).spot.next) }
+    ensures place { IfOk result (λ made. made.names.place.0 ≡ made.names.list.0 + 1) }
+    ensures before { IfOk result (λ made. plain_flat_stmts made.before ≡ code.list_before (leaves_of setting.now) (context_of setting.now) place (plain_ty ty.now) (plain_expr expr.now) (plain_spot spot.old)) }
+    ensures known { OnOk result (plain_spot spot.new ≡ spec.list_spot (plain_ty ty.now) ((forms_of setting.now expr.now).value None (plain_spot spot.old)).spot) }
+{
+    let hoisted = value(alloc, setting, spot, None, expr)?;
+    let list = Name(spot.next);
+    let hoisted = settle(alloc, spot, place, ty.try_clone(alloc)?, hoisted)?;
+    let index = spot.add_temporary(alloc, Ty::Int)?;
+    let empty = spot.add_temporary(alloc, ty.try_clone(alloc)?)?;
+    let names = ListNames {
+        list,
+        place: index,
+        empty,
+    };
+    let before = list_start(alloc, place, names, hoisted.before)?;
+    Ok(ListBefore { before, names })
+}
+
+/// An end of a range, as a whole number in a temporary.
+#[derive(Drop)]
+pub struct RangeEnd {
+    pub before: FlatStmts,
+    pub name: Name,
+}
+
+/// An end of a range.
+fn range_end(
+    alloc: Global,
+    setting: &Setting<'_>,
+    spot: &mut Spot,
+    place: Place,
+    expr: &Expr,
+) -> Result<RangeEnd, AllocError>
+    ensures name { IfOk result (λ made. made.name.0 ≡ ((forms_of setting.now expr.now).value None (plain_spot spot.old)).spot.next) }
+    ensures before { IfOk result (λ made. plain_flat_stmts made.before ≡ (spec.range_end (leaves_of setting.now) (context_of setting.now) place (plain_expr expr.now) (plain_spot spot.old)).before) }
+    ensures known { OnOk result (plain_spot spot.new ≡ (spec.range_end (leaves_of setting.now) (context_of setting.now) place (plain_expr expr.now) (plain_spot spot.old)).spot) }
+{
+    let hoisted = value(alloc, setting, spot, None, expr)?;
+    let hoisted = posed(alloc, spot, place, hoisted)?;
+    let name = Name(spot.next);
+    let hoisted = settle(alloc, spot, place, Ty::Int, hoisted)?;
+    Ok(RangeEnd {
+        before: hoisted.before,
+        name,
+    })
+}
+
+/// The start of a range, which is 0 where none is given.
+fn range_start(
+    alloc: Global,
+    setting: &Setting<'_>,
+    spot: &mut Spot,
+    place: Place,
+    start: &Option<Expr>,
+) -> Result<RangeEnd, AllocError>
+    ensures name { IfOk result (λ made. made.name.0 ≡ code.start_number (leaves_of setting.now) (context_of setting.now) place (plain_option plain_expr start.now) (plain_spot spot.old)) }
+    ensures before { IfOk result (λ made. plain_flat_stmts made.before ≡ (spec.range_start (leaves_of setting.now) (context_of setting.now) place (plain_option plain_expr start.now) (plain_spot spot.old)).before) }
+    ensures known { OnOk result (plain_spot spot.new ≡ (spec.range_start (leaves_of setting.now) (context_of setting.now) place (plain_option plain_expr start.now) (plain_spot spot.old)).spot) }
+{
+    match start {
+        Some(start) => range_end(alloc, setting, spot, place, start),
+        None => {
+            let zero = int_of(place, 0);
+            range_end(alloc, setting, spot, place, &zero)
+        }
+    }
+}
+
+/// What runs before a loop over a range.
+#[derive(Drop)]
+pub struct RangeBefore {
+    pub before: FlatStmts,
+    pub from: Name,
+    pub to: Name,
+}
+
+/// The ends of a range, in temporaries.
+pub fn range_before(
+    alloc: Global,
+    setting: &Setting<'_>,
+    spot: &mut Spot,
+    place: Place,
+    start: &Option<Expr>,
+    end: &Expr,
+) -> Result<RangeBefore, AllocError>
+    ensures from { IfOk result (λ made. made.from.0 ≡ code.start_number (leaves_of setting.now) (context_of setting.now) place (plain_option plain_expr start.now) (plain_spot spot.old)) }
+    ensures to { IfOk result (λ made. made.to.0 ≡ code.end_number (leaves_of setting.now) (context_of setting.now) place (plain_option plain_expr start.now) (plain_expr end.now) (plain_spot spot.old)) }
+    ensures before { IfOk result (λ made. plain_flat_stmts made.before ≡ code.range_before (leaves_of setting.now) (context_of setting.now) place (plain_option plain_expr start.now) (plain_expr end.now) (plain_spot spot.old)) }
+    ensures known { OnOk result (plain_spot spot.new ≡ code.range_spot (leaves_of setting.now) (context_of setting.now) place (plain_option plain_expr start.now) (plain_expr end.now) (plain_spot spot.old)) }
+{
+    let from = range_start(alloc, setting, spot, place, start)?;
+    let to = range_end(alloc, setting, spot, place, end)?;
+    let mut before = from.before;
+    before.append(alloc, to.before)?;
+    Ok(RangeBefore {
+        before,
+        from: from.name,
+        to: to.name,
+    })
+}
+
+/// Where the body of a loop begins, and what is assigned at its head, before each test.
+#[derive(Drop)]
+pub struct Inside {
+    pub head: VarTypes,
+    /// The same, once more.
+    pub start: VarTypes,
+    pub spot: Spot,
+}
+
+/// Where the body of a `for` begins, of which the name has this type.
+pub fn inside_for(
+    alloc: Global,
+    spot: &Spot,
+    name: Name,
+    ty: Ty,
+    body: &Stmts,
+) -> Result<Inside, AllocError>
+    ensures head { IfOk result (λ made. plain_vars made.head ≡ code.head_point name.0 (stmts_of (plain_stmts body.now)) (plain_spot spot.now)) }
+    ensures start { IfOk result (λ made. plain_vars made.start ≡ code.head_point name.0 (stmts_of (plain_stmts body.now)) (plain_spot spot.now)) }
+    ensures spot { IfOk result (λ made. plain_spot made.spot ≡ spec.body_spot name.0 (plain_ty ty) (stmts_of (plain_stmts body.now)) (plain_spot spot.now)) }
+{
+    let locals = head_locals(alloc, &spot.locals, name, body)?;
+    let head = surely(alloc, &locals)?;
+    let start = surely(alloc, &locals)?;
+    let locals = with_local(alloc, locals, name, ty)?;
+    Ok(Inside {
+        head,
+        start,
+        spot: Spot {
+            locals,
+            next: spot.next,
+        },
+    })
+}

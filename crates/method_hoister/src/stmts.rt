@@ -1,0 +1,348 @@
+//! Statements as flat code.
+
+ghost use Rattle.std.specs.Prelude.{◌≡◌, IfOk, OnOk};
+ghost use Rattle.py_tree.specs.PlainExpressions.{plain_expr};
+ghost use Rattle.py_tree.specs.PlainStatements.{PRange, PItems, plain_option, plain_over, plain_stmt, plain_stmts, stmts_of, plain_arm, plain_arms, arms_of};
+ghost use Rattle.entity_types.specs.Views.{plain_locals};
+ghost use Rattle.block_code.specs.PlainVars.{plain_vars};
+ghost use Rattle.flat_tree.specs.PlainFlat.{plain_flat_arm};
+ghost use Rattle.hoisting.specs.HoistStatements as spec;
+ghost use Rattle.method_hoister.specs.SmallCode as code;
+ghost use Rattle.hoisting.specs.Views.{plain_spot, context_of, leaves_of};
+ghost use Rattle.method_hoister.specs.StatementViews.{plain_flattened, plain_body, plain_arms_code};
+
+use crate::code::{
+    Flattened, asserted, assigned, augmented, code_of, evaluated, marked, raised, returned, stepped,
+};
+use expression_hoister::test;
+use crate::jumps::jumps;
+use crate::loops::{item_ty, list_test, list_turn, range_test, range_turn, while_locals};
+use crate::ranges::{inside_for, list_before, range_before};
+use hoisting::Setting;
+use hoisting::{Spot, surely, where_shown};
+use block_code::VarTypes;
+use flat_tree::{FlatArm, FlatArms, FlatStmt, FlatStmts};
+use flow_types::Locals;
+use py_tree::{Arm, Arms, Expr, Name, Over, Place, Stmt, StmtKind, Stmts, Ty, goes_on};
+use sf_list::Sequence;
+use std::alloc::{AllocError, Global};
+
+/// The body of an arm or of a `while`.
+#[derive(Drop)]
+pub struct Body {
+    /// What is assigned where it begins.
+    pub start: VarTypes,
+    pub code: FlatStmts,
+    /// The number of the next temporary behind it.
+    pub next: u32,
+}
+
+/// Arms, and what is known where none of their tests holds.
+#[derive(Drop)]
+pub struct ArmsCode {
+    pub arms: FlatArms,
+    pub behind: Spot,
+}
+
+/// Whether a statement stays as it is.
+fn stays(setting: &Setting<'_>, stmt: &Stmt) -> bool
+    ensures { result ≡ spec.stays (leaves_of setting.now) (plain_stmt stmt.now) }
+{
+    !(setting.stmt_suspends(stmt) || jumps(stmt))
+}
+
+/// A statement.
+#[cycle(flat)]
+fn statement(
+    alloc: Global,
+    setting: &Setting<'_>,
+    spot: &Spot,
+    stmt: &Stmt,
+) -> Result<Flattened, AllocError>
+    ensures { IfOk result (λ made. plain_flattened made ≡ spec.flat (leaves_of setting.now) (context_of setting.now) (plain_stmt stmt.now) (plain_spot spot.now)) }
+{
+    if stays(setting, stmt) {
+        return code_of(alloc, stmt, spot.next);
+    }
+    let mut here = spot.copied(alloc)?;
+    let made = opened(alloc, setting, &mut here, stmt)?;
+    drop(here);
+    Ok(made)
+}
+
+/// A statement that doesn't stay. Nothing else reads what is known at the spot while it is made flat.
+#[cycle(flat)]
+#[tactic(auto, using(crate::proofs::StatementSizes::statement_sizes))]
+fn opened(
+    alloc: Global,
+    setting: &Setting<'_>,
+    spot: &mut Spot,
+    stmt: &Stmt,
+) -> Result<Flattened, AllocError>
+    ensures { IfOk result (λ made. plain_flattened made ≡ spec.opened (leaves_of setting.now) (context_of setting.now) (plain_stmt stmt.now) (plain_spot spot.old)) }
+{
+    let place = stmt.place;
+    match &stmt.kind {
+        StmtKind::Pass => stepped(alloc, Sequence::new(alloc), spot.next),
+        StmtKind::Break => marked(alloc, Sequence::new(alloc), FlatStmt::Break, spot.next),
+        StmtKind::Continue => marked(alloc, Sequence::new(alloc), FlatStmt::Continue, spot.next),
+        StmtKind::Expr(expr) => evaluated(alloc, setting, spot, place, expr),
+        StmtKind::Return(expr) => returned(alloc, setting, spot, place, expr),
+        StmtKind::Raise(kind, expr) => raised(alloc, setting, spot, *kind, expr),
+        StmtKind::Assert(decider, message) => asserted(alloc, setting, spot, decider, message),
+        StmtKind::Assign {
+            target,
+            ty: _,
+            value,
+        } => assigned(alloc, setting, spot, *target, value),
+        StmtKind::Augment {
+            target,
+            op,
+            op_place,
+            value,
+        } => augmented(alloc, setting, spot, place, *target, *op, *op_place, value),
+        StmtKind::If { arms, other } => {
+            let after = setting.point_behind(alloc, &spot.locals, stmt)?;
+            choice(alloc, setting, spot, arms, other, after)
+        }
+        StmtKind::While { test, body } => {
+            let after = setting.point_behind(alloc, &spot.locals, stmt)?;
+            while_loop(alloc, setting, spot, test, body, after)
+        }
+        StmtKind::For { name, over, body } => {
+            let after = setting.point_behind(alloc, &spot.locals, stmt)?;
+            for_loop(alloc, setting, spot, place, name.name, over, body, after)
+        }
+    }
+}
+
+/// Statements in a row, up to one behind which nothing is reached.
+#[cycle(flat)]
+pub fn flat_all(
+    alloc: Global,
+    setting: &Setting<'_>,
+    start: Spot,
+    stmts: &[Stmt],
+) -> Result<Flattened, AllocError>
+    ensures { IfOk result (λ made. plain_flattened made ≡ spec.flat_all (leaves_of setting.now) (context_of setting.now) (stmts_of (plain_stmts stmts.now)) (plain_spot start)) }
+{
+    let mut spot = start;
+    let mut code = Sequence::new(alloc);
+    for stmt in stmts {
+        let made = statement(alloc, setting, &spot, stmt)?;
+        code.append(alloc, made.code)?;
+        spot.next = made.next;
+        if !goes_on(stmt) {
+            return Ok(Flattened {
+                code,
+                next: spot.next,
+            });
+        }
+        spot.locals = setting.locals_behind(alloc, &spot.locals, stmt)?;
+    }
+    Ok(Flattened {
+        code,
+        next: spot.next,
+    })
+}
+
+/// The body of an arm or of a `while`, where its test holds.
+#[cycle(flat)]
+fn body_where(
+    alloc: Global,
+    setting: &Setting<'_>,
+    locals: &Locals,
+    decider: &Expr,
+    next: u32,
+    body: &Stmts,
+) -> Result<Body, AllocError>
+    ensures { IfOk result (λ made. plain_body made ≡ code.body_where (leaves_of setting.now) (context_of setting.now) (plain_expr decider.now) (plain_locals locals.now) next (stmts_of (plain_stmts body.now))) }
+{
+    let holds = where_shown(alloc, locals, decider, true, next)?;
+    let start = surely(alloc, &holds.locals)?;
+    let made = flat_all(alloc, setting, holds, body.as_slice())?;
+    Ok(Body {
+        start,
+        code: made.code,
+        next: made.next,
+    })
+}
+
+/// An arm, behind which the spot is where its test is False.
+#[cycle(flat)]
+fn arm_code(
+    alloc: Global,
+    setting: &Setting<'_>,
+    spot: &mut Spot,
+    arm: &Arm,
+) -> Result<FlatArm, AllocError>
+    ensures arm { IfOk result (λ made. plain_flat_arm made ≡ code.arm_code (leaves_of setting.now) (context_of setting.now) (plain_arm arm.now) (plain_spot spot.old)) }
+    ensures behind { OnOk result (plain_spot spot.new ≡ code.behind_arm (leaves_of setting.now) (context_of setting.now) (plain_arm arm.now) (plain_spot spot.old)) }
+{
+    let tested = test(alloc, setting, spot, &arm.test)?;
+    let body = body_where(alloc, setting, &spot.locals, &arm.test, tested.next, &arm.body)?;
+    *spot = where_shown(alloc, &spot.locals, &arm.test, false, body.next)?;
+    let rest = surely(alloc, &spot.locals)?;
+    Ok(FlatArm {
+        test: tested.test,
+        start: body.start,
+        body: body.code,
+        rest,
+    })
+}
+
+/// Arms, each where the tests before it were False.
+#[cycle(flat)]
+fn arms_code(
+    alloc: Global,
+    setting: &Setting<'_>,
+    spot: &Spot,
+    arms: &[Arm],
+) -> Result<ArmsCode, AllocError>
+    ensures arms { IfOk result (λ made. plain_arms_code made ≡ spec.flat_arms (leaves_of setting.now) (context_of setting.now) (arms_of (plain_arms arms.now)) (plain_spot spot.now)) }
+    ensures behind { IfOk result (λ made. plain_locals made.behind.locals ≡ (spec.other_spot (leaves_of setting.now) (context_of setting.now) (arms_of (plain_arms arms.now)) (plain_spot spot.now)).locals) }
+{
+    let mut behind = spot.copied(alloc)?;
+    let mut made = Sequence::new(alloc);
+    for arm in arms {
+        made.push(alloc, arm_code(alloc, setting, &mut behind, arm)?)?;
+    }
+    Ok(ArmsCode { arms: made, behind })
+}
+
+/// An `if`, with the point behind it.
+#[cycle(flat)]
+fn choice(
+    alloc: Global,
+    setting: &Setting<'_>,
+    spot: &Spot,
+    arms: &Arms,
+    other: &Stmts,
+    after: Option<VarTypes>,
+) -> Result<Flattened, AllocError>
+    ensures { IfOk result (λ made. plain_flattened made ≡ code.choice_code (leaves_of setting.now) (context_of setting.now) (arms_of (plain_arms arms.now)) (stmts_of (plain_stmts other.now)) (plain_option plain_vars after) (plain_spot spot.now)) }
+{
+    let made = arms_code(alloc, setting, spot, arms.as_slice())?;
+    let other = flat_all(alloc, setting, made.behind, other.as_slice())?;
+    let stmt = FlatStmt::If {
+        arms: made.arms,
+        other: other.code,
+        after,
+    };
+    marked(alloc, Sequence::new(alloc), stmt, other.next)
+}
+
+/// A `while`, with the point behind it.
+#[cycle(flat)]
+fn while_loop(
+    alloc: Global,
+    setting: &Setting<'_>,
+    spot: &Spot,
+    decider: &Expr,
+    body: &Stmts,
+    after: Option<VarTypes>,
+) -> Result<Flattened, AllocError>
+    ensures { IfOk result (λ made. plain_flattened made ≡ code.while_code (leaves_of setting.now) (context_of setting.now) (plain_expr decider.now) (stmts_of (plain_stmts body.now)) (plain_option plain_vars after) (plain_spot spot.now)) }
+{
+    let locals = while_locals(alloc, &spot.locals, body)?;
+    let head = Spot {
+        locals,
+        next: spot.next,
+    };
+    let point = surely(alloc, &head.locals)?;
+    let tested = test(alloc, setting, &head, decider)?;
+    let made = body_where(alloc, setting, &head.locals, decider, tested.next, body)?;
+    drop(head);
+    let stmt = FlatStmt::While {
+        head: point,
+        test: tested.test,
+        start: made.start,
+        body: made.code,
+        after,
+    };
+    marked(alloc, Sequence::new(alloc), stmt, made.next)
+}
+
+/// A `for`, with the point behind it.
+#[cycle(flat)]
+fn for_loop(
+    alloc: Global,
+    setting: &Setting<'_>,
+    spot: &mut Spot,
+    place: Place,
+    name: Name,
+    over: &Over,
+    body: &Stmts,
+    after: Option<VarTypes>,
+) -> Result<Flattened, AllocError>
+    ensures { IfOk result (λ made. plain_flattened made ≡ code.for_loop (leaves_of setting.now) (context_of setting.now) place name.0 (plain_over over.now) (stmts_of (plain_stmts body.now)) (plain_option plain_vars after) (plain_spot spot.old)) }
+{
+    match over {
+        Over::Items(items) => list_loop(alloc, setting, spot, place, name, items, body, after),
+        Over::Range(start, end) => {
+            range_loop(alloc, setting, spot, place, name, start, end, body, after)
+        }
+    }
+}
+
+/// A loop over a list.
+#[cycle(flat)]
+fn list_loop(
+    alloc: Global,
+    setting: &Setting<'_>,
+    spot: &mut Spot,
+    place: Place,
+    name: Name,
+    items: &Expr,
+    body: &Stmts,
+    after: Option<VarTypes>,
+) -> Result<Flattened, AllocError>
+    ensures { IfOk result (λ made. plain_flattened made ≡ code.for_loop (leaves_of setting.now) (context_of setting.now) place name.0 (PItems (plain_expr items.now)) (stmts_of (plain_stmts body.now)) (plain_option plain_vars after) (plain_spot spot.old)) }
+{
+    let ty = setting.ty_at(alloc, &spot.locals, None, items)?;
+    let item = item_ty(alloc, &ty)?;
+    let start = list_before(alloc, setting, spot, place, &ty, items)?;
+    drop(ty);
+    let inside = inside_for(alloc, spot, name, item, body)?;
+    let made = flat_all(alloc, setting, inside.spot, body.as_slice())?;
+    let test = list_test(alloc, place, start.names)?;
+    let turn = list_turn(alloc, place, name, start.names, made.code)?;
+    let stmt = FlatStmt::While {
+        head: inside.head,
+        test,
+        start: inside.start,
+        body: turn,
+        after,
+    };
+    marked(alloc, start.before, stmt, made.next)
+}
+
+/// A loop over a range.
+#[cycle(flat)]
+fn range_loop(
+    alloc: Global,
+    setting: &Setting<'_>,
+    spot: &mut Spot,
+    place: Place,
+    name: Name,
+    start: &Option<Expr>,
+    end: &Expr,
+    body: &Stmts,
+    after: Option<VarTypes>,
+) -> Result<Flattened, AllocError>
+    ensures { IfOk result (λ made. plain_flattened made ≡ code.for_loop (leaves_of setting.now) (context_of setting.now) place name.0 (PRange (plain_option plain_expr start.now) (plain_expr end.now)) (stmts_of (plain_stmts body.now)) (plain_option plain_vars after) (plain_spot spot.old)) }
+{
+    let range = range_before(alloc, setting, spot, place, start, end)?;
+    let inside = inside_for(alloc, spot, name, Ty::Int, body)?;
+    let made = flat_all(alloc, setting, inside.spot, body.as_slice())?;
+    let test = range_test(alloc, place, range.from, range.to)?;
+    let turn = range_turn(alloc, place, name, range.from, made.code)?;
+    let stmt = FlatStmt::While {
+        head: inside.head,
+        test,
+        start: inside.start,
+        body: turn,
+        after,
+    };
+    marked(alloc, range.before, stmt, made.next)
+}
