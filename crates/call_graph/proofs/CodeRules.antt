@@ -1,5 +1,5 @@
 -- Whether an expression or a statement may suspend, at each kind, one equation each.
-use Rattle.std.proofs.Common.{◌≡◌, ◌<◌, ◌≤◌, ◌+◌, ℕ, ℤ, Bool, true, false, true≢false, ◌||◌, ◌&&◌, List, [], Option, drop, get_or, length, refl, sym, ap, ◌∙◌}
+use Rattle.std.proofs.Common.{◌≡◌, ◌<◌, ◌≤◌, ◌+◌, ℕ, ℤ, Bool, true, false, true≢false, ◌||◌, ◌&&◌, List, Option, drop, get_or, length, refl, sym, ap, ◌∙◌}
 use Rattle.std.specs.Prelude.{is_none}
 use Rattle.std.specs.declared.alloc.Global.{Global}
 use Rattle.std.specs.declared.boxed.Box.{Box}

@@ -14,9 +14,7 @@ ghost use Rattle.py_tree.specs.ClassViews.{numbers_of};
 use crate::closure::{Marks, marks_of};
 use crate::sites::Sites;
 use crate::stmts::find_in_body;
-use crate::suspending::{
-    call_leaves, expr_suspends, exprs_suspend, stmt_suspends, stmts_suspend,
-};
+use crate::suspending::{call_leaves, expr_suspends, exprs_suspend, stmt_suspends, stmts_suspend};
 use py_tree::{Checked, Class, Expr, Exprs, Method, Name, Names, Program, Stmt, is_called_by_name};
 use sf_list::Sequence;
 use std::alloc::{AllocError, Global};

@@ -25,7 +25,13 @@ fn method_leaves(graph: &CallGraph, class: u32, method: Option<u32>) -> bool
 }
 
 /// Whether a call of the method of this name on this receiver leaves, in a method of this class.
-pub(crate) fn call_leaves(graph: &CallGraph, program: &Checked, class: u32, on: &Expr, name: Name) -> bool
+pub(crate) fn call_leaves(
+    graph: &CallGraph,
+    program: &Checked,
+    class: u32,
+    on: &Expr,
+    name: Name,
+) -> bool
     ensures { result ≡ leaving_in program.now graph.now class (plain_expr on.now) name.0 }
 {
     !is_self(on) || method_leaves(graph, class, program.method_by_name(class, name))
