@@ -10,14 +10,13 @@ ghost use Rattle.method_hoister.specs.HoistStatements as spec;
 ghost use Rattle.statement_hoister.specs.SmallCode as code;
 ghost use Rattle.method_hoister.specs.Views.{plain_spot, context_of, leaves_of, forms_of};
 
-use expression_hoister::value;
-use expression_hoister::kinds::posed;
 use crate::loops::{ListNames, head_locals, list_start, with_local};
-use method_hoister::parts::settle;
-use method_hoister::Setting;
-use method_hoister::{Spot, surely};
 use block_code::VarTypes;
+use expression_hoister::kinds::posed;
+use expression_hoister::value;
 use flat_tree::FlatStmts;
+use method_hoister::parts::settle;
+use method_hoister::{Setting, Spot, surely};
 use py_tree::nodes::int_of;
 use py_tree::{Expr, Name, Place, Stmts, Ty};
 use sf_list::TryClone;
