@@ -157,7 +157,11 @@ pub fn tell_expr(told: &mut String, names: &Names, expr: &Expr) -> Result<(), Al
         }
         ExprKind::IsNone(a, positive) => {
             tell_expr(told, names, a)?;
-            told.push_str(if *positive { " is None" } else { " is not None" })?;
+            told.push_str(if *positive {
+                " is None"
+            } else {
+                " is not None"
+            })?;
         }
         ExprKind::Cond { test, yes, no } => {
             tell_pair(told, names, yes, " if ", test)?;

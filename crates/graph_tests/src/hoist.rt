@@ -102,7 +102,9 @@ fn a_loop_over_items_goes_by_places(rt: HostRuntime) -> Result<(), Fail> {
 
 #[test]
 fn calls_are_taken_out_of_each_place(rt: HostRuntime) -> Result<(), Fail> {
-    let rows = rows(rt.alloc(), "
+    let rows = rows(
+        rt.alloc(),
+        "
         nothing suspends     | return self.get(x) + 1 | code;
         a call alone         | return b.get(x)        | mark; t0 = call b.get x {b x flag t0}; give t0;
         left of a call       | return x + b.get(1)    | mark; t0 = x; t1 = call b.get 1 {b x flag t0 t1}; give (t0 + t1);
@@ -122,18 +124,21 @@ fn calls_are_taken_out_of_each_place(rt: HostRuntime) -> Result<(), Fail> {
         not                  | flag = not b.is_full()↵return x | mark; t0 = call b.is_full  {b x flag t0}; flag = (not t0); code;
         a conditional        | return b.get(1) if flag else x | mark; if <flag> [t0 = call b.get 1 {b x flag t0}; t1 = t0; ] else [t1 = x; ]; give t1;
         a call as a test     | return 1 if b.is_full() else x | mark; if <t0 = call b.is_full  {b x flag t0}; t0> [t1 = 1; ] else [t1 = x; ]; give t1;
-    ")?;
+    ",
+    )?;
     for row in &rows {
         let text = text_in(rt.alloc(), BOX, row.text.as_str())?;
         let told = flat_told(rt.alloc(), text.as_str(), 0, 2)?;
-        assert_eq!(rt; told.as_str().trim_end(), row.wanted, row.label);
+        assert_eq!(rt; told.as_str().trim_end(), row.wanted, "{}", row.label);
     }
     Ok(())
 }
 
 #[test]
 fn calls_are_taken_out_of_each_statement(rt: HostRuntime) -> Result<(), Fail> {
-    let rows = rows(rt.alloc(), "
+    let rows = rows(
+        rt.alloc(),
+        "
         a field       | self.n = b.get(1)↵return x | mark; t0 = call b.get 1 {b x flag t0}; self.n = t0; code;
         an addition   | x += b.get(1)↵return x     | mark; t0 = x; t1 = call b.get 1 {b x flag t0 t1}; x = (t0 + t1); code;
         to a field    | self.n += b.get(1)↵return x | mark; t0 = (self.n); t1 = call b.get 1 {b x flag t0 t1}; self.n = (t0 + t1); code;
@@ -148,11 +153,12 @@ fn calls_are_taken_out_of_each_statement(rt: HostRuntime) -> Result<(), Fail> {
         over a list   | for y in [b.get(1)]:↵    x = y↵return x | mark; t0 = call b.get 1 {b x flag t0}; t1 = (t0); t3 = (); t1 = (t3 + t1); t2 = 0; while <(t2 < (len t1))> [y = (t1 at t2); t2 = (t2 + 1); code; ]; code;
         over a range  | for y in range(b.get(1)):↵    x = y↵return x | mark; t0 = (+0); t1 = call b.get 1 {b x flag t0 t1}; t2 = (+t1); while <(t0 < t2)> [y = t0; t0 = (t0 + 1); code; ]; code;
         in a body     | for y in [1]:↵    x = b.get(y)↵return x | mark; t0 = (1); t2 = (); t0 = (t2 + t0); t1 = 0; while <(t1 < (len t0))> [y = (t0 at t1); t1 = (t1 + 1); mark; t3 = call b.get y {b x flag y t0 t1 t2 t3}; x = t3; ]; code;
-    ")?;
+    ",
+    )?;
     for row in &rows {
         let text = text_in(rt.alloc(), BOX, row.text.as_str())?;
         let told = flat_told(rt.alloc(), text.as_str(), 0, 2)?;
-        assert_eq!(rt; told.as_str().trim_end(), row.wanted, row.label);
+        assert_eq!(rt; told.as_str().trim_end(), row.wanted, "{}", row.label);
     }
     Ok(())
 }

@@ -51,4 +51,3 @@ module _ (x : Stmt) where
 
   pub is-For : (name : PlacedName) (over : Over) (body : List Stmt) → x.kind ≡ s.For name over body → plain_stmt x ≡ PFor x.place name.name.0 name.place (plain_over over) (stmts_of (plain_stmts body))
   is-For name over body is = ap (λ k. plain_stmt_kind k x.place) is ∙ stmt-For x.place name over body
-

@@ -13,15 +13,14 @@ ghost use Rattle.hoisting.specs.Views.{plain_spot, context_of, leaves_of, ty_in,
 ghost use Rattle.expression_hoister.specs.ExpressionViews.{plain_tested};
 ghost use Rattle.method_hoister.specs.StatementViews.{maybe_at, plain_flattened};
 
-use expression_hoister::choices::{Tested, if_stmt};
-use expression_hoister::{test, value};
-use hoisting::parts::{Hoisted, lasts, settle};
-use hoisting::Setting;
-use hoisting::{Spot, surely, where_shown};
 use crate::targets::{read_of, stored, target_read, target_ty};
 use entity_types::types::right_wanted;
+use expression_hoister::choices::{Tested, if_stmt};
+use expression_hoister::{test, value};
 use flat_tree::{FlatArm, FlatStmt, FlatStmts};
 use flow_types::Locals;
+use hoisting::parts::{Hoisted, lasts, settle};
+use hoisting::{Setting, Spot, surely, where_shown};
 use py_tree::nodes::{chain, link_of, nil_of};
 use py_tree::{BinOp, Expr, Place, Stmt, Target, Ty};
 use sf_list::{Sequence, TryClone};
@@ -253,7 +252,12 @@ pub fn assigned(
     let wanted = target_ty(alloc, setting, &spot.locals, target)?;
     let hoisted = value(alloc, setting, spot, wanted.as_ref(), expr)?;
     drop(wanted);
-    marked(alloc, hoisted.before, stored(target, hoisted.rest), spot.next)
+    marked(
+        alloc,
+        hoisted.before,
+        stored(target, hoisted.rest),
+        spot.next,
+    )
 }
 
 /// The target of `x op= e`, read before e.
@@ -330,5 +334,10 @@ pub fn augmented(
     ensures { IfOk result (λ made. plain_flattened made ≡ code.augmented (leaves_of setting.now) (context_of setting.now) place target op op_place (plain_expr expr.now) (plain_spot spot.old)) }
 {
     let hoisted = combination(alloc, setting, spot, place, target, op, op_place, expr)?;
-    marked(alloc, hoisted.before, stored(target, hoisted.rest), spot.next)
+    marked(
+        alloc,
+        hoisted.before,
+        stored(target, hoisted.rest),
+        spot.next,
+    )
 }

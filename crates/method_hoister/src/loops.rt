@@ -13,14 +13,12 @@ ghost use Rattle.hoisting.specs.Spots.{item_ty as the_item_ty};
 ghost use Rattle.hoisting.specs.HoistStatements as spec;
 ghost use Rattle.method_hoister.specs.SmallCode as code;
 
-use hoisting::parts::with_set;
-use hoisting::copy_locals;
 use entity_types::types::{element_of, has_none};
 use flat_tree::{FlatStmts, FlatTest};
 use flow_types::{FlowEnv, Local, Locals, loop_head};
-use py_tree::nodes::{
-    apply_of, chain, comparison_of, index_of, int_of, link_of, list_of, var_of,
-};
+use hoisting::copy_locals;
+use hoisting::parts::with_set;
+use py_tree::nodes::{apply_of, chain, comparison_of, index_of, int_of, link_of, list_of, var_of};
 use py_tree::{BinOp, Cmp, Expr, Name, Place, Stmts, Ty};
 use sf_list::{Sequence, TryClone};
 use std::alloc::{AllocError, Global};

@@ -39,7 +39,14 @@ fn start_locals(
     requires method { IsSome (method_in program.now class method) }
     ensures { (m : PlainMethod) → method_in program.now class method ≡ Some m → IfOk result (λ locals. plain_locals locals ≡ spec.start_locals (checked_names program.now) (checked_program program.now) class method m) }
 {
-    match check_method(alloc, tables, program.program(), program.names(), class, method) {
+    match check_method(
+        alloc,
+        tables,
+        program.program(),
+        program.names(),
+        class,
+        method,
+    ) {
         Ok(locals) => Ok(locals),
         Err(RuleError::Fault(_)) => Ok(Sequence::new(alloc)),
         Err(RuleError::NoMemory) => Err(AllocError),

@@ -10,14 +10,13 @@ ghost use Rattle.hoisting.specs.HoistStatements as spec;
 ghost use Rattle.method_hoister.specs.SmallCode as code;
 ghost use Rattle.hoisting.specs.Views.{plain_spot, context_of, leaves_of, forms_of};
 
-use expression_hoister::value;
-use expression_hoister::kinds::posed;
 use crate::loops::{ListNames, head_locals, list_start, with_local};
-use hoisting::parts::settle;
-use hoisting::Setting;
-use hoisting::{Spot, surely};
 use block_code::VarTypes;
+use expression_hoister::kinds::posed;
+use expression_hoister::value;
 use flat_tree::FlatStmts;
+use hoisting::parts::settle;
+use hoisting::{Setting, Spot, surely};
 use py_tree::nodes::int_of;
 use py_tree::{Expr, Name, Place, Stmts, Ty};
 use sf_list::TryClone;

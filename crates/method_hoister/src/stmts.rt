@@ -14,15 +14,14 @@ ghost use Rattle.method_hoister.specs.StatementViews.{plain_flattened, plain_bod
 use crate::code::{
     Flattened, asserted, assigned, augmented, code_of, evaluated, marked, raised, returned, stepped,
 };
-use expression_hoister::test;
 use crate::jumps::jumps;
 use crate::loops::{item_ty, list_test, list_turn, range_test, range_turn, while_locals};
 use crate::ranges::{inside_for, list_before, range_before};
-use hoisting::Setting;
-use hoisting::{Spot, surely, where_shown};
 use block_code::VarTypes;
+use expression_hoister::test;
 use flat_tree::{FlatArm, FlatArms, FlatStmt, FlatStmts};
 use flow_types::Locals;
+use hoisting::{Setting, Spot, surely, where_shown};
 use py_tree::{Arm, Arms, Expr, Name, Over, Place, Stmt, StmtKind, Stmts, Ty, goes_on};
 use sf_list::Sequence;
 use std::alloc::{AllocError, Global};
@@ -180,7 +179,14 @@ fn arm_code(
     ensures behind { OnOk result (plain_spot spot.new ≡ code.behind_arm (leaves_of setting.now) (context_of setting.now) (plain_arm arm.now) (plain_spot spot.old)) }
 {
     let tested = test(alloc, setting, spot, &arm.test)?;
-    let body = body_where(alloc, setting, &spot.locals, &arm.test, tested.next, &arm.body)?;
+    let body = body_where(
+        alloc,
+        setting,
+        &spot.locals,
+        &arm.test,
+        tested.next,
+        &arm.body,
+    )?;
     *spot = where_shown(alloc, &spot.locals, &arm.test, false, body.next)?;
     let rest = surely(alloc, &spot.locals)?;
     Ok(FlatArm {

@@ -10,10 +10,10 @@ ghost use Rattle.flat_tree.specs.PlainFlat.{plain_flat_stmt};
 ghost use Rattle.hoisting.specs.HoistStatements as spec;
 ghost use Rattle.hoisting.specs.Views.{context_of};
 
-use hoisting::Setting;
 use entity_types::lookup::field_of;
 use flat_tree::FlatStmt;
 use flow_types::{Local, Locals};
+use hoisting::Setting;
 use py_tree::nodes::{attribute, self_of, var_of};
 use py_tree::{Expr, Name, Place, Target, Ty};
 use sf_list::TryClone;
@@ -83,7 +83,10 @@ pub fn target_ty(
     match target {
         Target::Local(x) => copy_wanted(alloc, type_before(locals.as_slice(), x.name)),
         Target::Field(f) => {
-            copy_wanted(alloc, field_of(setting.tables.as_slice(), setting.class, f.name))
+            copy_wanted(
+                alloc,
+                field_of(setting.tables.as_slice(), setting.class, f.name),
+            )
         }
     }
 }

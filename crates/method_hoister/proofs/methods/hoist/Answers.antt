@@ -20,6 +20,6 @@ returns c =
     let stands = sig_stands (checked_names p) (checked_program p) class method m (class_of_method (checked_names p) (checked_program p) class method m is) in
     let params = c.in_ok-params.ensures ∙ ap (λ s. map var_of_param (params_of_sig s)) (ap (λ t. sig_at t class method) c.requires.tables ∙ stands) in
     let body : plain_flattened c.in_ok-body.body ≡ _ =
-        c.in_ok-body.ensures
-        ∙ (λ j. flat_all (leaving_in p c.args.calls.now class) (in_method (c.requires.tables j) class method) (stmts_of ((c.body_of.ensures ∙ ap body_of is) j)) (record { locals = c.in_ok-locals.ensures m is j; next = (c.count.ensures.count ∙ ap length c.names.ensures) j })) in
+    c.in_ok-body.ensures
+    ∙ (λ j. flat_all (leaving_in p c.args.calls.now class) (in_method (c.requires.tables j) class method) (stmts_of ((c.body_of.ensures ∙ ap body_of is) j)) (record { locals = c.in_ok-locals.ensures m is j; next = (c.count.ensures.count ∙ ap length c.names.ensures) j })) in
     λ j. record { params = params j; body = (body j).code }

@@ -17,11 +17,11 @@ invariant-flat_all-loop-stmt l =
 abbrev pub invariant-arms_code-loop-arm : goal.invariant-arms_code-loop-arm
 invariant-arms_code-loop-arm l = record {
   arms :
-    after_arms (plain_flat_arms l.made) (flat_arms (leaves_of l.setting) (context_of l.setting) (arms_of (plain_arms (drop l.arm-index l.arms))) (plain_spot l.behind))
-    ≡ flat_arms (leaves_of l.setting) (context_of l.setting) (arms_of (plain_arms l.arms)) (plain_spot l.spot);
+      after_arms (plain_flat_arms l.made) (flat_arms (leaves_of l.setting) (context_of l.setting) (arms_of (plain_arms (drop l.arm-index l.arms))) (plain_spot l.behind))
+      ≡ flat_arms (leaves_of l.setting) (context_of l.setting) (arms_of (plain_arms l.arms)) (plain_spot l.spot);
   behind :
-    (other_spot (leaves_of l.setting) (context_of l.setting) (arms_of (plain_arms (drop l.arm-index l.arms))) (plain_spot l.behind)).locals
-    ≡ (other_spot (leaves_of l.setting) (context_of l.setting) (arms_of (plain_arms l.arms)) (plain_spot l.spot)).locals;
+      (other_spot (leaves_of l.setting) (context_of l.setting) (arms_of (plain_arms (drop l.arm-index l.arms))) (plain_spot l.behind)).locals
+      ≡ (other_spot (leaves_of l.setting) (context_of l.setting) (arms_of (plain_arms l.arms)) (plain_spot l.spot)).locals;
 }
 
 abbrev pub decreases-statement : goal.decreases-statement
