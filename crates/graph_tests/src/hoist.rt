@@ -8,8 +8,8 @@ ghost use Rattle.entity_tables.specs.Views.{plain_tables};
 
 use crate::flat_text::tell_flat;
 use call_graph::{CallGraph, graph};
-use program_text::{Accepted, accept};
 use method_hoister::hoist;
+use program_text::{Accepted, accept};
 use std::alloc::Global;
 use std::test::Fail;
 use test_support::{SHOP, Setting, rows, text_in};
