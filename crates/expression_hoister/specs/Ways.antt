@@ -67,7 +67,8 @@ module _ (leaves : Leaving) (c : Context) where
 
   -- the kinds of which a part suspends: a call, as an expression of this type
   abbrev pub call_value : PlainTy → Place → PlainExpr → ℕ → Place → PlainExprs → Spot → Hoisted PlainExpr
-  call_value ty at on name name_at args h = call_of c (leaves on name) at ty (ty_at c None h.locals on) name name_at (call_form on (by_params (method_params c (ty_at c None h.locals on) name)) args h)
+  call_value ty at on name name_at args h =
+      call_of c (leaves on name) at ty (ty_at c None h.locals on) name name_at (call_form on (by_params (method_params c (ty_at c None h.locals on) name)) args h)
 
   abbrev pub apply_value : PlainTy → Place → ℕ → PlainExprs → Spot → Hoisted PlainExpr
   apply_value ty at name args h = apply_of c (is_none (function_of name)) at ty name (each_form (by_function c (function_of name) name) args h)
@@ -78,7 +79,8 @@ module _ (leaves : Leaving) (c : Context) where
   -- a run
   abbrev pub run_value : Place → PlainExpr → PlainLinks → Spot → Hoisted PlainExpr
   run_value at first PNoLink h = built (λ r. PChain at r PNoLink) ((forms leaves c first).value None h)
-  run_value at first links h = so_far at (taken_links leaves c at (ty_at c None h.locals first) links (chain_of (lasts leaves first) ((forms leaves c first).value None h)))
+  run_value at first links h =
+      so_far at (taken_links leaves c at (ty_at c None h.locals first) links (chain_of (lasts leaves first) ((forms leaves c first).value None h)))
 
   -- `and` or `or`
   abbrev pub truth_value : Place → PlainExpr → Bool → PlainExprs → Spot → Hoisted PlainExpr

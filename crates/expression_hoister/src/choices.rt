@@ -8,7 +8,8 @@ ghost use Rattle.block_code.specs.PlainVars.{plain_vars};
 ghost use Rattle.flat_tree.specs.PlainFlat.{plain_flat_stmt, plain_flat_stmts, plain_flat_arm, plain_flat_test, flat_stmts_of, FIf, FNoArm, FMoreArms, FNot};
 ghost use Rattle.hoisting.specs.HoistExpressions as spec;
 ghost use Rattle.expression_hoister.specs.Ways as ways;
-ghost use Rattle.expression_hoister.specs.Ways.{choice_of, way_where};
+ghost use Rattle.expression_hoister.specs.Ways.{way_where};
+ghost use Rattle.expression_hoister.specs.ExpressionViews as gives;
 ghost use Rattle.hoisting.specs.Views.{hoisted_at};
 ghost use Rattle.expression_hoister.specs.ExpressionViews.{plain_tested, plain_tested_each, plain_way};
 
@@ -117,7 +118,7 @@ pub fn if_stmt(
     other: FlatStmts,
     after: VarTypes,
 ) -> Result<FlatStmt, AllocError>
-    ensures { IfOk result (λ made. plain_flat_stmt made ≡ FIf (FMoreArms (plain_flat_arm arm) FNoArm) (flat_stmts_of (plain_flat_stmts other)) (Some (plain_vars after))) }
+    ensures { IfOk result (λ made. plain_flat_stmt made ≡ gives.one_armed arm other after) }
 {
     let mut arms = Sequence::new(alloc);
     arms.push(alloc, arm)?;
@@ -138,7 +139,7 @@ pub fn choose(
     holds: Way,
     fails: Way,
 ) -> Result<Hoisted, AllocError>
-    ensures { IfOk result (λ made. hoisted_at made spot.new ≡ choice_of place (plain_ty ty) (plain_locals spot.old.locals) (plain_flat_test test) (plain_way holds) (plain_way fails)) }
+    ensures { IfOk result (λ made. hoisted_at made spot.new ≡ gives.choice_in place ty spot.old test holds fails) }
 {
     spot.next = fails.next;
     let into = spot.add_temporary(alloc, ty)?;

@@ -1,16 +1,11 @@
 //! Expressions of which a part suspends, as values and as tests.
 
-ghost use Rattle.std.specs.Prelude.{◌≡◌, None, is_none, IfOk, OnOk};
-ghost use Rattle.py_tree.specs.PlainTypes.{plain_ty};
-ghost use Rattle.py_tree.specs.PlainExpressions.{plain_expr, plain_exprs, exprs_of, plain_link, plain_links, links_of};
-ghost use Rattle.entity_types.specs.Views.{plain_locals, plain_wanted};
+ghost use Rattle.std.specs.Prelude.{◌≡◌, None, IfOk, OnOk};
 ghost use Rattle.flat_tree.specs.PlainFlat.{plain_operand};
-ghost use Rattle.py_tree.specs.ExpressionTypes.{function_of as the_function_of};
 ghost use Rattle.hoisting.specs.HoistExpressions as hoist;
-ghost use Rattle.hoisting.specs.HoistExpressions.{taken_each, taken_links, taken_operands};
-ghost use Rattle.expression_hoister.specs.Ways as spec;
-ghost use Rattle.hoisting.specs.Views.{plain_spot, context_of, leaves_of, ty_in, hoisted_at, each_at, call_at, two_at, forms_of};
-ghost use Rattle.expression_hoister.specs.ExpressionViews.{run_at, plain_tested, plain_tested_each, plain_way, plain_each_wanted};
+ghost use Rattle.hoisting.specs.Views.{plain_spot, hoisted_at, each_at, call_at, two_at, forms_of};
+ghost use Rattle.expression_hoister.specs.ExpressionViews as gives;
+ghost use Rattle.expression_hoister.specs.ExpressionViews.{run_at, plain_tested, plain_tested_each, plain_way};
 
 use crate::choices::{Tested, TestedEach, Way, choose, junction, leaf, literal_way, not_test};
 use crate::kinds::{
@@ -42,7 +37,7 @@ fn finish_call(
     name: PlacedName,
     parts: HoistedCall,
 ) -> Result<Hoisted, AllocError>
-    ensures { IfOk result (λ made. hoisted_at made spot.new ≡ hoist.call_of (context_of setting.now) leaves place (plain_ty ty) (plain_ty on_ty.now) name.name.0 name.place (call_at parts spot.old)) }
+    ensures { IfOk result (λ made. hoisted_at made spot.new ≡ gives.called_in setting.now leaves place ty on_ty.now name parts spot.old) }
 {
     if leaves {
         return wait_call(alloc, setting, spot, place, ty, on_ty, name, parts);
@@ -61,7 +56,7 @@ fn finish_apply(
     name: Name,
     args: HoistedEach,
 ) -> Result<Hoisted, AllocError>
-    ensures { IfOk result (λ made. hoisted_at made spot.new ≡ hoist.apply_of (context_of setting.now) (is_none (the_function_of name.0)) place (plain_ty ty) name.0 (each_at args spot.old)) }
+    ensures { IfOk result (λ made. hoisted_at made spot.new ≡ gives.applied_in setting.now place ty name args spot.old) }
 {
     if function_of(name).is_none() {
         return wait_creation(alloc, setting, spot, place, ty, name, args);
@@ -80,7 +75,7 @@ pub fn value(
     wanted: Option<&Ty>,
     expr: &Expr,
 ) -> Result<Hoisted, AllocError>
-    ensures { IfOk result (λ made. hoisted_at made spot.new ≡ (forms_of setting.now expr.now).value (plain_wanted wanted.entry) (plain_spot spot.old)) }
+    ensures { IfOk result (λ made. hoisted_at made spot.new ≡ gives.value_in setting.now wanted.entry expr.now spot.old) }
 {
     if !setting.suspends(expr) {
         return still(alloc, spot, expr);
@@ -142,7 +137,7 @@ fn kept_value(
     expr: &Expr,
     later: bool,
 ) -> Result<Hoisted, AllocError>
-    ensures { IfOk result (λ made. hoisted_at made spot.new ≡ spec.kept_form (leaves_of setting.now) (context_of setting.now) later (plain_wanted wanted.entry) (plain_expr expr.now) (plain_spot spot.old)) }
+    ensures { IfOk result (λ made. hoisted_at made spot.new ≡ gives.kept_in setting.now later wanted.entry expr.now spot.old) }
 {
     if !later || lasts(setting, expr) {
         return value(alloc, setting, spot, wanted, expr);
@@ -161,7 +156,7 @@ fn two(
     first: &Expr,
     second: &Expr,
 ) -> Result<HoistedTwo, AllocError>
-    ensures { IfOk result (λ made. two_at made spot.new ≡ spec.two_forms (leaves_of setting.now) (context_of setting.now) (plain_expr first.now) (plain_expr second.now) (plain_spot spot.old)) }
+    ensures { IfOk result (λ made. two_at made spot.new ≡ gives.two_in setting.now first.now second.now spot.old) }
 {
     let later = setting.suspends(second);
     let first = kept_value(alloc, setting, spot, None, first, later)?;
@@ -178,7 +173,7 @@ fn each(
     wanted: &[Option<Ty>],
     items: &[Expr],
 ) -> Result<HoistedEach, AllocError>
-    ensures { IfOk result (λ made. each_at made spot.new ≡ taken_each (leaves_of setting.now) (context_of setting.now) (plain_each_wanted wanted.now) (exprs_of (plain_exprs items.now)) (plain_spot spot.old)) }
+    ensures { IfOk result (λ made. each_at made spot.new ≡ gives.each_in setting.now wanted.now items.now spot.old) }
 {
     let count = up_to_last(setting, items);
     let mut before = Sequence::new(alloc);
@@ -202,7 +197,7 @@ fn call_parts(
     wanted: &[Option<Ty>],
     args: &Exprs,
 ) -> Result<HoistedCall, AllocError>
-    ensures { IfOk result (λ made. call_at made spot.new ≡ spec.call_form (leaves_of setting.now) (context_of setting.now) (plain_expr on.now) (plain_each_wanted wanted.now) (exprs_of (plain_exprs args.now)) (plain_spot spot.old)) }
+    ensures { IfOk result (λ made. call_at made spot.new ≡ gives.parts_in setting.now on.now wanted.now args.now spot.old) }
 {
     let later = setting.any_suspends(args);
     let on = kept_value(alloc, setting, spot, None, on, later)?;
@@ -222,7 +217,7 @@ fn call(
     name: PlacedName,
     args: &Exprs,
 ) -> Result<Hoisted, AllocError>
-    ensures { IfOk result (λ made. hoisted_at made spot.new ≡ spec.call_value (leaves_of setting.now) (context_of setting.now) (ty_in setting.now (plain_locals spot.old.locals) (plain_wanted wanted.entry) (plain_expr expr.now)) expr.now.place (plain_expr on.now) name.name.0 name.place (exprs_of (plain_exprs args.now)) (plain_spot spot.old)) }
+    ensures { IfOk result (λ made. hoisted_at made spot.new ≡ gives.call_in setting.now wanted.entry expr.now on.now name args.now spot.old) }
 {
     let on_ty = setting.ty_at(alloc, &spot.locals, None, on)?;
     let ty = setting.ty_at(alloc, &spot.locals, wanted, expr)?;
@@ -246,7 +241,7 @@ fn apply(
     name: Name,
     args: &Exprs,
 ) -> Result<Hoisted, AllocError>
-    ensures { IfOk result (λ made. hoisted_at made spot.new ≡ spec.apply_value (leaves_of setting.now) (context_of setting.now) (ty_in setting.now (plain_locals spot.old.locals) (plain_wanted wanted.entry) (plain_expr expr.now)) expr.now.place name.0 (exprs_of (plain_exprs args.now)) (plain_spot spot.old)) }
+    ensures { IfOk result (λ made. hoisted_at made spot.new ≡ gives.apply_in setting.now wanted.entry expr.now name args.now spot.old) }
 {
     let ty = setting.ty_at(alloc, &spot.locals, wanted, expr)?;
     let wanted = by_function(alloc, setting, name)?;
@@ -265,7 +260,7 @@ fn list(
     place: Place,
     items: &Exprs,
 ) -> Result<Hoisted, AllocError>
-    ensures { IfOk result (λ made. hoisted_at made spot.new ≡ spec.list_value (leaves_of setting.now) (context_of setting.now) (plain_wanted wanted.entry) place (exprs_of (plain_exprs items.now)) (plain_spot spot.old)) }
+    ensures { IfOk result (λ made. hoisted_at made spot.new ≡ gives.list_in setting.now wanted.entry place items.now spot.old) }
 {
     let items = items.as_slice();
     let wanted = by_elements(alloc, setting, &spot.locals, element_wanted(wanted), items)?;
@@ -284,7 +279,7 @@ fn run(
     first: &Expr,
     links: &Links,
 ) -> Result<Hoisted, AllocError>
-    ensures { IfOk result (λ made. hoisted_at made spot.new ≡ spec.run_value (leaves_of setting.now) (context_of setting.now) place (plain_expr first.now) (links_of (plain_links links.now)) (plain_spot spot.old)) }
+    ensures { IfOk result (λ made. hoisted_at made spot.new ≡ gives.run_in setting.now place first.now links.now spot.old) }
 {
     if links.is_empty() {
         let first = value(alloc, setting, spot, None, first)?;
@@ -309,7 +304,7 @@ fn linked(
     start: Run,
     links: &[Link],
 ) -> Result<Run, AllocError>
-    ensures { IfOk result (λ made. run_at made spot.new ≡ taken_links (leaves_of setting.now) (context_of setting.now) place (plain_ty ty.now) (links_of (plain_links links.now)) (run_at start spot.old)) }
+    ensures { IfOk result (λ made. run_at made spot.new ≡ gives.linked_in setting.now place ty.now links.now start spot.old) }
 {
     let mut made = start;
     for link in links {
@@ -329,7 +324,7 @@ fn link_on(
     run: Run,
     link: &Link,
 ) -> Result<Run, AllocError>
-    ensures { IfOk result (λ made. run_at made spot.new ≡ spec.link_more (leaves_of setting.now) (context_of setting.now) place (plain_ty ty.now) (plain_link link.now) (run_at run spot.old)) }
+    ensures { IfOk result (λ made. run_at made spot.new ≡ gives.link_in setting.now place ty.now link.now run spot.old) }
 {
     if !setting.suspends(&link.right) {
         return add_link(alloc, spot, run, link);
@@ -349,7 +344,7 @@ fn truth(
     is_and: bool,
     items: &Exprs,
 ) -> Result<Hoisted, AllocError>
-    ensures { IfOk result (λ made. hoisted_at made spot.new ≡ spec.truth_value (leaves_of setting.now) (context_of setting.now) expr.now.place (plain_expr expr.now) is_and (exprs_of (plain_exprs items.now)) (plain_spot spot.old)) }
+    ensures { IfOk result (λ made. hoisted_at made spot.new ≡ gives.truth_in setting.now expr.now is_and items.now spot.old) }
 {
     let place = expr.place;
     let tested = operands(alloc, setting, spot, is_and, items.as_slice())?;
@@ -371,7 +366,7 @@ fn cond(
     yes: &Expr,
     no: &Expr,
 ) -> Result<Hoisted, AllocError>
-    ensures { IfOk result (λ made. hoisted_at made spot.new ≡ spec.cond_value (leaves_of setting.now) (context_of setting.now) (plain_wanted wanted.entry) (ty_in setting.now (plain_locals spot.old.locals) (plain_wanted wanted.entry) (plain_expr expr.now)) expr.now.place (plain_expr decider.now) (plain_expr yes.now) (plain_expr no.now) (plain_spot spot.old)) }
+    ensures { IfOk result (λ made. hoisted_at made spot.new ≡ gives.cond_in setting.now wanted.entry expr.now decider.now yes.now no.now spot.old) }
 {
     let ty = setting.ty_at(alloc, &spot.locals, wanted, expr)?;
     let tested = test(alloc, setting, spot, decider)?;
@@ -404,7 +399,7 @@ fn way(
     wanted: Option<&Ty>,
     expr: &Expr,
 ) -> Result<Way, AllocError>
-    ensures { IfOk result (λ made. plain_way made ≡ spec.way_where truth (plain_expr decider.now) (plain_locals locals.now) next ((forms_of setting.now expr.now).value (plain_wanted wanted.entry))) }
+    ensures { IfOk result (λ made. plain_way made ≡ gives.way_in setting.now truth decider.now locals.now next wanted.entry expr.now) }
 {
     let mut spot = where_shown(alloc, locals, decider, truth, next)?;
     let start = surely(alloc, &spot.locals)?;
@@ -488,7 +483,7 @@ fn operands(
     truth: bool,
     items: &[Expr],
 ) -> Result<TestedEach, AllocError>
-    ensures { IfOk result (λ made. plain_tested_each made ≡ taken_operands (leaves_of setting.now) (context_of setting.now) truth (exprs_of (plain_exprs items.now)) (plain_spot spot.now)) }
+    ensures { IfOk result (λ made. plain_tested_each made ≡ gives.operands_in setting.now truth items.now spot.now) }
 {
     let mut here = spot.copied(alloc)?;
     let mut made = Sequence::new(alloc);
@@ -510,8 +505,8 @@ fn operand(
     truth: bool,
     expr: &Expr,
 ) -> Result<Operand, AllocError>
-    ensures operand { IfOk result (λ made. plain_operand made ≡ spec.operand_of (leaves_of setting.now) (context_of setting.now) truth (plain_expr expr.now) (plain_spot spot.old)) }
-    ensures behind { OnOk result (plain_spot spot.new ≡ spec.behind_operand (leaves_of setting.now) (context_of setting.now) truth (plain_expr expr.now) (plain_spot spot.old)) }
+    ensures operand { IfOk result (λ made. plain_operand made ≡ gives.operand_in setting.now truth expr.now spot.old) }
+    ensures behind { OnOk result (plain_spot spot.new ≡ gives.behind_in setting.now truth expr.now spot.old) }
 {
     let tested = test(alloc, setting, spot, expr)?;
     let behind = where_shown(alloc, &spot.locals, expr, truth, tested.next)?;

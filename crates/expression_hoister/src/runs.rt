@@ -1,10 +1,10 @@
 //! Runs of operators, link by link.
 
 ghost use Rattle.std.specs.Prelude.{◌≡◌, IfOk};
-ghost use Rattle.py_tree.specs.PlainTypes.{plain_ty};
-ghost use Rattle.py_tree.specs.PlainExpressions.{plain_expr, plain_link, plain_links, PLink};
+ghost use Rattle.py_tree.specs.PlainExpressions.{plain_expr, plain_link, plain_links};
 ghost use Rattle.hoisting.specs.HoistExpressions as spec;
 ghost use Rattle.hoisting.specs.Views.{hoisted_at};
+ghost use Rattle.expression_hoister.specs.ExpressionViews as gives;
 ghost use Rattle.expression_hoister.specs.ExpressionViews.{run_at};
 
 use flat_tree::FlatStmts;
@@ -93,7 +93,7 @@ pub fn settle_run(
     ty: &Ty,
     run: Run,
 ) -> Result<Hoisted, AllocError>
-    ensures { IfOk result (λ made. hoisted_at made spot.new ≡ spec.settled_unless run.lasting place (plain_ty ty.now) (spec.so_far place (run_at run spot.old))) }
+    ensures { IfOk result (λ made. hoisted_at made spot.new ≡ gives.settled_run place ty.now run spot.old) }
 {
     let lasting = run.lasting;
     let left = so_far(alloc, spot, place, run)?;
@@ -112,7 +112,7 @@ pub fn begin_anew(
     link: &Link,
     right: Hoisted,
 ) -> Result<Run, AllocError>
-    ensures { IfOk result (λ made. run_at made spot.now ≡ spec.begun_anew (hoisted_at left spot.now) (PLink link.now.op link.now.place) (hoisted_at right spot.now)) }
+    ensures { IfOk result (λ made. run_at made spot.now ≡ gives.anew_at left link.now right spot.now) }
 {
     let mut before = left.before;
     before.append(alloc, right.before)?;

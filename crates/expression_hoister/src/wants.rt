@@ -6,9 +6,10 @@ ghost use Rattle.py_tree.specs.PlainExpressions.{plain_exprs, exprs_of};
 ghost use Rattle.py_tree.specs.ExpressionTypes.{function_of as the_function_of};
 ghost use Rattle.call_graph.specs.SuspendingCode.{exprs_suspend};
 ghost use Rattle.entity_tables.specs.Views.{plain_sig_param};
-ghost use Rattle.entity_types.specs.Views.{plain_locals, plain_wanted};
+ghost use Rattle.entity_types.specs.Views.{plain_wanted};
 ghost use Rattle.hoisting.specs.HoistExpressions as spec;
 ghost use Rattle.hoisting.specs.Views.{context_of, leaves_of};
+ghost use Rattle.expression_hoister.specs.ExpressionViews as gives;
 ghost use Rattle.expression_hoister.specs.ExpressionViews.{plain_each_wanted};
 
 use entity_tables::SigParam;
@@ -41,7 +42,7 @@ pub fn by_params(alloc: Global, params: &[SigParam]) -> Result<EachWanted, Alloc
 
 /// Adds one type for each of these expressions.
 fn add_same(alloc: Global, made: &mut EachWanted, ty: &Ty, items: &[Expr]) -> Result<(), AllocError>
-    ensures { OnOk result (plain_each_wanted made.new ≡ plain_each_wanted made.old ++ spec.each_wanted (Some (plain_ty ty.now)) (exprs_of (plain_exprs items.now))) }
+    ensures { OnOk result (plain_each_wanted made.new ≡ plain_each_wanted made.old ++ gives.same_wanted ty.now items.now) }
 {
     for item in items {
         add_wanted(alloc, made, ty)?;
@@ -57,7 +58,7 @@ pub fn by_elements(
     wanted: Option<&Ty>,
     items: &[Expr],
 ) -> Result<EachWanted, AllocError>
-    ensures { IfOk result (λ made. plain_each_wanted made ≡ spec.by_elements (context_of setting.now) (plain_wanted wanted.entry) (plain_locals locals.now) (exprs_of (plain_exprs items.now))) }
+    ensures { IfOk result (λ made. plain_each_wanted made ≡ gives.elements_wanted setting.now wanted.entry locals.now items.now) }
 {
     let mut made = Sequence::new(alloc);
     if let Some(ty) = wanted {

@@ -50,7 +50,9 @@ list_start at t = FSet (t + 2) (PList at PNoExpr) ∷ FSet t (plus at (PVar at (
 
 module _ (leaves : Leaving) (c : Context) where
   abbrev pub evaluated : Place → PlainExpr → Spot → Flattened (List PlainFlatStmt)
-  evaluated at e h = let a = settled_unless (lasts leaves e) at (ty_at c None h.locals e) ((forms leaves c e).value None h) in record { code = FMark ∷ a.before; next = a.spot.next }
+  evaluated at e h =
+      let a = settled_unless (lasts leaves e) at (ty_at c None h.locals e) ((forms leaves c e).value None h) in
+      record { code = FMark ∷ a.before; next = a.spot.next }
 
   abbrev pub returned : Place → Option PlainExpr → Spot → Flattened (List PlainFlatStmt)
   returned at e h = marked (λ r. FGive (value_or_nil at r)) (optional leaves c (Some (result_at c)) e h)

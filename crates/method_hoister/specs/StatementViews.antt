@@ -1,24 +1,42 @@
--- The trees that functions make, as the definition has them.
-use Rattle.std.specs.Prelude.{ℕ, List, slice_get}
+-- The trees that functions make, as the definition has them, and what functions give.
+use Rattle.std.specs.Prelude.{◌≡◌, ℕ, Bool, List, Some, None, slice_get}
 use Rattle.std.specs.declared.option.Option.{Option}
-use Rattle.py_tree.specs.PlainExpressions.{PlainExpr, plain_expr}
-use Rattle.py_tree.specs.PlainStatements.{plain_option}
+use Rattle.std.specs.Borrow.{Bor}
+use Rattle.py_tree.specs.declared.names.Name.{Name}
+use Rattle.py_tree.specs.declared.names.Place.{Place}
+use Rattle.py_tree.specs.declared.ty.Ty.{Ty}
+use Rattle.py_tree.specs.declared.expr.BinOp.{BinOp}
+use Rattle.py_tree.specs.declared.expr.Expr.{Expr}
+use Rattle.py_tree.specs.declared.stmt.Target.{Target}
+use Rattle.py_tree.specs.declared.stmt.Stmt.{Stmt}
+use Rattle.py_tree.specs.declared.stmt.Arm.{Arm}
+use Rattle.py_tree.specs.declared.checked.Checked.{Checked}
+use Rattle.py_tree.specs.PlainTypes.{plain_ty}
+use Rattle.py_tree.specs.PlainExpressions.{PlainExpr, PChain, PLink, PNoLink, PMoreLinks, plain_expr}
+use Rattle.py_tree.specs.PlainStatements.{PlainOver, PRange, plain_option, plain_stmt, plain_stmts, stmts_of, plain_arm, plain_arms, arms_of}
 use Rattle.py_tree.specs.PlainProgram.{PlainMethod}
 use Rattle.py_tree.specs.ClassRules.{methods_of}
 use Rattle.py_tree.specs.Acceptance.{members_at}
 use Rattle.py_tree.specs.CheckedViews.{checked_program, checked_names}
-use Rattle.py_tree.specs.declared.checked.Checked.{Checked}
+use Rattle.py_tree.specs.FlowEnvironment.{PlainLocal}
+use Rattle.entity_types.specs.declared.env.Local.{Local}
+use Rattle.entity_types.specs.Views.{plain_locals, plain_wanted}
+use Rattle.block_code.specs.declared.vars.VarType.{VarType}
 use Rattle.block_code.specs.PlainVars.{plain_vars}
-use Rattle.flat_tree.specs.PlainFlat.{PlainFlatStmt, PlainFlatArms, flat_arms_of, plain_flat_stmts, plain_flat_arms}
+use Rattle.flat_tree.specs.PlainFlat.{Point, PlainFlat, PlainFlatStmt, PlainFlatArm, PlainFlatArms, flat_arms_of, plain_flat_stmts, plain_flat_arms}
+use Rattle.hoisting.specs.declared.parts.Hoisted.{Hoisted}
 use Rattle.hoisting.specs.declared.spots.Spot.{Spot}
-use Rattle.hoisting.specs.HoistExpressions.{Hoisted as PlainHoisted}
-use Rattle.hoisting.specs.HoistStatements.{Flattened as PlainFlattened}
-use Rattle.hoisting.specs.Views.{plain_spot}
+use Rattle.hoisting.specs.declared.setting.Setting.{Setting}
+use Rattle.hoisting.specs.Spots as spots
+use Rattle.hoisting.specs.HoistExpressions.{Hoisted as PlainHoisted, still, in_turn, settled, settled_unless, lasts}
+use Rattle.hoisting.specs.HoistStatements.{Flattened as PlainFlattened, body_spot, read_of, optional, combination, failure_of, asserted, range_start, range_end, opened, flat_all, flat_arms, other_spot, flat}
+use Rattle.hoisting.specs.FlatMethods.{start_locals, flat_method}
+use Rattle.hoisting.specs.Views.{plain_spot, context_of, leaves_of, ty_in, forms_of, hoisted_at}
 use Rattle.method_hoister.specs.declared.code.HoistedMaybe.{HoistedMaybe}
 use Rattle.method_hoister.specs.declared.code.Flattened.{Flattened}
 use Rattle.method_hoister.specs.declared.stmts.Body.{Body}
 use Rattle.method_hoister.specs.declared.stmts.ArmsCode.{ArmsCode}
-use Rattle.method_hoister.specs.SmallCode.{PlainBody}
+use Rattle.method_hoister.specs.SmallCode.{PlainBody, head_point, evaluated, returned, raised, assigned, augmented, list_before, start_number, end_number, range_before, range_spot, body_where, arm_code, behind_arm, choice_code, while_code, for_loop}
 
 abbrev pub maybe_at : HoistedMaybe → Spot → PlainHoisted (Option PlainExpr)
 maybe_at a h = record { before = plain_flat_stmts a.before; rest = plain_option plain_expr a.rest; spot = plain_spot h }
@@ -35,3 +53,127 @@ plain_arms_code a = record { code = flat_arms_of (plain_flat_arms a.arms); next 
 -- the method of this number, in the class of that number
 abbrev pub method_in : Checked → ℕ → ℕ → Option PlainMethod
 method_in program class method = slice_get (methods_of (checked_names program) (members_at (checked_program program) class)) method
+
+-- What functions give, in the method at hand
+module _ (s : Setting) where
+  -- what is known behind an expression
+  abbrev pub behind_value : Expr → Spot → spots.Spot
+  behind_value e h = ((forms_of s e).value None (plain_spot h)).spot
+
+  abbrev pub settled_in : Place → Expr → Spot → PlainHoisted PlainExpr
+  settled_in at e h =
+      settled_unless (lasts (leaves_of s) (plain_expr e)) at (ty_in s (plain_locals h.locals) None (plain_expr e)) ((forms_of s e).value None (plain_spot h))
+
+  abbrev pub evaluated_in : Place → Expr → Spot → PlainFlattened (List PlainFlatStmt)
+  evaluated_in at e h = evaluated (leaves_of s) (context_of s) at (plain_expr e) (plain_spot h)
+
+  abbrev pub optional_in : Option (Bor Ty) → Option Expr → Spot → PlainHoisted (Option PlainExpr)
+  optional_in wanted e h = optional (leaves_of s) (context_of s) (plain_wanted wanted) (plain_option plain_expr e) (plain_spot h)
+
+  abbrev pub returned_in : Place → Option Expr → Spot → PlainFlattened (List PlainFlatStmt)
+  returned_in at e h = returned (leaves_of s) (context_of s) at (plain_option plain_expr e) (plain_spot h)
+
+  abbrev pub raised_in : ℕ → Option Expr → Spot → PlainFlattened (List PlainFlatStmt)
+  raised_in kind e h = raised (leaves_of s) (context_of s) kind (plain_option plain_expr e) (plain_spot h)
+
+  abbrev pub failure_in : Option Expr → Spot → PlainFlattened (List PlainFlatStmt)
+  failure_in e h = failure_of (leaves_of s) (context_of s) (plain_option plain_expr e) (plain_spot h)
+
+  abbrev pub asserted_in : Expr → Option Expr → Spot → PlainFlattened (List PlainFlatStmt)
+  asserted_in test e h = asserted (leaves_of s) (context_of s) (plain_expr test) (plain_option plain_expr e) (plain_spot h)
+
+  abbrev pub assignment_in : Target → Expr → Spot → PlainFlattened (List PlainFlatStmt)
+  assignment_in target e h = assigned (leaves_of s) (context_of s) target (plain_expr e) (plain_spot h)
+
+  abbrev pub combination_in : Place → Target → BinOp → Place → Expr → Spot → PlainHoisted PlainExpr
+  combination_in at target op op_at e h = combination (leaves_of s) (context_of s) at target op op_at (plain_expr e) (plain_spot h)
+
+  abbrev pub augmented_in : Place → Target → BinOp → Place → Expr → Spot → PlainFlattened (List PlainFlatStmt)
+  augmented_in at target op op_at e h = augmented (leaves_of s) (context_of s) at target op op_at (plain_expr e) (plain_spot h)
+
+  abbrev pub list_before_in : Place → Ty → Expr → Spot → List PlainFlatStmt
+  list_before_in at ty e h = list_before (leaves_of s) (context_of s) at (plain_ty ty) (plain_expr e) (plain_spot h)
+
+  abbrev pub range_end_in : Place → Expr → Spot → PlainHoisted PlainExpr
+  range_end_in at e h = range_end (leaves_of s) (context_of s) at (plain_expr e) (plain_spot h)
+
+  abbrev pub range_start_in : Place → Option Expr → Spot → PlainHoisted PlainExpr
+  range_start_in at e h = range_start (leaves_of s) (context_of s) at (plain_option plain_expr e) (plain_spot h)
+
+  abbrev pub start_number_in : Place → Option Expr → Spot → ℕ
+  start_number_in at e h = start_number (leaves_of s) (context_of s) at (plain_option plain_expr e) (plain_spot h)
+
+  abbrev pub end_number_in : Place → Option Expr → Expr → Spot → ℕ
+  end_number_in at from to h = end_number (leaves_of s) (context_of s) at (plain_option plain_expr from) (plain_expr to) (plain_spot h)
+
+  abbrev pub range_before_in : Place → Option Expr → Expr → Spot → List PlainFlatStmt
+  range_before_in at from to h = range_before (leaves_of s) (context_of s) at (plain_option plain_expr from) (plain_expr to) (plain_spot h)
+
+  abbrev pub range_spot_in : Place → Option Expr → Expr → Spot → spots.Spot
+  range_spot_in at from to h = range_spot (leaves_of s) (context_of s) at (plain_option plain_expr from) (plain_expr to) (plain_spot h)
+
+  abbrev pub flat_in : Stmt → Spot → PlainFlattened (List PlainFlatStmt)
+  flat_in x h = flat (leaves_of s) (context_of s) (plain_stmt x) (plain_spot h)
+
+  abbrev pub opened_in : Stmt → Spot → PlainFlattened (List PlainFlatStmt)
+  opened_in x h = opened (leaves_of s) (context_of s) (plain_stmt x) (plain_spot h)
+
+  abbrev pub flat_all_in : List Stmt → Spot → PlainFlattened (List PlainFlatStmt)
+  flat_all_in xs h = flat_all (leaves_of s) (context_of s) (stmts_of (plain_stmts xs)) (plain_spot h)
+
+  abbrev pub body_in : Expr → List Local → ℕ → List Stmt → PlainBody
+  body_in test locals next body = body_where (leaves_of s) (context_of s) (plain_expr test) (plain_locals locals) next (stmts_of (plain_stmts body))
+
+  abbrev pub arm_in : Arm → Spot → PlainFlatArm
+  arm_in arm h = arm_code (leaves_of s) (context_of s) (plain_arm arm) (plain_spot h)
+
+  abbrev pub behind_arm_in : Arm → Spot → spots.Spot
+  behind_arm_in arm h = behind_arm (leaves_of s) (context_of s) (plain_arm arm) (plain_spot h)
+
+  abbrev pub arms_in : List Arm → Spot → PlainFlattened PlainFlatArms
+  arms_in arms h = flat_arms (leaves_of s) (context_of s) (arms_of (plain_arms arms)) (plain_spot h)
+
+  abbrev pub other_in : List Arm → Spot → spots.Spot
+  other_in arms h = other_spot (leaves_of s) (context_of s) (arms_of (plain_arms arms)) (plain_spot h)
+
+  abbrev pub choice_in : List Arm → List Stmt → Option (List VarType) → Spot → PlainFlattened (List PlainFlatStmt)
+  choice_in arms other after h =
+      choice_code (leaves_of s) (context_of s) (arms_of (plain_arms arms)) (stmts_of (plain_stmts other)) (plain_option plain_vars after) (plain_spot h)
+
+  abbrev pub while_in : Expr → List Stmt → Option (List VarType) → Spot → PlainFlattened (List PlainFlatStmt)
+  while_in test body after h =
+      while_code (leaves_of s) (context_of s) (plain_expr test) (stmts_of (plain_stmts body)) (plain_option plain_vars after) (plain_spot h)
+
+  -- a `for` over what is given as a plain tree
+  abbrev pub for_in : Place → Name → PlainOver → List Stmt → Option (List VarType) → Spot → PlainFlattened (List PlainFlatStmt)
+  for_in at name over body after h =
+      for_loop (leaves_of s) (context_of s) at name.0 over (stmts_of (plain_stmts body)) (plain_option plain_vars after) (plain_spot h)
+
+  abbrev pub for_range_in : Place → Name → Option Expr → Expr → List Stmt → Option (List VarType) → Spot → PlainFlattened (List PlainFlatStmt)
+  for_range_in at name from to body after h = for_in at name (PRange (plain_option plain_expr from) (plain_expr to)) body after h
+
+-- at the head of a `for`, and where its body begins
+abbrev pub head_in : Name → List Stmt → Spot → Point
+head_in name body h = head_point name.0 (stmts_of (plain_stmts body)) (plain_spot h)
+
+abbrev pub body_spot_in : Name → Ty → List Stmt → Spot → spots.Spot
+body_spot_in name ty body h = body_spot name.0 (plain_ty ty) (stmts_of (plain_stmts body)) (plain_spot h)
+
+-- one operator over what is left of two expressions
+abbrev pub combined_at : Place → BinOp → Place → Hoisted → Hoisted → Spot → PlainHoisted PlainExpr
+combined_at at op op_at left right h = in_turn (λ l r. PChain at l (PMoreLinks (PLink op op_at r) PNoLink)) (hoisted_at left h) (λ g. hoisted_at right h)
+
+-- so it is for the method of this number, in the class of that number
+abbrev pub OfMethod : Checked → ℕ → ℕ → (PlainMethod → Type 0) → Type 0
+OfMethod program class method P = (m : PlainMethod) → method_in program class method ≡ Some m → P m
+
+-- the target of `x op= e` as it is read, in a temporary
+abbrev pub held_in : Place → Target → Ty → Spot → PlainHoisted PlainExpr
+held_in at target ty h = settled at (plain_ty ty) (still (read_of at target) (plain_spot h))
+
+-- the locals of a method where its body begins, and its flat method
+abbrev pub locals_in : Checked → ℕ → ℕ → PlainMethod → List PlainLocal
+locals_in program class method m = start_locals (checked_names program) (checked_program program) class method m
+
+abbrev pub flat_of : Checked → List (List Bool) → ℕ → ℕ → PlainMethod → PlainFlat
+flat_of program marks class method m = flat_method (checked_names program) (checked_program program) marks class method m

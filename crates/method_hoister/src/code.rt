@@ -1,16 +1,15 @@
 //! Flat code of statements that hold no others.
 
-ghost use Rattle.std.specs.Prelude.{◌≡◌, ◌∷◌, ◌++◌, [], Some, None, IfOk};
-ghost use Rattle.py_tree.specs.PlainTypes.{plain_ty};
-ghost use Rattle.py_tree.specs.PlainExpressions.{plain_expr, PChain, PLink, PMoreLinks, PNoLink};
+ghost use Rattle.std.specs.Prelude.{◌≡◌, ◌∷◌, ◌++◌, [], IfOk};
+ghost use Rattle.py_tree.specs.PlainExpressions.{plain_expr};
 ghost use Rattle.py_tree.specs.PlainStatements.{plain_option, plain_stmt};
-ghost use Rattle.entity_types.specs.Views.{plain_locals, plain_wanted};
+ghost use Rattle.entity_types.specs.Views.{plain_locals};
 ghost use Rattle.flat_tree.specs.PlainFlat.{plain_flat_stmt, plain_flat_stmts, plain_flat_arm, FMark, FCode};
-ghost use Rattle.hoisting.specs.HoistExpressions as hoist;
 ghost use Rattle.hoisting.specs.HoistStatements as spec;
-ghost use Rattle.method_hoister.specs.SmallCode as code;
-ghost use Rattle.hoisting.specs.Views.{plain_spot, context_of, leaves_of, ty_in, forms_of, hoisted_at};
+ghost use Rattle.hoisting.specs.Views.{hoisted_at};
 ghost use Rattle.expression_hoister.specs.ExpressionViews.{plain_tested};
+ghost use Rattle.method_hoister.specs.SmallCode as code;
+ghost use Rattle.method_hoister.specs.StatementViews as gives;
 ghost use Rattle.method_hoister.specs.StatementViews.{maybe_at, plain_flattened};
 
 use crate::targets::{read_of, stored, target_read, target_ty};
@@ -85,7 +84,7 @@ pub fn settled_value(
     place: Place,
     expr: &Expr,
 ) -> Result<Hoisted, AllocError>
-    ensures { IfOk result (λ made. hoisted_at made spot.new ≡ hoist.settled_unless (hoist.lasts (leaves_of setting.now) (plain_expr expr.now)) place (ty_in setting.now (plain_locals spot.old.locals) None (plain_expr expr.now)) ((forms_of setting.now expr.now).value None (plain_spot spot.old))) }
+    ensures { IfOk result (λ made. hoisted_at made spot.new ≡ gives.settled_in setting.now place expr.now spot.old) }
 {
     if lasts(setting, expr) {
         return value(alloc, setting, spot, None, expr);
@@ -103,7 +102,7 @@ pub fn evaluated(
     place: Place,
     expr: &Expr,
 ) -> Result<Flattened, AllocError>
-    ensures { IfOk result (λ made. plain_flattened made ≡ code.evaluated (leaves_of setting.now) (context_of setting.now) place (plain_expr expr.now) (plain_spot spot.old)) }
+    ensures { IfOk result (λ made. plain_flattened made ≡ gives.evaluated_in setting.now place expr.now spot.old) }
 {
     let hoisted = settled_value(alloc, setting, spot, place, expr)?;
     stepped(alloc, hoisted.before, spot.next)
@@ -117,7 +116,7 @@ pub fn optional(
     wanted: Option<&Ty>,
     expr: &Option<Expr>,
 ) -> Result<HoistedMaybe, AllocError>
-    ensures { IfOk result (λ made. maybe_at made spot.new ≡ spec.optional (leaves_of setting.now) (context_of setting.now) (plain_wanted wanted.entry) (plain_option plain_expr expr.now) (plain_spot spot.old)) }
+    ensures { IfOk result (λ made. maybe_at made spot.new ≡ gives.optional_in setting.now wanted.entry expr.now spot.old) }
 {
     match expr {
         None => Ok(HoistedMaybe {
@@ -153,7 +152,7 @@ pub fn returned(
     place: Place,
     expr: &Option<Expr>,
 ) -> Result<Flattened, AllocError>
-    ensures { IfOk result (λ made. plain_flattened made ≡ code.returned (leaves_of setting.now) (context_of setting.now) place (plain_option plain_expr expr.now) (plain_spot spot.old)) }
+    ensures { IfOk result (λ made. plain_flattened made ≡ gives.returned_in setting.now place expr.now spot.old) }
 {
     let ty = setting.result_ty(alloc)?;
     let hoisted = optional(alloc, setting, spot, Some(&ty), expr)?;
@@ -171,7 +170,7 @@ pub fn raised(
     kind: u8,
     expr: &Option<Expr>,
 ) -> Result<Flattened, AllocError>
-    ensures { IfOk result (λ made. plain_flattened made ≡ code.raised (leaves_of setting.now) (context_of setting.now) kind (plain_option plain_expr expr.now) (plain_spot spot.old)) }
+    ensures { IfOk result (λ made. plain_flattened made ≡ gives.raised_in setting.now kind expr.now spot.old) }
 {
     let hoisted = optional(alloc, setting, spot, None, expr)?;
     let last = FlatStmt::Fail(kind, hoisted.rest);
@@ -186,7 +185,7 @@ fn failure_of(
     spot: &mut Spot,
     expr: &Option<Expr>,
 ) -> Result<Flattened, AllocError>
-    ensures { IfOk result (λ made. plain_flattened made ≡ spec.failure_of (leaves_of setting.now) (context_of setting.now) (plain_option plain_expr expr.now) (plain_spot spot.old)) }
+    ensures { IfOk result (λ made. plain_flattened made ≡ gives.failure_in setting.now expr.now spot.old) }
 {
     let hoisted = optional(alloc, setting, spot, None, expr)?;
     let mut code = hoisted.before;
@@ -226,7 +225,7 @@ pub fn asserted(
     decider: &Expr,
     message: &Option<Expr>,
 ) -> Result<Flattened, AllocError>
-    ensures { IfOk result (λ made. plain_flattened made ≡ spec.asserted (leaves_of setting.now) (context_of setting.now) (plain_expr decider.now) (plain_option plain_expr message.now) (plain_spot spot.old)) }
+    ensures { IfOk result (λ made. plain_flattened made ≡ gives.asserted_in setting.now decider.now message.now spot.old) }
 {
     let tested = test(alloc, setting, spot, decider)?;
     let holds = where_shown(alloc, &spot.locals, decider, true, tested.next)?;
@@ -247,7 +246,7 @@ pub fn assigned(
     target: Target,
     expr: &Expr,
 ) -> Result<Flattened, AllocError>
-    ensures { IfOk result (λ made. plain_flattened made ≡ code.assigned (leaves_of setting.now) (context_of setting.now) target (plain_expr expr.now) (plain_spot spot.old)) }
+    ensures { IfOk result (λ made. plain_flattened made ≡ gives.assignment_in setting.now target expr.now spot.old) }
 {
     let wanted = target_ty(alloc, setting, &spot.locals, target)?;
     let hoisted = value(alloc, setting, spot, wanted.as_ref(), expr)?;
@@ -268,7 +267,7 @@ fn held_target(
     target: Target,
     ty: &Ty,
 ) -> Result<Hoisted, AllocError>
-    ensures { IfOk result (λ made. hoisted_at made spot.new ≡ hoist.settled place (plain_ty ty.now) (hoist.still (spec.read_of place target) (plain_spot spot.old))) }
+    ensures { IfOk result (λ made. hoisted_at made spot.new ≡ gives.held_in place target ty.now spot.old) }
 {
     let ty = ty.try_clone(alloc)?;
     let read = Hoisted {
@@ -288,7 +287,7 @@ fn combined(
     left: Hoisted,
     right: Hoisted,
 ) -> Result<Hoisted, AllocError>
-    ensures { IfOk result (λ made. hoisted_at made spot.now ≡ hoist.in_turn (λ l r. PChain place l (PMoreLinks (PLink op op_place r) PNoLink)) (hoisted_at left spot.now) (λ g. hoisted_at right spot.now)) }
+    ensures { IfOk result (λ made. hoisted_at made spot.now ≡ gives.combined_at place op op_place left right spot.now) }
 {
     let mut before = left.before;
     before.append(alloc, right.before)?;
@@ -309,7 +308,7 @@ fn combination(
     op_place: Place,
     expr: &Expr,
 ) -> Result<Hoisted, AllocError>
-    ensures { IfOk result (λ made. hoisted_at made spot.new ≡ spec.combination (leaves_of setting.now) (context_of setting.now) place target op op_place (plain_expr expr.now) (plain_spot spot.old)) }
+    ensures { IfOk result (λ made. hoisted_at made spot.new ≡ gives.combination_in setting.now place target op op_place expr.now spot.old) }
 {
     let read = target_read(alloc, place, target)?;
     let ty = setting.ty_at(alloc, &spot.locals, None, &read)?;
@@ -331,7 +330,7 @@ pub fn augmented(
     op_place: Place,
     expr: &Expr,
 ) -> Result<Flattened, AllocError>
-    ensures { IfOk result (λ made. plain_flattened made ≡ code.augmented (leaves_of setting.now) (context_of setting.now) place target op op_place (plain_expr expr.now) (plain_spot spot.old)) }
+    ensures { IfOk result (λ made. plain_flattened made ≡ gives.augmented_in setting.now place target op op_place expr.now spot.old) }
 {
     let hoisted = combination(alloc, setting, spot, place, target, op, op_place, expr)?;
     marked(

@@ -1,8 +1,7 @@
 //! A method as a flat method.
 
-ghost use Rattle.std.specs.Prelude.{◌≡◌, Some, map, IfOk};
+ghost use Rattle.std.specs.Prelude.{◌≡◌, map, IfOk};
 ghost use Rattle.std.specs.Option.{IsSome};
-ghost use Rattle.py_tree.specs.PlainProgram.{PlainMethod};
 ghost use Rattle.py_tree.specs.PlainStatements.{plain_stmts};
 ghost use Rattle.py_tree.specs.ClassRules.{tables_of, body_of as the_body_of};
 ghost use Rattle.py_tree.specs.Flow as flow;
@@ -13,8 +12,8 @@ ghost use Rattle.block_code.specs.PlainVars.{plain_var, plain_vars};
 ghost use Rattle.block_code.specs.GraphFits.{var_of_param};
 ghost use Rattle.flat_tree.specs.PlainFlat.{plain_flat};
 ghost use Rattle.hoisting.specs.Spots.{params_of_sig};
-ghost use Rattle.hoisting.specs.FlatMethods as spec;
-ghost use Rattle.method_hoister.specs.StatementViews.{method_in};
+ghost use Rattle.method_hoister.specs.StatementViews as gives;
+ghost use Rattle.method_hoister.specs.StatementViews.{method_in, OfMethod};
 
 use crate::stmts::flat_all;
 use block_code::{VarType, VarTypes};
@@ -37,7 +36,7 @@ fn start_locals(
 ) -> Result<Locals, AllocError>
     requires tables { plain_tables tables.now ≡ tables_of (checked_names program.now) (checked_program program.now) }
     requires method { IsSome (method_in program.now class method) }
-    ensures { (m : PlainMethod) → method_in program.now class method ≡ Some m → IfOk result (λ locals. plain_locals locals ≡ spec.start_locals (checked_names program.now) (checked_program program.now) class method m) }
+    ensures { OfMethod program.now class method (λ m. IfOk result (λ locals. plain_locals locals ≡ gives.locals_in program.now class method m)) }
 {
     match check_method(
         alloc,
@@ -114,7 +113,7 @@ pub fn hoist(
 ) -> Result<Flat, AllocError>
     requires tables { plain_tables tables.now ≡ tables_of (checked_names program.now) (checked_program program.now) }
     requires method { IsSome (method_in program.now class method) }
-    ensures { (m : PlainMethod) → method_in program.now class method ≡ Some m → IfOk result (λ flat. plain_flat flat ≡ spec.flat_method (checked_names program.now) (checked_program program.now) calls.now class method m) }
+    ensures { OfMethod program.now class method (λ m. IfOk result (λ flat. plain_flat flat ≡ gives.flat_of program.now calls.now class method m)) }
 {
     let locals = start_locals(alloc, program, tables, class, method)?;
     let params = params_of(alloc, tables, class, method)?;

@@ -1,14 +1,12 @@
 //! What runs before a `for` goes round: the list or the ends of the range, in temporaries, and what is known where it begins.
 
-ghost use Rattle.std.specs.Prelude.{◌≡◌, ◌+◌, ◌++◌, None, IfOk, OnOk};
+ghost use Rattle.std.specs.Prelude.{◌≡◌, ◌+◌, IfOk, OnOk};
 ghost use Rattle.py_tree.specs.PlainTypes.{plain_ty};
-ghost use Rattle.py_tree.specs.PlainExpressions.{plain_expr};
-ghost use Rattle.py_tree.specs.PlainStatements.{plain_option, plain_stmts, stmts_of};
 ghost use Rattle.flat_tree.specs.PlainFlat.{plain_flat_stmts};
 ghost use Rattle.block_code.specs.PlainVars.{plain_vars};
 ghost use Rattle.hoisting.specs.HoistStatements as spec;
-ghost use Rattle.method_hoister.specs.SmallCode as code;
-ghost use Rattle.hoisting.specs.Views.{plain_spot, context_of, leaves_of, forms_of};
+ghost use Rattle.hoisting.specs.Views.{plain_spot};
+ghost use Rattle.method_hoister.specs.StatementViews as gives;
 
 use crate::loops::{ListNames, head_locals, list_start, with_local};
 use block_code::VarTypes;
@@ -38,10 +36,10 @@ pub fn list_before(
     ty: &Ty,
     expr: &Expr,
 ) -> Result<ListBefore, AllocError>
-    ensures list { IfOk result (λ made. made.names.list.0 ≡ ((forms_of setting.now expr.now).value None (plain_spot spot.old)).spot.next) }
+    ensures list { IfOk result (λ made. made.names.list.0 ≡ (gives.behind_value setting.now expr.now spot.old).next) }
     ensures place { IfOk result (λ made. made.names.place.0 ≡ made.names.list.0 + 1) }
-    ensures before { IfOk result (λ made. plain_flat_stmts made.before ≡ code.list_before (leaves_of setting.now) (context_of setting.now) place (plain_ty ty.now) (plain_expr expr.now) (plain_spot spot.old)) }
-    ensures known { OnOk result (plain_spot spot.new ≡ spec.list_spot (plain_ty ty.now) ((forms_of setting.now expr.now).value None (plain_spot spot.old)).spot) }
+    ensures before { IfOk result (λ made. plain_flat_stmts made.before ≡ gives.list_before_in setting.now place ty.now expr.now spot.old) }
+    ensures known { OnOk result (plain_spot spot.new ≡ spec.list_spot (plain_ty ty.now) (gives.behind_value setting.now expr.now spot.old)) }
 {
     let hoisted = value(alloc, setting, spot, None, expr)?;
     let list = Name(spot.next);
@@ -72,9 +70,9 @@ fn range_end(
     place: Place,
     expr: &Expr,
 ) -> Result<RangeEnd, AllocError>
-    ensures name { IfOk result (λ made. made.name.0 ≡ ((forms_of setting.now expr.now).value None (plain_spot spot.old)).spot.next) }
-    ensures before { IfOk result (λ made. plain_flat_stmts made.before ≡ (spec.range_end (leaves_of setting.now) (context_of setting.now) place (plain_expr expr.now) (plain_spot spot.old)).before) }
-    ensures known { OnOk result (plain_spot spot.new ≡ (spec.range_end (leaves_of setting.now) (context_of setting.now) place (plain_expr expr.now) (plain_spot spot.old)).spot) }
+    ensures name { IfOk result (λ made. made.name.0 ≡ (gives.behind_value setting.now expr.now spot.old).next) }
+    ensures before { IfOk result (λ made. plain_flat_stmts made.before ≡ (gives.range_end_in setting.now place expr.now spot.old).before) }
+    ensures known { OnOk result (plain_spot spot.new ≡ (gives.range_end_in setting.now place expr.now spot.old).spot) }
 {
     let hoisted = value(alloc, setting, spot, None, expr)?;
     let hoisted = posed(alloc, spot, place, hoisted)?;
@@ -94,9 +92,9 @@ fn range_start(
     place: Place,
     start: &Option<Expr>,
 ) -> Result<RangeEnd, AllocError>
-    ensures name { IfOk result (λ made. made.name.0 ≡ code.start_number (leaves_of setting.now) (context_of setting.now) place (plain_option plain_expr start.now) (plain_spot spot.old)) }
-    ensures before { IfOk result (λ made. plain_flat_stmts made.before ≡ (spec.range_start (leaves_of setting.now) (context_of setting.now) place (plain_option plain_expr start.now) (plain_spot spot.old)).before) }
-    ensures known { OnOk result (plain_spot spot.new ≡ (spec.range_start (leaves_of setting.now) (context_of setting.now) place (plain_option plain_expr start.now) (plain_spot spot.old)).spot) }
+    ensures name { IfOk result (λ made. made.name.0 ≡ gives.start_number_in setting.now place start.now spot.old) }
+    ensures before { IfOk result (λ made. plain_flat_stmts made.before ≡ (gives.range_start_in setting.now place start.now spot.old).before) }
+    ensures known { OnOk result (plain_spot spot.new ≡ (gives.range_start_in setting.now place start.now spot.old).spot) }
 {
     match start {
         Some(start) => range_end(alloc, setting, spot, place, start),
@@ -124,10 +122,10 @@ pub fn range_before(
     start: &Option<Expr>,
     end: &Expr,
 ) -> Result<RangeBefore, AllocError>
-    ensures from { IfOk result (λ made. made.from.0 ≡ code.start_number (leaves_of setting.now) (context_of setting.now) place (plain_option plain_expr start.now) (plain_spot spot.old)) }
-    ensures to { IfOk result (λ made. made.to.0 ≡ code.end_number (leaves_of setting.now) (context_of setting.now) place (plain_option plain_expr start.now) (plain_expr end.now) (plain_spot spot.old)) }
-    ensures before { IfOk result (λ made. plain_flat_stmts made.before ≡ code.range_before (leaves_of setting.now) (context_of setting.now) place (plain_option plain_expr start.now) (plain_expr end.now) (plain_spot spot.old)) }
-    ensures known { OnOk result (plain_spot spot.new ≡ code.range_spot (leaves_of setting.now) (context_of setting.now) place (plain_option plain_expr start.now) (plain_expr end.now) (plain_spot spot.old)) }
+    ensures from { IfOk result (λ made. made.from.0 ≡ gives.start_number_in setting.now place start.now spot.old) }
+    ensures to { IfOk result (λ made. made.to.0 ≡ gives.end_number_in setting.now place start.now end.now spot.old) }
+    ensures before { IfOk result (λ made. plain_flat_stmts made.before ≡ gives.range_before_in setting.now place start.now end.now spot.old) }
+    ensures known { OnOk result (plain_spot spot.new ≡ gives.range_spot_in setting.now place start.now end.now spot.old) }
 {
     let from = range_start(alloc, setting, spot, place, start)?;
     let to = range_end(alloc, setting, spot, place, end)?;
@@ -157,9 +155,9 @@ pub fn inside_for(
     ty: Ty,
     body: &Stmts,
 ) -> Result<Inside, AllocError>
-    ensures head { IfOk result (λ made. plain_vars made.head ≡ code.head_point name.0 (stmts_of (plain_stmts body.now)) (plain_spot spot.now)) }
-    ensures start { IfOk result (λ made. plain_vars made.start ≡ code.head_point name.0 (stmts_of (plain_stmts body.now)) (plain_spot spot.now)) }
-    ensures spot { IfOk result (λ made. plain_spot made.spot ≡ spec.body_spot name.0 (plain_ty ty) (stmts_of (plain_stmts body.now)) (plain_spot spot.now)) }
+    ensures head { IfOk result (λ made. plain_vars made.head ≡ gives.head_in name body.now spot.now) }
+    ensures start { IfOk result (λ made. plain_vars made.start ≡ gives.head_in name body.now spot.now) }
+    ensures spot { IfOk result (λ made. plain_spot made.spot ≡ gives.body_spot_in name ty body.now spot.now) }
 {
     let locals = head_locals(alloc, &spot.locals, name, body)?;
     let head = surely(alloc, &locals)?;

@@ -2,13 +2,12 @@
 
 ghost use Rattle.std.specs.Prelude.{◌≡◌, IfOk, OnOk};
 ghost use Rattle.py_tree.specs.PlainExpressions.{plain_expr};
-ghost use Rattle.py_tree.specs.PlainStatements.{PRange, PItems, plain_option, plain_over, plain_stmt, plain_stmts, stmts_of, plain_arm, plain_arms, arms_of};
+ghost use Rattle.py_tree.specs.PlainStatements.{PItems, plain_over, plain_stmt};
 ghost use Rattle.entity_types.specs.Views.{plain_locals};
-ghost use Rattle.block_code.specs.PlainVars.{plain_vars};
 ghost use Rattle.flat_tree.specs.PlainFlat.{plain_flat_arm};
 ghost use Rattle.hoisting.specs.HoistStatements as spec;
-ghost use Rattle.method_hoister.specs.SmallCode as code;
-ghost use Rattle.hoisting.specs.Views.{plain_spot, context_of, leaves_of};
+ghost use Rattle.hoisting.specs.Views.{plain_spot, leaves_of};
+ghost use Rattle.method_hoister.specs.StatementViews as gives;
 ghost use Rattle.method_hoister.specs.StatementViews.{plain_flattened, plain_body, plain_arms_code};
 
 use crate::code::{
@@ -58,7 +57,7 @@ fn statement(
     spot: &Spot,
     stmt: &Stmt,
 ) -> Result<Flattened, AllocError>
-    ensures { IfOk result (λ made. plain_flattened made ≡ spec.flat (leaves_of setting.now) (context_of setting.now) (plain_stmt stmt.now) (plain_spot spot.now)) }
+    ensures { IfOk result (λ made. plain_flattened made ≡ gives.flat_in setting.now stmt.now spot.now) }
 {
     if stays(setting, stmt) {
         return code_of(alloc, stmt, spot.next);
@@ -78,7 +77,7 @@ fn opened(
     spot: &mut Spot,
     stmt: &Stmt,
 ) -> Result<Flattened, AllocError>
-    ensures { IfOk result (λ made. plain_flattened made ≡ spec.opened (leaves_of setting.now) (context_of setting.now) (plain_stmt stmt.now) (plain_spot spot.old)) }
+    ensures { IfOk result (λ made. plain_flattened made ≡ gives.opened_in setting.now stmt.now spot.old) }
 {
     let place = stmt.place;
     match &stmt.kind {
@@ -123,7 +122,7 @@ pub fn flat_all(
     start: Spot,
     stmts: &[Stmt],
 ) -> Result<Flattened, AllocError>
-    ensures { IfOk result (λ made. plain_flattened made ≡ spec.flat_all (leaves_of setting.now) (context_of setting.now) (stmts_of (plain_stmts stmts.now)) (plain_spot start)) }
+    ensures { IfOk result (λ made. plain_flattened made ≡ gives.flat_all_in setting.now stmts.now start) }
 {
     let mut spot = start;
     let mut code = Sequence::new(alloc);
@@ -155,7 +154,7 @@ fn body_where(
     next: u32,
     body: &Stmts,
 ) -> Result<Body, AllocError>
-    ensures { IfOk result (λ made. plain_body made ≡ code.body_where (leaves_of setting.now) (context_of setting.now) (plain_expr decider.now) (plain_locals locals.now) next (stmts_of (plain_stmts body.now))) }
+    ensures { IfOk result (λ made. plain_body made ≡ gives.body_in setting.now decider.now locals.now next body.now) }
 {
     let holds = where_shown(alloc, locals, decider, true, next)?;
     let start = surely(alloc, &holds.locals)?;
@@ -175,8 +174,8 @@ fn arm_code(
     spot: &mut Spot,
     arm: &Arm,
 ) -> Result<FlatArm, AllocError>
-    ensures arm { IfOk result (λ made. plain_flat_arm made ≡ code.arm_code (leaves_of setting.now) (context_of setting.now) (plain_arm arm.now) (plain_spot spot.old)) }
-    ensures behind { OnOk result (plain_spot spot.new ≡ code.behind_arm (leaves_of setting.now) (context_of setting.now) (plain_arm arm.now) (plain_spot spot.old)) }
+    ensures arm { IfOk result (λ made. plain_flat_arm made ≡ gives.arm_in setting.now arm.now spot.old) }
+    ensures behind { OnOk result (plain_spot spot.new ≡ gives.behind_arm_in setting.now arm.now spot.old) }
 {
     let tested = test(alloc, setting, spot, &arm.test)?;
     let body = body_where(
@@ -205,8 +204,8 @@ fn arms_code(
     spot: &Spot,
     arms: &[Arm],
 ) -> Result<ArmsCode, AllocError>
-    ensures arms { IfOk result (λ made. plain_arms_code made ≡ spec.flat_arms (leaves_of setting.now) (context_of setting.now) (arms_of (plain_arms arms.now)) (plain_spot spot.now)) }
-    ensures behind { IfOk result (λ made. plain_locals made.behind.locals ≡ (spec.other_spot (leaves_of setting.now) (context_of setting.now) (arms_of (plain_arms arms.now)) (plain_spot spot.now)).locals) }
+    ensures arms { IfOk result (λ made. plain_arms_code made ≡ gives.arms_in setting.now arms.now spot.now) }
+    ensures behind { IfOk result (λ made. plain_locals made.behind.locals ≡ (gives.other_in setting.now arms.now spot.now).locals) }
 {
     let mut behind = spot.copied(alloc)?;
     let mut made = Sequence::new(alloc);
@@ -226,7 +225,7 @@ fn choice(
     other: &Stmts,
     after: Option<VarTypes>,
 ) -> Result<Flattened, AllocError>
-    ensures { IfOk result (λ made. plain_flattened made ≡ code.choice_code (leaves_of setting.now) (context_of setting.now) (arms_of (plain_arms arms.now)) (stmts_of (plain_stmts other.now)) (plain_option plain_vars after) (plain_spot spot.now)) }
+    ensures { IfOk result (λ made. plain_flattened made ≡ gives.choice_in setting.now arms.now other.now after spot.now) }
 {
     let made = arms_code(alloc, setting, spot, arms.as_slice())?;
     let other = flat_all(alloc, setting, made.behind, other.as_slice())?;
@@ -248,7 +247,7 @@ fn while_loop(
     body: &Stmts,
     after: Option<VarTypes>,
 ) -> Result<Flattened, AllocError>
-    ensures { IfOk result (λ made. plain_flattened made ≡ code.while_code (leaves_of setting.now) (context_of setting.now) (plain_expr decider.now) (stmts_of (plain_stmts body.now)) (plain_option plain_vars after) (plain_spot spot.now)) }
+    ensures { IfOk result (λ made. plain_flattened made ≡ gives.while_in setting.now decider.now body.now after spot.now) }
 {
     let locals = while_locals(alloc, &spot.locals, body)?;
     let head = Spot {
@@ -281,7 +280,7 @@ fn for_loop(
     body: &Stmts,
     after: Option<VarTypes>,
 ) -> Result<Flattened, AllocError>
-    ensures { IfOk result (λ made. plain_flattened made ≡ code.for_loop (leaves_of setting.now) (context_of setting.now) place name.0 (plain_over over.now) (stmts_of (plain_stmts body.now)) (plain_option plain_vars after) (plain_spot spot.old)) }
+    ensures { IfOk result (λ made. plain_flattened made ≡ gives.for_in setting.now place name (plain_over over.now) body.now after spot.old) }
 {
     match over {
         Over::Items(items) => list_loop(alloc, setting, spot, place, name, items, body, after),
@@ -303,7 +302,7 @@ fn list_loop(
     body: &Stmts,
     after: Option<VarTypes>,
 ) -> Result<Flattened, AllocError>
-    ensures { IfOk result (λ made. plain_flattened made ≡ code.for_loop (leaves_of setting.now) (context_of setting.now) place name.0 (PItems (plain_expr items.now)) (stmts_of (plain_stmts body.now)) (plain_option plain_vars after) (plain_spot spot.old)) }
+    ensures { IfOk result (λ made. plain_flattened made ≡ gives.for_in setting.now place name (PItems (plain_expr items.now)) body.now after spot.old) }
 {
     let ty = setting.ty_at(alloc, &spot.locals, None, items)?;
     let item = item_ty(alloc, &ty)?;
@@ -336,7 +335,7 @@ fn range_loop(
     body: &Stmts,
     after: Option<VarTypes>,
 ) -> Result<Flattened, AllocError>
-    ensures { IfOk result (λ made. plain_flattened made ≡ code.for_loop (leaves_of setting.now) (context_of setting.now) place name.0 (PRange (plain_option plain_expr start.now) (plain_expr end.now)) (stmts_of (plain_stmts body.now)) (plain_option plain_vars after) (plain_spot spot.old)) }
+    ensures { IfOk result (λ made. plain_flattened made ≡ gives.for_range_in setting.now place name start.now end.now body.now after spot.old) }
 {
     let range = range_before(alloc, setting, spot, place, start, end)?;
     let inside = inside_for(alloc, spot, name, Ty::Int, body)?;
