@@ -1,23 +1,31 @@
 -- The values of expressions, one after another, as the code finds them.
-use Rattle.std.proofs.Common.{◌≡◌, ◌<◌, ◌+◌, ℕ, List, [], ◌∷◌, ◌++◌, drop, get_or, length, ap, ◌∙◌, subst}
+use Rattle.std.proofs.Common.{◌≡◌, ◌<◌, ◌+◌, ℕ, Option, Some, None, List, [], ◌∷◌, ◌++◌, drop, get_or, length, ap, sym, ◌∙◌, subst}
 use Rattle.sf_value.specs.declared.Failure.{Failure}
 use Rattle.sf_value.specs.declared.value.Value.{Value}
-use Rattle.sf_value.specs.declared.Outcome.{Outcome}
-use Rattle.sf_value.specs.declared.Outcome.TheVariants as outcome
 use Rattle.py_tree.specs.declared.expr.Expr.{Expr}
 use Rattle.py_tree.specs.PlainExpressions.{plain_expr, plain_exprs, exprs_of}
-use Rattle.program_meaning.specs.declared.vars.Var.{Var}
-use Rattle.program_meaning.specs.World.{Got, Fell, ◌>>=◌}
-use Rattle.program_meaning.specs.Evaluation.{Site, eval, eval_all}
+use Rattle.program_meaning.specs.World.{Gives, Got, Fell, ◌>>=◌}
+use Rattle.program_meaning.specs.Evaluation.{eval_all}
 use Rattle.program_meaning.specs.Calls.{Held}
-use Rattle.program_meaning.specs.Here.{GivesHere}
 use Rattle.program_meaning.proofs.EvalLaws.{all_next}
+use Rattle.event_step.specs.declared.method.Place.{Place}
+use Rattle.event_step.specs.declared.method.Running.{Running}
+use Rattle.event_step.specs.Running.{site_of, held_of}
+use Rattle.event_step.specs.Values.{AddsNow, added_at, value_at}
 
-module _ (s : Site Held) (vars : List Var) (h : Held) (n : ℕ) where
+module _ (place : Place) (before r : Running) (same : r.vars ≡ before.vars) (es : List Expr) (i : ℕ) (x : Expr) (vs : List Value) (lt : i < length es) (is : x ≡ get_or es i x) where
+  abbrev rest : Gives Held Value → Gives Held (List Value)
+  rest g = g >>= λ v w n. eval_all (site_of place) (exprs_of (plain_exprs (drop (i + 1) es))) (vs ++ v ∷ []) before.vars w n
+
+  cut : added_at place (exprs_of (plain_exprs (drop i es))) vs before ≡ rest (value_at place (plain_expr x) before)
+  cut = all_next (site_of place) before.vars (held_of before) before.steps es i x vs lt is
+
   -- a value, or a failure, of the next expression
-  pub next_value : (es : List Expr) (i : ℕ) (x : Expr) (vs : List Value) (o : Outcome) (v : Value) (g : Held) (m : ℕ) → i < length es → x ≡ get_or es i x → o ≡ outcome.Value v → GivesHere o g m (eval s (plain_expr x) vars h n)
-      → eval_all s (exprs_of (plain_exprs (drop i es))) vs vars h n ≡ eval_all s (exprs_of (plain_exprs (drop (i + 1) es))) (vs ++ v ∷ []) vars g m
-  next_value es i x vs o v g m lt is got here = let gives : eval s (plain_expr x) vars h n ≡ Got v g m = subst (λ o. GivesHere o g m (eval s (plain_expr x) vars h n)) got here in all_next s vars h n es i x vs lt is ∙ ap (λ y. y >>= λ v w n. eval_all s (exprs_of (plain_exprs (drop (i + 1) es))) (vs ++ v ∷ []) vars w n) gives
+  pub value_added : (o : Option Failure) (after : List Value) → o ≡ None → AddsNow o vs after r (value_at place (plain_expr x) before)
+      → added_at place (exprs_of (plain_exprs (drop (i + 1) es))) after r ≡ added_at place (exprs_of (plain_exprs (drop i es))) vs before
+  value_added o after none adds =
+      let added : (v : Value) × (value_at place (plain_expr x) before ≡ Got v (held_of r) r.steps) × (after ≡ vs ++ v ∷ []) = subst (λ o. AddsNow o vs after r (value_at place (plain_expr x) before)) none adds in
+      (λ j. eval_all (site_of place) (exprs_of (plain_exprs (drop (i + 1) es))) (added.2 j) (same j) (held_of r) r.steps) ∙ ap rest (sym added.1) ∙ sym cut
 
-  pub next_failure : (es : List Expr) (i : ℕ) (x : Expr) (vs : List Value) (o : Outcome) (f : Failure) (g : Held) (m : ℕ) → i < length es → x ≡ get_or es i x → o ≡ outcome.Failed f → GivesHere o g m (eval s (plain_expr x) vars h n) → eval_all s (exprs_of (plain_exprs (drop i es))) vs vars h n ≡ Fell f g m
-  next_failure es i x vs o f g m lt is got here = let gives : eval s (plain_expr x) vars h n ≡ Fell f g m = subst (λ o. GivesHere o g m (eval s (plain_expr x) vars h n)) got here in all_next s vars h n es i x vs lt is ∙ ap (λ y. y >>= λ v w n. eval_all s (exprs_of (plain_exprs (drop (i + 1) es))) (vs ++ v ∷ []) vars w n) gives
+  pub value_fails : (o : Option Failure) (f : Failure) (after : List Value) → o ≡ Some f → AddsNow o vs after r (value_at place (plain_expr x) before) → added_at place (exprs_of (plain_exprs (drop i es))) vs before ≡ Fell f (held_of r) r.steps
+  value_fails o f after some adds = cut ∙ ap rest (subst (λ o. AddsNow o vs after r (value_at place (plain_expr x) before)) some adds)

@@ -11,6 +11,7 @@ ghost use Rattle.block_code.specs.EventsFit.{EventFits};
 ghost use Rattle.block_runs.specs.EventStep.{StepsTo, lasts, target_of};
 ghost use Rattle.std.specs.Option.{option_copied};
 ghost use Rattle.block_runs.specs.StepFits.{IsReady};
+ghost use Rattle.block_code.specs.declared.event.EventKind.TheVariants as kind;
 ghost use Rattle.event_step.specs.declared.method.Part.TheVariants as part;
 ghost use Rattle.event_step.specs.Steps.{CallsThere, ComesTo, Due, DueToResume, FinishFits, FinishesAs, IsDue, TargetFits, as_step, catching_in, created_in, entering_in, lent, fields_of, frame_in, from_in, given_now, going_on_in, handled_failed, handled_given, handled_waiting, making_in, resuming_in, step_in, thrown_in};
 
@@ -599,50 +600,89 @@ fn take_ref(alloc: Global, at: &mut Ref) -> Result<Ref, AllocError>
     })
 }
 
-/// What is done for an event that asks for this, whose parts are moved out.
-fn handle_kind(
+/// Moves values out, and leaves none.
+fn take_values(alloc: Global, values: &mut Values) -> Values
+    ensures { result ≡ values.old }
+{
+    mem::replace(values, Sequence::new(alloc))
+}
+
+/// Enters a method, whose entity and arguments are moved out.
+fn enter_taken(
     code: &Code<'_>,
-    kind: &mut EventKind,
+    to: &mut Ref,
+    method: u32,
+    args: Values,
     tx: u32,
     frames: Frames,
     steps: u32,
     held: Option<Record>,
 ) -> Result<Handled, AllocError>
-    requires { IsDue code.now kind.old tx frames steps (fields_of held) }
-    ensures { IfOk result (λ h. ComesTo (step_in code.now kind.old tx frames steps (fields_of held)) (as_step h)) }
+    requires { IsDue code.now (kind.Enter to.old method args) tx frames steps (fields_of held) }
+    ensures { IfOk result (λ h. ComesTo (step_in code.now (kind.Enter to.old method args) tx frames steps (fields_of held)) (as_step h)) }
 {
-    match kind {
+    match take_ref(code.alloc, to) {
+        Ok(at) => {
+            let entered = Entered {
+                at,
+                method,
+                tx,
+                frames,
+            };
+            enter(code, entered, args, steps, held)
+        }
+        Err(error) => {
+            drop(args);
+            drop(frames);
+            drop(held);
+            Err(error)
+        }
+    }
+}
+
+/// Makes an entity, which is moved out.
+fn make_taken(
+    code: &Code<'_>,
+    to: &mut Ref,
+    args: Values,
+    tx: u32,
+    frames: Frames,
+    steps: u32,
+    held: Option<Record>,
+) -> Result<Handled, AllocError>
+    ensures { IfOk result (λ h. ComesTo (step_in code.now (kind.Make to.old args) tx frames steps (fields_of held)) (as_step h)) }
+{
+    match take_ref(code.alloc, to) {
+        Ok(to) => make(code, to, args, tx, frames, steps, held),
+        Err(error) => {
+            drop(args);
+            drop(frames);
+            drop(held);
+            Err(error)
+        }
+    }
+}
+
+/// What is done for an event that asks for this, whose parts are moved out.
+fn handle_kind(
+    code: &Code<'_>,
+    asked: &mut EventKind,
+    tx: u32,
+    frames: Frames,
+    steps: u32,
+    held: Option<Record>,
+) -> Result<Handled, AllocError>
+    requires { IsDue code.now asked.old tx frames steps (fields_of held) }
+    ensures { IfOk result (λ h. ComesTo (step_in code.now asked.old tx frames steps (fields_of held)) (as_step h)) }
+{
+    match asked {
         EventKind::Enter { to, method, args } => {
-            let args = mem::replace(args, Sequence::new(code.alloc));
-            match take_ref(code.alloc, to) {
-                Ok(at) => {
-                    let entered = Entered {
-                        at,
-                        method: *method,
-                        tx,
-                        frames,
-                    };
-                    enter(code, entered, args, steps, held)
-                }
-                Err(error) => {
-                    drop(args);
-                    drop(frames);
-                    drop(held);
-                    Err(error)
-                }
-            }
+            let args = take_values(code.alloc, args);
+            enter_taken(code, to, *method, args, tx, frames, steps, held)
         }
         EventKind::Make { to, args } => {
-            let args = mem::replace(args, Sequence::new(code.alloc));
-            match take_ref(code.alloc, to) {
-                Ok(to) => make(code, to, args, tx, frames, steps, held),
-                Err(error) => {
-                    drop(args);
-                    drop(frames);
-                    drop(held);
-                    Err(error)
-                }
-            }
+            let args = take_values(code.alloc, args);
+            make_taken(code, to, args, tx, frames, steps, held)
         }
         EventKind::Resume(outcome) => {
             let outcome = mem::replace(outcome, Outcome::Value(Value::Nil));

@@ -3,7 +3,7 @@
 ghost use Rattle.std.specs.Prelude.{◌≡◌, IfOk};
 ghost use Rattle.py_tree.specs.PlainExpressions.{plain_expr, plain_exprs, exprs_of};
 ghost use Rattle.event_step.specs.Running.{held_of};
-ghost use Rattle.event_step.specs.Values.{GivesNow, AllNow, PartsNow, value_at, values_at, parts_at};
+ghost use Rattle.event_step.specs.Values.{AddedNow, AddsNow, AllNow, GivesNow, PartsNow, added_at, parts_at, value_at, values_at};
 
 use crate::method::{Place, Running};
 use py_tree::{Expr, Exprs};
@@ -48,6 +48,43 @@ pub(crate) fn value(
     )
 }
 
+/// Adds the value of an expression behind others, or tells its failure.
+fn add_value(
+    place: &Place<'_>,
+    expr: &Expr,
+    running: &mut Running,
+    values: &mut Values,
+) -> Result<Option<Failure>, AllocError>
+    ensures added { IfOk result (λ failed. AddsNow failed values.old values.new running.new (value_at place.now (plain_expr expr.now) running.old)) }
+    ensures vars { running.new.vars ≡ running.old.vars }
+{
+    match value(place, expr, running)? {
+        Outcome::Value(value) => {
+            values.push(place.alloc, value)?;
+            Ok(None)
+        }
+        Outcome::Failed(failure) => Ok(Some(failure)),
+    }
+}
+
+/// Adds the values of expressions behind others, in their order, or tells the first failure.
+fn add_values(
+    place: &Place<'_>,
+    exprs: &[Expr],
+    running: &mut Running,
+    values: &mut Values,
+) -> Result<Option<Failure>, AllocError>
+    ensures added { IfOk result (λ failed. AddedNow failed values.new running.new (added_at place.now (exprs_of (plain_exprs exprs.now)) values.old running.old)) }
+    ensures vars { running.new.vars ≡ running.old.vars }
+{
+    for expr in exprs {
+        if let Some(failure) = add_value(place, expr, running, values)? {
+            return Ok(Some(failure));
+        }
+    }
+    Ok(None)
+}
+
 /// What expressions come to, in their order.
 pub(crate) fn all_values(
     place: &Place<'_>,
@@ -58,13 +95,17 @@ pub(crate) fn all_values(
     ensures vars { running.new.vars ≡ running.old.vars }
 {
     let mut values = Sequence::new(place.alloc);
-    for expr in exprs {
-        match value(place, expr, running)? {
-            Outcome::Value(value) => values.push(place.alloc, value)?,
-            Outcome::Failed(failure) => return Ok(All::Failed(failure)),
+    match add_values(place, exprs, running, &mut values) {
+        Ok(None) => Ok(All::Given(values)),
+        Ok(Some(failure)) => {
+            drop(values);
+            Ok(All::Failed(failure))
+        }
+        Err(error) => {
+            drop(values);
+            Err(error)
         }
     }
-    Ok(All::Given(values))
 }
 
 /// What the receiver of a call and then its arguments come to.
