@@ -3,7 +3,7 @@
 ghost use Rattle.std.specs.Prelude.{IfOk};
 ghost use Rattle.block_code.specs.EventsFit.{EventFits};
 ghost use Rattle.block_runs.specs.StepFits.{IsReady};
-ghost use Rattle.event_step.specs.Steps.{TargetFits, as_step, fields_lent, fields_of};
+ghost use Rattle.event_step.specs.Steps.{TargetFits, as_step, lent, fields_of};
 ghost use Rattle.block_step.specs.CompiledViews.{compiled_tables, compiled_blocks, IsWhole, StepsIn};
 
 use crate::compiled::Compiled;
@@ -22,8 +22,8 @@ pub fn handle(
     event: Event,
 ) -> Result<Handled, AllocError>
     requires whole { IsWhole compiled.now }
-    requires ready { IsReady (compiled_tables compiled.now) (compiled_blocks compiled.now) event (fields_lent held) }
-    ensures step { IfOk result (λ h. StepsIn compiled.now event (fields_lent held.entry) (as_step h)) }
+    requires ready { IsReady (compiled_tables compiled.now) (compiled_blocks compiled.now) event (lent held) }
+    ensures step { IfOk result (λ h. StepsIn compiled.now event (lent held.entry) (as_step h)) }
     ensures record { IfOk result (λ h. TargetFits (compiled_tables compiled.now) event (fields_of h.held)) }
     ensures next { IfOk result (λ h. EventFits (compiled_tables compiled.now) (compiled_blocks compiled.now) h.next) }
 {
