@@ -1,0 +1,7 @@
+use Rattle.std.proofs.lemmas.Result.{err_from_is_err_and}
+use Rattle.entity_compiler.proofs.TextsCompiled.{accepted_text, refused_text, without_memory}
+use Rattle.entity_compiler.proofs.compiling.compile.Goals as goal
+
+pub returns : goal.returns
+returns c =
+    accepted_text c.args.text.now c.in_ok-program.program c.in_ok-compiled.compiled c.accept.ensures.is_accepted c.in_ok-compiled.ensures.program c.in_ok-compiled.ensures.names c.in_ok-compiled.ensures.blocks c.in_ok-compiled.ensures.whole

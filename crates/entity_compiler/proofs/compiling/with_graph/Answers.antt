@@ -1,0 +1,5 @@
+use Rattle.std.proofs.Common.{sym, subst}
+use Rattle.entity_compiler.proofs.compiling.with_graph.Goals as goal
+
+pub new-requires : goal.new-requires
+new-requires c = c.in-Ok.ensures.whole
