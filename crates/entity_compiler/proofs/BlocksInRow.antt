@@ -14,7 +14,7 @@ use Rattle.compiled_graph.specs.CompiledGraph.{method_blocks, methods_compiled, 
 
 -- what a place within a list has
 pub there_is : {A : Type 0} (xs : List A) (i : ℕ) → i < length xs → (x : A) × (slice_get xs i ≡ Some x)
-there_is xs i within = by ((slice_get_cases xs i).1)
+there_is {A = A} xs i within = by ((slice_get_cases xs i).1)
   where
     by : ((x : A) × (i < length xs) × (slice_get xs i ≡ Some x) × (get_or xs i x ≡ x)) ⊎ ((length xs ≤ i) × (slice_get xs i ≡ None)) → (x : A) × (slice_get xs i ≡ Some x)
     by (inl f) = (f.0, f.2)

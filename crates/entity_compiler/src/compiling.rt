@@ -57,7 +57,8 @@ fn with_graph(alloc: Global, program: Checked, tables: Tables) -> Result<Compile
 pub fn compile(alloc: Global, text: &[u8]) -> Result<Compiled, ProgramError>
     ensures { Compiles text.now result }
 {
-    let Accepted { program, tables } = accept(alloc, text)?;
+    let accepted = accept(alloc, text)?;
+    let Accepted { program, tables } = accepted;
     let compiled = with_graph(alloc, program, tables)?;
     Ok(compiled)
 }
