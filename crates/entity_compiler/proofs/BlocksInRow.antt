@@ -1,16 +1,16 @@
 -- Blocks that are added method by method, and class by class.
-use Rattle.std.proofs.Common.{◌≡◌, ℕ, arith, ◌+◌, ◌<◌, ◌≤◌, Bool, Option, Some, None, ◌⊎◌, inl, inr, List, [], ◌∷◌, ◌++◌, length, drop, append_assoc, append-nil, refl, sym, ap, ◌∙◌}
+use Rattle.std.proofs.Common.{◌≡◌, ℕ, arith, ◌+◌, ◌<◌, ◌≤◌, Bool, Some, None, ◌⊎◌, inl, inr, List, [], ◌∷◌, ◌++◌, length, drop, get_or, append_assoc, append-nil, sym, ap, ◌∙◌}
 use Rattle.std.specs.Prelude.{slice_get}
 use Rattle.std.proofs.lemmas.List.{map-append}
 use Rattle.std.proofs.lemmas.Option.{slice_get_cases, slice_get_within, get_or_from_slice_get}
 use Rattle.std.proofs.Math.ListN.{drop_of_length-le}
-use Rattle.py_tree.specs.PlainProgram.{PlainMethod, PlainClass, PlainProgram}
+use Rattle.py_tree.specs.PlainProgram.{PlainMethod, PlainProgram}
 use Rattle.py_tree.specs.ClassRules.{methods_of}
 use Rattle.py_tree.specs.Acceptance.{members_of, members_at}
 use Rattle.py_tree.proofs.ListWalks.{from_item}
 use Rattle.block_code.specs.declared.block.Block.{Block}
 use Rattle.block_code.specs.PlainBlocks.{PlainBlock, plain_blocks, plain_methods}
-use Rattle.compiled_graph.specs.CompiledGraph.{method_blocks, methods_compiled, classes_compiled, compiled}
+use Rattle.compiled_graph.specs.CompiledGraph.{method_blocks, methods_compiled, classes_compiled}
 
 -- what a place within a list has
 pub there_is : {A : Type 0} (xs : List A) (i : ℕ) → i < length xs → (x : A) × (slice_get xs i ≡ Some x)

@@ -1,8 +1,7 @@
 -- A graph of compiled blocks is one of its program.
-use Rattle.std.proofs.Common.{◌≡◌, ℕ, Bool, List, Result, Ok, Err, sym, ap, ◌∙◌, subst}
+use Rattle.std.proofs.Common.{◌≡◌, Bool, List, Result, Ok, Err, sym, ◌∙◌, subst}
 use Rattle.std.specs.Prelude.{IfOk}
 use Rattle.std.specs.declared.alloc.AllocError.{AllocError}
-use Rattle.py_tree.specs.PlainProgram.{PlainProgram}
 use Rattle.py_tree.specs.ClassRules.{tables_of}
 use Rattle.py_tree.specs.CheckedViews.{checked_program, checked_names}
 use Rattle.py_tree.specs.declared.checked.Checked.{Checked}

@@ -1,5 +1,5 @@
 -- An accepted program with its marks, and the blocks that are compiled of it.
-use Rattle.std.specs.Prelude.{◌≡◌, ℕ, Bool, List, slice_get}
+use Rattle.std.specs.Prelude.{◌≡◌, ℕ, List, slice_get}
 use Rattle.std.specs.declared.option.Option.{Option}
 use Rattle.py_tree.specs.PlainProgram.{PlainMethod, PlainProgram}
 use Rattle.py_tree.specs.ClassRules.{methods_of, tables_of}

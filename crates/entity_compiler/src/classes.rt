@@ -29,11 +29,7 @@ fn method_count(marked: &Marked, class: u32) -> u32
 }
 
 /// Adds the blocks of the methods of each class.
-fn add_classes(
-    alloc: Global,
-    made: &mut MethodBlocks,
-    marked: &Marked,
-) -> Result<(), AllocError>
+fn add_classes(alloc: Global, made: &mut MethodBlocks, marked: &Marked) -> Result<(), AllocError>
     requires { HasTables marked.now }
     ensures { OnOk result (plain_methods made.new ≡ plain_methods made.old ++ all_blocks marked.now) }
 {

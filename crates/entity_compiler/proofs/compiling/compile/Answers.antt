@@ -1,5 +1,4 @@
-use Rattle.std.proofs.lemmas.Result.{err_from_is_err_and}
-use Rattle.entity_compiler.proofs.TextsCompiled.{accepted_text, refused_text, without_memory}
+use Rattle.entity_compiler.proofs.TextsCompiled.{accepted_text}
 use Rattle.entity_compiler.proofs.compiling.compile.Goals as goal
 
 pub returns : goal.returns

@@ -1,4 +1,3 @@
-use Rattle.std.proofs.Common.{sym, subst}
 use Rattle.entity_compiler.proofs.compiling.with_graph.Goals as goal
 
 pub new-requires : goal.new-requires

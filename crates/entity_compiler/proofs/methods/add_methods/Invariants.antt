@@ -1,5 +1,4 @@
 use Rattle.std.proofs.Common.{◌≡◌, ◌++◌, drop}
-use Rattle.py_tree.specs.CheckedViews.{checked_program, checked_names}
 use Rattle.block_code.specs.PlainBlocks.{plain_methods}
 use Rattle.compiled_graph.specs.CompiledGraph.{methods_compiled}
 use Rattle.entity_compiler.specs.Marked.{names_of, classes_of, methods_at, class_blocks}
