@@ -1,0 +1,173 @@
+//! What texts are compiled to: the text of a graph, or a fault with its place.
+
+use block_code::Graph;
+use entity_compiler::{ProgramError, ProgramFault, compile};
+use py_tree::Names;
+use std::alloc::{AllocError, Global};
+use std::test::Fail;
+use test_support::{SHOP, Setting, rows, text_in};
+
+/// A row has the lines of a method of one class.
+const LAST: Setting = Setting {
+    head: "from stateflow import entity
+@entity
+class L:
+    def __init__(self, k: str):
+        self.k: str = k
+    def __key__(self):
+        return self.k
+    def last(self, xs: List[int]) -> int:
+",
+    indent: "        ",
+    tail: "",
+};
+
+/// A row has the lines of a method that calls another entity, or none.
+const AWAY: Setting = Setting {
+    head: "from stateflow import entity
+@entity
+class B:
+    def __init__(self, k: str, n: int):
+        self.k: str = k
+        self.n: int = n
+    def __key__(self):
+        return self.k
+    def get(self) -> int:
+        return self.n
+@entity
+class A:
+    def __init__(self, k: str):
+        self.k: str = k
+    def __key__(self):
+        return self.k
+    def one(self) -> int:
+        return 1
+    def go(self, b: B) -> int:
+",
+    indent: "        ",
+    tail: "",
+};
+
+const SHOP_GRAPH: &str = "class Item: key name; 3 fields; 2 methods
+method Item.price: 1 blocks
+  block 0: 0 vars, leave
+method Item.update_stock: 1 blocks
+  block 0: 1 vars, leave
+class User: key username; 2 fields; 2 methods
+method User.buy_item: 5 blocks
+  block 0: 2 vars, call Item.price then 4
+  block 1: 3 vars, leave
+  block 2: 3 vars, leave
+  block 3: 4 vars, branch 1 2
+  block 4: 4 vars, call Item.update_stock then 3
+method User.money: 1 blocks
+  block 0: 0 vars, leave
+class Cart: key k; 1 fields; 1 methods
+method Cart.first_dear: 7 blocks
+  block 0: 2 vars, jump 2
+  block 1: 3 vars, leave
+  block 2: 6 vars, branch 3 1
+  block 3: 6 vars, call Item.price then 6
+  block 4: 8 vars, jump 1
+  block 5: 7 vars, call Item.price then 4
+  block 6: 8 vars, branch 5 2
+";
+
+fn stage_of(fault: ProgramFault) -> &'static str {
+    match fault {
+        ProgramFault::Lex(_) => "lexical",
+        ProgramFault::Syntax(_) => "syntax",
+        ProgramFault::Rule(_) => "rule",
+    }
+}
+
+/// The stage of a fault, and its place.
+fn fault_told(alloc: Global, fault: ProgramFault) -> Result<String, AllocError> {
+    let stage = stage_of(fault);
+    let place = fault.place();
+    let line = place.line;
+    let col = place.col;
+    format!(in alloc; "{stage} {line}:{col}")
+}
+
+fn graph_told(alloc: Global, graph: &Graph, names: &Names) -> Result<String, AllocError> {
+    let text = graph.text(alloc, names)?;
+    let told = String::from_str(alloc, text.as_str());
+    drop(text);
+    told
+}
+
+/// What a text is compiled to.
+fn told(alloc: Global, text: &str) -> Result<String, AllocError> {
+    match compile(alloc, text.as_bytes()) {
+        Ok(compiled) => {
+            let told = graph_told(alloc, compiled.graph(), compiled.program().names());
+            drop(compiled);
+            told
+        }
+        Err(ProgramError::Fault(fault)) => fault_told(alloc, fault),
+        Err(ProgramError::NoMemory) => Err(AllocError),
+    }
+}
+
+/// Each line of a text behind the ones before it, with `;` between them.
+fn in_one_line(alloc: Global, text: &str) -> Result<String, AllocError> {
+    text.trim_end().replace(alloc, '\n', "; ")
+}
+
+/// What is told of the method that a row has.
+fn own_blocks(line: &str) -> &str {
+    match line.split_once("method A.go: ") {
+        Some((_, own)) => own,
+        None => line,
+    }
+}
+
+#[test]
+fn the_shop_has_the_graph_of_its_definition(rt: HostRuntime) -> Result<(), Fail> {
+    let told = told(rt.alloc(), SHOP)?;
+    assert_eq!(rt; told.as_str(), SHOP_GRAPH, "the shop");
+    Ok(())
+}
+
+#[test]
+fn a_method_is_compiled_or_its_fault_is_told(rt: HostRuntime) -> Result<(), Fail> {
+    let rows = rows(rt.alloc(), "
+        mended       | x = 0↵for x in xs:↵    pass↵return x | class L: key k; 1 fields; 1 methods; method L.last: 1 blocks;   block 0: 1 vars, leave
+        unassigned   | for x in xs:↵    pass↵return x | rule 11:16
+        a number     | return 1.5 | lexical 9:16
+        a semicolon  | return 1; | syntax 9:17
+    ")?;
+    for row in &rows {
+        let text = text_in(rt.alloc(), LAST, row.text.as_str())?;
+        let told = told(rt.alloc(), text.as_str())?;
+        let line = in_one_line(rt.alloc(), told.as_str())?;
+        assert_eq!(rt; line.as_str(), row.wanted, row.label);
+    }
+    Ok(())
+}
+
+#[test]
+fn methods_have_their_own_blocks(rt: HostRuntime) -> Result<(), Fail> {
+    let rows = rows(rt.alloc(), "
+        no call      | return 2                  | 1 blocks;   block 0: 1 vars, leave
+        an own call  | return self.one()         | 1 blocks;   block 0: 1 vars, leave
+        a call       | return b.get()            | 2 blocks;   block 0: 1 vars, call B.get then 1;   block 1: 2 vars, leave
+        a creation   | b = B(\"k\", 1)↵return 2 | 2 blocks;   block 0: 1 vars, make B then 1;   block 1: 2 vars, leave
+    ")?;
+    for row in &rows {
+        let text = text_in(rt.alloc(), AWAY, row.text.as_str())?;
+        let told = told(rt.alloc(), text.as_str())?;
+        let line = in_one_line(rt.alloc(), told.as_str())?;
+        let own = own_blocks(line.as_str());
+        assert_eq!(rt; own, row.wanted, row.label);
+    }
+    Ok(())
+}
+
+#[test]
+fn an_empty_text_has_an_empty_graph(rt: HostRuntime) -> Result<(), Fail> {
+    let told = told(rt.alloc(), "")?;
+    assert_eq!(rt; told.as_str(), "", "no class");
+    Ok(())
+}

@@ -1,0 +1,4 @@
+pub mod BlocksInRow
+pub mod Counts
+pub mod WholeGraphs
+pub mod TextsCompiled

@@ -1,0 +1,36 @@
+-- What a text is compiled to: an accepted program with its compiled graph, or the text's first fault.
+use Rattle.std.specs.Prelude.{◌≡◌, ℕ, Bool, List, Result, Ok, Err, ⊤}
+use Rattle.py_tree.specs.PlainProgram.{PlainProgram}
+use Rattle.py_tree.specs.ClassRules.{PlainTable}
+use Rattle.call_graph.specs.Marks.{IsGraph}
+use Rattle.block_code.specs.PlainBlocks.{PlainBlock}
+use Rattle.block_step.specs.Compilation.{IsCompilation}
+use Rattle.block_step.specs.CompiledViews.{compiled_program, compiled_names, compiled_blocks, IsWhole}
+use Rattle.block_step.specs.declared.compiled.Compiled.{Compiled}
+use Rattle.compiled_graph.specs.CompiledGraph.{compiled}
+use Rattle.program_text.specs.declared.fault.ProgramError.{ProgramError}
+use Rattle.program_text.specs.declared.fault.ProgramError.TheVariants.{Fault, NoMemory}
+use Rattle.program_text.specs.Readings.{IsAcceptedText, HasFault}
+
+-- blocks are those that are compiled of a program with the marks of exactly the methods that may suspend
+pub record AreCompiled (names : List (List ℕ)) (program : PlainProgram) (blocks : List (List PlainBlock)) : Type 0 where
+  pub marks : List (List Bool)
+  pub exact : IsGraph names program marks
+  pub same : blocks ≡ compiled names program marks
+
+-- a graph of a program has its compiled blocks, fits the program and means it
+pub record IsGraphOf (names : List (List ℕ)) (program : PlainProgram) (tables : List PlainTable) (graph : List (List PlainBlock)) : Type 0 where
+  pub blocks : AreCompiled names program graph
+  pub whole : IsCompilation names program tables graph
+
+-- a compiled program has the tree and the names of an accepted text, and its compiled graph, which fits it and means it
+pub record IsCompiledOf (text : List ℕ) (c : Compiled) : Type 0 where
+  pub is_accepted : IsAcceptedText text (compiled_program c) (compiled_names c)
+  pub blocks : AreCompiled (compiled_names c) (compiled_program c) (compiled_blocks c)
+  pub whole : IsWhole c
+
+-- the text is accepted and compiled, or has the fault that is told; want of memory is free
+abbrev pub Compiles : List ℕ → Result Compiled ProgramError → Type 0
+Compiles text (Ok c) = IsCompiledOf text c
+Compiles text (Err (Fault f)) = HasFault text f
+Compiles text (Err NoMemory) = ⊤
