@@ -132,12 +132,15 @@ fn the_shop_has_the_graph_of_its_definition(rt: HostRuntime) -> Result<(), Fail>
 
 #[test]
 fn a_method_is_compiled_or_its_fault_is_told(rt: HostRuntime) -> Result<(), Fail> {
-    let rows = rows(rt.alloc(), "
+    let rows = rows(
+        rt.alloc(),
+        "
         mended       | x = 0↵for x in xs:↵    pass↵return x | class L: key k; 1 fields; 1 methods; method L.last: 1 blocks;   block 0: 1 vars, leave
         unassigned   | for x in xs:↵    pass↵return x | rule 11:16
         a number     | return 1.5 | lexical 9:16
         a semicolon  | return 1; | syntax 9:17
-    ")?;
+    ",
+    )?;
     for row in &rows {
         let text = text_in(rt.alloc(), LAST, row.text.as_str())?;
         let told = told(rt.alloc(), text.as_str())?;
@@ -149,12 +152,15 @@ fn a_method_is_compiled_or_its_fault_is_told(rt: HostRuntime) -> Result<(), Fail
 
 #[test]
 fn methods_have_their_own_blocks(rt: HostRuntime) -> Result<(), Fail> {
-    let rows = rows(rt.alloc(), "
+    let rows = rows(
+        rt.alloc(),
+        "
         no call      | return 2                  | 1 blocks;   block 0: 1 vars, leave
         an own call  | return self.one()         | 1 blocks;   block 0: 1 vars, leave
         a call       | return b.get()            | 2 blocks;   block 0: 1 vars, call B.get then 1;   block 1: 2 vars, leave
         a creation   | b = B(\"k\", 1)↵return 2 | 2 blocks;   block 0: 1 vars, make B then 1;   block 1: 2 vars, leave
-    ")?;
+    ",
+    )?;
     for row in &rows {
         let text = text_in(rt.alloc(), AWAY, row.text.as_str())?;
         let told = told(rt.alloc(), text.as_str())?;
