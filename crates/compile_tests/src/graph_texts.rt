@@ -138,14 +138,14 @@ fn a_method_is_compiled_or_its_fault_is_told(rt: HostRuntime) -> Result<(), Fail
         mended       | x = 0↵for x in xs:↵    pass↵return x | class L: key k; 1 fields; 1 methods; method L.last: 1 blocks;   block 0: 1 vars, leave
         unassigned   | for x in xs:↵    pass↵return x | rule 11:16
         a number     | return 1.5 | lexical 9:16
-        a semicolon  | return 1; | syntax 9:17
+        two numbers  | return 1 1 | syntax 9:18
     ",
     )?;
     for row in &rows {
         let text = text_in(rt.alloc(), LAST, row.text.as_str())?;
         let told = told(rt.alloc(), text.as_str())?;
         let line = in_one_line(rt.alloc(), told.as_str())?;
-        assert_eq!(rt; line.as_str(), row.wanted, row.label);
+        assert_eq!(rt; line.as_str(), row.wanted, "{}", row.label);
     }
     Ok(())
 }
@@ -166,7 +166,7 @@ fn methods_have_their_own_blocks(rt: HostRuntime) -> Result<(), Fail> {
         let told = told(rt.alloc(), text.as_str())?;
         let line = in_one_line(rt.alloc(), told.as_str())?;
         let own = own_blocks(line.as_str());
-        assert_eq!(rt; own, row.wanted, row.label);
+        assert_eq!(rt; own, row.wanted, "{}", row.label);
     }
     Ok(())
 }
