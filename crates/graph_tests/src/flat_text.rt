@@ -97,19 +97,6 @@ fn tell_links(told: &mut String, names: &Names, links: &[Link]) -> Result<(), Al
     Ok(())
 }
 
-#[cycle(tell_expr)]
-fn tell_pair(
-    told: &mut String,
-    names: &Names,
-    left: &Expr,
-    between: &str,
-    right: &Expr,
-) -> Result<(), AllocError> {
-    tell_expr(told, names, left)?;
-    told.push_str(between)?;
-    tell_expr(told, names, right)
-}
-
 /// An expression; what has parts stands in parentheses.
 #[cycle(tell_expr)]
 pub fn tell_expr(told: &mut String, names: &Names, expr: &Expr) -> Result<(), AllocError> {
@@ -132,7 +119,11 @@ pub fn tell_expr(told: &mut String, names: &Names, expr: &Expr) -> Result<(), Al
             told.push(' ')?;
             tell_each(told, names, ", ", args.as_slice())?;
         }
-        ExprKind::Index(on, index) => tell_pair(told, names, on, " at ", index)?,
+        ExprKind::Index(on, index) => {
+            tell_expr(told, names, on)?;
+            told.push_str(" at ")?;
+            tell_expr(told, names, index)?;
+        }
         ExprKind::List(items) => tell_each(told, names, ", ", items.as_slice())?,
         ExprKind::Neg(a) => {
             told.push('-')?;
@@ -153,7 +144,9 @@ pub fn tell_expr(told: &mut String, names: &Names, expr: &Expr) -> Result<(), Al
         ExprKind::And(items) => tell_each(told, names, " and ", items.as_slice())?,
         ExprKind::Or(items) => tell_each(told, names, " or ", items.as_slice())?,
         ExprKind::Compare(op, _, left, right) => {
-            tell_pair(told, names, left, comparison_text(*op), right)?;
+            tell_expr(told, names, left)?;
+            told.push_str(comparison_text(*op))?;
+            tell_expr(told, names, right)?;
         }
         ExprKind::IsNone(a, positive) => {
             tell_expr(told, names, a)?;
@@ -164,7 +157,9 @@ pub fn tell_expr(told: &mut String, names: &Names, expr: &Expr) -> Result<(), Al
             })?;
         }
         ExprKind::Cond { test, yes, no } => {
-            tell_pair(told, names, yes, " if ", test)?;
+            tell_expr(told, names, yes)?;
+            told.push_str(" if ")?;
+            tell_expr(told, names, test)?;
             told.push_str(" else ")?;
             tell_expr(told, names, no)?;
         }
