@@ -1,0 +1,4 @@
+pub mod EnoughBlocks
+pub mod WhatFits
+pub mod FramesLeft
+pub mod GoingOn
