@@ -19,7 +19,8 @@ use Rattle.operator_graph.specs.Routing.{hash_from}
 use Rattle.operator_graph.specs.Telling.{StepTold}
 use Rattle.interleaving.specs.Turns.{running, noted, after, along}
 use Rattle.interleaving.specs.AsAlone.{sum_of}
-use Rattle.batch_events.specs.BatchEvents.{Transaction, begun, above_ranks, enough, moved, step_with_enough, handled, batch_told, batch_running}
+use Rattle.transaction_steps.specs.Transactions.{Transaction, begun, above_ranks, enough, moved, step_with_enough, handled}
+use Rattle.operator_graph.specs.BatchEvents.{batch_told, batch_running}
 
 -- Ranks
 

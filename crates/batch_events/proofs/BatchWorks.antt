@@ -12,15 +12,16 @@ use Rattle.program_meaning.specs.World.{State, World}
 use Rattle.program_meaning.specs.RequestRun.{Ran, run}
 use Rattle.keyed_state.specs.declared.Work.{Work}
 use Rattle.keyed_state.specs.Works.{keys_of, held_record, work_at}
-use Rattle.aria_batch.specs.CommittedSerial.{IsWorkOf, AreWorksOf}
-use Rattle.aria_batch.proofs.BatchLaws.{committed_is_serial}
+use Rattle.commit_order.specs.CommittedSerial.{IsWorkOf, AreWorksOf}
+use Rattle.commit_order.proofs.BatchLaws.{committed_is_serial}
 use Rattle.block_code.specs.declared.event.EventKind.{EventKind}
 use Rattle.block_code.specs.declared.event.EventKind.TheVariants as kind
 use Rattle.request_events.specs.RequestEvents.{ended_as}
 use Rattle.quiet_methods.specs.MarksKeepWithin.{source}
-use Rattle.batch_events.specs.BatchEvents.{Transaction}
+use Rattle.transaction_steps.specs.Transactions.{Transaction}
 use Rattle.batch_events.specs.BatchRuns.{come_to, AreRuns}
-use Rattle.batch_events.specs.BatchWorks.{written, EachBuffers, CommittedAlongPicksIsSerial}
+use Rattle.operator_graph.specs.BufferedWorks.{written, EachBuffers}
+use Rattle.batch_events.specs.BatchWorks.{CommittedAlongPicksIsSerial}
 use Rattle.batch_events.proofs.OwnRuns.{batches_come_to_their_runs}
 
 -- One transaction
@@ -46,7 +47,7 @@ others [] = []
 others (x ∷ xs) = xs
 
 module _ (src : Source) (snapshot : State) where
-  works_are : (batch : List Act) (ts : List Transaction) (works : List Work) → AreRuns src snapshot batch ts → EachBuffers ts works → AreWorksOf src snapshot batch works
+  pub works_are : (batch : List Act) (ts : List Transaction) (works : List Work) → AreRuns src snapshot batch ts → EachBuffers ts works → AreWorksOf src snapshot batch works
   works_are [] [] [] are each = record { as_many = refl; each = λ place asked is. absurd (none-some asked is) }
   works_are [] [] (work ∷ works) are each = absurd each
   works_are batch (t ∷ ts) [] are each = absurd each

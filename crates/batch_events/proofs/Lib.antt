@@ -1,4 +1,3 @@
-pub mod EnoughBlocks
 pub mod OwnRuns
 pub mod BatchWorks
 pub mod BatchExamples

@@ -4,7 +4,6 @@ use Rattle.std.specs.declared.option.Option.{Option}
 use Rattle.std.specs.List.{AllByRecursion}
 use Rattle.py_tree.specs.PlainProgram.{PlainProgram}
 use Rattle.py_tree.specs.ClassRules.{PlainTable, tables_of}
-use Rattle.sf_value.specs.declared.value.Value.{Value}
 use Rattle.sf_value.specs.declared.Act.{Act}
 use Rattle.program_meaning.specs.ClassTables.{Source}
 use Rattle.program_meaning.specs.World.{State}
@@ -14,22 +13,13 @@ use Rattle.program_meaning.specs.NothingGoesWrong.{IsKnownAccepted}
 use Rattle.block_code.specs.declared.event.Event.{Event}
 use Rattle.block_code.specs.PlainBlocks.{PlainBlock}
 use Rattle.block_code.specs.GraphFits.{GraphFits}
-use Rattle.block_code.specs.EventsFit.{EventFits}
-use Rattle.block_runs.specs.EventStep.{Step, StepsTo}
 use Rattle.operator_graph.specs.Telling.{Told}
 use Rattle.request_events.specs.RequestEvents.{ended_as}
 use Rattle.request_events.specs.GraphMeans.{GraphMeans}
 use Rattle.quiet_methods.specs.MarksKeepWithin.{source}
 use Rattle.interleaving.specs.AsAlone.{sum_of, Alone, EachEnds, AreAsAlone}
-use Rattle.batch_events.specs.BatchEvents.{Transaction, firsts, step_with_enough, event_told, transactions, batch_after, batch_told, batch_running}
-
--- Enough blocks
-
--- an event that fits, and comes to a step at all, comes to it with enough blocks
-abbrev pub EnoughBlocks : Type 0
-EnoughBlocks = (names : List (List ℕ)) (program : PlainProgram) → IsKnownAccepted names program → (graph : List (List PlainBlock)) → GraphFits names program graph
-    → (e : Event) → EventFits (tables_of names program) graph e → (held : Option (List Value)) (s : Step) → StepsTo (source names program) (tables_of names program) graph e held s
-    → step_with_enough (source names program) (tables_of names program) graph e held ≡ Some s
+use Rattle.transaction_steps.specs.Transactions.{Transaction, firsts}
+use Rattle.operator_graph.specs.BatchEvents.{event_told, transactions, batch_after, batch_told, batch_running}
 
 -- Runs
 

@@ -1,3 +1,2 @@
-pub mod BatchEvents
 pub mod BatchRuns
 pub mod BatchWorks

@@ -1,13 +1,7 @@
 //! What the events of a batch come to along picks.
 
-ghost use Rattle.batch_events.specs.BatchRuns.{BatchesComeToTheirRuns, EnoughBlocks};
+ghost use Rattle.batch_events.specs.BatchRuns.{BatchesComeToTheirRuns};
 ghost use Rattle.batch_events.specs.BatchWorks.{CommittedAlongPicksIsSerial};
-
-/// A transaction's step runs at most a number of blocks that is always enough: an event that fits,
-/// and comes to a step at all, comes to it with so many.
-pub fn enough_blocks()
-    ensures { EnoughBlocks }
-{}
 
 /// However the turns are given, the events of a batch end once there were enough turns, and each
 /// transaction comes to what the source's run of its request comes to on the snapshot: its outcome,

@@ -3,4 +3,4 @@
 
 mod laws;
 
-pub use laws::{batches_come_to_their_runs, committed_along_picks, enough_blocks};
+pub use laws::{batches_come_to_their_runs, committed_along_picks};

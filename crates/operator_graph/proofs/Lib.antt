@@ -1,2 +1,10 @@
 mod RoutingLaws
 mod RoutingExamples
+mod GoingLaws
+mod OutcomeLaws
+mod FirstLaws
+mod WorkLaws
+mod FlightLaws
+mod PickedFlights
+mod TurnsTaken
+mod StartLaws

@@ -2,3 +2,11 @@ pub mod Routing
 pub mod Telling
 pub mod Notes
 pub mod MemoryNotes
+pub mod BatchEvents
+pub mod BufferedWorks
+pub mod Going
+pub mod FirstFlights
+pub mod Stepping
+pub mod Flights
+pub mod BatchInFlight
+pub mod Turns

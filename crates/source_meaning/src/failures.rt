@@ -30,7 +30,7 @@ pub const NO_ENTITY: u8 = 9;
 pub const ALREADY_EXISTS: u8 = 10;
 
 /// `SizeLimit`.
-pub(crate) const SIZE_LIMIT: u8 = 11;
+pub const SIZE_LIMIT: u8 = 11;
 
 /// `StepLimit`.
 pub const STEP_LIMIT: u8 = 12;

@@ -18,9 +18,11 @@ mod vars;
 mod walk;
 
 pub use direct::target_entity;
-pub use failures::{ALREADY_EXISTS, NO_ENTITY, RECURSION_ERROR, STEP_LIMIT, bare_failure};
+pub use failures::{
+    ALREADY_EXISTS, NO_ENTITY, RECURSION_ERROR, SIZE_LIMIT, STEP_LIMIT, bare_failure,
+};
 pub use here::{Ended, Made, eval_here, make_here, run_here};
-pub use local::{Attempt, Local};
+pub use local::{Attempt, Local, is_heavy};
 pub use operations::{take_text, take_truth};
 use sf_value::Failure;
 pub use site::DEPTH_LIMIT;

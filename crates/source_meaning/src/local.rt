@@ -245,7 +245,7 @@ fn any_heavy(args: &[Value]) -> bool
 
 /// Whether the key or an argument of a request weighs too much.
 #[tactic(auto, unfolding(program_meaning::specs::RequestRun::is_too_heavy))]
-fn is_heavy(asked: &Act) -> bool
+pub fn is_heavy(asked: &Act) -> bool
     ensures { result ≡ is_too_heavy asked.now }
 {
     match asked {
