@@ -1,116 +1,142 @@
--- Works as those of runs, and what is left of them once some are committed.
-use Rattle.std.proofs.Common.{◌≡◌, ℕ, arith, ◌<◌, Bool, true, false, cond, Option, Some, None, List, [], ◌∷◌, length, map as over, refl, sym, ap, ◌∙◌, subst, true≢false}
-use Rattle.std.specs.Prelude.{◌&&◌, not, nat_lt, nat_eq, slice_get, is_some}
-use Rattle.std.specs.List.{list_any}
-use Rattle.std.specs.Option.{option_or}
-use Rattle.std.specs.FinMap as map
-use Rattle.std.specs.FinSet as set
-use Rattle.std.proofs.lemmas.Bool.{ltb-true}
-use Rattle.std.proofs.lemmas.List.{length-map, get_or-map}
-use Rattle.std.proofs.lemmas.Option.{none-some, slice_get-get_or}
-use Rattle.sf_value.specs.Keys.{Key}
+-- A batch under way: what was told so far, and what it comes to.
+use Rattle.std.proofs.Common.{◌≡◌, ◌∙◌, ℕ, arith, ◌+◌, ◌<◌, Bool, true, false, true≢false, Ok, Err, Some, None, List, [], ◌∷◌, ◌++◌, length, sym, ap, subst}
+use Rattle.std.specs.Prelude.{IsErr}
+use Rattle.std.specs.declared.result.Result.{Result}
+use Rattle.std.specs.declared.alloc.AllocError.{AllocError}
+use Rattle.std.specs.List.{AllByRecursion}
 use Rattle.sf_value.specs.declared.Act.{Act}
-use Rattle.sf_value.specs.declared.value.Value.{Value}
-use Rattle.program_meaning.specs.ClassTables.{Source}
+use Rattle.sf_value.specs.declared.Request.{Request}
 use Rattle.program_meaning.specs.World.{State}
-use Rattle.program_meaning.specs.RequestRun.{run}
+use Rattle.program_meaning.specs.Fits.{StateFits, ActFits}
+use Rattle.program_meaning.proofs.Soundness.{checked_are_known}
 use Rattle.keyed_state.specs.declared.Work.{Work}
-use Rattle.keyed_state.specs.Works.{held_record, no_work, work_at, with_records, written_records, after_writes, are_places}
-use Rattle.keyed_state.proofs.WrittenLaws.{get-with_work}
-use Rattle.serial_order.specs.ConflictFree.{access_of, IsConflictFree, runs_on, record_after}
-use Rattle.serial_order.proofs.FramedRuns.{runs_framed}
-use Rattle.serial_order.proofs.SerialOrder.{conflict_free_serial, state_by_records}
-use Rattle.reservations.specs.Accesses.{access_of_work, accesses_of, no_access, access_at}
-use Rattle.reservations.proofs.Lawful.{committed_places}
-use Rattle.aria_batch.specs.CommittedSerial.{and_more, asked_at, IsWorkOf, AreWorksOf, CommittedIsSerial}
+use Rattle.commit_order.specs.CommittedSerial.{AreWorksOf}
+use Rattle.block_step.specs.declared.compiled.Compiled.{Compiled}
+use Rattle.block_step.specs.CompiledViews.{compiled_program, compiled_names, compiled_tables, compiled_blocks, IsWhole}
+use Rattle.interleaving.specs.Turns.{Parts, running, told, after, along}
+use Rattle.transaction_steps.specs.Transactions.{Transaction, firsts}
+use Rattle.operator_graph.specs.Telling.{Told, AlsoTold}
+use Rattle.batch_events.specs.BatchRuns.{AreRuns, ComesToRuns}
+use Rattle.batch_events.proofs.OwnRuns.{batches_come_to_their_runs}
+use Rattle.batch_events.proofs.BatchWorks.{works_are}
+use Rattle.operator_graph.specs.declared.flight.Flight.{Flight}
+use Rattle.operator_graph.specs.Going.{all_come_to}
+use Rattle.operator_graph.specs.Flights.{EachTransaction, turns_of}
+use Rattle.operator_graph.specs.Turns.{Outside, PicksOne, Turns}
+use Rattle.aria_batch.specs.declared.events.Ended.{Ended}
+use Rattle.aria_batch.specs.Counts.{counted_in_run}
+use Rattle.operator_graph.specs.FirstFlights.{acts_of}
+use Rattle.aria_batch.specs.BatchRun.{source_of, own_outcomes, Batch, batch_of, AlsoPicked, IsToldAlong}
+use Rattle.aria_batch.proofs.PickLaws.{none_picked, one_picked, none_told, more_told, nothing_picked, after_one_more, along_one_more, one_more_note}
+use Rattle.aria_batch.proofs.FlightLaws.{each_buffers, outcomes_are}
 
-first_of_both : (a b : Bool) → (a && b) ≡ true → a ≡ true
-first_of_both true b h = refl
-first_of_both false b h = absurd (true≢false (sym h))
+-- where memory ran out no events are counted
+pub uncounted : (b : Batch) (parts : ℕ) (r : Result Ended AllocError) (old new : Outside) → IsErr r → IsToldAlong b parts None old new → IsToldAlong b parts (counted_in_run r) old new
+uncounted b parts (Ok e) old new h told = absurd (true≢false (sym h))
+uncounted b parts (Err e) old new h told = told
 
-second_of_both : (a b : Bool) → (a && b) ≡ true → b ≡ true
-second_of_both true b h = h
-second_of_both false b h = absurd (true≢false (sym h))
+-- the batches of a compiled program come to their requests' runs
+come_to_runs : (c : Compiled) → IsWhole c → (snapshot : State) → StateFits (compiled_tables c) snapshot → (asked : List Act) → AllByRecursion (ActFits (compiled_tables c)) asked
+    → ComesToRuns (source_of c) (compiled_tables c) (compiled_blocks c) snapshot asked
+come_to_runs c whole snapshot state asked fit =
+    let known = subst (λ ts. StateFits ts snapshot) whole.has_tables state in
+    let each = subst (λ ts. AllByRecursion (ActFits ts) asked) whole.has_tables fit in
+    subst (λ ts. ComesToRuns (source_of c) ts (compiled_blocks c) snapshot asked) (sym whole.has_tables)
+    (batches_come_to_their_runs (compiled_names c) (compiled_program c) (checked_are_known c.program) (compiled_blocks c) whole.fits whole.means snapshot known asked each)
 
--- the first of these places stands in the list, and so do the others
-place_there : (n place : ℕ) (others : List ℕ) → are_places n (place ∷ others) ≡ true → place < n
-place_there n place others h =
-    ltb-true place n (first_of_both (nat_lt place n) (not (list_any (nat_eq place) others)) (first_of_both (nat_lt place n && not (list_any (nat_eq place) others)) (are_places n others) h))
+positive : (n : ℕ) → (n ≡ 0 → ⊥) → 0 < n
+positive n some = omega (arith, some)
 
-others_there : (n place : ℕ) (others : List ℕ) → are_places n (place ∷ others) ≡ true → are_places n others ≡ true
-others_there n place others h = second_of_both (nat_lt place n && not (list_any (nat_eq place) others)) (are_places n others) h
+module _ (c : Compiled) (snapshot : State) (requests : List Request) (parts : ℕ) where
+  abbrev m : Parts Transaction Told
+  m = turns_of c parts
 
-module _ (src : Source) (snapshot : State) (batch : List Act) (works : List Work) (are : AreWorksOf src snapshot batch works) where
-  -- what is asked at a place of the batch
-  record Asked (place : ℕ) : Type 0 where
-    asked : Act
-    is : slice_get batch place ≡ Some asked
-    work : IsWorkOf (run src snapshot asked) (work_at works place)
-    among : (others : List ℕ) → asked_at batch (place ∷ others) ≡ asked ∷ asked_at batch others
+  abbrev begun : List Transaction
+  begun = firsts (source_of c) snapshot (acts_of requests)
 
-  asked_here : (place : ℕ) → place < length works → Asked place
-  unfolding asked_at
-  asked_here place within = by (slice_get batch place) refl
-    where
-      by : (o : Option Act) → slice_get batch place ≡ o → Asked place
-      by (Some a) is = record { asked = a; is = is; work = are.each place a is; among = λ others. ap (λ o. and_more o (asked_at batch others)) is }
-      by None is =
-          let same : length works ≡ length batch = are.as_many in
-          absurd (none_there batch place (omega (arith, within, same)) is)
-        where
-          none_there : (xs : List Act) (i : ℕ) → i < length xs → slice_get xs i ≡ None → ⊥
-          none_there [] i less is = omega (arith, less)
-          none_there (x ∷ xs) i less is = none-some _ (sym is ∙ slice_get-get_or (x ∷ xs) i x less)
+  -- along some picks: they are told besides, and the events along them, of which there were so many
+  pub record PickedSoFar (events : ℕ) (old new : Outside) (picks : List ℕ) : Type 0 where
+    pub picked : AlsoPicked old.choices new.choices picks
+    pub told_of_them : AlsoTold old.told new.told (along m picks begun)
+    pub counted : events ≡ length (along m picks begun)
 
-  access_here : (place : ℕ) → place < length works → (a : Asked place) → access_of (run src snapshot a.asked) ≡ access_at (accesses_of works) place
-  access_here place within a =
-      (λ i. record { reads = sym a.work.reads i; writes = sym a.work.writes i })
-      ∙ sym (get_or-map access_of_work works place no_work no_access within)
+  -- and the transactions are what these picks have made of them
+  pub record SoFar (events : ℕ) (flights : List Flight) (works : List Work) (old new : Outside) : Type 0 where
+    pub picks : List ℕ
+    pub so_far : PickedSoFar events old new picks
+    pub are : EachTransaction snapshot (after m picks begun) flights works
 
-  -- the committed ones have the accesses of the works at their places
-  accesses_are : (places : List ℕ) → are_places (length works) places ≡ true → over access_of (runs_on src snapshot (asked_at batch places)) ≡ over (access_at (accesses_of works)) places
-  unfolding asked_at
-  accesses_are [] there = refl
-  accesses_are (place ∷ others) there =
-      let within : place < length works = place_there (length works) place others there in
-      let a : Asked place = asked_here place within in
-      ap (λ acts. over access_of (runs_on src snapshot acts)) (a.among others)
-      ∙ (λ i. access_here place within a i ∷ accesses_are others (others_there (length works) place others there) i)
+  nothing_yet : (o : Outside) → PickedSoFar 0 o o []
+  nothing_yet o = record {
+    picked = none_picked o.choices;
+    told_of_them = subst (AlsoTold o.told o.told) (sym (nothing_picked m begun).1) (none_told o.told);
+    counted = sym (ap length (nothing_picked m begun).1);
+  }
 
-  -- a work's writes are those of its run
-  record_of_work : (s : State) (place : ℕ) (a : Asked place) (q : Key)
-      → map.get (with_records s (written_records (work_at works place))) q ≡ cond (set.contains (run src snapshot a.asked).writes q) (map.get (run src snapshot a.asked).state q) (map.get s q)
-  record_of_work s place a q =
-      get-with_work s (work_at works place) q
-      ∙ ap (λ keys. cond (set.contains keys q) (option_or (held_record (work_at works place).held q) (map.get s q)) (map.get s q)) a.work.writes
-      ∙ by (set.contains (run src snapshot a.asked).writes q) refl
-    where
-      there_or : (o other : Option (List Value)) → is_some o ≡ true → option_or o other ≡ o
-      there_or None other h = absurd (true≢false (sym h))
-      there_or (Some x) other h = refl
+  pub begins : (flights : List Flight) (works : List Work) (o : Outside) → EachTransaction snapshot begun flights works → SoFar 0 flights works o o
+  begins flights works o are = record { picks = []; so_far = nothing_yet o; are = subst (λ ts. EachTransaction snapshot ts flights works) (sym (nothing_picked m begun).0) are }
 
-      by : (b : Bool) → set.contains (run src snapshot a.asked).writes q ≡ b → cond b (option_or (held_record (work_at works place).held q) (map.get s q)) (map.get s q) ≡ cond b (map.get (run src snapshot a.asked).state q) (map.get s q)
-      by false written = refl
-      by true written =
-          ap (λ o. option_or o (map.get s q)) (a.work.records q written)
-          ∙ there_or (map.get (run src snapshot a.asked).state q) (map.get s q) ((runs_framed src).there snapshot a.asked q written)
+  one_more : (events : ℕ) (old mid new : Outside) (picks : List ℕ) → PickedSoFar events old mid picks → (p : PicksOne m (after m picks begun) mid new) → PickedSoFar (events + 1) old new (picks ++ p.pick ∷ [])
+  one_more events old mid new picks s p = record {
+    picked = one_picked old.choices mid.choices new.choices picks p.pick s.picked p.picked;
+    told_of_them =
+        subst (AlsoTold old.told new.told) (sym (along_one_more m picks p.pick begun))
+        (more_told old.told mid.told new.told (along m picks begun) (told m p.pick (after m picks begun)) s.told_of_them p.told_of_it);
+    counted = ap (λ n. n + 1) s.counted ∙ sym (one_more_note m picks p.pick begun (positive (running m (after m picks begun)) p.runs));
+  }
 
-  records_are : (places : List ℕ) → are_places (length works) places ≡ true → (s : State) (q : Key) → map.get (after_writes s works places) q ≡ record_after (map.get s q) q (runs_on src snapshot (asked_at batch places))
-  unfolding asked_at record_after
-  records_are [] there s q = refl
-  records_are (place ∷ others) there s q =
-      let within : place < length works = place_there (length works) place others there in
-      let a : Asked place = asked_here place within in
-      records_are others (others_there (length works) place others there) (with_records s (written_records (work_at works place))) q
-      ∙ ap (λ before. record_after before q (runs_on src snapshot (asked_at batch others))) (record_of_work s place a q)
-      ∙ ap (λ acts. record_after (map.get s q) q (runs_on src snapshot acts)) (sym (a.among others))
+  -- nothing was told yet
+  pub nothing_told : (o : Outside) → IsToldAlong (batch_of c snapshot requests) parts None o o
+  nothing_told o = let s : PickedSoFar 0 o o [] = nothing_yet o in record { picks = []; picked = s.picked; told_of_them = s.told_of_them; ended = tt; counted_all = tt }
 
-pub committed_is_serial : CommittedIsSerial
-committed_is_serial src snapshot batch works chosen are lawful =
-    let there : are_places (length works) chosen.committed ≡ true = ap (λ n. are_places n chosen.committed) (sym (length-map works access_of_work)) ∙ committed_places (accesses_of works) chosen lawful in
-    let free : IsConflictFree (over access_of (runs_on src snapshot (asked_at batch chosen.committed))) = subst IsConflictFree (sym (accesses_are src snapshot batch works are chosen.committed there)) lawful.apart in
-    let serial = conflict_free_serial src snapshot (asked_at batch chosen.committed) free in
-    record {
-      outcomes = serial.outcomes;
-      state = state_by_records src snapshot (after_writes snapshot works chosen.committed) (asked_at batch chosen.committed) serial (λ q. records_are src snapshot batch works are chosen.committed there snapshot q);
-    }
+-- A turn, by what it answers
+
+module _ {c : Compiled} {snapshot : State} {requests : List Request} {parts : ℕ} {events : ℕ} {flights : List Flight} {works : List Work} {old mid : Outside} (s : SoFar c snapshot requests parts events flights works old mid)
+    (r : Result Bool AllocError) (after_it : List Flight) (left : List Work) (new : Outside) (turns : (ts : List Transaction) → EachTransaction snapshot ts flights works → Turns (turns_of c parts) ts snapshot r after_it left mid new) where
+  -- the transactions before it
+  abbrev before : List Transaction
+  before = after (turns_of c parts) s.picks (firsts (source_of c) snapshot (acts_of requests))
+
+  by_answer : (answer : Result Bool AllocError) → r ≡ answer → Turns (turns_of c parts) before snapshot answer after_it left mid new
+  by_answer answer is = subst (λ a. Turns (turns_of c parts) before snapshot a after_it left mid new) is (turns before s.are)
+
+  pub goes_on : r ≡ Ok true → SoFar c snapshot requests parts (events + 1) after_it left old new
+  goes_on is =
+      let t : Turns (turns_of c parts) before snapshot (Ok true) after_it left mid new = by_answer (Ok true) is in
+      record {
+        picks = s.picks ++ t.0.pick ∷ [];
+        so_far = one_more c snapshot requests parts events old mid new s.picks s.so_far t.0;
+        are = subst (λ ts. EachTransaction snapshot ts after_it left) (sym (after_one_more (turns_of c parts) s.picks t.0.pick (firsts (source_of c) snapshot (acts_of requests)))) t.1;
+      }
+
+  -- where memory runs out, what was told is the beginning of a run
+  pub stops : (e : AllocError) → r ≡ Err e → IsToldAlong (batch_of c snapshot requests) parts None old new
+  stops e is =
+      let t : PicksOne (turns_of c parts) before mid new = by_answer (Err e) is in
+      let p : PickedSoFar c snapshot requests parts (events + 1) old new (s.picks ++ t.pick ∷ []) = one_more c snapshot requests parts events old mid new s.picks s.so_far t in
+      record { picks = s.picks ++ t.pick ∷ []; picked = p.picked; told_of_them = p.told_of_them; ended = tt; counted_all = tt }
+
+  -- Where all are over
+
+  module _ (is : r ≡ Ok false) where
+    none_runs : running (turns_of c parts) before ≡ 0
+    none_runs = (by_answer (Ok false) is).0
+
+    are : EachTransaction snapshot before after_it left
+    are = (by_answer (Ok false) is).1
+
+    pub all_told : IsToldAlong (batch_of c snapshot requests) parts (Some events) old new
+    all_told = subst (λ o. IsToldAlong (batch_of c snapshot requests) parts (Some events) old o) (sym (by_answer (Ok false) is).2)
+        (record { picks = s.picks; picked = s.so_far.picked; told_of_them = s.so_far.told_of_them; ended = none_runs; counted_all = s.so_far.counted })
+
+    module _ (whole : IsWhole c) (state : StateFits (compiled_tables c) snapshot) (fit : AllByRecursion (ActFits (compiled_tables c)) (acts_of requests)) where
+      -- they have come to their requests' runs
+      runs : AreRuns (source_of c) snapshot (acts_of requests) before
+      runs = (come_to_runs c whole snapshot state (acts_of requests) fit).are parts s.picks none_runs
+
+      pub works_of_runs : AreWorksOf (source_of c) snapshot (acts_of requests) left
+      works_of_runs = works_are (source_of c) snapshot (acts_of requests) before left runs
+          (each_buffers (source_of c) (compiled_tables c) (compiled_blocks c) parts snapshot before after_it left are none_runs)
+
+      pub outcomes_of_runs : all_come_to after_it ≡ own_outcomes (source_of c) snapshot (acts_of requests)
+      outcomes_of_runs = outcomes_are (source_of c) snapshot (acts_of requests) before after_it left runs are

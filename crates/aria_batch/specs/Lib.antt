@@ -1,1 +1,2 @@
-pub mod CommittedSerial
+pub mod BatchRun
+pub mod Counts

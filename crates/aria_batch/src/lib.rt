@@ -1,8 +1,9 @@
-//! A batch: requests that each run on one snapshot, of which a rule commits some.
+//! One batch: its requests run as transactions whose events take turns, and a rule commits some of them.
 //!
-//! So far the crate has what holds of the batch once each request has run.
+//! What each comes to, and so what is committed, is the same whatever the turns.
 #![tactic(auto)]
 
-mod laws;
+mod batch;
+mod events;
 
-pub use laws::committed_is_serial;
+pub use batch::{BatchResult, run_batch};
