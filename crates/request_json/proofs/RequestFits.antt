@@ -27,7 +27,7 @@ use Rattle.request_json.specs.declared.fault.LineFault.{LineFault}
 use Rattle.request_json.specs.declared.fault.LineFault.TheVariants.{NotJson, NotRequest, UnknownClass, UnknownMethod, ArgumentCount, ArgumentType}
 use Rattle.request_json.specs.Arguments.{◌>>?◌, int_of, each_of, class_named, value_of, arg_of, args_of}
 use Rattle.request_json.specs.RequestLines.{◌>>=◌, length_of, is_id, id_of, text_at, id_in, text_in, array_in, class_of, method_of as method_in, arguments_of, call_of, creation_of, has_keys, call_keys, creation_keys, of_data, data_of, reading_of}
-use Rattle.request_json.specs.LinesFit.{IdFits, RequestFits}
+use Rattle.request_history.specs.SoundHistory.{IdFits, RequestFits}
 
 -- what goes on had something to go on with
 pub then_some : {A B : Type 0} (o : Option A) (f : A → Option B) (y : B) → (o >>? f) ≡ Some y → (x : A) × (o ≡ Some x) × (f x ≡ Some y)

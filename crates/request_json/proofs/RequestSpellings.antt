@@ -38,7 +38,7 @@ use Rattle.program_meaning.proofs.TableFacts.{then_found}
 use Rattle.request_json.specs.declared.fault.LineFault.TheVariants.{NotJson, NotRequest, UnknownClass, UnknownMethod}
 use Rattle.request_json.specs.Arguments.{◌>>?◌}
 use Rattle.request_json.specs.RequestLines.{is_id, id_of, text_at, array_at, id_in, text_in, array_in, class_of, method_of as method_in, arguments_of, call_of, creation_of, has_keys, call_keys, creation_keys, of_data, data_of, longest, reading_of}
-use Rattle.request_json.specs.LinesFit.{IdFits}
+use Rattle.request_history.specs.SoundHistory.{IdFits}
 use Rattle.request_json.specs.LineSpellings.{HasSpelling}
 use Rattle.request_json.proofs.LineData.{Within, data_least, items_least, members_least, IsSound, AreSound, HasSound, read_fits}
 use Rattle.request_json.proofs.ArgumentSpellings.{nesting_is, IsFlatTy, IsFlat, text_there, array_there, Arguments, arguments}

@@ -1,0 +1,3 @@
+pub mod RepeatLaws
+pub mod HistoryLaws
+pub mod IdLaws
