@@ -12,7 +12,8 @@ use Rattle.program_meaning.specs.Fits.{StateFits, OutcomeFits}
 use Rattle.program_meaning.proofs.Soundness.{first_fits, runs_fit}
 use Rattle.request_json.specs.Actions.{Line}
 use Rattle.session.specs.SerialOutput.{Printed, Nothing, Refused, Reply, Again, Fits}
-use Rattle.session.specs.AnswersFit.{EntriesFit, AnswersFit}
+use Rattle.session.specs.AnswersFit.{AnswersFit}
+use Rattle.request_history.specs.SoundHistory.{EntriesFit}
 use Rattle.session.proofs.RequestLaws.{ask_fits}
 
 module _ (names : List (List ℕ)) (program : PlainProgram) where

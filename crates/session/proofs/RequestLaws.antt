@@ -9,9 +9,9 @@ use Rattle.program_meaning.specs.ClassTables.{Source}
 use Rattle.request_json.specs.declared.fault.LineFault.{LineFault}
 use Rattle.request_json.specs.RequestLines.{longest, reading_of}
 use Rattle.request_json.specs.Actions.{Line, Refuse, LineTooLong, Ask, asking, used, content_of, action_of}
-use Rattle.request_json.specs.LinesFit.{RequestFits}
+use Rattle.request_history.specs.SoundHistory.{RequestFits, RequestsFit}
 use Rattle.request_json.proofs.RequestFits.{reading_fits}
-use Rattle.session.specs.SerialOutput.{Printed, Nothing, Refused, Reply, Again, Fits, RequestsFit}
+use Rattle.session.specs.SerialOutput.{Printed, Nothing, Refused, Reply, Again, Fits}
 
 module _ (src : Source) where
   abbrev tables : List PlainTable

@@ -20,11 +20,11 @@ use Rattle.request_json.specs.Actions.{Line, Action, Skip, Refuse, Ask, cause_te
 use Rattle.request_json.specs.ReplyLines.{reply_line, bad_line}
 use Rattle.session.specs.declared.feeding.InputEnd.{InputEnd}
 use Rattle.session.specs.declared.feeding.InputEnd.TheVariants.{End, ReadFault, TooLong}
-use Rattle.session.specs.OutputText.{Standing, replies, after, step, start, commit, entry_of, reused, after_ask, answer_to, after_action, reply_to}
-use Rattle.session.specs.Repeats.{Kept, kept_of, same_act, line_of_kept}
+use Rattle.session.specs.OutputText.{Standing, replies, after, step, start, commit, entry_of, line_of_kept, reused, after_ask, answer_to, after_action, reply_to}
+use Rattle.request_history.specs.Repeats.{Kept, kept_of, entry_at, same_act}
 use Rattle.session.specs.Served.{OfWhole, OfAll, OfLimit, Served}
-use Rattle.session.specs.SerialOutput.{Printed, Nothing, Refused, Reply, Again, entry_at, text_of_entry, printed_text, printed_texts, places, IsNumbered, IsRefused, Fits, SerialLines, SerialRun}
-use Rattle.session.proofs.RepeatLaws.{Stands, stands, still_at, not_committed, same_act-Decides}
+use Rattle.session.specs.SerialOutput.{Printed, Nothing, Refused, Reply, Again, text_of_entry, printed_text, printed_texts, places, IsNumbered, IsRefused, Fits, SerialLines, SerialRun}
+use Rattle.request_history.proofs.RepeatLaws.{Stands, stands, still_at, not_committed, same_act-Decides}
 use Rattle.session.proofs.RequestLaws.{requests_fit}
 use Rattle.session.proofs.ServeLaws.{whole_prefix}
 

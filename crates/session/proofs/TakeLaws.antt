@@ -10,7 +10,8 @@ use Rattle.program_meaning.specs.ClassTables.{Source}
 use Rattle.request_json.specs.Actions.{rest_from}
 use Rattle.session.specs.declared.feeding.Session.{Session}
 use Rattle.session.specs.declared.feeding.InputEnd.{InputEnd}
-use Rattle.session.specs.Feeds.{IsStart, Feeds}
+use Rattle.input_lines.specs.Cuts.{IsStart}
+use Rattle.session.specs.Feeds.{Feeds}
 use Rattle.session.specs.Takes.{Went, WentOver, Takes}
 use Rattle.session.proofs.FeedLaws.{Feeds-after, Feeds-none, Feeds-passed}
 
@@ -32,7 +33,7 @@ only_byte (b ∷ []) n = (b, refl)
 only_byte (b ∷ c ∷ bs) n = absurd (omega (arith, n))
 
 module _ (src : Source) where
-  pub Going-none : (left held : Option (List ℕ)) (s : Session) → IsStart s.kept.items [] → Going src 0 left left held held s s
+  pub Going-none : (left held : Option (List ℕ)) (s : Session) → IsStart s.line [] → Going src 0 left left held held s s
   Going-none left held s h = record { taken = []; consumed = Consumes-nil left; counted = refl; fed = Feeds-none src (tt {0}) s held [] h }
 
   pub Went-step : {T : Type 0} (r : Result T WriteStop) (limit count : ℕ) (left l₁ l₂ held h₁ h₂ : Option (List ℕ)) (s₀ s₁ s₂ : Session) (piece : List ℕ)

@@ -1,5 +1,5 @@
 -- Whatever the result of a session, what was written answers what was taken.
-use Rattle.std.proofs.Common.{◌≡◌, ℕ, ◌+◌, ◌≤◌, ◌⊎◌, inl, inr, List, [], ◌∷◌, ◌++◌, length, take, Ok, Err, sym, subst, arith}
+use Rattle.std.proofs.Common.{ℕ, inl, inr, List, [], ◌∷◌, ◌++◌, Ok, Err, sym, subst, arith}
 use Rattle.std.proofs.lemmas.List.{take_all, take_at, length-append}
 use Rattle.std.specs.declared.option.Option.{Option}
 use Rattle.std.specs.declared.result.Result.{Result}

@@ -1,6 +1,4 @@
-pub mod Repeats
 pub mod OutputText
-pub mod HistoryView
 pub mod Standings
 pub mod Feeds
 pub mod Takes

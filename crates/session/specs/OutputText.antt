@@ -10,7 +10,7 @@ use Rattle.program_meaning.specs.Serial.{Core, no_state}
 use Rattle.sf_outside.specs.Gains.{joined}
 use Rattle.request_json.specs.Actions.{Line, Action, Skip, Refuse, Ask, cause_text, action_of, all_lines}
 use Rattle.request_json.specs.ReplyLines.{reply_line, bad_line}
-use Rattle.session.specs.Repeats.{Kept, kept_of, same_act, line_of_kept}
+use Rattle.request_history.specs.Repeats.{Kept, kept_of, same_act}
 
 -- a request with what it comes to in this state
 abbrev pub entry_of : Source → Core → Request → Entry
@@ -29,6 +29,10 @@ unfoldable pub after_action : Source → Core → Action → Core
 after_action src core Skip = core
 after_action src core (Refuse cause) = core
 after_action src core (Ask r) = after_ask src core r (kept_of core.history r.id)
+
+-- the line of an entry at its place
+abbrev pub line_of_kept : Kept → List ℕ
+line_of_kept kept = reply_line kept.entry.request.id kept.entry.outcome kept.place
 
 abbrev pub reused : List ℕ
 reused = codes "id reused"

@@ -1,18 +1,22 @@
 -- What a session prints, as the replies of one serial run.
-use Rattle.std.specs.Prelude.{◌≡◌, ℕ, zero, suc, ◌+◌, List, [], ◌∷◌, ◌++◌, map, length, ⊤, None, Some}
-use Rattle.std.specs.List.{slice_get, range_with_len}
+use Rattle.std.specs.Prelude.{◌≡◌, ℕ, ◌+◌, List, [], ◌∷◌, ◌++◌, map, length, ⊤, None, Some}
+use Rattle.std.specs.List.{range_with_len}
 use Rattle.std.specs.declared.option.Option.{Option}
-use Rattle.py_tree.specs.ClassRules.{PlainTable, tables_of}
+use Rattle.std.specs.declared.result.Result.{Result}
 use Rattle.sf_value.specs.declared.Entry.{Entry}
 use Rattle.sf_value.specs.declared.Request.{Request}
 use Rattle.sf_outside.specs.Bytes.{AppendsPrefix}
 use Rattle.sf_outside.specs.Gains.{joined}
+use Rattle.sf_outside.specs.declared.gains.WriteStop.{WriteStop}
 use Rattle.program_meaning.specs.ClassTables.{Source}
-use Rattle.program_meaning.specs.Serial.{Core, IsSound}
+use Rattle.program_meaning.specs.Serial.{Core}
+use Rattle.request_history.specs.Repeats.{entry_at}
+use Rattle.request_history.specs.SoundHistory.{IsSoundHistory}
 use Rattle.request_json.specs.Actions.{Line, Action, Skip, Refuse, Ask, cause_text, action_of}
-use Rattle.request_json.specs.LinesFit.{RequestFits}
 use Rattle.request_json.specs.ReplyLines.{reply_line, bad_line}
+use Rattle.session.specs.declared.feeding.InputEnd.{InputEnd}
 use Rattle.session.specs.OutputText.{reused, replies, start}
+use Rattle.session.specs.Served.{Served}
 
 -- what is printed for one line: nothing, the refusal of the line with this number in these words, the reply to the request
 -- that stands at this place of the history, or that reply once more; lines and places are counted from 1
@@ -21,11 +25,6 @@ pub data Printed : Type 0 where
   Refused : (number : ℕ) → (what : List ℕ) → Printed
   Reply : (place : ℕ) → Printed
   Again : (place : ℕ) → Printed
-
--- the entry at this place, if there is one
-abbrev pub entry_at : List Entry → ℕ → Option Entry
-entry_at history zero = None
-entry_at history (suc before) = slice_get history before
 
 -- the reply line of an entry at its place
 abbrev pub text_of_entry : Option Entry → ℕ → List ℕ
@@ -95,16 +94,6 @@ Fits src before (line ∷ lines) (Reply place ∷ printed) (entry ∷ added) = (
 Fits src before (line ∷ lines) (Again place ∷ printed) added = IsRepeated before (action_of src line) place × Fits src before lines printed added
 Fits src before lines printed added = ⊥
 
--- each request fits the program, its id too
-abbrev pub RequestsFit : List PlainTable → List Entry → Type 0
-RequestsFit tables [] = ⊤
-RequestsFit tables (e ∷ es) = RequestFits tables e.request × RequestsFit tables es
-
--- a history of a program is sound: it is the serial run of its requests, each id once, and each request fits the program
-pub record IsSoundHistory (src : Source) (core : Core) : Type 0 where
-  pub run : IsSound src core
-  pub requests : RequestsFit (tables_of src.names src.program) core.history
-
 -- what these lines are answered is what a serial run prints: the replies to the requests of a sound history, which
 -- the lines asked, each at its place, and refusals between them
 pub record SerialLines (src : Source) (lines : List Line) : Type 0 where
@@ -122,3 +111,8 @@ pub record SerialRun (src : Source) (old new : Option (List ℕ)) : Type 0 where
   pub printed : List Printed
   pub report : IsReport core.history printed
   pub wrote : AppendsPrefix old new (joined (printed_texts core.history printed))
+
+-- whatever the result of a session that served so, it wrote what a serial run prints, or a prefix of it
+abbrev pub ServesSerially : Type 0
+ServesSerially = (src : Source) (limit : ℕ) (left left' held held' : Option (List ℕ)) (result : Result InputEnd WriteStop)
+    → Served src limit left left' held held' result → SerialRun src held held'

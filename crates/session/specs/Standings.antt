@@ -6,7 +6,7 @@ use Rattle.session.specs.declared.answering.Standing.{Standing}
 use Rattle.session.specs.OutputText as text
 
 abbrev pub core_of : Standing → Core
-core_of s = record { history = s.history; state = s.local }
+core_of s = record { history = s.history.entries; state = s.local }
 
 abbrev pub standing_of : Standing → text.Standing
 standing_of s = record { core = core_of s; lines = s.lines }

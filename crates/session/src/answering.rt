@@ -3,21 +3,19 @@
 ghost use Rattle.std.specs.Prelude.{◌≡◌, ◌+◌, ◌<◌, ◌≤◌, ◌^◌, [], ◌∷◌, ◌++◌, length, None, take, IfOk, OnOk};
 ghost use Rattle.program_meaning.specs.Sources.{source_of};
 ghost use Rattle.request_json.specs.Actions.{Ask, without_cr, used};
-ghost use Rattle.session.specs.Repeats.{kept_of};
-ghost use Rattle.session.specs.HistoryView.{kept_at};
+ghost use Rattle.request_history.specs.Repeats.{kept_of};
+ghost use Rattle.request_history.specs.HistoryView.{kept_at};
 ghost use Rattle.session.specs.OutputText.{answer_again, new_line, after_action, reply_to, reply, step, commit};
 ghost use Rattle.session.specs.Standings.{core_of, standing_of, line_of};
 
-use crate::history::{Found, History};
+use input_lines::LONGEST;
 use py_tree::Checked;
+use request_history::{Found, History};
 use request_json::{LineError, read_line, write_bad, write_entry};
 use sf_list::Sequence;
 use sf_value::{Act, Bytes, Request};
 use source_meaning::Local;
 use std::alloc::{AllocError, Global};
-
-/// A line has at most this many bytes, its line end not counted.
-pub const LONGEST: usize = 1_048_576;
 
 /// What stands between two lines: the state, the history, and how many lines came.
 #[derive(Drop)]
@@ -57,10 +55,10 @@ impl Standing {
         program: &Checked,
         request: Request,
     ) -> Result<Bytes, AllocError>
-        requires fresh { kept_of self.old.history request.id ≡ None }
-        requires room { length self.old.history + 1 < 2 ^ 32 }
+        requires fresh { kept_of self.old.history.entries request.id ≡ None }
+        requires room { length self.old.history.entries + 1 < 2 ^ 32 }
         ensures lines { self.new.lines ≡ self.old.lines }
-        ensures length { length self.new.history ≤ length self.old.history + 1 }
+        ensures length { length self.new.history.entries ≤ length self.old.history.entries + 1 }
         ensures text { IfOk result (λ line. line ≡ new_line (source_of program.now) (core_of self.old) request) }
         ensures core { OnOk result (core_of self.new ≡ commit (source_of program.now) (core_of self.old) request) }
     {
@@ -80,9 +78,9 @@ impl Standing {
         request: Request,
         number: u64,
     ) -> Result<Bytes, AllocError>
-        requires { length self.old.history + 1 < 2 ^ 32 }
+        requires { length self.old.history.entries + 1 < 2 ^ 32 }
         ensures lines { self.new.lines ≡ self.old.lines }
-        ensures length { length self.new.history ≤ length self.old.history + 1 }
+        ensures length { length self.new.history.entries ≤ length self.old.history.entries + 1 }
         ensures text { IfOk result (λ line. line ≡ reply_to (source_of program.now) (core_of self.old) number (Ask request)) }
         ensures core { OnOk result (core_of self.new ≡ after_action (source_of program.now) (core_of self.old) (Ask request)) }
     {
@@ -101,9 +99,9 @@ impl Standing {
         content: &[u8],
         number: u64,
     ) -> Result<Bytes, AllocError>
-        requires { length self.old.history + 1 < 2 ^ 32 }
+        requires { length self.old.history.entries + 1 < 2 ^ 32 }
         ensures lines { self.new.lines ≡ self.old.lines }
-        ensures length { length self.new.history ≤ length self.old.history + 1 }
+        ensures length { length self.new.history.entries ≤ length self.old.history.entries + 1 }
         ensures text { IfOk result (λ line. line ≡ reply_to (source_of program.now) (core_of self.old) number (used (source_of program.now) content.now)) }
         ensures core { OnOk result (core_of self.new ≡ after_action (source_of program.now) (core_of self.old) (used (source_of program.now) content.now)) }
     {
@@ -127,10 +125,10 @@ impl Standing {
         line: &[u8],
         ended: bool,
     ) -> Result<Bytes, AllocError>
-        requires history { length self.old.history + 1 < 2 ^ 32 }
+        requires history { length self.old.history.entries + 1 < 2 ^ 32 }
         requires lines { self.old.lines + 1 < 2 ^ 64 }
         ensures lines { self.new.lines ≤ self.old.lines + 1 }
-        ensures length { length self.new.history ≤ length self.old.history + 1 }
+        ensures length { length self.new.history.entries ≤ length self.old.history.entries + 1 }
         ensures text { IfOk result (λ made. made ≡ reply (source_of program.now) (standing_of self.old) (line_of ended line.now)) }
         ensures standing { OnOk result (standing_of self.new ≡ step (source_of program.now) (standing_of self.old) (line_of ended line.now)) }
     {

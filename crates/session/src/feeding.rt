@@ -1,21 +1,22 @@
 //! The input, piece by piece: each line is answered as soon as it is whole.
 
-ghost use Rattle.std.specs.Prelude.{◌≡◌, ◌≤◌, ◌<◌, ◌++◌, ◌+◌, ◌^◌, min, length, List, ℕ, [], ◌∷◌, OnOk};
+ghost use Rattle.std.specs.Prelude.{◌≡◌, ◌≤◌, ◌<◌, ◌+◌, ◌^◌, min, length, [], OnOk, IfOk};
 ghost use Rattle.sf_outside.specs.Causes.{Rose};
 ghost use Rattle.sf_outside.specs.Gains.{Wrote, Counts};
 ghost use Rattle.program_meaning.specs.Sources.{source_of};
-ghost use Rattle.request_json.specs.Actions.{last_line};
-ghost use Rattle.session.specs.OutputText.{replies, after, reply, start};
-ghost use Rattle.session.specs.Standings.{standing_of, line_of};
-ghost use Rattle.session.specs.Feeds.{IsStart, Feeds};
+ghost use Rattle.input_lines.specs.Cuts.{IsStart, IsWithin};
+ghost use Rattle.session.specs.OutputText.{start};
+ghost use Rattle.session.specs.Standings.{standing_of};
+ghost use Rattle.session.specs.Feeds.{line_replies, behind_line, FeedsBytes, fed_of, AnswersLast};
 ghost use Rattle.session.specs.Takes.{Takes};
 
-use crate::answering::{LONGEST, Standing};
-use crate::history::History;
+use crate::answering::Standing;
+use input_lines::LineBuffer;
 use py_tree::Checked;
+use request_history::History;
 use sf_outside::{Sink, Source, WriteStop, write_line};
 use source_meaning::Local;
-use std::alloc::{AllocError, Global};
+use std::alloc::Global;
 
 /// How many bytes one read may take.
 pub const PIECE: usize = 4096;
@@ -33,13 +34,13 @@ pub enum InputEnd {
 pub struct Session {
     standing: Standing,
     /// The start of the line that isn't whole yet.
-    kept: Vec<u8>,
+    line: LineBuffer,
 }
 
 impl Session {
     pub(crate) fn new(alloc: Global) -> Session
         ensures standing { standing_of result.standing ≡ start }
-        ensures kept { result.kept.items ≡ [] }
+        ensures kept { result.line ≡ [] }
     {
         Session {
             standing: Standing {
@@ -47,19 +48,8 @@ impl Session {
                 history: History::new(alloc),
                 lines: 0,
             },
-            kept: Vec::new(alloc),
+            line: LineBuffer::new(alloc),
         }
-    }
-
-    /// Keeps a byte of a line, up to one more than a line may have.
-    fn keep(&mut self, byte: u8) -> Result<(), AllocError>
-        ensures kept { OnOk result ((part : List ℕ) → IsStart self.old.kept.items part → IsStart self.new.kept.items (part ++ byte ∷ [])) }
-        ensures standing { self.new.standing ≡ self.old.standing }
-    {
-        if self.kept.len() <= LONGEST {
-            self.kept.push(byte)?;
-        }
-        Ok(())
     }
 
     /// Answers the line that is kept.
@@ -70,42 +60,46 @@ impl Session {
         out: &mut K,
         ended: bool,
     ) -> Result<(), WriteStop>
-        requires history { length self.old.standing.history + 1 < 2 ^ 32 }
+        requires history { length self.old.standing.history.entries + 1 < 2 ^ 32 }
         requires lines { self.old.standing.lines + 1 < 2 ^ 64 }
         ensures lines { self.new.standing.lines ≤ self.old.standing.lines + 1 }
-        ensures length { length self.new.standing.history ≤ length self.old.standing.history + 1 }
-        ensures wrote { Wrote result (K.held out.old) (K.held out.new) (replies (source_of program.now) (standing_of self.old.standing) (line_of ended self.old.kept.items ∷ [])) }
+        ensures length { length self.new.standing.history.entries ≤ length self.old.standing.history.entries + 1 }
+        ensures wrote { Wrote result (K.held out.old) (K.held out.new) (line_replies (source_of program.now) self.old ended) }
         ensures counts { Counts (K.faults out.old) (K.faults out.new) result }
-        ensures standing { OnOk result (standing_of self.new.standing ≡ after (source_of program.now) (standing_of self.old.standing) (line_of ended self.old.kept.items ∷ [])) }
-        ensures kept { OnOk result (self.new.kept.items ≡ []) }
+        ensures standing { OnOk result (standing_of self.new.standing ≡ behind_line (source_of program.now) self.old ended) }
+        ensures kept { OnOk result (self.new.line ≡ []) }
     {
         let line = self
             .standing
-            .answer(alloc, program, self.kept.as_slice(), ended)?;
+            .answer(alloc, program, self.line.as_slice(), ended)?;
         write_line(out, line.as_slice())?;
-        self.kept.clear();
+        self.line.clear();
         Ok(())
     }
 
-    fn take_byte<K: Sink>(
+    /// Takes the next bytes of the input up to a line end, and answers the line that they end; or all of
+    /// them, where they end none. It answers how many bytes came to the line's end.
+    fn take_line<K: Sink>(
         &mut self,
         alloc: Global,
         program: &Checked,
         out: &mut K,
-        byte: u8,
-    ) -> Result<(), WriteStop>
-        requires history { length self.old.standing.history + 1 < 2 ^ 32 }
-        requires lines { self.old.standing.lines + 1 < 2 ^ 64 }
-        ensures lines { self.new.standing.lines ≤ self.old.standing.lines + 1 }
-        ensures length { length self.new.standing.history ≤ length self.old.standing.history + 1 }
-        ensures feeds { (part : List ℕ) → IsStart self.old.kept.items part → Feeds (source_of program.now) result self.old self.new (K.held out.old) (K.held out.new) part (byte ∷ []) }
+        piece: &[u8],
+    ) -> Result<Option<usize>, WriteStop>
+        requires history { length self.old.standing.history.entries + length piece.now < 2 ^ 32 }
+        requires lines { self.old.standing.lines + length piece.now < 2 ^ 64 }
+        ensures within { IfOk result (λ taken. IsWithin piece.now taken) }
+        ensures lines { self.new.standing.lines ≤ self.old.standing.lines + length (fed_of result piece.now) }
+        ensures length { length self.new.standing.history.entries ≤ length self.old.standing.history.entries + length (fed_of result piece.now) }
+        ensures feeds { FeedsBytes (source_of program.now) result self.old self.new (K.held out.old) (K.held out.new) (fed_of result piece.now) }
         ensures counts { Counts (K.faults out.old) (K.faults out.new) result }
     {
-        if byte == b'\n' {
-            self.answer(alloc, program, out, true)
-        } else {
-            self.keep(byte)?;
-            Ok(())
+        match self.line.take_line(piece)? {
+            Some(count) => {
+                self.answer(alloc, program, out, true)?;
+                Ok(Some(count))
+            }
+            None => Ok(None),
         }
     }
 
@@ -117,15 +111,16 @@ impl Session {
         out: &mut K,
         piece: &[u8],
     ) -> Result<(), WriteStop>
-        requires history { length self.old.standing.history + length piece.now < 2 ^ 32 }
+        requires history { length self.old.standing.history.entries + length piece.now < 2 ^ 32 }
         requires lines { self.old.standing.lines + length piece.now < 2 ^ 64 }
         ensures lines { self.new.standing.lines ≤ self.old.standing.lines + length piece.now }
-        ensures length { length self.new.standing.history ≤ length self.old.standing.history + length piece.now }
-        ensures feeds { (part : List ℕ) → IsStart self.old.kept.items part → Feeds (source_of program.now) result self.old self.new (K.held out.old) (K.held out.new) part piece.now }
+        ensures length { length self.new.standing.history.entries ≤ length self.old.standing.history.entries + length piece.now }
+        ensures feeds { FeedsBytes (source_of program.now) result self.old self.new (K.held out.old) (K.held out.new) piece.now }
         ensures counts { Counts (K.faults out.old) (K.faults out.new) result }
     {
-        for &byte in piece {
-            self.take_byte(alloc, program, out, byte)?;
+        let mut start = 0;
+        while let Some(count) = self.take_line(alloc, program, out, &piece[start..])? {
+            start += count;
         }
         Ok(())
     }
@@ -137,12 +132,12 @@ impl Session {
         program: &Checked,
         out: &mut K,
     ) -> Result<(), WriteStop>
-        requires history { length self.old.standing.history + 1 < 2 ^ 32 }
+        requires history { length self.old.standing.history.entries + 1 < 2 ^ 32 }
         requires lines { self.old.standing.lines + 1 < 2 ^ 64 }
-        ensures wrote { (part : List ℕ) → IsStart self.old.kept.items part → Wrote result (K.held out.old) (K.held out.new) (replies (source_of program.now) (standing_of self.old.standing) (last_line part)) }
+        ensures wrote { AnswersLast (source_of program.now) result self.old (K.held out.old) (K.held out.new) }
         ensures counts { Counts (K.faults out.old) (K.faults out.new) result }
     {
-        if self.kept.is_empty() {
+        if self.line.is_empty() {
             return Ok(());
         }
         self.answer(alloc, program, out, false)
@@ -157,12 +152,12 @@ impl Session {
         input: &mut S,
         out: &mut K,
     ) -> Result<InputEnd, WriteStop>
-        requires fresh { IsStart self.old.kept.items [] }
+        requires fresh { IsStart self.old.line [] }
         requires lines { self.old.standing.lines ≡ 0 }
-        requires history { self.old.standing.history ≡ [] }
+        requires history { self.old.standing.history.entries ≡ [] }
         requires limit { limit < 2 ^ 31 }
         ensures lines { self.new.standing.lines ≤ limit }
-        ensures length { length self.new.standing.history ≤ limit }
+        ensures length { length self.new.standing.history.entries ≤ limit }
         ensures counts { Counts (K.faults out.old) (K.faults out.new) result }
         ensures read { S.faults input.old ≤ S.faults input.new }
         ensures cause { result ≡ Ok InputEnd.ReadFault → Rose (S.faults input.old) (S.faults input.new) }

@@ -1,15 +1,11 @@
 //! What the definitions of a session say by themselves: it prints what one serial run prints, and
 //! over an accepted program nothing goes wrong in that run.
 
-ghost use Rattle.std.specs.Prelude.{List, ℕ};
-ghost use Rattle.std.specs.declared.option.Option.{Option};
-ghost use Rattle.std.specs.declared.result.Result.{Result};
-ghost use Rattle.sf_outside.specs.declared.gains.WriteStop.{WriteStop};
+ghost use Rattle.std.specs.Prelude.{List};
 ghost use Rattle.program_meaning.specs.ClassTables.{Source};
 ghost use Rattle.request_json.specs.Actions.{Line};
-ghost use Rattle.session.specs.declared.feeding.InputEnd.{InputEnd};
-ghost use Rattle.session.specs.Served.{Served, AnswersWhatWasTaken};
-ghost use Rattle.session.specs.SerialOutput.{SerialLines, SerialRun};
+ghost use Rattle.session.specs.Served.{AnswersWhatWasTaken};
+ghost use Rattle.session.specs.SerialOutput.{SerialLines, ServesSerially};
 ghost use Rattle.session.specs.AnswersFit.{AnswersFit};
 
 /// The replies to all lines are those of one serial run: each that names a place is the line of the
@@ -20,7 +16,7 @@ pub fn replies_are_serial()
 
 /// Whatever the result, a session wrote what one serial run prints, or a prefix of it.
 pub fn serves_serially()
-    ensures { (src : Source) (limit : ℕ) (left left' held held' : Option (List ℕ)) (result : Result InputEnd WriteStop) → Served src limit left left' held held' result → SerialRun src held held' }
+    ensures { ServesSerially }
 {}
 
 /// Whatever the result, what a session wrote answers what it took: a prefix of the replies to the

@@ -4,12 +4,10 @@
 
 mod answering;
 mod feeding;
-mod history;
 mod laws;
 mod serving;
 
 pub use answering::Standing;
 pub use feeding::{InputEnd, Session};
-pub use history::{Committed, History};
 pub use laws::{answers_fit, answers_what_was_taken, replies_are_serial, serves_serially};
 pub use serving::serve;

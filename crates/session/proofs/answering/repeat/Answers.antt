@@ -1,9 +1,8 @@
 use Rattle.std.proofs.Common.{◌≡◌, IfOk, if◌then◌else◌, true≢false, refl, sym, subst}
-use Rattle.session.specs.Repeats.{line_of_kept}
 use Rattle.request_json.specs.ReplyLines.{bad_line}
-use Rattle.session.specs.HistoryView.{kept_at}
-use Rattle.session.specs.OutputText.{reused}
-use Rattle.session.proofs.RepeatLaws.{acts_same, acts_differ}
+use Rattle.request_history.specs.HistoryView.{kept_at}
+use Rattle.session.specs.OutputText.{line_of_kept, reused}
+use Rattle.request_history.proofs.RepeatLaws.{acts_same, acts_differ}
 use Rattle.session.proofs.answering.repeat.Goals as goal
 
 pub returns-then-same : goal.returns-then-same

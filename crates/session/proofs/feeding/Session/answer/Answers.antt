@@ -19,9 +19,9 @@ returns-in_err-write_line-clause-wrote g c =
     let p = err_from_is_err_and c.from_residual-in_err-write_line.result c.from_residual-in_err-write_line.ensures.1 in
     let src = (source_of c.args.program.now) in
     let st = standing_of c.args.self.now.standing in
-    let line_is : c.as_slice-2.result.now ∷ [] ≡ replies src st (line_of c.args.ended c.args.self.now.kept.items ∷ []) =
-    ap (λ l. l ∷ []) (c.as_slice-2.ensures ∙ c.in_ok-line.ensures.text ∙ ap (λ k. reply src st (line_of c.args.ended k)) c.as_slice.ensures.value)
-    ∙ sym (replies-one src st (line_of c.args.ended c.args.self.now.kept.items)) in
+    let line_is : c.as_slice-2.result.now ∷ [] ≡ replies src st (line_of c.args.ended c.args.self.now.line ∷ []) =
+    ap (λ l. l ∷ []) (c.as_slice-2.ensures ∙ c.in_ok-line.ensures.text ∙ ap (λ k. reply src st (line_of c.args.ended k)) c.as_slice.ensures)
+    ∙ sym (replies-one src st (line_of c.args.ended c.args.self.now.line)) in
     subst (Wrote c.from_residual-in_err-write_line.result (g.K.Sink.held c.args.out.now) (g.K.Sink.held c.write_line.new.out)) line_is
     (Wrote-part _ _ _ c.as_slice-2.result.now (p.1 ∙ ap Err p.2) c.in_err-write_line.ensures.part)
 
@@ -32,9 +32,9 @@ pub returns-clause-wrote : goal.returns-clause-wrote
 returns-clause-wrote g c =
     let src = (source_of c.args.program.now) in
     let st = standing_of c.args.self.now.standing in
-    let line_is : c.as_slice-2.result.now ∷ [] ≡ replies src st (line_of c.args.ended c.args.self.now.kept.items ∷ []) =
-    ap (λ l. l ∷ []) (c.as_slice-2.ensures ∙ c.in_ok-line.ensures.text ∙ ap (λ k. reply src st (line_of c.args.ended k)) c.as_slice.ensures.value)
-    ∙ sym (replies-one src st (line_of c.args.ended c.args.self.now.kept.items)) in
+    let line_is : c.as_slice-2.result.now ∷ [] ≡ replies src st (line_of c.args.ended c.args.self.now.line ∷ []) =
+    ap (λ l. l ∷ []) (c.as_slice-2.ensures ∙ c.in_ok-line.ensures.text ∙ ap (λ k. reply src st (line_of c.args.ended k)) c.as_slice.ensures)
+    ∙ sym (replies-one src st (line_of c.args.ended c.args.self.now.line)) in
     subst (Wrote {T = Unit {0}} (Ok tt) (g.K.Sink.held c.args.out.now) (g.K.Sink.held c.write_line.new.out)) line_is
     (Wrote-line {U = Unit {0}} tt _ _ c.as_slice-2.result.now c.in_ok-write_line.ensures.whole)
 
@@ -42,4 +42,4 @@ pub returns-clause-standing : goal.returns-clause-standing
 returns-clause-standing g c =
     let src = (source_of c.args.program.now) in
     let st = standing_of c.args.self.now.standing in
-    c.in_ok-line.ensures.standing ∙ ap (λ k. step src st (line_of c.args.ended k)) c.as_slice.ensures.value ∙ sym (after-one src st (line_of c.args.ended c.args.self.now.kept.items))
+    c.in_ok-line.ensures.standing ∙ ap (λ k. step src st (line_of c.args.ended k)) c.as_slice.ensures ∙ sym (after-one src st (line_of c.args.ended c.args.self.now.line))

@@ -1,0 +1,8 @@
+//! Cuts an input into lines, piece by piece, by a search for the line ends in each piece.
+#![tactic(auto)]
+
+mod laws;
+mod lines;
+
+pub use laws::{lines_end_at_line_ends, pieces_are_cut_in_turn};
+pub use lines::{LONGEST, LineBuffer};
