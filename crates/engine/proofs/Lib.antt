@@ -1,0 +1,9 @@
+pub mod ArrivalLaws
+pub mod PlaceLaws
+pub mod BatchLaws
+pub mod PlanLaws
+pub mod CopyLaws
+pub mod CarriedLaws
+pub mod MadeLaws
+pub mod RunLaws
+pub mod EmptyLaws

@@ -1,0 +1,34 @@
+use Rattle.std.proofs.Common.{◌<◌, ◌^◌, ◌∙◌, ap, sym, subst, length, arith}
+use Rattle.std.specs.List.{AllByRecursion}
+use Rattle.std.proofs.lemmas.List.{length-map}
+use Rattle.program_meaning.specs.Fits.{ActFits}
+use Rattle.reservations.specs.Accesses.{accesses_of, access_of_work}
+use Rattle.engine.specs.EngineViews.{core_of, source_of, tables_of}
+use Rattle.operator_graph.specs.FirstFlights.{acts_of}
+use Rattle.aria_batch.specs.BatchRun.{batch_of}
+use Rattle.engine.proofs.RunLaws.{asked_fit, works_accesses, is_run, nothing_told}
+use Rattle.engine.proofs.engine.Engine.plan.Goals as goal
+
+pub returns-then-len-self-clause-told : goal.returns-then-len-self-clause-told
+returns-then-len-self-clause-told g c = nothing_told (batch_of c.args.self.now.compiled c.args.self.now.state.contents c.args.self.now.pending) c.args.parts _
+
+pub run_batch-requires-clause-fit : goal.run_batch-requires-clause-fit
+run_batch-requires-clause-fit g c =
+    subst (λ tables. AllByRecursion (ActFits tables) (acts_of c.args.self.now.pending)) (sym c.requires.whole.has_tables) (asked_fit (tables_of c.args.self.now) c.args.self.now.pending c.requires.fits.pending.requests)
+
+pub planned-requires-clause-ran : goal.planned-requires-clause-ran
+planned-requires-clause-ran g c =
+    let works = c.in_ok-ran.ensures.works in
+    let works_count = length-map c.in_ok-ran.ran.works access_of_work in
+    let many = works.as_many in
+    let acts_count = length-map c.args.self.now.pending (λ r. r.act) in
+    let waiting = c.args.self.now.few in
+    let few : length (accesses_of c.in_ok-ran.ran.works) < 2 ^ 32 = omega arith in
+    is_run (source_of c.args.self.now) (core_of c.args.self.now) c.in_ok-ran.ran (g.R.CommitRule.choice c.args.rule.now (accesses_of c.in_ok-ran.ran.works)) works
+    (g.met.R.CommitRule.lawful c.args.rule.now (accesses_of c.in_ok-ran.ran.works) few) c.in_ok-ran.ensures.committed c.in_ok-ran.ensures.carried c.in_ok-ran.ensures.outcomes c.in_ok-ran.ensures.serial
+
+pub returns-clause-chosen : goal.returns-clause-chosen
+returns-clause-chosen g c =
+    c.in_ok-planned.ensures.committed
+    ∙ c.in_ok-ran.ensures.committed
+    ∙ ap (λ accesses. (g.R.CommitRule.choice c.args.rule.now accesses).committed) (works_accesses (source_of c.args.self.now) (core_of c.args.self.now).state (acts_of c.args.self.now.pending) c.in_ok-ran.ran.works c.in_ok-ran.ensures.works)

@@ -1,0 +1,10 @@
+//! What the definitions of an engine say by themselves.
+
+ghost use Rattle.engine.specs.Arrivals.{ArrivalsSay};
+
+/// An arrival says what is there: that a request is new where neither an entry nor a request that waits has
+/// its id, that the same request stands at a place of the history, that it waits, or that another has
+/// its id.
+pub fn arrivals_say()
+    ensures { ArrivalsSay }
+{}
