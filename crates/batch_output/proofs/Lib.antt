@@ -1,0 +1,5 @@
+pub mod LawfulBatches
+pub mod ReportLaws
+pub mod SessionLaws
+pub mod KeptLaws
+pub mod OutputExamples

@@ -1,0 +1,4 @@
+pub mod BatchOutput
+pub mod SerialBatches
+pub mod BatchesEnd
+pub mod RequestsKept
