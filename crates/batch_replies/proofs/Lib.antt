@@ -1,0 +1,4 @@
+pub mod ReplyLaws
+pub mod CountLaws
+pub mod WriteLaws
+pub mod AnswerLaws

@@ -1,0 +1,2 @@
+pub mod BatchAnswers
+pub mod LinesInOrder

@@ -1,0 +1,11 @@
+use Rattle.std.proofs.Common.{◌≡◌, IfOk, sym, subst}
+use Rattle.engine.specs.EngineViews.{core_of, source_of}
+use Rattle.batch_output.specs.BatchOutput.{is_due}
+use Rattle.line_answers.specs.LineViews.{asked}
+use Rattle.line_answers.specs.LineAnswers.{limits_of}
+use Rattle.line_answers.proofs.taking.take_action.Goals as goal
+
+pub returns-in-Ask-clause-due : goal.returns-in-Ask-clause-due
+returns-in-Ask-clause-due c = λ rule history.
+    subst (λ action. IfOk c.ask.result (λ t. t.is_due ≡ is_due (source_of c.args.engine.now) rule (limits_of c.args.batch history) (core_of c.args.engine.now) (asked action))) (sym c.in-Ask.is)
+    (c.ask.ensures.due rule history)

@@ -1,0 +1,14 @@
+use Rattle.std.proofs.Common.{◌∙◌, ap, sym, subst}
+use Rattle.engine.specs.EngineViews.{source_of, tables_of}
+use Rattle.request_json.specs.Actions.{action_of}
+use Rattle.line_answers.specs.LineViews.{line_of, ActionFits}
+use Rattle.line_answers.proofs.LineLaws.{line_fits, same_source}
+use Rattle.line_answers.proofs.taking.take_line.Goals as goal
+
+pub take_action-requires-clause-fits : goal.take_action-requires-clause-fits
+take_action-requires-clause-fits c =
+    let e = c.args.engine.now in
+    let line = line_of c.args.line in
+    subst (ActionFits (tables_of e))
+    (sym (c.in_ok-action.ensures ∙ ap (λ src. action_of src line) (same_source c.program.result.now e.compiled c.compiled.result.now c.program.ensures.program c.program.ensures.names c.compiled.ensures)))
+    (line_fits (source_of e) line)

@@ -1,0 +1,159 @@
+//! A line from its bytes to its answer: what it is answered at once is written first, and then a batch runs
+//! where one is due.
+
+ghost use Rattle.std.specs.Prelude.{◌≡◌, ◌≤◌, ◌<◌, ℕ, [], length, OnOk, OnErr, Err};
+ghost use Rattle.std.specs.List.{cons_option};
+ghost use Rattle.std.specs.Io.KnownBytes.{Appends};
+ghost use Rattle.sf_outside.specs.Bytes.{AppendsPrefix};
+ghost use Rattle.sf_outside.specs.Causes.{Rose, HasCause};
+ghost use Rattle.sf_outside.specs.Gains.{joined};
+ghost use Rattle.block_step.specs.CompiledViews.{IsWhole};
+ghost use Rattle.engine.specs.Cores.{CoreFits, IsSoundCore};
+ghost use Rattle.engine.specs.EngineViews.{core_of, source_of, tables_of, RunsProgram};
+ghost use Rattle.line_answers.specs.LineViews.{line_of};
+ghost use Rattle.line_answers.specs.LineAnswers.{before, limits_of, core_taken, AnswersLine, AnswersTaken, batch_on, TellsLine, line_result};
+
+use crate::reading::InputLine;
+use crate::taking::{Taken, take_line};
+use batch_replies::{BatchCounts, BatchStop, answer_batch};
+use engine::Engine;
+use operator_graph::Watch;
+use reservations::CommitRule;
+use sf_outside::{Chooser, Failed, Sink, write_line};
+use sf_value::Bytes;
+use std::alloc::Global;
+
+/// How many requests make a batch, and how many partitions there are.
+#[derive(Clone, Copy, PartialEq, Eq, Debug)]
+pub struct Batching {
+    /// 1 to 256.
+    pub batch: u32,
+    /// 1 to 64.
+    pub parts: u32,
+}
+
+/// Why a session stops at a line.
+#[derive(Clone, Copy, PartialEq, Eq, Debug)]
+pub enum LineStop {
+    /// The history has no place for as many entries as requests wait, so the batch that is due doesn't
+    /// run.
+    HistoryFull,
+    /// Nothing is committed.
+    NoMemory,
+    WriteFault,
+}
+
+/// Takes a line. What it is answered at once is written, and not flushed. Where a batch is due then, it
+/// is run, committed and answered. The counts are those of the batch.
+pub fn answer_line<R: CommitRule, K: Sink, C: Chooser, W: Watch>(
+    alloc: Global,
+    engine: &mut Engine,
+    batching: &Batching,
+    line: InputLine<'_>,
+    out: &mut K,
+    rule: &R,
+    chooser: &mut C,
+    watch: &mut W,
+) -> Result<Option<BatchCounts>, LineStop>
+    requires whole { IsWhole engine.old.compiled }
+    requires batch { batching.now.batch ≤ 256 }
+    requires least { 1 ≤ batching.now.parts }
+    requires most { batching.now.parts ≤ 64 }
+    requires first { 1 ≤ line.number }
+    requires few { length (core_of engine.old).pending < batching.now.batch }
+    requires fits { CoreFits (tables_of engine.old) (core_of engine.old) }
+    ensures answers { AnswersLine (source_of engine.old) (R.choice rule.now) (limits_of batching.now.batch engine.old.limit) result
+        (before (core_of engine.old) line.entry.number) (line_of line.entry) (core_of engine.new) (K.held out.old) (K.held out.new) }
+    ensures told { TellsLine (batch_on engine.old.compiled (core_taken (source_of engine.old) (core_of engine.old) (line_of line.entry)))
+        batching.now.parts result
+        (record { choices = C.choices chooser.old; told = W.told watch.old }) (record { choices = C.choices chooser.new; told = W.told watch.new }) }
+    ensures later { K.faults out.old ≤ K.faults out.new }
+    ensures cause { result ≡ Err LineStop.WriteFault → Rose (K.faults out.old) (K.faults out.new) }
+    ensures few { OnOk result (length (core_of engine.new).pending < batching.now.batch) }
+    ensures runs { RunsProgram engine.new engine.old.compiled engine.old.limit }
+    ensures core_fits { CoreFits (tables_of engine.old) (core_of engine.new) }
+    ensures sound { IsSoundCore (source_of engine.old) (core_of engine.old) → IsSoundCore (source_of engine.old) (core_of engine.new) }
+{
+    match take_line(alloc, engine, batching.batch, line) {
+        Ok(taken) => answer_taken(
+            alloc,
+            engine,
+            batching.parts,
+            taken,
+            out,
+            rule,
+            chooser,
+            watch,
+        ),
+        Err(_) => Err(LineStop::NoMemory),
+    }
+}
+
+/// Answers a line that was taken.
+fn answer_taken<R: CommitRule, K: Sink, C: Chooser, W: Watch>(
+    alloc: Global,
+    engine: &mut Engine,
+    parts: u32,
+    taken: Taken,
+    out: &mut K,
+    rule: &R,
+    chooser: &mut C,
+    watch: &mut W,
+) -> Result<Option<BatchCounts>, LineStop>
+    requires whole { IsWhole engine.old.compiled }
+    requires least { 1 ≤ parts }
+    requires most { parts ≤ 64 }
+    requires fits { CoreFits (tables_of engine.old) (core_of engine.old) }
+    ensures answers { (size : ℕ) → AnswersTaken (source_of engine.old) (R.choice rule.now) (limits_of size engine.old.limit) result
+        (cons_option taken.answer []) taken.is_due (core_of engine.old) (core_of engine.new) (K.held out.old) (K.held out.new) }
+    ensures told { TellsLine (batch_on engine.old.compiled (core_of engine.old)) parts result
+        (record { choices = C.choices chooser.old; told = W.told watch.old }) (record { choices = C.choices chooser.new; told = W.told watch.new }) }
+    ensures later { K.faults out.old ≤ K.faults out.new }
+    ensures cause { result ≡ Err LineStop.WriteFault → Rose (K.faults out.old) (K.faults out.new) }
+    ensures runs { RunsProgram engine.new engine.old.compiled engine.old.limit }
+    ensures core_fits { CoreFits (tables_of engine.old) (core_of engine.new) }
+    ensures sound { IsSoundCore (source_of engine.old) (core_of engine.old) → IsSoundCore (source_of engine.old) (core_of engine.new) }
+{
+    let Taken { answer, is_due } = taken;
+    if write_answer(out, answer).is_err() {
+        return Err(LineStop::WriteFault);
+    }
+    if !is_due {
+        return Ok(None);
+    }
+    line_result(answer_batch(alloc, engine, parts, rule, out, chooser, watch))
+}
+
+/// Writes what a line is answered at once.
+fn write_answer<K: Sink>(out: &mut K, answer: Option<Bytes>) -> Result<(), Failed>
+    ensures whole { OnOk result (Appends (K.held out.old) (K.held out.new) (joined (cons_option answer []))) }
+    ensures part { OnErr result (AppendsPrefix (K.held out.old) (K.held out.new) (joined (cons_option answer []))) }
+    ensures cause { HasCause (K.faults out.old) (K.faults out.new) result }
+{
+    match answer {
+        Some(line) => write_whole(out, line),
+        None => Ok(()),
+    }
+}
+
+fn write_whole<K: Sink>(out: &mut K, line: Bytes) -> Result<(), Failed>
+    ensures whole { OnOk result (Appends (K.held out.old) (K.held out.new) line) }
+    ensures part { OnErr result (AppendsPrefix (K.held out.old) (K.held out.new) line) }
+    ensures cause { HasCause (K.faults out.old) (K.faults out.new) result }
+{
+    let wrote = write_line(out, line.as_slice());
+    drop(line);
+    wrote
+}
+
+/// What a line comes to where a batch was due and came to this.
+fn line_result(ran: Result<BatchCounts, BatchStop>) -> Result<Option<BatchCounts>, LineStop>
+    ensures { result ≡ line_result ran }
+{
+    match ran {
+        Ok(counts) => Ok(Some(counts)),
+        Err(BatchStop::HistoryFull) => Err(LineStop::HistoryFull),
+        Err(BatchStop::NoMemory) => Err(LineStop::NoMemory),
+        Err(BatchStop::WriteFault) => Err(LineStop::WriteFault),
+    }
+}

@@ -1,0 +1,10 @@
+//! Lines of the input that a session in batches takes: each is read, answered where it is answered at once,
+//! and followed by a batch where one is due.
+#![tactic(auto)]
+
+mod answering;
+mod reading;
+mod taking;
+
+pub use answering::{Batching, LineStop, answer_line};
+pub use reading::{InputLine, LONGEST};
