@@ -1,0 +1,5 @@
+pub mod Comes
+pub mod Feeds
+pub mod Takes
+pub mod Served
+pub mod Tallies
