@@ -1,10 +1,15 @@
-//! Tests of what the program says of a text: the line that `check` prints, and the faults that it tells.
+//! Tests of what the program says of a text: the line that `check` prints, the graph that `compile` prints, and the faults
+//! that both tell.
 #![tactic(auto)]
 
 #[cfg(test)]
 mod broken_rules;
 #[cfg(test)]
+mod compiled_graphs;
+#[cfg(test)]
 mod kept_rules;
+#[cfg(test)]
+mod last;
 #[cfg(test)]
 mod rule_order;
 #[cfg(test)]

@@ -1,53 +1,12 @@
 //! Whole checks: what is counted, line ends and comments, and devices that fail.
 
+use crate::last::{LAST, MENDED, mended};
 use crate::verdict::check;
 use memory_calls::{Faults, NO_FAULTS, call_beside};
 use sf_outside::{MemSource, Source};
 use std::alloc::{AllocError, Global};
 use std::test::Fail;
 use test_support::{COUNTER, SHOP};
-
-/// A method that returns the name of its loop.
-const LAST: &[u8] = b"from stateflow import entity
-@entity
-class L:
-    def __init__(self, k: str):
-        self.k: str = k
-    def __key__(self):
-        return self.k
-    def last(self, xs: List[int]) -> int:
-        for x in xs:
-            pass
-        return x
-";
-
-/// The lines of [`LAST`] with an assignment before the loop.
-const MENDED: [&[u8]; 12] = [
-    b"from stateflow import entity",
-    b"@entity",
-    b"class L:",
-    b"    def __init__(self, k: str):",
-    b"        self.k: str = k",
-    b"    def __key__(self):",
-    b"        return self.k",
-    b"    def last(self, xs: List[int]) -> int:",
-    b"        x = 0",
-    b"        for x in xs:",
-    b"            pass",
-    b"        return x",
-];
-
-/// The mended program with these line ends, and one between the last two lines alone.
-fn mended(alloc: Global, end: &[u8]) -> Result<Vec<u8>, AllocError> {
-    let mut text = Vec::new(alloc);
-    for line in &MENDED {
-        if !text.is_empty() {
-            text.extend_from_slice(end)?;
-        }
-        text.extend_from_slice(line)?;
-    }
-    Ok(text)
-}
 
 /// The mended program with a comment before the line of this number.
 fn commented(alloc: Global, number: usize) -> Result<Vec<u8>, AllocError> {

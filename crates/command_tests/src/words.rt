@@ -1,52 +1,137 @@
-//! Words that are no command.
+//! What words ask for: words that are served, and words that are told the usage.
 
 use memory_calls::{Answer, NO_FAULTS, call};
 use std::alloc::{AllocError, Global};
 use std::test::Fail;
-use test_support::COUNTER;
+use test_support::{COUNTER, rows};
 
-const USAGE: &str =
-    "usage: stateflow check FILE | compile FILE | local FILE | run FILE [options] | gen [options]\n";
+const USAGE: &[u8] =
+    b"usage: stateflow check FILE | compile FILE | local FILE | run FILE [options] | gen [options]\n";
 
-/// Calls with these words, where the counter is a file and a line comes.
-fn called(alloc: Global, words: &[&str]) -> Result<Answer, AllocError> {
-    let text = COUNTER.as_bytes();
-    call(alloc, words, "counter.py", text, b"{}\n", NO_FAULTS)
+const GRAPH: &[u8] = b"class Counter: key k; 2 fields; 1 methods
+method Counter.add: 1 blocks
+  block 0: 1 vars, leave
+";
+
+/// Calls with the words of a text, where the counter is a file and a line comes. There is a blank between
+/// two words, and `''` stands for an empty one.
+fn called(alloc: Global, text: &str) -> Result<Answer, AllocError> {
+    let mut words: Vec<&str> = Vec::new(alloc);
+    if !text.is_empty() {
+        for word in text.split(' ') {
+            words.push(if word == "''" { "" } else { word })?;
+        }
+    }
+    let program = COUNTER.as_bytes();
+    call(alloc, words.as_slice(), "a.py", program, b"{}\n", NO_FAULTS)
 }
 
-#[test]
-fn other_words_are_told_the_usage(rt: HostRuntime) -> Result<(), Fail> {
-    let rows: [(&str, &[&str]); 7] = [
-        ("no file", &["local"]),
-        ("an empty file", &["local", ""]),
-        ("an option for the file", &["local", "-counter.py"]),
-        ("two files", &["local", "counter.py", "counter.py"]),
-        ("an option", &["local", "counter.py", "--batch", "1"]),
-        ("another case", &["Local", "counter.py"]),
-        ("no option", &["run", "counter.py"]),
-    ];
-    for (label, words) in rows {
-        let answer = called(rt.alloc(), words)?;
-        assert_eq!(rt; answer.status, 2, "{label}");
-        assert_eq!(rt; answer.out.bytes(), b"".as_slice(), "{label}");
-        assert_eq!(rt; answer.err.bytes(), USAGE.as_bytes(), "{label}");
+/// What a call did.
+fn done(answer: &Answer) -> &'static str {
+    let printed = answer.out.bytes();
+    let told = answer.err.bytes();
+    if answer.status == 2 && printed.is_empty() && told == USAGE {
+        return "usage";
     }
+    if answer.status != 0 || !told.is_empty() {
+        return "another status";
+    }
+    if printed == b"ok: 1 classes, 1 methods\n".as_slice() {
+        return "checked";
+    }
+    if printed == GRAPH {
+        return "compiled";
+    }
+    if printed == b"{\"bad\":\"not a request\",\"line\":1}\n".as_slice() {
+        return "served";
+    }
+    "another text"
+}
+
+/// The label of the first row whose words do something else, with what they do, or nothing where a table
+/// of so many rows has none.
+fn other(alloc: Global, table: &str, count: usize) -> Result<String, AllocError> {
+    let rows = rows(alloc, table)?;
+    for row in &rows {
+        let answer = called(alloc, row.text.as_str().trim())?;
+        let done = done(&answer);
+        if done != row.wanted {
+            return format!(in alloc; "{}: {done}", row.label);
+        }
+    }
+    if rows.len() != count {
+        return format!(in alloc; "there are {} rows", rows.len());
+    }
+    Ok(String::new(alloc))
+}
+
+const SERVED: &str = "
+    check                    | check a.py                       | checked
+    compile                  | compile a.py                     | compiled
+    local                    | local a.py                       | served
+    run                      | run a.py --batch 1               | served
+    run, joined              | run a.py --batch=1               | served
+    run, the file last       | run --batch 1 a.py               | served
+    run, joined and first    | run --batch=1 a.py               | served
+    run, a number of zeros   | run a.py --batch=0001            | served
+    run, all that is usual   | run --history=16777216 --every 64 a.py --schedule=0 --partitions 4 --batch=1 | served
+";
+
+#[test]
+fn words_that_are_served(rt: HostRuntime) -> Result<(), Fail> {
+    let other = other(rt.alloc(), SERVED, 9)?;
+    assert_eq!(rt; other.as_str(), "");
     Ok(())
 }
 
+const OTHER_WORDS: &str = "
+    no word                  |                                  | usage
+    no command               | a.py                             | usage
+    another case             | Local a.py                       | usage
+    check without a file     | check                            | usage
+    an empty file            | check ''                         | usage
+    a hyphen for the file    | check -                          | usage
+    two files to check       | check a.py a.py                  | usage
+    an option of check       | check a.py --batch 1             | usage
+    compile without a file   | compile                          | usage
+    an option as the file    | compile -a.py                    | usage
+    two files to compile     | compile a.py a.py                | usage
+    an option of compile     | compile a.py --trace             | usage
+    local without a file     | local                            | usage
+    an empty file to serve   | local ''                         | usage
+    a hyphen before the file | local -a.py                      | usage
+    two files to serve       | local a.py a.py                  | usage
+    an option of local       | local a.py --batch 1             | usage
+    run without a file       | run                              | usage
+    two files to run         | run a.py b.py                    | usage
+    a batch of none          | run a.py --batch 0               | usage
+    a batch twice            | run a.py --batch 1 --batch 1     | usage
+    no folder                | run a.py --store=                | usage
+    an unknown option        | run a.py --batch 1 --fast        | usage
+";
+
 #[test]
-fn check_takes_one_file_and_no_option(rt: HostRuntime) -> Result<(), Fail> {
-    let rows: [(&str, &[&str]); 5] = [
-        ("no file", &["check"]),
-        ("an empty file", &["check", ""]),
-        ("an option for the file", &["check", "-"]),
-        ("two files", &["check", "counter.py", "counter.py"]),
-        ("an option", &["check", "counter.py", "--batch", "1"]),
-    ];
-    for (label, words) in rows {
-        let answer = called(rt.alloc(), words)?;
-        assert_eq!(rt; answer.status, 2, "{label}");
-        assert_eq!(rt; answer.out.bytes(), b"".as_slice(), "{label}");
-    }
+fn words_of_no_command_are_told_the_usage(rt: HostRuntime) -> Result<(), Fail> {
+    let other = other(rt.alloc(), OTHER_WORDS, 23)?;
+    assert_eq!(rt; other.as_str(), "");
+    Ok(())
+}
+
+const NOT_SERVED: &str = "
+    the usual batch          | run a.py                         | usage
+    a batch of two           | run a.py --batch 2               | usage
+    partitions               | run a.py --batch 1 --partitions 2 | usage
+    a schedule               | run a.py --batch 1 --schedule 7  | usage
+    a store                  | run a.py --batch 1 --store s     | usage
+    checkpoints              | run a.py --batch 1 --every 2     | usage
+    a history                | run a.py --batch 1 --history 2   | usage
+    a trace                  | run a.py --batch 1 --trace       | usage
+    generated work           | gen --number 7 --size 3          | usage
+";
+
+#[test]
+fn what_is_not_served_is_told_the_usage(rt: HostRuntime) -> Result<(), Fail> {
+    let other = other(rt.alloc(), NOT_SERVED, 9)?;
+    assert_eq!(rt; other.as_str(), "");
     Ok(())
 }

@@ -81,6 +81,9 @@ asked_sound : (words : List Text) → IfSome (asked words) (Ask words)
 asked_sound [] = tt
 asked_sound (name ∷ words) = named_sound name words
 
+pub read_asks : (words : List Text) (a : Asked) → asked words ≡ Some a → Ask words a
+read_asks words a is = subst (λ (o : Option Asked). IfSome o (Ask words)) is (asked_sound words)
+
 -- ---- what is asked for is read
 
 read_complete : {X : Type 0} (parts : Parts) (read : Texts → Option X) (words : List Text) (x : X) → HasNames parts → AskWith parts read words x → asked_with parts read words ≡ Some x
@@ -109,7 +112,7 @@ named_complete name words (Local file) h = subst (λ (n : Text). asked_by_name n
 named_complete name words (Run file settings) h = subst (λ (n : Text). asked_by_name n words ≡ Some (Run file settings)) (sym h.0) (run_complete words (Run file settings) h.1)
 named_complete name words (Gen settings) h = subst (λ (n : Text). asked_by_name n words ≡ Some (Gen settings)) (sym h.0) (gen_complete words (Gen settings) h.1)
 
-asked_complete : (words : List Text) (a : Asked) → Ask words a → asked words ≡ Some a
+pub asked_complete : (words : List Text) (a : Asked) → Ask words a → asked words ≡ Some a
 asked_complete [] a h = absurd h
 asked_complete (name ∷ words) a h = named_complete name words a h
 
@@ -124,7 +127,7 @@ some_same a b e = ap (λ (o : Option Asked). or_first o) e
 
 pub only : (words : List Text) (r : Result Command WordsError) → Reads asked_by (asked words) r → ReadsOnly asked_by (Ask words) r
 only words (Ok c) h = (
-  subst (λ (o : Option Asked). IfSome o (Ask words)) h (asked_sound words),
+  read_asks words (asked_by c) h,
   λ other a. some_same other (asked_by c) (sym (asked_complete words other a) ∙ h),
 )
 only words (Err Usage) h = λ other a. none_some other (sym h ∙ asked_complete words other a)
@@ -132,3 +135,13 @@ only words (Err Usage) h = λ other a. none_some other (sym h ∙ asked_complete
     none_some : (other : Asked) → None ≡ Some other → ⊥
     none_some other e = cc
 only words (Err NoMemory) h = tt
+
+-- so it is known which of them was read
+pub read_so : (words : List Text) (r : Result Command WordsError) → ReadsOnly asked_by (Ask words) r → Reads asked_by (asked words) r
+read_so words (Ok c) h = asked_complete words (asked_by c) h.0
+read_so words (Err Usage) h = by (asked words) (read_asks words)
+  where
+    by : (o : Option Asked) → ((a : Asked) → o ≡ Some a → Ask words a) → o ≡ None
+    by None f = refl
+    by (Some a) f = absurd (h a (f a refl))
+read_so words (Err NoMemory) h = tt

@@ -6,3 +6,4 @@ pub mod Commands
 pub mod CommandReading
 pub mod ClapCommands
 pub mod Readings
+pub mod ByGrammar

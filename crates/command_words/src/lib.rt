@@ -6,6 +6,7 @@
 
 mod asking;
 mod command;
+mod laws;
 mod numbers;
 mod parser;
 mod reading;
@@ -13,3 +14,4 @@ mod settings;
 
 pub use asking::command_of;
 pub use command::{Command, GenWords, RunWords, WordsError};
+pub use laws::words_are_read_by_grammar;

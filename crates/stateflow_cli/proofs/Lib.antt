@@ -3,6 +3,9 @@ pub mod LoadLaws
 pub mod PrintLaws
 pub mod OneReading
 pub mod GainedLaws
-pub mod CheckEndings
+pub mod WordLaws
+pub mod WordNames
+pub mod GraphTexts
+pub mod ReportEndings
 pub mod RunEndings
 pub mod AnswerLaws

@@ -1,5 +1,5 @@
 -- Reading the first bytes of a file piece by piece, and what they are read as.
-use Rattle.std.proofs.Common.{◌≡◌, ℕ, ◌+◌, ◌≤◌, ◌<◌, List, [], ◌++◌, length, map, take, Some, None, Ok, Err, refl, sym, ap, ◌∙◌, subst, arith}
+use Rattle.std.proofs.Common.{◌≡◌, ℕ, ◌+◌, ◌≤◌, ◌<◌, List, [], ◌++◌, length, take, Some, None, Ok, Err, refl, sym, ap, ◌∙◌, subst, arith}
 use Rattle.std.proofs.Math.Seq.{take-add}
 use Rattle.std.proofs.lemmas.List.{take_all, length-take, length-take-le, length-append, take-append-le}
 use Rattle.std.specs.declared.option.Option.{Option}
@@ -18,6 +18,9 @@ use Rattle.program_text.specs.declared.fault.ProgramFault.TheVariants.{Lex}
 use Rattle.program_text.specs.declared.fault.ProgramError.{ProgramError}
 use Rattle.program_text.specs.declared.fault.ProgramError.TheVariants as error
 use Rattle.program_text.specs.Readings.{Reads, IsOf, IsAcceptedText, HasFault, has_lexical, has_syntax, has_rule}
+use Rattle.block_step.specs.CompiledViews.{compiled_program, compiled_names}
+use Rattle.block_step.specs.declared.compiled.Compiled.{Compiled}
+use Rattle.entity_compiler.specs.Compiling.{IsCompiledOf, Compiles}
 use Rattle.stateflow_cli.specs.declared.loading.LoadStop.{LoadStop}
 use Rattle.stateflow_cli.specs.declared.loading.LoadStop.TheVariants as stop
 use Rattle.stateflow_cli.specs.declared.printing.Counts.{Counts}
@@ -81,6 +84,9 @@ gives_counts = gives IsCounted (λ text x is. accepted_short text is.program is.
 pub gives_program : (content : Option (List ℕ)) (text : List ℕ) (r : Result Checked LoadStop) → MayBegin content 1048577 text → ReadsAs IsChecked text r → Gives IsChecked content r
 gives_program = gives IsChecked (λ text x is. accepted_short text (checked_program x) (checked_names x) is)
 
+pub gives_compiled : (content : Option (List ℕ)) (text : List ℕ) (r : Result Compiled LoadStop) → MayBegin content 1048577 text → ReadsAs IsCompiledOf text r → Gives IsCompiledOf content r
+gives_compiled = gives IsCompiledOf (λ text x is. accepted_short text (compiled_program x) (compiled_names x) is.is_accepted)
+
 -- a file that could not be read says nothing of its text
 pub gives_none : {X : Type 0} (Is : List ℕ → X → Type 0) (content : Option (List ℕ)) (e : LoadStop) → ((f : ProgramFault) → e ≡ stop.Refused f → ⊥) → Gives Is content (Err e)
 gives_none Is content (stop.Refused f) n = absurd (n f refl)
@@ -101,6 +107,10 @@ counted text a counts is classes methods = record {
 pub reads_none : {X : Type 0} (Is : List ℕ → X → Type 0) (text : List ℕ) (e : ProgramError) → Reads text (Err e) → ReadsAs Is text (Err (load_stop e))
 reads_none Is text (error.Fault f) is = is
 reads_none Is text error.NoMemory is = tt
+
+pub compiles_none : (text : List ℕ) (e : ProgramError) → Compiles text (Err e) → ReadsAs IsCompiledOf text (Err (load_stop e))
+compiles_none text (error.Fault f) is = is
+compiles_none text error.NoMemory is = tt
 
 -- one round: what was read begins the file, and so it goes on
 pub read_more : (E : Type 0) (content now : Option (List ℕ)) (text buf rest new : List ℕ) (at n : ℕ) → MayBegin content (length text) text → now ≡ content → at ≡ length text → ReadsAt {E = E} now at (Ok n) buf → n ≤ length buf

@@ -9,12 +9,13 @@ use Rattle.session.specs.declared.feeding.InputEnd.TheVariants.{End}
 use Rattle.session.specs.OutputText.{output_text}
 use Rattle.session.specs.SerialOutput.{SerialRun}
 use Rattle.session.specs.Served.{AnsweredTaken}
-use Rattle.stateflow_cli.specs.Words.{Asked, Check, Local, Run, file_of}
-use Rattle.stateflow_cli.specs.CheckLine.{check_line}
+use Rattle.stateflow_cli.specs.Words.{Asked, Check, Compile, Local, Run, file_of}
+use Rattle.stateflow_cli.specs.CheckLine.{IsCheckLine}
+use Rattle.stateflow_cli.specs.CompiledText.{IsCompiledText}
 use Rattle.stateflow_cli.specs.Devices.{Devices, Untouched}
 use Rattle.program_text.specs.Readings.{IsAcceptedText, HasFault}
 use Rattle.stateflow_cli.specs.Loading.{Refuses, Holds, source_in}
-use Rattle.stateflow_cli.specs.Endings.{Ends, Prints, Ran}
+use Rattle.stateflow_cli.specs.Endings.{Report, Ends, Prints, Ran}
 use Rattle.stateflow_cli.specs.StatusLines.{status_of, line_of, fault_line}
 use Rattle.stateflow_cli.specs.Telling.{Told}
 use Rattle.stateflow_cli.specs.declared.ending.Ending.{Ending}
@@ -31,10 +32,11 @@ pub record Answers (limit : ℕ) (asked : Option Asked) (before after : Devices)
   pub ends : Ends limit asked before after ending
   pub told : Told (line_of (file_in asked) ending) (status_of ending) said said' errors errors' status
 
--- the line of the file's program was printed, or that program answered every line of the whole input
+-- a report on the file's program was printed, or that program answered every line of the whole input
 abbrev pub Completes : ℕ → Option Asked → Devices → Devices → Type 0
 Completes limit None before after = ⊥
-Completes limit (Some (Check file)) before after = Prints file before after
+Completes limit (Some (Check file)) before after = Prints IsCheckLine file before after
+Completes limit (Some (Compile file)) before after = Prints IsCompiledText file before after
 Completes limit (Some (Local file)) before after = Ran limit file before after (Ok End)
 Completes limit (Some (Run file)) before after = Ran limit file before after (Ok End)
 
@@ -47,13 +49,16 @@ pub record WritesText (file : List ℕ) (before after : Devices) : Type 0 where
 abbrev pub GivesText : Option Asked → Devices → Devices → Type 0
 GivesText None before after = ⊤
 GivesText (Some (Check file)) before after = ⊤
+GivesText (Some (Compile file)) before after = ⊤
 GivesText (Some (Local file)) before after = WritesText file before after
 GivesText (Some (Run file)) before after = ⊤
 
--- the output gained a front of the line of the file's program
-pub record PrintsFront (file : List ℕ) (before after : Devices) : Type 0 where
+-- the output gained a prefix of a report on the file's program
+pub record PrintsFront (Is : Report) (file : List ℕ) (before after : Devices) : Type 0 where
   pub holds : Holds (before.content file)
-  pub front : AppendsPrefix before.held after.held (check_line holds.names holds.program)
+  pub text : List ℕ
+  pub is : Is holds.names holds.program text
+  pub front : AppendsPrefix before.held after.held text
 
 -- the text of the file has a fault, which was told
 pub record TellsFault (file : List ℕ) (before : Devices) (said said' : Option (List ℕ)) : Type 0 where
@@ -61,20 +66,30 @@ pub record TellsFault (file : List ℕ) (before : Devices) (said said' : Option 
   pub refused : Refuses (before.content file) fault
   pub line : Appends said said' (fault_line file fault)
 
--- `check` took nothing from the input; it printed the line of the file's program, or told the fault of its text, or neither;
--- where the output or the error stream failed, a front of the line may stand on the output
-pub record Checks (file : List ℕ) (before after : Devices) (said said' : Option (List ℕ)) (status : ℕ) : Type 0 where
+-- the command took nothing from the input; it printed its report on the file's program, or told the fault of its text, or neither;
+-- where the output or the error stream failed, a prefix of the report may stand on the output
+pub record Reports (Is : Report) (file : List ℕ) (before after : Devices) (said said' : Option (List ℕ)) (status : ℕ) : Type 0 where
   pub left : Keeps before.left after.left
-  pub printed : status ≡ 0 → Prints file before after × Appends said said' []
+  pub printed : status ≡ 0 → Prints Is file before after × Appends said said' []
   pub told : status ≡ 1 → TellsFault file before said said'
-  pub unwritten : status ≡ 4 → Keeps before.held after.held ⊎ PrintsFront file before after
+  pub unwritten : status ≡ 4 → Keeps before.held after.held ⊎ PrintsFront Is file before after
   pub nothing : (status ≡ 0 → ⊥) → (status ≡ 4 → ⊥) → Keeps before.held after.held
 
+-- the report of `check` is the line of the program
 abbrev pub ChecksText : Option Asked → Devices → Devices → Option (List ℕ) → Option (List ℕ) → ℕ → Type 0
 ChecksText None before after said said' status = ⊤
-ChecksText (Some (Check file)) before after said said' status = Checks file before after said said' status
+ChecksText (Some (Check file)) before after said said' status = Reports IsCheckLine file before after said said' status
+ChecksText (Some (Compile file)) before after said said' status = ⊤
 ChecksText (Some (Local file)) before after said said' status = ⊤
 ChecksText (Some (Run file)) before after said said' status = ⊤
+
+-- that of `compile` is the text of its graph
+abbrev pub CompilesText : Option Asked → Devices → Devices → Option (List ℕ) → Option (List ℕ) → ℕ → Type 0
+CompilesText None before after said said' status = ⊤
+CompilesText (Some (Check file)) before after said said' status = ⊤
+CompilesText (Some (Compile file)) before after said said' status = Reports IsCompiledText file before after said said' status
+CompilesText (Some (Local file)) before after said said' status = ⊤
+CompilesText (Some (Run file)) before after said said' status = ⊤
 
 -- the output gained what a serial run of the file's program prints, or a prefix of it
 pub record PrintsRun (file : List ℕ) (before after : Devices) : Type 0 where
@@ -84,7 +99,8 @@ pub record PrintsRun (file : List ℕ) (before after : Devices) : Type 0 where
 -- the output gained nothing, or a front of what the command prints of the file's program
 abbrev pub PrintsSerially : Option Asked → Devices → Devices → Type 0
 PrintsSerially None before after = Keeps before.held after.held
-PrintsSerially (Some (Check file)) before after = Keeps before.held after.held ⊎ PrintsFront file before after
+PrintsSerially (Some (Check file)) before after = Keeps before.held after.held ⊎ PrintsFront IsCheckLine file before after
+PrintsSerially (Some (Compile file)) before after = Keeps before.held after.held ⊎ PrintsFront IsCompiledText file before after
 PrintsSerially (Some (Local file)) before after = Keeps before.held after.held ⊎ PrintsRun file before after
 PrintsSerially (Some (Run file)) before after = Keeps before.held after.held ⊎ PrintsRun file before after
 
@@ -93,10 +109,11 @@ pub record AnswersInput (limit : ℕ) (file : List ℕ) (before after : Devices)
   pub holds : Holds (before.content file)
   pub answered : AnsweredTaken (source_in (before.content file) holds) limit before.left after.left before.held after.held
 
--- a check takes nothing; what serves the input took and wrote nothing, or answers what it took
+-- a report takes nothing; what serves the input took and wrote nothing, or answers what it took
 abbrev pub TakesInput : ℕ → Option Asked → Devices → Devices → Type 0
 TakesInput limit None before after = Untouched before after
 TakesInput limit (Some (Check file)) before after = Keeps before.left after.left
+TakesInput limit (Some (Compile file)) before after = Keeps before.left after.left
 TakesInput limit (Some (Local file)) before after = Untouched before after ⊎ AnswersInput limit file before after
 TakesInput limit (Some (Run file)) before after = Untouched before after ⊎ AnswersInput limit file before after
 
@@ -115,6 +132,7 @@ ServedRose file before after = FileRose file before after ⊎ Rose before.input_
 abbrev pub ReadRose : Option Asked → Devices → Devices → Type 0
 ReadRose None before after = ⊥
 ReadRose (Some (Check file)) before after = FileRose file before after
+ReadRose (Some (Compile file)) before after = FileRose file before after
 ReadRose (Some (Local file)) before after = ServedRose file before after
 ReadRose (Some (Run file)) before after = ServedRose file before after
 
@@ -131,12 +149,14 @@ Fits limit (Some all) = length all ≤ limit
 abbrev pub IsLonger : ℕ → Option Asked → Option (List ℕ) → Type 0
 IsLonger limit None left = ⊥
 IsLonger limit (Some (Check file)) left = ⊥
+IsLonger limit (Some (Compile file)) left = ⊥
 IsLonger limit (Some (Local file)) left = Exceeds limit left
 IsLonger limit (Some (Run file)) left = Exceeds limit left
 
 abbrev pub IsWithin : ℕ → Option Asked → Option (List ℕ) → Type 0
 IsWithin limit None left = ⊥
 IsWithin limit (Some (Check file)) left = ⊤
+IsWithin limit (Some (Compile file)) left = ⊤
 IsWithin limit (Some (Local file)) left = Fits limit left
 IsWithin limit (Some (Run file)) left = Fits limit left
 
@@ -157,8 +177,8 @@ pub record IsUndisturbed (file : List ℕ) (text : List ℕ) (before after : Dev
   pub out_still : Rose before.out_faults after.out_faults → ⊥
   pub err_still : Rose errors errors' → ⊥
 
--- the line was printed where the text is accepted, and else its fault was told; or memory ran out
-pub record ChecksWhole (text : List ℕ) (status : ℕ) : Type 0 where
+-- the report was printed where the text is accepted, and else its fault was told; or memory ran out
+pub record ReportsWhole (text : List ℕ) (status : ℕ) : Type 0 where
   pub accepted : (program : PlainProgram) (names : List (List ℕ)) → IsAcceptedText text program names → (status ≡ 0) ⊎ (status ≡ 8)
   pub refused : (fault : ProgramFault) → HasFault text fault → (status ≡ 1) ⊎ (status ≡ 8)
 
@@ -167,9 +187,10 @@ pub record RunsWhole (text : List ℕ) (status : ℕ) : Type 0 where
   pub accepted : (program : PlainProgram) (names : List (List ℕ)) → IsAcceptedText text program names → (status ≡ 0) ⊎ ((status ≡ 8) ⊎ (status ≡ 9))
   pub refused : (fault : ProgramFault) → HasFault text fault → (status ≡ 1) ⊎ (status ≡ 8)
 
--- what an undisturbed call answers
+-- what an undisturbed call answers, where memory may run out
 abbrev pub IsComplete : Option Asked → Devices → Devices → ℕ → ℕ → ℕ → Type 0
-IsComplete None before after errors errors' status = (Rose errors errors' → ⊥) → status ≡ 2
-IsComplete (Some (Check file)) before after errors errors' status = (text : List ℕ) → IsUndisturbed file text before after errors errors' → ChecksWhole text status
+IsComplete None before after errors errors' status = (Rose errors errors' → ⊥) → (status ≡ 2) ⊎ (status ≡ 8)
+IsComplete (Some (Check file)) before after errors errors' status = (text : List ℕ) → IsUndisturbed file text before after errors errors' → ReportsWhole text status
+IsComplete (Some (Compile file)) before after errors errors' status = (text : List ℕ) → IsUndisturbed file text before after errors errors' → ReportsWhole text status
 IsComplete (Some (Local file)) before after errors errors' status = (text : List ℕ) → IsUndisturbed file text before after errors errors' → RunsWhole text status
 IsComplete (Some (Run file)) before after errors errors' status = (text : List ℕ) → IsUndisturbed file text before after errors errors' → RunsWhole text status

@@ -1,5 +1,5 @@
 -- What `check` prints of a program that is accepted.
-use Rattle.std.specs.Prelude.{ℕ, List, [], ◌∷◌, length, codes, decimal}
+use Rattle.std.specs.Prelude.{ℕ, ◌≡◌, List, [], ◌∷◌, length, codes, decimal}
 use Rattle.std.specs.List.{concat, sum_by}
 use Rattle.py_tree.specs.PlainProgram.{PlainProgram}
 use Rattle.py_tree.specs.ClassRules.{methods_of}
@@ -14,3 +14,6 @@ counts_line classes methods = concat (codes "ok: " ∷ classes ∷ codes " class
 
 abbrev pub check_line : List (List ℕ) → PlainProgram → List ℕ
 check_line names program = counts_line (decimal (length program)) (decimal (count_methods names program))
+
+abbrev pub IsCheckLine : List (List ℕ) → PlainProgram → List ℕ → Type 0
+IsCheckLine names program text = text ≡ check_line names program

@@ -1,5 +1,6 @@
 pub mod Words
 pub mod CheckLine
+pub mod CompiledText
 pub mod StatusLines
 pub mod Devices
 pub mod Loading

@@ -1,8 +1,9 @@
 //! Checking a file's program.
 
 ghost use Rattle.std.specs.Prelude.{ℕ, List, Option};
+ghost use Rattle.stateflow_cli.specs.CheckLine.{IsCheckLine};
 ghost use Rattle.stateflow_cli.specs.Devices.{devices};
-ghost use Rattle.stateflow_cli.specs.Endings.{CheckEnds};
+ghost use Rattle.stateflow_cli.specs.Endings.{ReportEnds};
 
 use crate::ending::Ending;
 use crate::loading::{LoadStop, count};
@@ -17,7 +18,7 @@ pub(crate) fn check_file<F: Files, K: Sink>(
     files: &mut F,
     out: &mut K,
 ) -> Ending
-    ensures { (left : Option (List ℕ)) (input_faults : ℕ) → CheckEnds file.now
+    ensures { (left : Option (List ℕ)) (input_faults : ℕ) → ReportEnds IsCheckLine file.now
         (devices (F.content files.old) (F.faults files.old) left input_faults (K.held out.old) (K.faults out.old))
         (devices (F.content files.new) (F.faults files.new) left input_faults (K.held out.new) (K.faults out.new))
         result }

@@ -17,9 +17,9 @@ pub enum Ending {
     FileFault,
     /// Memory ran out before anything was read of the input or printed.
     NoMemory,
-    /// What was found of the program was printed.
+    /// The report on the program was printed.
     Printed,
-    /// The output failed as that was printed.
+    /// The output failed as the report was printed.
     Unprinted,
     /// The program served the input, as far as that could be read.
     Served(InputEnd),

@@ -2,6 +2,7 @@
 #![tactic(auto)]
 
 mod checking;
+mod compiling;
 mod ending;
 mod fault;
 mod loading;

@@ -2,10 +2,12 @@
 
 ghost use Rattle.std.specs.Prelude.{◌≡◌, ◌≤◌, ◌<◌, min, IfOk, Err};
 ghost use Rattle.sf_outside.specs.Causes.{Rose};
+ghost use Rattle.entity_compiler.specs.Compiling.{IsCompiledOf};
 ghost use Rattle.stateflow_cli.specs.Loading.{MayBegin, ReadsAs, Gives, IsCounted, IsChecked};
 ghost use Rattle.program_text.specs.declared.fault.ProgramFault.{ProgramFault as AFault};
 
 use crate::printing::Counts;
+use entity_compiler::{Compiled, compile};
 use program_text::{ProgramError, ProgramFault, accept};
 use py_tree::Checked;
 use sf_outside::{Failed, Files};
@@ -111,6 +113,14 @@ fn read_program(alloc: Global, text: &[u8]) -> Result<Checked, LoadStop>
     Ok(accepted.program)
 }
 
+/// The compiled program of a text that is accepted.
+fn read_compiled(alloc: Global, text: &[u8]) -> Result<Compiled, LoadStop>
+    ensures { ReadsAs IsCompiledOf text.now result }
+{
+    let compiled = compile(alloc, text)?;
+    Ok(compiled)
+}
+
 /// Reads what there is to count in a file's program.
 pub(crate) fn count<F: Files>(alloc: Global, files: &mut F, name: &str) -> Result<Counts, LoadStop>
     ensures gives { Gives IsCounted (F.content files.old name.now) result }
@@ -127,4 +137,17 @@ pub(crate) fn load<F: Files>(alloc: Global, files: &mut F, name: &str) -> Result
 {
     let text = read_first(alloc, LONGEST_READ, files, name)?;
     read_program(alloc, text.as_slice())
+}
+
+/// Reads a file's program, and compiles it.
+pub(crate) fn load_compiled<F: Files>(
+    alloc: Global,
+    files: &mut F,
+    name: &str,
+) -> Result<Compiled, LoadStop>
+    ensures gives { Gives IsCompiledOf (F.content files.old name.now) result }
+    ensures cause { result ≡ Err LoadStop.FileFault → Rose (F.faults files.old name.now) (F.faults files.new name.now) }
+{
+    let text = read_first(alloc, LONGEST_READ, files, name)?;
+    read_compiled(alloc, text.as_slice())
 }

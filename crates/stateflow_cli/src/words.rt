@@ -1,12 +1,18 @@
-//! The words of a call.
+//! The words of a call, as far as what they ask for is served.
 
 ghost use Rattle.std.specs.Prelude.{◌≡◌, map, option_map, string_bytes};
-ghost use Rattle.stateflow_cli.specs.Words.{is_file, asked, asked_on, asked_by, file_of};
+ghost use Rattle.command_words.specs.Commands as given;
+ghost use Rattle.command_words.specs.Readings.{Reads};
+ghost use Rattle.stateflow_cli.specs.Words.{asked, asked_by, file_of, are_served, served};
+
+use command_words::{Command as Given, RunWords, WordsError};
+use std::alloc::Global;
 
 /// What the words ask for, on which file.
 #[derive(Clone, Copy)]
 pub enum Command<'a> {
     Check(&'a str),
+    Compile(&'a str),
     Local(&'a str),
     Run(&'a str),
 }
@@ -18,46 +24,54 @@ impl<'a> Command<'a> {
     {
         match self {
             Command::Check(file) => file,
+            Command::Compile(file) => file,
             Command::Local(file) => file,
             Command::Run(file) => file,
         }
     }
 }
 
-/// Whether a word can name a file.
-fn is_file(word: &str) -> bool
-    ensures { result ≡ is_file word.now }
+/// Whether these are the settings that are served: a batch for each request, and all else as where it
+/// isn't given.
+fn are_served(settings: RunWords<'_>) -> bool
+    ensures { result ≡ are_served (given.settings_by settings.entry) }
 {
-    match word.as_bytes().first() {
-        Some(first) => *first != b'-',
-        None => false,
+    settings.batch == 1
+        && settings.partitions == 4
+        && settings.schedule == 0
+        && settings.store.is_none()
+        && settings.every == 64
+        && settings.history == 16_777_216
+        && !settings.trace
+}
+
+/// The command as it is served, if it is.
+fn served(command: Given<'_>) -> Option<Command<'_>>
+    ensures { option_map asked_by result ≡ served (given.asked_by command.entry) }
+{
+    match command {
+        Given::Check { file } => Some(Command::Check(file)),
+        Given::Compile { file } => Some(Command::Compile(file)),
+        Given::Local { file } => Some(Command::Local(file)),
+        Given::Run { file, settings } => {
+            if are_served(settings) {
+                Some(Command::Run(file))
+            } else {
+                None
+            }
+        }
+        Given::Gen(_) => None,
     }
 }
 
-/// The command that a word and a file are.
-fn command_on<'a>(word: &str, file: &'a str) -> Option<Command<'a>>
-    ensures { option_map asked_by result ≡ asked_on word.now file.now }
+/// The command that the words ask for, where it is served; else they are misused. Memory may run out
+/// before that is known.
+pub(crate) fn command_of<'a>(alloc: Global, words: &'a [String]) -> Result<Command<'a>, WordsError>
+    ensures { Reads asked_by (asked (map string_bytes words.entry.now)) result }
 {
-    if word == "check" && is_file(file) {
-        return Some(Command::Check(file));
-    }
-    if word == "local" && is_file(file) {
-        return Some(Command::Local(file));
-    }
-    None
-}
-
-/// The command that the words are: `check FILE`, `local FILE` or `run FILE --batch 1`.
-pub(crate) fn command_of(words: &[String]) -> Option<Command<'_>>
-    ensures { option_map asked_by result ≡ asked (map string_bytes words.now) }
-{
-    match words {
-        [word, file] => command_on(word.as_str(), file.as_str()),
-        [run, file, batch, one]
-            if run.as_str() == "run"
-                && batch.as_str() == "--batch"
-                && one.as_str() == "1"
-                && is_file(file.as_str()) => { Some(Command::Run(file.as_str())) }
-        _ => None,
+    let command = command_words::command_of(alloc, words)?;
+    match served(command) {
+        Some(command) => Ok(command),
+        None => Err(WordsError::Usage),
     }
 }

@@ -1,4 +1,4 @@
-use Rattle.stateflow_cli.proofs.AnswerLaws.{Answers-complete, Answers-check, Answers-local, Answers-serial, Answers-taken, Answers-causes, Answers-undisturbed}
+use Rattle.stateflow_cli.proofs.AnswerLaws.{Answers-complete, Answers-check, Answers-compile, Answers-local, Answers-serial, Answers-taken, Answers-causes, Answers-undisturbed}
 use Rattle.stateflow_cli.proofs.top_call.stateflow.Goals as goal
 
 pub returns-clause-text : goal.returns-clause-text
@@ -6,6 +6,9 @@ returns-clause-text g c = Answers-complete _ _ _ _ _ _ _ _ _ c.run_words.ensures
 
 pub returns-clause-check_text : goal.returns-clause-check_text
 returns-clause-check_text g c = Answers-check _ _ _ _ _ _ _ _ _ c.run_words.ensures.answers
+
+pub returns-clause-compile_text : goal.returns-clause-compile_text
+returns-clause-compile_text g c = Answers-compile _ _ _ _ _ _ _ _ _ c.run_words.ensures.answers
 
 pub returns-clause-local_text : goal.returns-clause-local_text
 returns-clause-local_text g c = Answers-local _ _ _ _ _ _ _ _ _ c.run_words.ensures.answers
