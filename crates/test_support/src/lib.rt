@@ -5,6 +5,6 @@ mod programs;
 mod settings;
 mod tables;
 
-pub use programs::{COUNTER, NUM, SHOP};
+pub use programs::{COUNTER, NUM, PING, SHOP};
 pub use settings::{Setting, text_in};
 pub use tables::{Row, rows};

@@ -123,3 +123,44 @@ class Num:
     def check_it(self, n: int) -> None:
         assert n > 0, \"not positive\"
 ";
+
+/// Two classes that call each other: `go` calls `poke`, which calls `put` of the entity that waits.
+pub const PING: &str = "from stateflow import entity
+
+
+@entity
+class A:
+    def __init__(self, k: str):
+        self.k: str = k
+        self.n: int = 1
+
+    def __key__(self): return self.k
+
+    def put(self, v: int) -> None:
+        self.n = v
+
+    def go(self, b: 'B') -> int:
+        self.n += b.poke(self)
+        return self.n
+
+    def ask(self, flag: bool, b: 'B') -> bool:
+        return flag and b.yes()
+
+
+@entity
+class B:
+    def __init__(self, k: str):
+        self.k: str = k
+        self.v: int = 0
+
+    def __key__(self): return self.k
+
+    def poke(self, a: A) -> int:
+        a.put(10)
+        return 5
+
+    def yes(self) -> bool: return True
+
+    def set(self, v: int) -> None:
+        self.v = v
+";

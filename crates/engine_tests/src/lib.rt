@@ -1,0 +1,14 @@
+//! Tests of the engine with its batches: what lines are answered, which requests each batch commits, and
+//! what is told of its events.
+#![tactic(auto)]
+
+#[cfg(test)]
+mod answers;
+#[cfg(test)]
+mod driver;
+#[cfg(test)]
+mod places;
+#[cfg(test)]
+mod request_lines;
+#[cfg(test)]
+mod turns;
