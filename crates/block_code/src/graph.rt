@@ -73,6 +73,13 @@ impl Graph {
         })
     }
 
+    /// The tables of the graph's program.
+    pub fn tables(&self) -> &Tables
+        ensures { plain_tables result.now ≡ graph_tables self.now }
+    {
+        &self.tables
+    }
+
     /// The blocks that the graph was made of.
     pub fn blocks(&self) -> &MethodBlocks
         ensures { plain_methods result.now ≡ graph_blocks self.now }

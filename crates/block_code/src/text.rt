@@ -119,7 +119,8 @@ fn add_block(
     number: usize,
     block: &Block,
 ) -> Result<(), AllocError>
-    ensures { OnOk result (string_bytes text.new ≡ string_bytes text.old ++ spec.block_line names.now (plain_tables tables.now) number (plain_block block.now)) }
+    ensures { OnOk result (string_bytes text.new ≡ string_bytes text.old ++ spec.block_line names.now (plain_tables tables.now) number
+        (plain_block block.now)) }
 {
     let mut digits = Buffer::new();
     let mut params = Buffer::new();
@@ -161,7 +162,9 @@ fn add_method(
     sig: &Sig,
     blocks: &[Block],
 ) -> Result<(), AllocError>
-    ensures { OnOk result (string_bytes text.new ≡ string_bytes text.old ++ (spec.method_line names.now class.0 (plain_sig sig.now) (plain_blocks blocks.now) ++ spec.block_lines names.now (graph_tables graph.now) 0 (plain_blocks blocks.now))) }
+    ensures { OnOk result (string_bytes text.new ≡ string_bytes text.old ++
+        (spec.method_line names.now class.0 (plain_sig sig.now) (plain_blocks blocks.now) ++ spec.block_lines names.now (graph_tables graph.now) 0
+        (plain_blocks blocks.now))) }
 {
     let mut digits = Buffer::new();
     add_pieces(
@@ -188,7 +191,8 @@ fn add_methods(
     first: u32,
     sigs: &[Sig],
 ) -> Result<(), AllocError>
-    ensures { OnOk result (string_bytes text.new ≡ string_bytes text.old ++ spec.method_lines names.now (graph_tables graph.now) (graph_blocks graph.now) class.0 first (map plain_sig sigs.now)) }
+    ensures { OnOk result (string_bytes text.new ≡ string_bytes text.old ++ spec.method_lines names.now (graph_tables graph.now)
+        (graph_blocks graph.now) class.0 first (map plain_sig sigs.now)) }
 {
     for (number, sig) in sigs.iter().enumerate() {
         let blocks = graph.at(first as usize + number);
@@ -227,7 +231,8 @@ fn add_class(
     number: usize,
     table: &ClassTable,
 ) -> Result<(), AllocError>
-    ensures { OnOk result (string_bytes text.new ≡ string_bytes text.old ++ spec.lines_of_class names.now (graph_tables graph.now) (graph_blocks graph.now) number (plain_table table.now)) }
+    ensures { OnOk result (string_bytes text.new ≡ string_bytes text.old ++ spec.lines_of_class names.now (graph_tables graph.now)
+        (graph_blocks graph.now) number (plain_table table.now)) }
 {
     add_head(text, names, table)?;
     let first = graph.first(number);
@@ -248,7 +253,8 @@ fn add_classes(
     graph: &Graph,
     tables: &[ClassTable],
 ) -> Result<(), AllocError>
-    ensures { OnOk result (string_bytes text.new ≡ string_bytes text.old ++ spec.class_lines names.now (graph_tables graph.now) (graph_blocks graph.now) 0 (plain_tables tables.now)) }
+    ensures { OnOk result (string_bytes text.new ≡ string_bytes text.old ++ spec.class_lines names.now (graph_tables graph.now) (graph_blocks graph.now) 0
+        (plain_tables tables.now)) }
 {
     for (number, table) in tables.iter().enumerate() {
         add_class(text, names, graph, number, table)?;

@@ -89,7 +89,8 @@ fn find_in_links(
     links: &Links,
     found: &mut Sites,
 ) -> Result<(), AllocError>
-    ensures { OnOk result (found.new ≡ found.old ++ spec.sites_in_links (map plain_class classes.now) (numbers_of methods.now) (links_of (plain_links links.now))) }
+    ensures { OnOk result (found.new ≡ found.old ++ spec.sites_in_links (map plain_class classes.now) (numbers_of methods.now)
+        (links_of (plain_links links.now))) }
 {
     for link in links.as_slice() {
         find(alloc, classes, methods, &link.right, found)?;
@@ -106,7 +107,8 @@ pub fn find_if_there(
     expr: &Option<Expr>,
     found: &mut Sites,
 ) -> Result<(), AllocError>
-    ensures { OnOk result (found.new ≡ found.old ++ spec.sites_if_there (map plain_class classes.now) (numbers_of methods.now) (plain_option plain_expr expr.now)) }
+    ensures { OnOk result (found.new ≡ found.old ++ spec.sites_if_there (map plain_class classes.now) (numbers_of methods.now)
+        (plain_option plain_expr expr.now)) }
 {
     match expr {
         None => Ok(()),

@@ -43,7 +43,8 @@ impl CallGraph {
         requires class { class < length self.now }
         requires method { method < length (slice_index_or self.now class []) }
         ensures mark { result ≡ spec.is_marked self.now class method }
-        ensures least { (names : List (List ℕ)) (program : PlainProgram) → spec.IsGraph names program self.now → (IsTrue result ↔ suspending.MaySuspend names program class method) }
+        ensures least { (names : List (List ℕ)) (program : PlainProgram) → spec.IsGraph names program self.now
+            → (IsTrue result ↔ suspending.MaySuspend names program class method) }
     {
         self.classes.as_slice()[class as usize].as_slice()[method as usize]
     }
@@ -156,7 +157,8 @@ fn add_row(
     methods: &[Name],
     member: &Method,
 ) -> Result<(), AllocError>
-    ensures { OnOk result (rows.new ≡ rows.old ++ map (suspending.method_sites (map plain_class classes.now) (numbers_of methods.now)) (methods_of names.now (plain_method member.now ∷ []))) }
+    ensures { OnOk result (rows.new ≡ rows.old ++ map (suspending.method_sites (map plain_class classes.now) (numbers_of methods.now))
+        (methods_of names.now (plain_method member.now ∷ []))) }
 {
     if is_called_by_name(names, member.name) {
         return rows.push(alloc, method_sites(alloc, classes, methods, member)?);
@@ -173,7 +175,8 @@ fn members_sites(
     methods: &[Name],
     members: &[Method],
 ) -> Result<Sequence<Sites>, AllocError>
-    ensures { IfOk result (λ rows. rows ≡ map (suspending.method_sites (map plain_class classes.now) (numbers_of methods.now)) (methods_of names.now (map plain_method members.now))) }
+    ensures { IfOk result (λ rows. rows ≡ map (suspending.method_sites (map plain_class classes.now) (numbers_of methods.now))
+        (methods_of names.now (map plain_method members.now))) }
 {
     let mut rows = Sequence::new(alloc);
     for member in members {

@@ -59,7 +59,8 @@ pub fn find_in_body(
     stmts: &[Stmt],
     found: &mut Sites,
 ) -> Result<(), AllocError>
-    ensures { OnOk result (found.new ≡ found.old ++ spec.sites_in_body (map plain_class classes.now) (numbers_of methods.now) (stmts_of (plain_stmts stmts.now))) }
+    ensures { OnOk result (found.new ≡ found.old ++ spec.sites_in_body (map plain_class classes.now) (numbers_of methods.now)
+        (stmts_of (plain_stmts stmts.now))) }
 {
     for stmt in stmts {
         find_by(alloc, classes, methods, stmt, found)?;

@@ -27,7 +27,8 @@ fn check_member(
     before: &[Method],
     member: &Method,
 ) -> Result<(), RuleError>
-    ensures { Finds (spec.member_fault names.now (map plain_class classes.now) (map plain_method members.now) (map plain_method before.now) (plain_method member.now)) result }
+    ensures { Finds (spec.member_fault names.now (map plain_class classes.now) (map plain_method members.now) (map plain_method before.now)
+        (plain_method member.now)) result }
 {
     check_member_name(names, before, member)?;
     check_params(classes, member.params.as_slice())?;
@@ -46,7 +47,8 @@ fn check_members(
     classes: &[Class],
     members: &[Method],
 ) -> Result<(), RuleError>
-    ensures { Finds (spec.first_in (spec.member_fault names.now (map plain_class classes.now) (map plain_method members.now)) (map plain_method members.now)) result }
+    ensures { Finds (spec.first_in (spec.member_fault names.now (map plain_class classes.now) (map plain_method members.now)) (map plain_method members.now))
+        result }
 {
     for i in 0..members.len() {
         check_member(alloc, names, classes, members, &members[..i], &members[i])?;
@@ -97,7 +99,8 @@ fn checked_table(
     classes: &[Class],
     class: &Class,
 ) -> Result<ClassTable, RuleError>
-    ensures { Makes plain_table (spec.class_fault names.now (map plain_class classes.now) (plain_class class.now)) (spec.table_of names.now (plain_class class.now)) result }
+    ensures { Makes plain_table (spec.class_fault names.now (map plain_class classes.now) (plain_class class.now))
+        (spec.table_of names.now (plain_class class.now)) result }
 {
     check_members(alloc, names, classes, class.members.as_slice())?;
     class_table(alloc, names, class)
@@ -106,7 +109,8 @@ fn checked_table(
 /// The tables of all classes, or the first rule that one breaks, its name aside.
 #[tactic(auto, using(crate::proofs::TableLaws::table_laws))]
 pub fn class_tables(alloc: Global, names: &Names, classes: &[Class]) -> Result<Tables, RuleError>
-    ensures { Makes plain_tables (spec.first_in (class_faults names.now (map plain_class classes.now)) (map plain_class classes.now)) (spec.tables_of names.now (map plain_class classes.now)) result }
+    ensures { Makes plain_tables (spec.first_in (class_faults names.now (map plain_class classes.now)) (map plain_class classes.now))
+        (spec.tables_of names.now (map plain_class classes.now)) result }
 {
     let mut tables = Sequence::new(alloc);
     for class in classes {

@@ -27,7 +27,8 @@ fn check_declaration(
     place: Place,
     found: &Declaration<'_>,
 ) -> Result<(), RuleFault>
-    ensures { fault_of result ≡ spec.declaration_fault names.now (map plain_class classes.now) (map plain_method members.now) (numbers_of declared.now) place (plain_declaration found.now) }
+    ensures { fault_of result ≡ spec.declaration_fault names.now (map plain_class classes.now) (map plain_method members.now) (numbers_of declared.now) place
+        (plain_declaration found.now) }
 {
     refuse(acts(classes, declared, found.value), Rule::InitForm, place)?;
     refuse(is_full(declared.len()), Rule::TooMany, found.field.place)?;
@@ -71,7 +72,8 @@ fn check_stmt(
     declared: &[Name],
     stmt: &Stmt,
 ) -> Result<(), RuleFault>
-    ensures { fault_of result ≡ spec.init_stmt_fault names.now (map plain_class classes.now) (map plain_method members.now) (numbers_of declared.now) (plain_stmt stmt.now) }
+    ensures { fault_of result ≡ spec.init_stmt_fault names.now (map plain_class classes.now) (map plain_method members.now) (numbers_of declared.now)
+        (plain_stmt stmt.now) }
 {
     match declared_by(stmt) {
         Some(found) => check_declaration(names, classes, members, declared, stmt.place, &found),

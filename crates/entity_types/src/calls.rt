@@ -26,7 +26,8 @@ pub fn attribute(
     on: &Expr,
     name: PlacedName,
 ) -> Result<Ty, RuleError>
-    ensures { Types plain_ty (spec.refuse_if (not (the_word_self (plain_expr on.now))) RemoteField name.place (spec.needs (spec.field_of (plain_tables tables.now) class name.name.0) UnknownField name.place (λ t. Ok t))) result }
+    ensures { Types plain_ty (spec.refuse_if (not (the_word_self (plain_expr on.now))) RemoteField name.place
+        (spec.needs (spec.field_of (plain_tables tables.now) class name.name.0) UnknownField name.place (λ t. Ok t))) result }
 {
     refuse(!is_self(on), Rule::RemoteField, name.place)?;
     match field_of(tables, class, name.name) {

@@ -56,7 +56,8 @@ pub fn narrow_scope(scope: &mut Scope<'_>, test: &Expr, truth: bool)
 
 /// The type of a local as it is read, where it is surely not None or not.
 fn read_local(alloc: Global, place: Place, local: &Local, not_none: bool) -> Result<Ty, RuleError>
-    ensures { Types plain_ty (spec.refuse_if (not local.now.assigned) Unassigned place (Ok (spec.read_ty (record (plain_local local.now) { not_none = not_none })))) result }
+    ensures { Types plain_ty (spec.refuse_if (not local.now.assigned) Unassigned place
+        (Ok (spec.read_ty (record (plain_local local.now) { not_none = not_none })))) result }
 {
     refuse(!local.assigned, Rule::Unassigned, place)?;
     if not_none {

@@ -74,7 +74,8 @@ fn any_shows(tests: &[Expr], truth: bool, name: Name) -> bool
 pub fn mark_shown(locals: &[Local], not_none: &mut Sequence<bool>, test: &Expr, truth: bool)
     requires { length not_none.old ≡ length locals.now }
     ensures count { length not_none.new ≡ length not_none.old }
-    ensures known { known_by (plain_locals locals.now) not_none.new ≡ flow.narrowed (flow.shown truth (plain_expr test.now)) (known_by (plain_locals locals.now) not_none.old) }
+    ensures known { known_by (plain_locals locals.now) not_none.new
+        ≡ flow.narrowed (flow.shown truth (plain_expr test.now)) (known_by (plain_locals locals.now) not_none.old) }
 {
     for i in 0..locals.len() {
         if shows(test, truth, locals[i].name) {

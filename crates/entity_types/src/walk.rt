@@ -130,7 +130,8 @@ fn value_in(
     asked: &Ty,
     expr: &Expr,
 ) -> Result<(), RuleError>
-    ensures { Checks (spec.with_found (spec.type_of (plain_tables tables.now) (plain_scope scope.now) (Some (plain_ty asked.now)) (plain_expr expr.now)) (λ t. spec.fits t (plain_ty asked.now) expr.now.place (Ok TBool))) result }
+    ensures { Checks (spec.with_found (spec.type_of (plain_tables tables.now) (plain_scope scope.now) (Some (plain_ty asked.now)) (plain_expr expr.now))
+        (λ t. spec.fits t (plain_ty asked.now) expr.now.place (Ok TBool))) result }
 {
     let ty = type_in(alloc, tables, scope, Some(asked), expr)?;
     refuse(!assignable(&ty, asked), Rule::Mismatch, expr.place)
@@ -147,7 +148,8 @@ fn arguments_in(
     params: &[SigParam],
     gives: &Ty,
 ) -> Result<Ty, RuleError>
-    ensures { Types plain_ty (spec.arguments (plain_tables tables.now) (plain_scope scope.now) (exprs_of (plain_exprs args.now)) (map plain_sig_param params.now) (plain_ty gives.now)) result }
+    ensures { Types plain_ty (spec.arguments (plain_tables tables.now) (plain_scope scope.now) (exprs_of (plain_exprs args.now))
+        (map plain_sig_param params.now) (plain_ty gives.now)) result }
 {
     let count = args.len().min(params.len());
     for i in 0..count {
@@ -167,7 +169,8 @@ fn call_in(
     name: PlacedName,
     args: &[Expr],
 ) -> Result<Ty, RuleError>
-    ensures { Types plain_ty (spec.type_of (plain_tables tables.now) (plain_scope scope.now) None (PCall on.now.place (plain_expr on.now) name.name.0 name.place (exprs_of (plain_exprs args.now)))) result }
+    ensures { Types plain_ty (spec.type_of (plain_tables tables.now) (plain_scope scope.now) None
+        (PCall on.now.place (plain_expr on.now) name.name.0 name.place (exprs_of (plain_exprs args.now)))) result }
 {
     let receiver = type_in(alloc, tables, scope, None, on)?;
     let method = called(tables, on.place, &receiver, name, args.len())?;
@@ -192,7 +195,8 @@ fn apply_in(
     name: Name,
     args: &[Expr],
 ) -> Result<Ty, RuleError>
-    ensures { Types plain_ty (spec.type_of (plain_tables tables.now) (plain_scope scope.now) None (PApply place name.0 (exprs_of (plain_exprs args.now)))) result }
+    ensures { Types plain_ty (spec.type_of (plain_tables tables.now) (plain_scope scope.now) None (PApply place name.0 (exprs_of (plain_exprs args.now))))
+        result }
 {
     match function_of(name) {
         None => creation_in(alloc, tables, scope, place, name, args),
@@ -214,7 +218,9 @@ fn creation_in(
     class: Name,
     args: &[Expr],
 ) -> Result<Ty, RuleError>
-    ensures { Types plain_ty (spec.needs (spec.table_named (plain_tables tables.now) class.0) UnknownName place (λ c. spec.refuse_if (not (length args.now == length c.init)) ArgCount place (spec.arguments (plain_tables tables.now) (plain_scope scope.now) (exprs_of (plain_exprs args.now)) c.init (TEntity c.name)))) result }
+    ensures { Types plain_ty (spec.needs (spec.table_named (plain_tables tables.now) class.0) UnknownName place
+        (λ c. spec.refuse_if (not (length args.now == length c.init)) ArgCount place
+        (spec.arguments (plain_tables tables.now) (plain_scope scope.now) (exprs_of (plain_exprs args.now)) c.init (TEntity c.name)))) result }
 {
     let Some(table) = table_named(tables, class) else {
         return Err(told(Rule::UnknownName, place));
@@ -234,7 +240,8 @@ fn each_in(
     function: Function,
     args: &[Expr],
 ) -> Result<Ty, RuleError>
-    ensures { Types plain_ty (spec.each_is (asked (plain_function function)) (plain_tables tables.now) (plain_scope scope.now) (exprs_of (plain_exprs args.now)) (the_given (plain_function function))) result }
+    ensures { Types plain_ty (spec.each_is (asked (plain_function function)) (plain_tables tables.now) (plain_scope scope.now)
+        (exprs_of (plain_exprs args.now)) (the_given (plain_function function))) result }
 {
     for arg in args {
         let ty = type_in(alloc, tables, scope, None, arg)?;
@@ -253,7 +260,8 @@ fn index_in(
     on: &Expr,
     index: &Expr,
 ) -> Result<Ty, RuleError>
-    ensures { Types plain_ty (spec.type_of (plain_tables tables.now) (plain_scope scope.now) None (PIndex on.now.place (plain_expr on.now) (plain_expr index.now))) result }
+    ensures { Types plain_ty (spec.type_of (plain_tables tables.now) (plain_scope scope.now) None
+        (PIndex on.now.place (plain_expr on.now) (plain_expr index.now))) result }
 {
     let ty = type_in(alloc, tables, scope, None, on)?;
     let element = indexed(on.place, &ty)?;
@@ -273,7 +281,8 @@ fn list_in(
     place: Place,
     items: &[Expr],
 ) -> Result<Ty, RuleError>
-    ensures { Types plain_ty (spec.list_of (plain_tables tables.now) (plain_scope scope.now) (plain_wanted element.entry) place (exprs_of (plain_exprs items.now))) result }
+    ensures { Types plain_ty (spec.list_of (plain_tables tables.now) (plain_scope scope.now) (plain_wanted element.entry) place
+        (exprs_of (plain_exprs items.now))) result }
 {
     if let Some(element) = element {
         return elements_in(alloc, tables, scope, element, items);
@@ -297,7 +306,8 @@ fn elements_in(
     element: &Ty,
     items: &[Expr],
 ) -> Result<Ty, RuleError>
-    ensures { Types plain_ty (spec.elements (plain_tables tables.now) (plain_scope scope.now) (plain_ty element.now) (exprs_of (plain_exprs items.now))) result }
+    ensures { Types plain_ty (spec.elements (plain_tables tables.now) (plain_scope scope.now) (plain_ty element.now) (exprs_of (plain_exprs items.now)))
+        result }
 {
     for item in items {
         value_in(alloc, tables, scope, element, item)?;
@@ -338,7 +348,8 @@ fn part_in(
     truth: bool,
     part: &Expr,
 ) -> Result<Ty, RuleError>
-    ensures { Types plain_ty (spec.type_of (plain_tables tables.now) (where_test truth (plain_expr test.now) (plain_scope scope.now)) (plain_wanted wanted.entry) (plain_expr part.now)) result }
+    ensures { Types plain_ty (spec.type_of (plain_tables tables.now) (where_test truth (plain_expr test.now) (plain_scope scope.now))
+        (plain_wanted wanted.entry) (plain_expr part.now)) result }
 {
     let mut known = copy_scope(alloc, scope)?;
     narrow_scope(&mut known, test, truth);
@@ -357,7 +368,8 @@ fn choice_in(
     yes: &Expr,
     no: &Expr,
 ) -> Result<Ty, RuleError>
-    ensures { Types plain_ty (spec.type_of (plain_tables tables.now) (plain_scope scope.now) (plain_wanted wanted.entry) (PCond test.now.place (plain_expr test.now) (plain_expr yes.now) (plain_expr no.now))) result }
+    ensures { Types plain_ty (spec.type_of (plain_tables tables.now) (plain_scope scope.now) (plain_wanted wanted.entry)
+        (PCond test.now.place (plain_expr test.now) (plain_expr yes.now) (plain_expr no.now))) result }
 {
     condition_in(alloc, tables, scope, test)?;
     let s = part_in(alloc, tables, scope, wanted, test, true, yes)?;

@@ -74,7 +74,8 @@ fn add_values(
     running: &mut Running,
     values: &mut Values,
 ) -> Result<Option<Failure>, AllocError>
-    ensures added { IfOk result (λ failed. AddedNow failed values.new running.new (added_at place.now (exprs_of (plain_exprs exprs.now)) values.old running.old)) }
+    ensures added { IfOk result (λ failed. AddedNow failed values.new running.new
+        (added_at place.now (exprs_of (plain_exprs exprs.now)) values.old running.old)) }
     ensures vars { running.new.vars ≡ running.old.vars }
 {
     for expr in exprs {

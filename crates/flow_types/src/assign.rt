@@ -49,7 +49,8 @@ fn assign_first(
     ty: Ty,
     value: &Expr,
 ) -> Result<(), RuleError>
-    ensures { Locates (spec.assigned_as (seen_at context.now env.old) (plain_locals env.old.locals) name (plain_ty ty) (plain_expr value.now) None) env.old env.new result }
+    ensures { Locates (spec.assigned_as (seen_at context.now env.old) (plain_locals env.old.locals) name (plain_ty ty) (plain_expr value.now) None) env.old
+        env.new result }
 {
     let given = value_as(alloc, context, env, &ty, value)?;
     let may_be_none = has_none(&given);
@@ -67,7 +68,8 @@ fn assign_as(
     ty: Ty,
     value: &Expr,
 ) -> Result<(), RuleError>
-    ensures { Locates (spec.assigned_as (seen_at context.now env.old) (plain_locals env.old.locals) name (plain_ty ty) (plain_expr value.now) (spec.earlier (plain_locals env.old.locals) name)) env.old env.new result }
+    ensures { Locates (spec.assigned_as (seen_at context.now env.old) (plain_locals env.old.locals) name (plain_ty ty) (plain_expr value.now)
+        (spec.earlier (plain_locals env.old.locals) name)) env.old env.new result }
 {
     match type_before(env.locals.as_slice(), name.name) {
         None => assign_first(alloc, context, env, name, ty, value),
@@ -87,7 +89,8 @@ fn assign_to_local(
     ty: &Option<WrittenTy>,
     value: &Expr,
 ) -> Result<(), RuleError>
-    ensures { Locates (spec.local_assigned (seen_at context.now env.old) (plain_locals env.old.locals) name (plain_option plain_written ty.now) (plain_expr value.now)) env.old env.new result }
+    ensures { Locates (spec.local_assigned (seen_at context.now env.old) (plain_locals env.old.locals) name (plain_option plain_written ty.now)
+        (plain_expr value.now)) env.old env.new result }
 {
     check_local(context.tables, env.locals.as_slice(), name)?;
     match ty {
@@ -124,7 +127,8 @@ fn check_field(
     field: PlacedName,
     value: &Expr,
 ) -> Result<(), RuleError>
-    ensures { Types (λ done. plain_locals env.now.locals) (spec.field_assigned (seen_at context.now env.now) (plain_locals env.now.locals) place field (plain_expr value.now)) result }
+    ensures { Types (λ done. plain_locals env.now.locals) (spec.field_assigned (seen_at context.now env.now) (plain_locals env.now.locals) place field
+        (plain_expr value.now)) result }
 {
     let Some(ty) = field_of(context.tables.as_slice(), env.class, field.name) else {
         return Err(told(Rule::UnknownField, field.place));
@@ -145,7 +149,8 @@ fn check_declaration(
     ty: &WrittenTy,
     value: &Expr,
 ) -> Result<(), RuleError>
-    ensures { Types (λ done. plain_locals env.now.locals) (spec.field_declared (seen_at context.now env.now) (plain_locals env.now.locals) place (type_written (plain_written ty.now)) (plain_expr value.now)) result }
+    ensures { Types (λ done. plain_locals env.now.locals) (spec.field_declared (seen_at context.now env.now) (plain_locals env.now.locals) place
+        (type_written (plain_written ty.now)) (plain_expr value.now)) result }
 {
     refuse(env.method.is_some(), Rule::InitForm, place)?;
     let ty = type_of(alloc, ty)?;
@@ -164,7 +169,8 @@ pub fn assign(
     ty: &Option<WrittenTy>,
     value: &Expr,
 ) -> Result<(), RuleError>
-    ensures { Locates (spec.assigned (seen_at context.now env.old) (plain_locals env.old.locals) place target (plain_option plain_written ty.now) (plain_expr value.now)) env.old env.new result }
+    ensures { Locates (spec.assigned (seen_at context.now env.old) (plain_locals env.old.locals) place target (plain_option plain_written ty.now)
+        (plain_expr value.now)) env.old env.new result }
 {
     match target {
         Target::Local(name) => assign_to_local(alloc, context, env, name, ty, value),
@@ -241,7 +247,8 @@ pub fn augment(
     op_place: Place,
     value: &Expr,
 ) -> Result<(), RuleError>
-    ensures { Locates (spec.augmentation (seen_at context.now env.old) (plain_locals env.old.locals) place target op op_place (plain_expr value.now)) env.old env.new result }
+    ensures { Locates (spec.augmentation (seen_at context.now env.old) (plain_locals env.old.locals) place target op op_place (plain_expr value.now)) env.old
+        env.new result }
 {
     let read = target_read(alloc, place, target)?;
     let left = type_at(alloc, context, env, None, &read)?;

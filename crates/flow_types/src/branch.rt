@@ -56,7 +56,8 @@ pub fn go_where_true(
     env: &mut FlowEnv,
     test: &Expr,
 ) -> Result<Standings, RuleError>
-    ensures { Splits (spec.condition_at (seen_at context.now env.old) (plain_locals env.old.locals) (plain_expr test.now)) (plain_expr test.now) env.old env.new result }
+    ensures { Splits (spec.condition_at (seen_at context.now env.old) (plain_locals env.old.locals) (plain_expr test.now))
+        (plain_expr test.now) env.old env.new result }
 {
     check_condition(alloc, context, env, test)?;
     let otherwise = known_where_false(alloc, env.locals.as_slice(), test)?;
@@ -87,7 +88,8 @@ pub fn leave_if(
     ended: Option<Standings>,
     goes_on: bool,
 ) -> Result<(), AllocError>
-    ensures { OnOk result (plain_locals locals.new ≡ spec.behind_ways (plain_locals locals.old) (spec.meet (plain_breaks ended) (spec.way goes_on (plain_locals locals.old)))) }
+    ensures { OnOk result (plain_locals locals.new ≡ spec.behind_ways (plain_locals locals.old)
+        (spec.meet (plain_breaks ended) (spec.way goes_on (plain_locals locals.old)))) }
 {
     let last = way(alloc, goes_on, locals.as_slice())?;
     stand_where_met(alloc, locals, ended, last)
@@ -102,7 +104,9 @@ pub fn leave_while(
     otherwise: Standings,
     breaks: Option<Standings>,
 ) -> Result<(), AllocError>
-    ensures { (head : List PlainLocal) → plain_standings otherwise ≡ spec.known_at (narrowed (shown false (plain_expr test.now)) head) → OnOk result (plain_locals locals.new ≡ spec.after_while (plain_expr test.now) head (record { locals = plain_locals locals.old; breaks = plain_breaks breaks })) }
+    ensures { (head : List PlainLocal) → plain_standings otherwise ≡ spec.known_at (narrowed (shown false (plain_expr test.now)) head)
+        → OnOk result (plain_locals locals.new ≡ spec.after_while (plain_expr test.now) head
+        (record { locals = plain_locals locals.old; breaks = plain_breaks breaks })) }
 {
     let left = if is_true(test) { None } else { Some(otherwise) };
     stand_where_met(alloc, locals, left, breaks)

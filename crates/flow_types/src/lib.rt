@@ -51,7 +51,8 @@ pub fn check_method(
     method: u32,
 ) -> Result<Locals, RuleError>
     requires { IsSome (method_at names.now (plain_program program.now) class method) }
-    ensures { (m : PlainMethod) → method_at names.now (plain_program program.now) class method ≡ Some m → Types plain_locals (method_locals (plain_tables tables.now) class method m) result }
+    ensures { (m : PlainMethod) → method_at names.now (plain_program program.now) class method ≡ Some m
+        → Types plain_locals (method_locals (plain_tables tables.now) class method m) result }
 {
     let found = program::method_in(names, program.classes.as_slice(), class, method).unwrap();
     methods::method_locals(alloc, tables, names, class, method, found)
@@ -82,7 +83,8 @@ pub fn step(
     env: &mut FlowEnv,
     stmt: &Stmt,
 ) -> Result<bool, RuleError>
-    ensures { Steps (flow (context_of (plain_tables tables.now) env.old true) (begun (plain_locals env.old.locals)) (plain_stmt stmt.now)) (goes_on (plain_stmt stmt.now)) env.old env.new result }
+    ensures { Steps (flow (context_of (plain_tables tables.now) env.old true) (begun (plain_locals env.old.locals)) (plain_stmt stmt.now))
+        (goes_on (plain_stmt stmt.now)) env.old env.new result }
 {
     let context = Context {
         tables,
@@ -102,7 +104,8 @@ pub fn loop_head(
     name: Option<Name>,
     body: &Stmts,
 ) -> Result<FlowEnv, AllocError>
-    ensures { IfOk result (λ r. plain_env r ≡ record (plain_env env.now) { locals = at_head (loop_names name (stmts_of (plain_stmts body.now))) (plain_locals env.now.locals) }) }
+    ensures { IfOk result (λ r. plain_env r ≡ record (plain_env env.now)
+        { locals = at_head (loop_names name (stmts_of (plain_stmts body.now))) (plain_locals env.now.locals) }) }
 {
     let mut head = env.try_clone(alloc)?;
     if let Some(name) = name {

@@ -74,7 +74,8 @@ pub fn assign_local(
     first: Ty,
     may_be_none: bool,
 ) -> Result<(), AllocError>
-    ensures { (ty : PlainTy) → may_be_none ≡ none_in ty → OnOk result (plain_locals locals.new ≡ spec.with_local name.0 (plain_ty first) ty (plain_locals locals.old)) }
+    ensures { (ty : PlainTy) → may_be_none ≡ none_in ty → OnOk result
+        (plain_locals locals.new ≡ spec.with_local name.0 (plain_ty first) ty (plain_locals locals.old)) }
 {
     if type_before(locals.as_slice(), name).is_some() {
         give(locals, name, may_be_none);

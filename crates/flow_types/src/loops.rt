@@ -24,7 +24,8 @@ use std::alloc::{AllocError, Global};
 
 /// A name is typed by items, and is no more assigned than before.
 fn name_item(alloc: Global, env: &mut FlowEnv, name: PlacedName, item: &Ty) -> Result<(), RuleError>
-    ensures { Locates (with_found (spec.stored (plain_locals env.old.locals) name (plain_ty item.now)) (λ named. Found (spec.settled named (spec.known_at (plain_locals env.old.locals))))) env.old env.new result }
+    ensures { Locates (with_found (spec.stored (plain_locals env.old.locals) name (plain_ty item.now))
+        (λ named. Found (spec.settled named (spec.known_at (plain_locals env.old.locals))))) env.old env.new result }
 {
     let before = known_at(alloc, env.locals.as_slice())?;
     store(alloc, env, name, item.try_clone(alloc)?)?;
@@ -59,7 +60,8 @@ pub fn enter_for(
     over: &Over,
     body: &[Stmt],
 ) -> Result<Standings, RuleError>
-    ensures { Enters (for_entry (seen_at context.now env.old) (plain_locals env.old.locals) name (plain_over over.now) (stmts_of (plain_stmts body.now))) env.old env.new result }
+    ensures { Enters (for_entry (seen_at context.now env.old) (plain_locals env.old.locals) name (plain_over over.now) (stmts_of (plain_stmts body.now)))
+        env.old env.new result }
 {
     let item = item_of(alloc, context, env, over)?;
     check_local(context.tables, env.locals.as_slice(), name)?;

@@ -39,7 +39,8 @@ pub fn break_off(
 /// `continue`.
 #[tactic(auto, unfolding(py_tree::specs::Flow::flow))]
 pub fn go_to_head(context: &Context<'_>, env: &FlowEnv, place: Place) -> Result<bool, RuleError>
-    ensures { (breaks : Perhaps (List Stands)) → Flows (spec.flow (seen_at context.now env.now) (way_of env.now breaks) (PContinue place)) false env.now env.now breaks result }
+    ensures { (breaks : Perhaps (List Stands)) → Flows (spec.flow (seen_at context.now env.now) (way_of env.now breaks) (PContinue place)) false env.now
+        env.now breaks result }
 {
     refuse(!context.in_loop, Rule::LoopWord, place)?;
     Ok(false)
@@ -53,7 +54,8 @@ pub fn evaluate(
     env: &FlowEnv,
     value: &Expr,
 ) -> Result<bool, RuleError>
-    ensures { (at : At) (breaks : Perhaps (List Stands)) → Flows (spec.flow (seen_at context.now env.now) (way_of env.now breaks) (PDo at (plain_expr value.now))) true env.now env.now breaks result }
+    ensures { (at : At) (breaks : Perhaps (List Stands)) → Flows
+        (spec.flow (seen_at context.now env.now) (way_of env.now breaks) (PDo at (plain_expr value.now))) true env.now env.now breaks result }
 {
     type_at(alloc, context, env, None, value)?;
     Ok(true)
@@ -68,7 +70,8 @@ pub fn return_here(
     place: Place,
     value: &Option<Expr>,
 ) -> Result<bool, RuleError>
-    ensures { (breaks : Perhaps (List Stands)) → Flows (spec.flow (seen_at context.now env.now) (way_of env.now breaks) (PReturn place (plain_option plain_expr value.now))) false env.now env.now breaks result }
+    ensures { (breaks : Perhaps (List Stands)) → Flows (spec.flow (seen_at context.now env.now) (way_of env.now breaks)
+        (PReturn place (plain_option plain_expr value.now))) false env.now env.now breaks result }
 {
     check_return(alloc, context, env, place, value)?;
     Ok(false)
@@ -82,7 +85,9 @@ pub fn raise_here(
     env: &FlowEnv,
     message: &Option<Expr>,
 ) -> Result<bool, RuleError>
-    ensures { (at : At) (kind : ℕ) (breaks : Perhaps (List Stands)) → Flows (spec.flow (seen_at context.now env.now) (way_of env.now breaks) (PRaise at kind (plain_option plain_expr message.now))) false env.now env.now breaks result }
+    ensures { (at : At) (kind : ℕ) (breaks : Perhaps (List Stands))
+        → Flows (spec.flow (seen_at context.now env.now) (way_of env.now breaks) (PRaise at kind (plain_option plain_expr message.now))) false env.now
+        env.now breaks result }
 {
     check_message(alloc, context, env, message)?;
     Ok(false)
@@ -97,7 +102,9 @@ pub fn assert_here(
     test: &Expr,
     message: &Option<Expr>,
 ) -> Result<bool, RuleError>
-    ensures { (at : At) (breaks : Perhaps (List Stands)) → Flows (spec.flow (seen_at context.now env.old) (way_of env.old breaks) (PAssert at (plain_expr test.now) (plain_option plain_expr message.now))) true env.old env.new breaks result }
+    ensures { (at : At) (breaks : Perhaps (List Stands)) → Flows
+        (spec.flow (seen_at context.now env.old) (way_of env.old breaks) (PAssert at (plain_expr test.now) (plain_option plain_expr message.now))) true
+        env.old env.new breaks result }
 {
     check_condition(alloc, context, env, test)?;
     check_message(alloc, context, env, message)?;
@@ -116,7 +123,8 @@ pub fn assign_here(
     ty: &Option<WrittenTy>,
     value: &Expr,
 ) -> Result<bool, RuleError>
-    ensures { (breaks : Perhaps (List Stands)) → Flows (spec.flow (seen_at context.now env.old) (way_of env.old breaks) (PAssign place target (plain_option plain_written ty.now) (plain_expr value.now))) true env.old env.new breaks result }
+    ensures { (breaks : Perhaps (List Stands)) → Flows (spec.flow (seen_at context.now env.old) (way_of env.old breaks)
+        (PAssign place target (plain_option plain_written ty.now) (plain_expr value.now))) true env.old env.new breaks result }
 {
     assign(alloc, context, env, place, target, ty, value)?;
     Ok(true)
@@ -134,7 +142,8 @@ pub fn augment_here(
     op_place: Place,
     value: &Expr,
 ) -> Result<bool, RuleError>
-    ensures { (breaks : Perhaps (List Stands)) → Flows (spec.flow (seen_at context.now env.old) (way_of env.old breaks) (PAugment place target op op_place (plain_expr value.now))) true env.old env.new breaks result }
+    ensures { (breaks : Perhaps (List Stands)) → Flows (spec.flow (seen_at context.now env.old) (way_of env.old breaks)
+        (PAugment place target op op_place (plain_expr value.now))) true env.old env.new breaks result }
 {
     augment(alloc, context, env, place, target, op, op_place, value)?;
     Ok(true)

@@ -28,7 +28,8 @@ pub fn type_at(
     wanted: Option<&Ty>,
     expr: &Expr,
 ) -> Result<Ty, RuleError>
-    ensures { Types plain_ty (spec.type_at (seen_at context.now env.now) (plain_locals env.now.locals) (plain_wanted wanted.entry) (plain_expr expr.now)) result }
+    ensures { Types plain_ty (spec.type_at (seen_at context.now env.now) (plain_locals env.now.locals) (plain_wanted wanted.entry) (plain_expr expr.now))
+        result }
 {
     type_expr(alloc, context.tables, context.names, env, wanted, expr)
 }

@@ -33,7 +33,8 @@ pub fn statement(
     breaks: &mut Option<Standings>,
     stmt: &Stmt,
 ) -> Result<bool, RuleError>
-    ensures { Flows (spec.flow (seen_at context.now env.old) (way_of env.old breaks.old) (plain_stmt stmt.now)) (reach.goes_on (plain_stmt stmt.now)) env.old env.new breaks.new result }
+    ensures { Flows (spec.flow (seen_at context.now env.old) (way_of env.old breaks.old) (plain_stmt stmt.now))
+        (reach.goes_on (plain_stmt stmt.now)) env.old env.new breaks.new result }
 {
     let place = stmt.place;
     match &stmt.kind {
@@ -82,7 +83,8 @@ pub fn statements(
     breaks: &mut Option<Standings>,
     stmts: &[Stmt],
 ) -> Result<bool, RuleError>
-    ensures { Flows (spec.flow_all (seen_at context.now env.old) (way_of env.old breaks.old) (stmts_of (plain_stmts stmts.now))) (reach.all_go_on (stmts_of (plain_stmts stmts.now))) env.old env.new breaks.new result }
+    ensures { Flows (spec.flow_all (seen_at context.now env.old) (way_of env.old breaks.old) (stmts_of (plain_stmts stmts.now)))
+        (reach.all_go_on (stmts_of (plain_stmts stmts.now))) env.old env.new breaks.new result }
 {
     for stmt in stmts {
         if !statement(alloc, context, env, breaks, stmt)? {
@@ -103,7 +105,8 @@ fn through_arms(
     ended: &mut Option<Standings>,
     arms: &[Arm],
 ) -> Result<bool, RuleError>
-    ensures { Forks (behind_arms (seen_at context.now env.old) (record { next = way_of env.old breaks.old; ended = plain_breaks ended.old }) (arms_of (plain_arms arms.now))) (reach.an_arm_goes_on (arms_of (plain_arms arms.now))) env.old env.new breaks.new ended.new result }
+    ensures { Forks (behind_arms (seen_at context.now env.old) (record { next = way_of env.old breaks.old; ended = plain_breaks ended.old })
+        (arms_of (plain_arms arms.now))) (reach.an_arm_goes_on (arms_of (plain_arms arms.now))) env.old env.new breaks.new ended.new result }
 {
     let mut one_goes_on = false;
     for arm in arms {
@@ -124,7 +127,8 @@ fn through_arm(
     ended: &mut Option<Standings>,
     arm: &Arm,
 ) -> Result<bool, RuleError>
-    ensures { Forks (behind_arm (seen_at context.now env.old) (record { next = way_of env.old breaks.old; ended = plain_breaks ended.old }) (plain_arm arm.now)) (reach.all_go_on (stmts_of (plain_stmts (out-Arm arm.now).body))) env.old env.new breaks.new ended.new result }
+    ensures { Forks (behind_arm (seen_at context.now env.old) (record { next = way_of env.old breaks.old; ended = plain_breaks ended.old })
+        (plain_arm arm.now)) (reach.all_go_on (stmts_of (plain_stmts (out-Arm arm.now).body))) env.old env.new breaks.new ended.new result }
 {
     let otherwise = go_where_true(alloc, context, env, &arm.test)?;
     let goes_on = statements(alloc, context, env, breaks, arm.body.as_slice())?;
@@ -143,7 +147,8 @@ fn through_other(
     ended: Option<Standings>,
     other: &[Stmt],
 ) -> Result<bool, RuleError>
-    ensures { Flows (behind_other (seen_at context.now env.old) (record { next = way_of env.old breaks.old; ended = plain_breaks ended }) (stmts_of (plain_stmts other.now))) (reach.all_go_on (stmts_of (plain_stmts other.now))) env.old env.new breaks.new result }
+    ensures { Flows (behind_other (seen_at context.now env.old) (record { next = way_of env.old breaks.old; ended = plain_breaks ended })
+        (stmts_of (plain_stmts other.now))) (reach.all_go_on (stmts_of (plain_stmts other.now))) env.old env.new breaks.new result }
 {
     let goes_on = statements(alloc, context, env, breaks, other)?;
     leave_if(alloc, &mut env.locals, ended, goes_on)?;
@@ -160,7 +165,9 @@ fn while_loop(
     body: &[Stmt],
     test: &Expr,
 ) -> Result<(), RuleError>
-    ensures { Locates (behind_while (seen_at context.now env.old) (spec.at_head (reach.assigned_in (stmts_of (plain_stmts body.now))) (plain_locals env.old.locals)) (plain_expr test.now) (stmts_of (plain_stmts body.now))) env.old env.new result }
+    ensures { Locates (behind_while (seen_at context.now env.old)
+        (spec.at_head (reach.assigned_in (stmts_of (plain_stmts body.now))) (plain_locals env.old.locals)) (plain_expr test.now)
+        (stmts_of (plain_stmts body.now))) env.old env.new result }
 {
     forget_assigned_in(&mut env.locals, body);
     let otherwise = go_where_true(alloc, context, env, test)?;
@@ -181,7 +188,8 @@ fn for_loop(
     over: &Over,
     body: &[Stmt],
 ) -> Result<(), RuleError>
-    ensures { Locates (behind_for (seen_at context.now env.old) (plain_locals env.old.locals) name (plain_over over.now) (stmts_of (plain_stmts body.now))) env.old env.new result }
+    ensures { Locates (behind_for (seen_at context.now env.old) (plain_locals env.old.locals) name (plain_over over.now) (stmts_of (plain_stmts body.now)))
+        env.old env.new result }
 {
     let head = enter_for(alloc, context, env, name, over, body)?;
     let mut breaks = None;

@@ -180,7 +180,8 @@ pub fn wait_call(
     name: PlacedName,
     parts: HoistedCall,
 ) -> Result<Hoisted, AllocError>
-    ensures { IfOk result (λ made. hoisted_at made spot.new ≡ spec.call_of (context_of setting.now) true place (plain_ty ty) (plain_ty on_ty.now) name.name.0 name.place (call_at parts spot.old)) }
+    ensures { IfOk result (λ made. hoisted_at made spot.new ≡ spec.call_of (context_of setting.now) true place (plain_ty ty)
+        (plain_ty on_ty.now) name.name.0 name.place (call_at parts spot.old)) }
 {
     let callee = setting.callee(on_ty, name.name)?;
     let into = spot.add_temporary(alloc, ty)?;

@@ -22,6 +22,7 @@ pub trait Watch {
 }
 
 /// Does nothing, and tells nothing.
+#[derive(Drop)]
 pub struct NoWatch;
 
 impl Watch for NoWatch {

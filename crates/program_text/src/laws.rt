@@ -10,7 +10,8 @@ ghost use Rattle.program_text.specs.declared.fault.ProgramFault.{ProgramFault as
 /// A text is accepted with one tree and one table of names, or has one fault, and not both. A tree
 /// keeps every rule, or breaks a first one.
 pub fn has_one_reading()
-    ensures tree { (text : List ℕ) (p q : PlainProgram) (names others : List (List ℕ)) → IsAcceptedText text p names → IsAcceptedText text q others → (p ≡ q) × (names ≡ others) }
+    ensures tree { (text : List ℕ) (p q : PlainProgram) (names others : List (List ℕ)) → IsAcceptedText text p names → IsAcceptedText text q others
+        → (p ≡ q) × (names ≡ others) }
     ensures fault { (text : List ℕ) (f g : AFault) → HasFault text f → HasFault text g → f ≡ g }
     ensures apart { (text : List ℕ) (p : PlainProgram) (names : List (List ℕ)) (f : AFault) → IsAcceptedText text p names → HasFault text f → ⊥ }
     ensures judged { (p : PlainProgram) (names : List (List ℕ)) → KeepsRules names p ⊎ ((f : RuleFault) × (rule_fault names p ≡ Some f)) }

@@ -117,7 +117,8 @@ impl Checked {
 
     /// The method of a class with this number, counted without `__init__` and `__key__`.
     pub fn method(&self, class: u32, number: u32) -> Option<&Method>
-        ensures { option_map (λ m. plain_method m.now) result ≡ slice_get (methods_of (checked_names self.now) (members_at (checked_program self.now) class)) number }
+        ensures { option_map (λ m. plain_method m.now) result
+            ≡ slice_get (methods_of (checked_names self.now) (members_at (checked_program self.now) class)) number }
     {
         let index = self.index(class)?;
         let place = index.methods.get(number as usize)?;

@@ -28,7 +28,8 @@ fn declared_as<'a>(
     ty: &'a Option<WrittenTy>,
     value: &'a Expr,
 ) -> Option<Declaration<'a>>
-    ensures { (at : APlace) → option_map plain_declaration result ≡ spec.declaration (PAssign at target.now (plain_option plain_written ty.now) (plain_expr value.now)) }
+    ensures { (at : APlace) → option_map plain_declaration result
+        ≡ spec.declaration (PAssign at target.now (plain_option plain_written ty.now) (plain_expr value.now)) }
 {
     match (target, ty) {
         (Target::Field(field), Some(ty)) => Some(Declaration {

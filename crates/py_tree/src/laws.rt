@@ -14,5 +14,6 @@ pub fn has_one_outcome()
 /// The program of lines with 2^20 tokens at most is bounded, and its names begin with the reserved
 /// ones.
 pub fn has_bounded_program()
-    ensures { (lines : List PlainLine) (program : PlainProgram) (names : List (List ℕ)) → IsProgram lines (has_tree program names) → tokens_of lines ≤ 1048576 → IsBounded names program × HasReserved names }
+    ensures { (lines : List PlainLine) (program : PlainProgram) (names : List (List ℕ)) → IsProgram lines (has_tree program names)
+        → tokens_of lines ≤ 1048576 → IsBounded names program × HasReserved names }
 {}

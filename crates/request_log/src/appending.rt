@@ -54,7 +54,8 @@ fn put_behind_gate<D: Disk>(
     requires fits { at + 6 + length body.now ≤ 2 ^ 62 }
     ensures durable { OnOk result (IsDurable file (D.facts disk.new)) }
     ensures seen { OnOk result (SeenWritten file (at + 1) (behind_gate body.now) (D.facts disk.old) (D.facts disk.new)) }
-    ensures moments { LeavesOnly (D.facts disk.old) (D.facts disk.new) (ComesBy file (λ before now. take (at + 1) now ≡ take (at + 1) before) (D.facts disk.old)) }
+    ensures moments { LeavesOnly (D.facts disk.old) (D.facts disk.new)
+        (ComesBy file (λ before now. take (at + 1) now ≡ take (at + 1) before) (D.facts disk.old)) }
     ensures cause { HasCause (D.faults disk.old) (D.faults disk.new) result }
     ensures mounts { D.mounts disk.new ≡ D.mounts disk.old }
 {

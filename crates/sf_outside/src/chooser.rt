@@ -37,7 +37,13 @@ impl Model for ListChooser {
 
     ghost Value = { ListState };
 
-    ghost view = { λ chooser. record { list = chooser.list.items; starts = chooser.starts; number = chooser.number; taken = chooser.taken; exact = chooser.exact } };
+    ghost view = { λ chooser. record {
+      list = chooser.list.items;
+      starts = chooser.starts;
+      number = chooser.number;
+      taken = chooser.taken;
+      exact = chooser.exact;
+    } };
 }
 
 impl ListChooser {

@@ -128,7 +128,8 @@ impl Disk for MemDisk {
         ensures kept { OnErr result (Stays (facts_after self.old.calls) (facts_after self.new.calls)) }
         ensures same { OnErr result ((other : List ℕ) → (facts_after self.new.calls).seen ≡ (facts_after self.old.calls).seen) }
         ensures later { length self.old.calls ≤ length self.new.calls }
-        ensures cause { IsErrOf result MountFault.Failed → Rose (refusals_of self.old.mounts.refusals name.now) (refusals_of self.new.mounts.refusals name.now) }
+        ensures cause { IsErrOf result MountFault.Failed → Rose (refusals_of self.old.mounts.refusals name.now)
+            (refusals_of self.new.mounts.refusals name.now) }
         ensures faults { self.new.faults ≡ self.old.faults }
         ensures succeeds { OnOk result (fails_next self.old ≡ false) }
         ensures fails { IsErrOf result MountFault.Failed → fails_next self.old ≡ true }
@@ -186,7 +187,8 @@ impl Disk for MemDisk {
         ensures time { Elapses (facts_after self.old.calls) (facts_after self.new.calls) }
         ensures cause { HasCause self.old.faults self.new.faults result }
         ensures mounts { mounts_of self.new.mounts ≡ mounts_of self.old.mounts }
-        ensures fails { is_err result ≡ (fails_next self.old || nat_lt self.old.room (at + length bytes.now) || nat_lt self.old.room (bytes_written self.old.calls + length bytes.now)) }
+        ensures fails { is_err result ≡ (fails_next self.old || nat_lt self.old.room (at + length bytes.now) || nat_lt self.old.room
+            (bytes_written self.old.calls + length bytes.now)) }
         ensures exact { self.new ≡ (if is_err result then after_fault self.old else after_done (Write file at bytes.now) self.old) }
     {
         if !self.begins() || !self.has_room(at, bytes.len()) {

@@ -92,7 +92,12 @@ impl MemFiles {
         fail_at: &[u64],
     ) -> Result<MemFiles, AllocError>
         requires { length names.now ≡ length contents.now }
-        ensures { IfOk result (λ made. made ≡ record { files = listed (map (λ name. name.now) names.now) (map (λ bytes. bytes.now) contents.now); other_faults = 0; fail_at = fail_at.now; calls = 0 }) }
+        ensures { IfOk result (λ made. made ≡ record {
+          files = listed (map (λ name. name.now) names.now) (map (λ bytes. bytes.now) contents.now);
+          other_faults = 0;
+          fail_at = fail_at.now;
+          calls = 0;
+        }) }
     {
         let mut files = Vec::with_capacity(alloc, names.len())?;
         for (place, name) in names.iter().enumerate() {

@@ -27,7 +27,12 @@ impl Model for MemSource {
 
     ghost Value = { SourceState };
 
-    ghost view = { λ source. record { left = drop source.at source.bytes.items; fail_at = source.calls.fail_at; calls = source.calls.made; faults = source.faults } };
+    ghost view = { λ source. record {
+      left = drop source.at source.bytes.items;
+      fail_at = source.calls.fail_at;
+      calls = source.calls.made;
+      faults = source.faults;
+    } };
 
     ghost invariant = { λ source. source.at ≤ vec_len source.bytes };
 }

@@ -24,11 +24,13 @@ pub fn checkpoint<D: Disk>(disk: &mut D, epoch: u64, body: &[u8]) -> Result<(), 
     requires epoch { IsEpoch epoch }
     requires body { (kept : Snapshot) × IsSnapshot body.now kept }
     requires next { (image : Image) → (D.facts disk.old).may_leave image → IsNext epoch image }
-    ensures now { OnOk result ((image : Image) → (D.facts disk.new).may_leave image → ComesBeside epoch (CheckpointDone epoch body.now) (D.facts disk.old) image) }
+    ensures now { OnOk result ((image : Image) → (D.facts disk.new).may_leave image
+        → ComesBeside epoch (CheckpointDone epoch body.now) (D.facts disk.old) image) }
     ensures kept { OnOk result ((image : Image) → (D.facts disk.new).may_leave image → IsKept epoch body.now image) }
     ensures slot { OnOk result (IsDurable (slot_of epoch) (D.facts disk.new)) }
     ensures log { OnOk result (IsDurable (log_of epoch) (D.facts disk.new)) }
-    ensures others { (other : StoreFile) → other ≢ slot_of epoch → other ≢ log_of epoch → IsDurable other (D.facts disk.old) → IsDurable other (D.facts disk.new) }
+    ensures others { (other : StoreFile) → other ≢ slot_of epoch → other ≢ log_of epoch → IsDurable other (D.facts disk.old)
+        → IsDurable other (D.facts disk.new) }
     ensures moments { LeavesOnly (D.facts disk.old) (D.facts disk.new) (ComesBeside epoch (CheckpointStep epoch body.now) (D.facts disk.old)) }
     ensures stands { LeavesOnly (D.facts disk.old) (D.facts disk.new) (KeepsOrIsKept epoch body.now (D.facts disk.old)) }
     ensures past_end { 2 ^ 62 < 17 + length body.now → IsErr result × (disk.new ≡ disk.old) }
@@ -52,7 +54,8 @@ pub fn close_slot<D: Disk>(disk: &mut D, epoch: u64) -> Result<(), Failed>
     ensures durable { OnOk result (IsDurable (slot_of epoch) (D.facts disk.new)) }
     // A slot that is shut isn't written. In any other the first byte becomes 0.
     ensures unwritten { IfSome (D.facts disk.old).seen (λ now. IsShutSlot (of_file (slot_of epoch) now) → Stays (D.facts disk.old) (D.facts disk.new)) }
-    ensures written { OnOk result (IfSome (D.facts disk.old).seen (λ now. (IsShutSlot (of_file (slot_of epoch) now) → ⊥) → SeenWritten (slot_of epoch) 0 (0 ∷ []) (D.facts disk.old) (D.facts disk.new))) }
+    ensures written { OnOk result (IfSome (D.facts disk.old).seen
+        (λ now. (IsShutSlot (of_file (slot_of epoch) now) → ⊥) → SeenWritten (slot_of epoch) 0 (0 ∷ []) (D.facts disk.old) (D.facts disk.new))) }
     ensures moments { LeavesOnly (D.facts disk.old) (D.facts disk.new) (ComesBy (slot_of epoch) StaysOrCloses (D.facts disk.old)) }
     ensures others { OthersStayDurable (slot_of epoch) (D.facts disk.old) (D.facts disk.new) }
     ensures cause { HasCause (D.faults disk.old) (D.faults disk.new) result }

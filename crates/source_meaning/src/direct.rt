@@ -134,7 +134,8 @@ pub(crate) fn store(
     vars: &mut Vars,
     tx: &mut Transaction,
 ) -> Result<(), AllocError>
-    ensures { (n : ℕ) → OnOk result (the_store (site_of site.now) target value vars.old (world_of site.now.state.now tx.old) n ≡ Goes vars.new (world_of site.now.state.now tx.new) n) }
+    ensures { (n : ℕ) → OnOk result (the_store (site_of site.now) target value vars.old (world_of site.now.state.now tx.old) n
+        ≡ Goes vars.new (world_of site.now.state.now tx.new) n) }
 {
     match target {
         Target::Local(x) => assign_local(site.alloc, vars, x.name, value),

@@ -58,7 +58,9 @@ pub fn run_here(
     steps: &mut u32,
     depth: u32,
 ) -> Result<Ended, AllocError>
-    ensures { IfOk result (λ ended. EndsHere ended vars.new (the_held held.new wrote.new) steps.new (act_all (on_record (source_of program.now) (key_of me.now) (depth_limit - depth)) (stmts_of (plain_stmts code.now)) vars.old (the_held held.old wrote.old) steps.old)) }
+    ensures { IfOk result (λ ended. EndsHere ended vars.new (the_held held.new wrote.new) steps.new
+        (act_all (on_record (source_of program.now) (key_of me.now) (depth_limit - depth)) (stmts_of (plain_stmts code.now)) vars.old
+        (the_held held.old wrote.old) steps.old)) }
 {
     let state = take_out(alloc, held, me)?;
     let site = Site {
@@ -100,7 +102,9 @@ pub fn eval_here(
     steps: &mut u32,
     depth: u32,
 ) -> Result<Outcome, AllocError>
-    ensures { IfOk result (λ outcome. GivesHere outcome (the_held held.new wrote.new) steps.new (eval (on_record (source_of program.now) (key_of me.now) (depth_limit - depth)) (plain_expr expr.now) vars.now (the_held held.old wrote.old) steps.old)) }
+    ensures { IfOk result (λ outcome. GivesHere outcome (the_held held.new wrote.new) steps.new
+        (eval (on_record (source_of program.now) (key_of me.now) (depth_limit - depth)) (plain_expr expr.now) vars.now
+        (the_held held.old wrote.old) steps.old)) }
 {
     let state = take_out(alloc, held, me)?;
     let site = Site {

@@ -74,7 +74,8 @@ pub(crate) fn local_in_place<'a>(expr: &Expr, vars: &'a Vars) -> Option<&'a Valu
 /// The value of an expression that is an own field.
 #[tactic(auto, using(program_meaning::proofs::EvalLaws::eval_is))]
 fn field_in_place<'a>(site: &'a Site<'_>, expr: &Expr, tx: &'a Transaction) -> Option<&'a Value>
-    ensures { (vars : List Var) (n : ℕ) → IfSome result (λ v. eval (site_of site.now) (plain_expr expr.now) vars (world_of site.now.state.now tx.now) n ≡ told (weighed v.now) (world_of site.now.state.now tx.now) n) }
+    ensures { (vars : List Var) (n : ℕ) → IfSome result (λ v. eval (site_of site.now) (plain_expr expr.now) vars (world_of site.now.state.now tx.now) n
+        ≡ told (weighed v.now) (world_of site.now.state.now tx.now) n) }
 {
     let ExprKind::Attr(_, name) = &expr.kind else {
         return None;
@@ -89,7 +90,8 @@ fn value_in_place<'a>(
     vars: &'a Vars,
     tx: &'a Transaction,
 ) -> Option<&'a Value>
-    ensures { (n : ℕ) → IfSome result (λ v. eval (site_of site.now) (plain_expr expr.now) vars.now (world_of site.now.state.now tx.now) n ≡ told (weighed v.now) (world_of site.now.state.now tx.now) n) }
+    ensures { (n : ℕ) → IfSome result (λ v. eval (site_of site.now) (plain_expr expr.now) vars.now (world_of site.now.state.now tx.now) n
+        ≡ told (weighed v.now) (world_of site.now.state.now tx.now) n) }
 {
     match local_in_place(expr, vars) {
         Some(value) => Some(value),
@@ -113,7 +115,9 @@ pub(crate) fn own_length(
     vars: &Vars,
     tx: &Transaction,
 ) -> Option<Result<Value, Stop>>
-    ensures { (n : ℕ) → IfSome result (λ given. AgreesIn given (world_of site.now.state.now tx.now) n (applied_to (site_of site.now) name.0 (eval_all (site_of site.now) (exprs_of (plain_exprs args.now)) [] vars.now (world_of site.now.state.now tx.now) n))) }
+    ensures { (n : ℕ) → IfSome result (λ given. AgreesIn given (world_of site.now.state.now tx.now) n
+        (applied_to (site_of site.now) name.0 (eval_all (site_of site.now) (exprs_of (plain_exprs args.now)) [] vars.now
+        (world_of site.now.state.now tx.now) n))) }
 {
     let Some(Function::Length) = function_of(name) else {
         return None;

@@ -95,7 +95,9 @@ impl Transaction {
         name: Name,
         value: Value,
     ) -> Result<(), AllocError>
-        ensures { OnOk result (world_of site.now.state.now self.new ≡ writing (world_of site.now.state.now self.old) (key_of site.now.me.now) (with_field (map (λ x. x.0) site.now.fields.now) (record_at (world_of site.now.state.now self.old) (key_of site.now.me.now)) name.0 value)) }
+        ensures { OnOk result (world_of site.now.state.now self.new
+            ≡ writing (world_of site.now.state.now self.old) (key_of site.now.me.now)
+            (with_field (map (λ x. x.0) site.now.fields.now) (record_at (world_of site.now.state.now self.old) (key_of site.now.me.now)) name.0 value)) }
     {
         match self.changed.get_index_of(site.me) {
             Some(i) => {
@@ -112,7 +114,9 @@ impl Transaction {
 
     /// Adds a field behind those of the own entity.
     pub(crate) fn push_field(&mut self, site: &Site<'_>, value: Value) -> Result<(), AllocError>
-        ensures { OnOk result (world_of site.now.state.now self.new ≡ writing (world_of site.now.state.now self.old) (key_of site.now.me.now) (record_at (world_of site.now.state.now self.old) (key_of site.now.me.now) ++ value ∷ [])) }
+        ensures { OnOk result (world_of site.now.state.now self.new
+            ≡ writing (world_of site.now.state.now self.old) (key_of site.now.me.now)
+            (record_at (world_of site.now.state.now self.old) (key_of site.now.me.now) ++ value ∷ [])) }
     {
         match self.changed.get_index_of(site.me) {
             Some(i) => {
