@@ -31,11 +31,22 @@ fn writes_of(work: &Work) -> usize
 {
     let mut count: usize = 0;
     for held in work.held.as_slice() {
-        if work.writes.as_slice().contains(&held.at) {
+        if was_written(held, work.writes.as_slice(), count) {
             count += 1;
         }
     }
     count
+}
+
+/// Whether a record's entity was written. It is looked for at a place first: a work that holds just
+/// what it wrote, in the same order, has it there.
+fn was_written(held: &Held, writes: &[Ref], place: usize) -> bool
+    ensures { result ≡ is_written writes.now held.now }
+{
+    match writes.get(place) {
+        Some(at) if *at == held.at => true,
+        _ => writes.contains(&held.at),
+    }
 }
 
 pub(crate) fn put_all(records: &mut IndexMap<Ref, Record>, works: Works, committed: &[u32])
@@ -59,16 +70,16 @@ fn put_written(records: &mut IndexMap<Ref, Record>, work: &mut Work)
 {
     while !work.held.is_empty() {
         let last = work.held.remove(work.held.len() - 1);
-        put_if_written(records, work.writes.as_slice(), last);
+        put_if_written(records, work.writes.as_slice(), work.held.len(), last);
     }
 }
 
-fn put_if_written(records: &mut IndexMap<Ref, Record>, writes: &[Ref], held: Held)
+fn put_if_written(records: &mut IndexMap<Ref, Record>, writes: &[Ref], place: usize, held: Held)
     requires { length (filter (is_written writes.now) (held ∷ [])) ≤ spare records.old }
     ensures contents { contents_of records.new.entries ≡ with_records (contents_of records.old.entries) (filter (is_written writes.now) (held ∷ [])) }
     ensures room { spare records.old ≤ spare records.new + length (filter (is_written writes.now) (held ∷ [])) }
 {
-    if writes.contains(&held.at) {
+    if was_written(&held, writes, place) {
         records.insert(held.at, held.fields).unwrap();
     } else {
         drop(held);

@@ -10,8 +10,8 @@ of_ok : {A E : Type 0} (r : Result A E) (P : Type 0) (x : A) → r ≡ Ok x → 
 of_ok (Ok y) P x is p = p
 of_ok (Err e) P x is p = cc
 
-pub returns-then-contains-clause-contents : goal.returns-then-contains-clause-contents
-returns-then-contains-clause-contents c =
+pub returns-then-was_written-clause-contents : goal.returns-then-was_written-clause-contents
+returns-then-was_written-clause-contents c =
     ap contents_of (of_ok c.insert.result _ c.unwrap.result c.unwrap.ensures c.insert.ensures.entries)
     ∙ insert-contents c.args.records.now.entries c.args.held.at c.args.held.fields
     ∙ sym (one_put c.args.writes.now (contents_of c.args.records.now.entries) c.args.held (search rules))
