@@ -7,3 +7,6 @@ pub mod CarriedLaws
 pub mod MadeLaws
 pub mod RunLaws
 pub mod EmptyLaws
+pub mod ReplayLaws
+pub mod KeptLaws
+pub mod PlanReplays

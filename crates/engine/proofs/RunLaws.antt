@@ -1,6 +1,6 @@
 -- A batch that ran, and what a lawful rule chose of it.
-use Rattle.std.proofs.Common.{◌≡◌, ℕ, suc, List, [], ◌∷◌, ◌++◌, map as over, None, length, refl, sym, ◌∙◌, subst, arith}
-use Rattle.std.specs.List.{AllByRecursion, range_with_len}
+use Rattle.std.proofs.Common.{◌≡◌, ℕ, suc, ◌≤◌, true, true≢false, nat_eq, List, [], ◌∷◌, ◌++◌, map as over, length, refl, sym, ◌∙◌, subst, arith}
+use Rattle.std.specs.List.{AllByRecursion, list_any, range_with_len}
 use Rattle.std.specs.List.Sorted.{IsPermutation, IsStrictlyIncreasing}
 use Rattle.std.proofs.lemmas.List.{length-map}
 use Rattle.py_tree.specs.ClassRules.{PlainTable}
@@ -12,21 +12,18 @@ use Rattle.program_meaning.specs.RequestRun.{run}
 use Rattle.program_meaning.specs.Fits.{ActFits}
 use Rattle.keyed_state.specs.declared.Work.{Work}
 use Rattle.keyed_state.specs.Works.{are_places}
-use Rattle.serial_order.specs.ConflictFree.{access_of, runs_on}
+use Rattle.serial_order.specs.ConflictFree.{Access, access_of, runs_on}
 use Rattle.reservations.specs.Accesses.{accesses_of, access_of_work}
 use Rattle.reservations.specs.CommitRules.{Chosen, IsLawful}
 use Rattle.reservations.proofs.Lawful.{committed_places}
 use Rattle.commit_order.specs.CommittedSerial.{IsWorkOf, AreWorksOf, IsSerial}
-use Rattle.interleaving.specs.Turns.{along}
 use Rattle.request_history.specs.SoundHistory.{RequestFits}
 use Rattle.aria_batch.specs.declared.batch.BatchResult.{BatchResult}
 use Rattle.operator_graph.specs.FirstFlights.{acts_of}
-use Rattle.aria_batch.specs.BatchRun.{own_outcomes, Batch, IsToldAlong}
-use Rattle.operator_graph.specs.Turns.{Outside}
+use Rattle.aria_batch.specs.BatchRun.{own_outcomes}
 use Rattle.engine.specs.Cores.{Core}
 use Rattle.engine.specs.Batches.{other_places}
 use Rattle.engine.specs.RanBatches.{IsRun}
-use Rattle.aria_batch.proofs.PickLaws.{none_picked, none_told}
 use Rattle.engine.proofs.CarriedLaws.{carried_are}
 
 -- What is asked fits
@@ -69,8 +66,11 @@ module _ (src : Source) (core : Core) (ran : BatchResult) (chosen : Chosen) (wor
     serial = serial;
   }
 
--- Nothing was told yet
+-- A lawful rule commits one of some
 
-pub nothing_told : (b : Batch) (parts : ℕ) (old : Outside) → IsToldAlong b parts None old old
-unfolding along
-nothing_told b parts old = record { picks = []; picked = none_picked old.choices; told_of_them = none_told old.told; ended = tt; counted_all = tt }
+some_found : (xs : List ℕ) → list_any (nat_eq 0) xs ≡ true → 1 ≤ length xs
+some_found [] found = absurd (true≢false (sym found))
+some_found (x ∷ xs) found = omega arith
+
+pub some_committed : (batch : List Access) (chosen : Chosen) (committed : List ℕ) → IsLawful batch chosen → committed ≡ chosen.committed → 1 ≤ length batch → 1 ≤ length committed
+some_committed batch chosen committed lawful is some = subst (λ l. 1 ≤ length l) (sym is) (some_found chosen.committed (lawful.first some))

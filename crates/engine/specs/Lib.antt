@@ -5,3 +5,8 @@ pub mod Copying
 pub mod EngineViews
 pub mod Plans
 pub mod RanBatches
+pub mod Kept
+pub mod Replays
+pub mod RanReplays
+pub mod PlanReplays
+pub mod Causes

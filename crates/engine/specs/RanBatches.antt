@@ -1,6 +1,5 @@
 -- What a batch that ran on an engine's core has to be for a plan to be made of it, and what is told of a plan.
 use Rattle.std.specs.Prelude.{◌≡◌, ℕ, true, List, map as over, length, Some, None, Ok, Err}
-use Rattle.std.specs.declared.option.Option.{Option}
 use Rattle.std.specs.declared.result.Result.{Result}
 use Rattle.program_meaning.specs.ClassTables.{Source}
 use Rattle.serial_order.specs.ConflictFree.{Access, access_of, runs_on}
@@ -8,9 +7,11 @@ use Rattle.keyed_state.specs.Works.{are_places}
 use Rattle.commit_order.specs.CommittedSerial.{IsSerial}
 use Rattle.aria_batch.specs.declared.batch.BatchResult.{BatchResult}
 use Rattle.operator_graph.specs.FirstFlights.{acts_of}
-use Rattle.aria_batch.specs.BatchRun.{own_outcomes}
+use Rattle.operator_graph.specs.Turns.{Outside}
+use Rattle.aria_batch.specs.BatchRun.{Batch, own_outcomes, IsToldAlong}
 use Rattle.engine.specs.declared.planned.Planned.{Planned}
 use Rattle.engine.specs.declared.planned.PlanFault.{PlanFault}
+use Rattle.engine.specs.declared.planned.PlanFault.TheVariants.{HistoryFull, NoMemory}
 use Rattle.engine.specs.Cores.{Core}
 use Rattle.engine.specs.Batches.{other_places, IsSplit}
 
@@ -26,7 +27,9 @@ pub record IsRun (src : Source) (core : Core) (ran : BatchResult) : Type 0 where
   pub outcomes : ran.outcomes ≡ own_outcomes src core.state (acts_of core.pending)
   pub serial : IsSerial src core.state (acts_of core.pending) ran.works ran.committed
 
--- the events that were counted, where there is a plan
-abbrev pub planned_events : Result Planned PlanFault → Option ℕ
-planned_events (Ok p) = Some p.events
-planned_events (Err fault) = None
+-- the chooser was asked, and the watch told, of the events along some picks: of all of them, as many as are counted, where there is a plan;
+-- and of none where the history has no place for the batch
+abbrev pub TellsPlan : Batch → ℕ → Result Planned PlanFault → Outside → Outside → Type 0
+TellsPlan batch parts (Ok p) old new = IsToldAlong batch parts (Some p.events) old new
+TellsPlan batch parts (Err (HistoryFull history pending)) old new = new ≡ old
+TellsPlan batch parts (Err NoMemory) old new = IsToldAlong batch parts None old new

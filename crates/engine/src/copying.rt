@@ -1,9 +1,9 @@
 //! Copies of requests and outcomes, of which a batch's record, replies and entries are made.
 
-ghost use Rattle.std.specs.Prelude.{◌≡◌, ◌+◌, ◌<◌, ◌^◌, ◌++◌, [], length, IfOk, OnOk};
+ghost use Rattle.std.specs.Prelude.{◌≡◌, ◌+◌, ◌<◌, ◌^◌, ◌++◌, [], if◌then◌else◌, length, IfOk, OnOk};
 ghost use Rattle.std.specs.List.{cons_option};
 ghost use Rattle.std.specs.Option.{option_copied};
-ghost use Rattle.engine.specs.Batches.{requests_at, replies_from};
+ghost use Rattle.engine.specs.Batches.{requests_at, other_places, replies_from};
 ghost use Rattle.engine.specs.Copying.{paired, entries_at};
 
 use sf_list::{Sequence, TryClone};
@@ -102,4 +102,36 @@ pub(crate) fn replies_to(
         replies.push(alloc, Reply { seq, outcome })?;
     }
     Ok(replies)
+}
+
+/// Copies of the requests at all other places than these, in their order.
+pub(crate) fn others_of(
+    alloc: Global,
+    requests: &Requests,
+    places: &[u32],
+) -> Result<Requests, AllocError>
+    requires { length requests.now < 2 ^ 32 }
+    ensures { IfOk result (λ copies. copies ≡ requests_at requests.now (other_places (length requests.now) places.now)) }
+{
+    let mut copies = Sequence::new(alloc);
+    for i in 0..requests.len() {
+        let skipped = places.contains(&(i as u32));
+        push_unless(&mut copies, alloc, skipped, requests.get(i))?;
+    }
+    Ok(copies)
+}
+
+fn push_unless(
+    copies: &mut Requests,
+    alloc: Global,
+    skipped: bool,
+    request: Option<&Request>,
+) -> Result<(), AllocError>
+    ensures { OnOk result (copies.new ≡ (if skipped then copies.old else (copies.old ++ cons_option (option_copied request.entry) []))) }
+{
+    if skipped {
+        Ok(())
+    } else {
+        push_copy(copies, alloc, request)
+    }
 }

@@ -38,12 +38,12 @@ impl Engine {
     ghost use Rattle.engine.specs.Arrivals.{arrival_of, after_arrival, fresh_after};
     ghost use Rattle.engine.specs.Batches.{after_batch};
     ghost use Rattle.engine.specs.Plans.{IsPlanOf};
-    ghost use Rattle.engine.specs.EngineViews.{core_of, source_of, tables_of, RunsProgram};
+    ghost use Rattle.engine.specs.EngineViews.{core_of, source_of, tables_of, compiled_of, limit_of, fresh_of, RunsProgram};
 
     /// An engine to which nothing has come yet. Its history will have at most `limit` entries.
     pub fn new(alloc: Global, compiled: Compiled, limit: u32) -> Result<Engine, AllocError>
         ensures core { IfOk result (λ made. core_of made ≡ empty_core) }
-        ensures fresh { IfOk result (λ made. made.fresh ≡ 0) }
+        ensures fresh { IfOk result (λ made. fresh_of made ≡ 0) }
         ensures runs { IfOk result (λ made. RunsProgram made compiled limit) }
         ensures core_fits { IfOk result (λ made. CoreFits (tables_of made) (core_of made)) }
         ensures sound { IfOk result (λ made. IsSoundCore (source_of made) (core_of made)) }
@@ -64,9 +64,9 @@ impl Engine {
         requires fits { RequestFits (tables_of self.old) request }
         ensures arrival { IfOk result (λ met. met ≡ arrival_of (core_of self.old) request) }
         ensures core { OnOk result (core_of self.new ≡ after_arrival (core_of self.old) request) }
-        ensures fresh { OnOk result (self.new.fresh ≡ fresh_after (core_of self.old) request self.old.fresh) }
-        ensures err { OnErr result ((core_of self.new ≡ core_of self.old) × (self.new.fresh ≡ self.old.fresh)) }
-        ensures runs { RunsProgram self.new self.old.compiled self.old.limit }
+        ensures fresh { OnOk result (fresh_of self.new ≡ fresh_after (core_of self.old) request (fresh_of self.old)) }
+        ensures err { OnErr result ((core_of self.new ≡ core_of self.old) × (fresh_of self.new ≡ fresh_of self.old)) }
+        ensures runs { RunsProgram self.new (compiled_of self.old) (limit_of self.old) }
         ensures core_fits { CoreFits (tables_of self.old) (core_of self.old) → CoreFits (tables_of self.old) (core_of self.new) }
         ensures sound { IsSoundCore (source_of self.old) (core_of self.old) → IsSoundCore (source_of self.old) (core_of self.new) }
     {
@@ -85,8 +85,8 @@ impl Engine {
     pub fn commit(&mut self, planned: Planned)
         requires { IsPlanOf self.old planned }
         ensures core { core_of self.new ≡ after_batch (source_of self.old) (core_of self.old) planned.batch.committed }
-        ensures fresh { self.new.fresh ≡ 0 }
-        ensures runs { RunsProgram self.new self.old.compiled self.old.limit }
+        ensures fresh { fresh_of self.new ≡ 0 }
+        ensures runs { RunsProgram self.new (compiled_of self.old) (limit_of self.old) }
         ensures core_fits { CoreFits (tables_of self.old) (core_of self.old) → CoreFits (tables_of self.old) (core_of self.new) }
         ensures sound { IsSoundCore (source_of self.old) (core_of self.old) → IsSoundCore (source_of self.old) (core_of self.new) }
     {
@@ -128,7 +128,7 @@ impl Engine {
 
     /// The program that the engine was made with.
     pub fn compiled(&self) -> &Compiled
-        ensures { result.now ≡ self.now.compiled }
+        ensures { result.now ≡ compiled_of self.now }
     {
         &self.compiled
     }

@@ -9,8 +9,12 @@ mod engine;
 mod laws;
 mod planned;
 mod planning;
+mod replaying;
+mod restore_error;
+mod restoring;
 
 pub use arrival::Arrival;
 pub use engine::Engine;
-pub use laws::arrivals_say;
+pub use laws::{arrivals_say, plans_replay};
 pub use planned::{PlanFault, Planned};
+pub use restore_error::RestoreError;

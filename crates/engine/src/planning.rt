@@ -6,11 +6,11 @@ ghost use Rattle.keyed_state.specs.Works.{written_count, are_places};
 ghost use Rattle.reservations.specs.CommitRules.{Chosen};
 ghost use Rattle.block_step.specs.CompiledViews.{IsWhole};
 ghost use Rattle.operator_graph.specs.Turns.{Outside};
-ghost use Rattle.aria_batch.specs.BatchRun.{batch_of, IsToldAlong};
+ghost use Rattle.aria_batch.specs.BatchRun.{batch_of};
 ghost use Rattle.engine.specs.Cores.{PendingFits, CoreFits};
-ghost use Rattle.engine.specs.EngineViews.{core_of, source_of, tables_of, RunsProgram};
+ghost use Rattle.engine.specs.EngineViews.{core_of, source_of, tables_of, compiled_of, limit_of, fresh_of, RunsProgram};
 ghost use Rattle.engine.specs.Plans.{IsSerialBatch, IsMade, IsTold, IsPlanOf, IsFault};
-ghost use Rattle.engine.specs.RanBatches.{accesses_on, IsRun, planned_events};
+ghost use Rattle.engine.specs.RanBatches.{accesses_on, IsRun, TellsPlan};
 
 use crate::copying::{copies_of, entries_at, replies_to, requests_at};
 use crate::engine::Engine;
@@ -33,17 +33,18 @@ impl Engine {
         chooser: &mut C,
         watch: &mut W,
     ) -> Result<Planned, PlanFault>
-        requires whole { IsWhole self.old.compiled }
+        requires whole { IsWhole (compiled_of self.old) }
         requires least { 1 ≤ parts }
         requires most { parts ≤ 64 }
         requires fits { CoreFits (tables_of self.old) (core_of self.old) }
         ensures core { core_of self.new ≡ core_of self.old }
-        ensures fresh { self.new.fresh ≡ self.old.fresh }
-        ensures runs { RunsProgram self.new self.old.compiled self.old.limit }
+        ensures fresh { fresh_of self.new ≡ fresh_of self.old }
+        ensures runs { RunsProgram self.new (compiled_of self.old) (limit_of self.old) }
         ensures plan { IfOk result (IsPlanOf self.new) }
         ensures chosen { IfOk result (λ p. p.batch.committed ≡ (R.choice rule.now (accesses_on (source_of self.old) (core_of self.old))).committed) }
+        ensures some { 1 ≤ length (core_of self.old).pending → IfOk result (λ p. 1 ≤ length p.batch.committed) }
         ensures fault { IfErr result (IsFault self.old) }
-        ensures told { IsToldAlong (batch_of self.old.compiled (core_of self.old).state (core_of self.old).pending) parts (planned_events result)
+        ensures told { TellsPlan (batch_of (compiled_of self.old) (core_of self.old).state (core_of self.old).pending) parts result
             (record { choices = C.choices chooser.old; told = W.told watch.old }) (record { choices = C.choices chooser.new; told = W.told watch.new }) }
     {
         if self.history.len() + self.pending.len() > self.limit as usize {
@@ -66,7 +67,7 @@ impl Engine {
 
     /// The fault of a history without a place for as many entries as requests wait.
     fn full(&self) -> PlanFault
-        requires { self.now.limit < length (core_of self.now).history + length (core_of self.now).pending }
+        requires { limit_of self.now < length (core_of self.now).history + length (core_of self.now).pending }
         ensures { IsFault self.now result }
     {
         PlanFault::HistoryFull {
@@ -82,7 +83,7 @@ impl Engine {
         requires places { length (core_of self.now).history + length (core_of self.now).pending < 2 ^ 32 }
         ensures serial { IfOk result (IsSerialBatch (source_of self.now) (core_of self.now)) }
         ensures made { IfOk result (IsMade (source_of self.now) (core_of self.now)) }
-        ensures told { IfOk result (IsTold (core_of self.now) self.now.fresh) }
+        ensures told { IfOk result (IsTold (core_of self.now) (fresh_of self.now)) }
         ensures committed { IfOk result (λ p. p.batch.committed ≡ ran.committed) }
         ensures events { IfOk result (λ p. p.events ≡ ran.events) }
     {
@@ -114,8 +115,8 @@ impl Engine {
     fn make_room(&mut self, alloc: Global, planned: &Planned) -> Result<(), AllocError>
         requires { are_places (length planned.now.works) planned.now.batch.committed ≡ true }
         ensures core { core_of self.new ≡ core_of self.old }
-        ensures fresh { self.new.fresh ≡ self.old.fresh }
-        ensures runs { RunsProgram self.new self.old.compiled self.old.limit }
+        ensures fresh { fresh_of self.new ≡ fresh_of self.old }
+        ensures runs { RunsProgram self.new (compiled_of self.old) (limit_of self.old) }
         ensures history { OnOk result (length planned.now.entries ≤ self.new.history.spare) }
         ensures state { OnOk result (written_count planned.now.works planned.now.batch.committed ≤ self.new.state.spare) }
     {

@@ -5,12 +5,8 @@ use Rattle.program_meaning.specs.Fits.{ActFits}
 use Rattle.reservations.specs.Accesses.{accesses_of, access_of_work}
 use Rattle.engine.specs.EngineViews.{core_of, source_of, tables_of}
 use Rattle.operator_graph.specs.FirstFlights.{acts_of}
-use Rattle.aria_batch.specs.BatchRun.{batch_of}
-use Rattle.engine.proofs.RunLaws.{asked_fit, works_accesses, is_run, nothing_told}
+use Rattle.engine.proofs.RunLaws.{asked_fit, works_accesses, is_run, some_committed}
 use Rattle.engine.proofs.engine.Engine.plan.Goals as goal
-
-pub returns-then-len-self-clause-told : goal.returns-then-len-self-clause-told
-returns-then-len-self-clause-told g c = nothing_told (batch_of c.args.self.now.compiled c.args.self.now.state.contents c.args.self.now.pending) c.args.parts _
 
 pub run_batch-requires-clause-fit : goal.run_batch-requires-clause-fit
 run_batch-requires-clause-fit g c =
@@ -32,3 +28,13 @@ returns-clause-chosen g c =
     c.in_ok-planned.ensures.committed
     ∙ c.in_ok-ran.ensures.committed
     ∙ ap (λ accesses. (g.R.CommitRule.choice c.args.rule.now accesses).committed) (works_accesses (source_of c.args.self.now) (core_of c.args.self.now).state (acts_of c.args.self.now.pending) c.in_ok-ran.ran.works c.in_ok-ran.ensures.works)
+
+pub returns-clause-some : goal.returns-clause-some
+returns-clause-some g c = λ waits.
+    let works = c.in_ok-ran.ensures.works.as_many in
+    let works_count = length-map c.in_ok-ran.ran.works access_of_work in
+    let acts_count = length-map c.args.self.now.pending (λ r. r.act) in
+    let waiting = c.args.self.now.few in
+    let few : length (accesses_of c.in_ok-ran.ran.works) < 2 ^ 32 = omega arith in
+    some_committed (accesses_of c.in_ok-ran.ran.works) (g.R.CommitRule.choice c.args.rule.now (accesses_of c.in_ok-ran.ran.works)) c.in_ok-planned.planned.batch.committed
+    (g.met.R.CommitRule.lawful c.args.rule.now (accesses_of c.in_ok-ran.ran.works) few) (c.in_ok-planned.ensures.committed ∙ c.in_ok-ran.ensures.committed) (omega (arith, works, works_count, acts_count, waits))

@@ -1,0 +1,163 @@
+//! A batch of a log run again on an engine.
+
+ghost use Rattle.std.specs.Prelude.{◌≡◌, ◌↔◌, ◌+◌, ◌≤◌, ◌<◌, ◌^◌, ◌++◌, true, IsTrue, length, IfOk, IfErr, OnOk, OnErr};
+ghost use Rattle.std.specs.List.{AllByRecursion};
+ghost use Rattle.program_meaning.specs.Fits.{StateFits};
+ghost use Rattle.program_meaning.specs.Serial.{ids_differ};
+ghost use Rattle.request_history.specs.SoundHistory.{RequestFits};
+ghost use Rattle.keyed_state.specs.Works.{written_count, are_places};
+ghost use Rattle.block_step.specs.CompiledViews.{IsWhole};
+ghost use Rattle.engine.specs.Cores.{CoreFits, IsSoundCore};
+ghost use Rattle.engine.specs.EngineViews.{core_of, source_of, tables_of, compiled_of, limit_of, fresh_of, RunsProgram};
+ghost use Rattle.engine.specs.Replays.{replayed, ListFits, BatchFits};
+ghost use Rattle.engine.specs.Causes.{IsCause};
+ghost use Rattle.engine.specs.RanReplays.{HasRunAgain, with_replay};
+
+use crate::copying::{copies_of, entries_at, others_of, requests_at};
+use crate::engine::Engine;
+use crate::restore_error::RestoreError;
+use crate::restoring::tables_in;
+use kept_parts::{are_places, ids_differ, requests_fit};
+use keyed_state::Works;
+use ordered_runs::{Ordered, run_in_order};
+use sf_value::{BatchRecord, Entries, Places, Requests};
+use std::alloc::{AllocError, Global};
+
+/// At most so many requests wait at a time.
+const MOST_WAITING: usize = 256;
+
+/// A batch of a log that has run, with all that it moves.
+#[derive(Drop)]
+pub(crate) struct Replay {
+    /// The requests that it commits, with what they came to.
+    entries: Entries,
+    /// The requests that wait on.
+    carried: Requests,
+    works: Works,
+    /// The places of the works, in the order in which they are applied.
+    places: Places,
+}
+
+impl Engine {
+    /// Runs a batch of a log again: its news join the requests that wait, and the places that it lists are
+    /// committed, one after another. It is wrong exactly where it doesn't fit the core. All is as before
+    /// then, and without memory too.
+    pub fn replay(&mut self, alloc: Global, batch: BatchRecord) -> Result<(), RestoreError>
+        requires whole { IsWhole (compiled_of self.old) }
+        requires fits { CoreFits (tables_of self.old) (core_of self.old) }
+        ensures core { OnOk result (core_of self.new ≡ replayed (source_of self.old) (core_of self.old) batch) }
+        ensures batch_fits { OnOk result (BatchFits (tables_of self.old) (core_of self.old) batch) }
+        ensures wrong { IfErr result (IsCause (BatchFits (tables_of self.old) (core_of self.old) batch)) }
+        ensures fresh { OnOk result (fresh_of self.new ≡ 0) }
+        ensures err { OnErr result ((core_of self.new ≡ core_of self.old) × (fresh_of self.new ≡ fresh_of self.old)) }
+        ensures runs { RunsProgram self.new (compiled_of self.old) (limit_of self.old) }
+        ensures core_fits { CoreFits (tables_of self.old) (core_of self.new) }
+        ensures sound { IsSoundCore (source_of self.old) (core_of self.old) → IsSoundCore (source_of self.old) (core_of self.new) }
+    {
+        if !self.can_list(&batch) || !self.can_take(&batch) {
+            return Err(RestoreError::Wrong);
+        }
+        let BatchRecord { news, committed } = batch;
+        let mut waiting = copies_of(alloc, self.pending.as_slice())?;
+        waiting.append(alloc, news)?;
+        if !ids_differ(&self.history, waiting.as_slice()) {
+            return Err(RestoreError::Wrong);
+        }
+        let replay = self.run_again(alloc, &waiting, &committed)?;
+        self.make_room_for(alloc, &replay)?;
+        self.join(replay);
+        Ok(())
+    }
+
+    /// Whether a batch lists requests that wait then, which aren't too many, and for which the history has
+    /// places.
+    fn can_list(&self, batch: &BatchRecord) -> bool
+        ensures { IsTrue result ↔ ListFits (core_of self.now) batch.now }
+    {
+        let waiting = self.pending.len();
+        let placed = self.history.len();
+        batch.news.len() <= MOST_WAITING - waiting
+            && !batch.committed.is_empty()
+            && batch.committed.len() <= u32::MAX as usize - placed
+            && are_places(waiting + batch.news.len(), batch.committed.as_slice())
+    }
+
+    /// Whether the news of a batch fit the program.
+    fn can_take(&self, batch: &BatchRecord) -> bool
+        requires { IsWhole (compiled_of self.now) }
+        ensures { IsTrue result ↔ AllByRecursion (RequestFits (tables_of self.now)) batch.now.news }
+    {
+        requests_fit(tables_in(&self.compiled), batch.news.as_slice())
+    }
+
+    /// Runs the requests at these places of those that wait, one after another.
+    fn run_again(
+        &self,
+        alloc: Global,
+        waiting: &Requests,
+        committed: &Places,
+    ) -> Result<Replay, AllocError>
+        requires whole { IsWhole (compiled_of self.now) }
+        requires state { StateFits (tables_of self.now) (core_of self.now).state }
+        requires fit { AllByRecursion (RequestFits (tables_of self.now)) waiting.now }
+        requires few { length waiting.now ≤ 256 }
+        requires once { are_places (length waiting.now) committed.now ≡ true }
+        ensures { IfOk result (HasRunAgain (source_of self.now) (core_of self.now).state waiting.now committed.now) }
+    {
+        let listed = requests_at(alloc, waiting, committed.as_slice())?;
+        let carried = others_of(alloc, waiting, committed.as_slice())?;
+        let Ordered {
+            outcomes,
+            works,
+            places,
+        } = run_in_order(alloc, &self.compiled, &self.state, &listed)?;
+        let entries = entries_at(alloc, &listed, &outcomes, places.as_slice())?;
+        drop(listed);
+        drop(outcomes);
+        Ok(Replay {
+            entries,
+            carried,
+            works,
+            places,
+        })
+    }
+
+    /// Makes room for what joins the core.
+    fn make_room_for(&mut self, alloc: Global, replay: &Replay) -> Result<(), AllocError>
+        requires { are_places (length replay.now.works) replay.now.places ≡ true }
+        ensures core { core_of self.new ≡ core_of self.old }
+        ensures fresh { fresh_of self.new ≡ fresh_of self.old }
+        ensures runs { RunsProgram self.new (compiled_of self.old) (limit_of self.old) }
+        ensures history { OnOk result (length replay.now.entries ≤ self.new.history.spare) }
+        ensures state { OnOk result (written_count replay.now.works replay.now.places ≤ self.new.state.spare) }
+    {
+        self.history.reserve(replay.entries.len())?;
+        self.state.prepare(alloc, &replay.works, &replay.places)
+    }
+
+    /// The entries join the history, the works make their writes, and the others wait on. It takes no
+    /// memory and can't fail.
+    fn join(&mut self, replay: Replay)
+        requires ids { ids_differ ((core_of self.old).history ++ replay.entries) ≡ true }
+        requires placed { length (core_of self.old).history + length replay.entries < 2 ^ 32 }
+        requires few { length replay.carried ≤ 256 }
+        requires places { are_places (length replay.works) replay.places ≡ true }
+        requires history { length replay.entries ≤ self.old.history.spare }
+        requires state { written_count replay.works replay.places ≤ self.old.state.spare }
+        ensures core { core_of self.new ≡ with_replay (core_of self.old) replay }
+        ensures fresh { fresh_of self.new ≡ 0 }
+        ensures runs { RunsProgram self.new (compiled_of self.old) (limit_of self.old) }
+    {
+        let Replay {
+            entries,
+            carried,
+            works,
+            places,
+        } = replay;
+        self.history.commit_all(entries);
+        self.state.apply(works, &places);
+        self.pending = carried;
+        self.fresh = 0;
+        drop(places);
+    }
+}
