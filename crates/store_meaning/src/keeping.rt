@@ -1,0 +1,63 @@
+//! Keeping a core on a disk: the record of a batch, and a checkpoint.
+
+ghost use Rattle.std.specs.Prelude.{◌≡◌, ◌⊎◌, ◌+◌, ◌^◌, ◌<◌, ◌≤◌, length, IfOk, OnOk, OnErr, IsErr};
+ghost use Rattle.sf_outside.specs.Causes.{Rose};
+ghost use Rattle.sf_value.specs.declared.BatchRecord.{BatchRecord};
+ghost use Rattle.sf_value.specs.declared.Snapshot.{Snapshot};
+ghost use Rattle.request_log.specs.LogFile.{IsBatch};
+ghost use Rattle.snapshot_store.specs.SlotFile.{IsSnapshot};
+ghost use Rattle.store_meaning.specs.Checkpoints.{next_epoch};
+ghost use Rattle.store_meaning.specs.Keeping.{KeepsSome, KeepsBatch, LeavesBatch, KeepsCheckpoint, LeavesCheckpoint};
+ghost use Rattle.store_meaning.specs.LoggedBatches.{behind};
+
+use crate::position::Position;
+use request_log::append;
+use sf_outside::{Disk, Failed};
+use snapshot_store::{checkpoint, log_of};
+
+/// Adds the record of a batch whose bytes these are, and gives where the store is then.
+///
+/// After a fault the disk may go on to leave the core before the batch or the one behind it.
+pub fn log_batch<D: Disk>(disk: &mut D, position: Position, body: &[u8]) -> Result<Position, Failed>
+    requires some { KeepsSome (D.facts disk.old) position }
+    requires began { 1 ≤ position.epoch }
+    requires body { (batch : BatchRecord) × IsBatch body.now batch }
+    requires short { length body.now < 2 ^ 32 }
+    ensures next { IfOk result (λ next. next ≡ behind position body.now) }
+    ensures kept { OnOk result (KeepsBatch (D.facts disk.old) (D.facts disk.new) position body.now) }
+    ensures moments { LeavesBatch (D.facts disk.old) (D.facts disk.new) position body.now }
+    ensures past_end { 2 ^ 62 < position.at + 6 + length body.now → IsErr result × (disk.new ≡ disk.old) }
+    ensures later { D.faults disk.old ≤ D.faults disk.new }
+    ensures cause { OnErr result (Rose (D.faults disk.old) (D.faults disk.new) ⊎ (2 ^ 62 < position.at + 6 + length body.now)) }
+    ensures mounts { D.mounts disk.new ≡ D.mounts disk.old }
+{
+    let at = append(disk, log_of(position.epoch), position.at, body)?;
+    Ok(Position {
+        epoch: position.epoch,
+        at,
+    })
+}
+
+/// Keeps the snapshot whose bytes these are under the next epoch, and gives where the store is then.
+///
+/// After a fault the disk may go on to leave the core at either position.
+pub fn keep_snapshot<D: Disk>(
+    disk: &mut D,
+    position: Position,
+    body: &[u8],
+) -> Result<Position, Failed>
+    requires some { KeepsSome (D.facts disk.old) position }
+    requires more { position.epoch + 1 < 2 ^ 63 }
+    requires body { (kept : Snapshot) × IsSnapshot body.now kept }
+    ensures next { IfOk result (λ next. next ≡ next_epoch position) }
+    ensures kept { OnOk result (KeepsCheckpoint (D.facts disk.old) (D.facts disk.new) position body.now) }
+    ensures moments { LeavesCheckpoint (D.facts disk.old) (D.facts disk.new) position body.now }
+    ensures past_end { 2 ^ 62 < 17 + length body.now → IsErr result × (disk.new ≡ disk.old) }
+    ensures later { D.faults disk.old ≤ D.faults disk.new }
+    ensures cause { OnErr result (Rose (D.faults disk.old) (D.faults disk.new) ⊎ (2 ^ 62 < 17 + length body.now)) }
+    ensures mounts { D.mounts disk.new ≡ D.mounts disk.old }
+{
+    let epoch = position.epoch + 1;
+    checkpoint(disk, epoch, body)?;
+    Ok(Position { epoch, at: 0 })
+}
