@@ -3,6 +3,8 @@
 
 mod laws;
 mod lines;
+mod pieces;
 
 pub use laws::{lines_end_at_line_ends, pieces_are_cut_in_turn};
-pub use lines::{LONGEST, LineBuffer};
+pub use lines::{LONGEST, LineBuffer, trimmed};
+pub use pieces::{PIECE, next_piece};

@@ -1,6 +1,7 @@
 //! The line that comes next, as far as it has come.
 
 ghost use Rattle.std.specs.Prelude.{◌≡◌, ◌==◌, ℕ, List, [], ◌++◌, length, IfOk, OnOk, OnErr};
+ghost use Rattle.request_json.specs.Actions.{without_cr};
 ghost use Rattle.input_lines.specs.Cuts.{IsStart, Cuts, IsWithin};
 
 use memchr::memchr;
@@ -89,5 +90,16 @@ impl LineBuffer {
                 Ok(None)
             }
         }
+    }
+}
+
+/// A line without a CR at its end.
+pub fn trimmed(line: &[u8]) -> &[u8]
+    ensures { result.now ≡ without_cr line.now }
+{
+    if !line.is_empty() && line[line.len() - 1] == b'\r' {
+        &line[..line.len() - 1]
+    } else {
+        line
     }
 }

@@ -24,25 +24,29 @@ module _ (names : List (List ℕ)) (program : PlainProgram) where
   tables = tables_of names program
 
   module _ (accepted : IsKnownAccepted names program) where
-    entries_fit : (before : List Entry) (lines : List Line) (printed : List Printed) (added : List Entry) (s : State) → StateFits tables s → Fits src before lines printed added → outcomes_of added ≡ serial_outcomes src s (acts_of added)
+    entries_fit : (most : ℕ) (before : List Entry) (lines : List Line) (printed : List Printed) (added : List Entry) (s : State) → StateFits tables s
+        → Fits src most before lines printed added → outcomes_of added ≡ serial_outcomes src s (acts_of added)
         → EntriesFit tables added × StateFits tables (serial_state src s (acts_of added))
     unfolding serial_outcomes serial_state
-    entries_fit before [] [] [] s fit told same = (tt, fit)
-    entries_fit before [] [] (e ∷ added) s fit told same = absurd told
-    entries_fit before [] (p ∷ printed) added s fit told same = absurd told
-    entries_fit before (line ∷ lines) [] added s fit told same = absurd told
-    entries_fit before (line ∷ lines) (Nothing ∷ printed) added s fit told same = entries_fit before lines printed added s fit told.1 same
-    entries_fit before (line ∷ lines) (Refused number what ∷ printed) added s fit told same = entries_fit before lines printed added s fit told.1 same
-    entries_fit before (line ∷ lines) (Again place ∷ printed) added s fit told same = entries_fit before lines printed added s fit told.1 same
-    entries_fit before (line ∷ lines) (Reply place ∷ printed) [] s fit told same = absurd told
-    entries_fit before (line ∷ lines) (Reply place ∷ printed) (e ∷ added) s fit told same =
+    entries_fit most before [] [] [] s fit told same = (tt, fit)
+    entries_fit most before [] [] (e ∷ added) s fit told same = absurd told
+    entries_fit most before [] (p ∷ printed) added s fit told same = absurd told
+    entries_fit most before (line ∷ lines) [] [] s fit told same = (tt, fit)
+    entries_fit most before (line ∷ lines) [] (e ∷ added) s fit told same = absurd told
+    entries_fit most before (line ∷ lines) (Nothing ∷ printed) added s fit told same = entries_fit most before lines printed added s fit told.1 same
+    entries_fit most before (line ∷ lines) (Refused number what ∷ printed) added s fit told same = entries_fit most before lines printed added s fit told.1 same
+    entries_fit most before (line ∷ lines) (Again place ∷ printed) added s fit told same = entries_fit most before lines printed added s fit told.1 same
+    entries_fit most before (line ∷ lines) (Reply place ∷ printed) [] s fit told same = absurd told
+    entries_fit most before (line ∷ lines) (Reply place ∷ printed) (e ∷ added) s fit told same =
         let asked = ask_fits src line e.request told.0 in
         let ran = runs_fit names program accepted s e.request.act fit asked.act in
         let here : e.outcome ≡ (run src s e.request.act).outcome = ap (λ os. get_or os 0 e.outcome) same in
-        let rest = entries_fit (before ++ e ∷ []) lines printed added (run src s e.request.act).state ran.0 told.1 (ap (drop 1) same) in
+        let rest = entries_fit most (before ++ e ∷ []) lines printed added (run src s e.request.act).state ran.0 told.1 (ap (drop 1) same) in
         ((asked, subst (OutcomeFits tables e.request.act) (sym here) ran.1, rest.0), rest.1)
 
 pub answers_fit : AnswersFit
-answers_fit names program accepted lines serial =
-    let fit = entries_fit names program accepted [] lines serial.printed serial.core.history no_state (first_fits names program) serial.fits serial.sound.run.outcomes in
+answers_fit names program accepted most lines serial =
+    let fit =
+    entries_fit names program accepted most [] lines serial.printed serial.core.history no_state
+    (first_fits names program) serial.fits serial.sound.run.outcomes in
     (fit.0, subst (StateFits (tables_of names program)) (sym serial.sound.run.state) fit.1)

@@ -32,13 +32,16 @@ module _ (src : Source) where
       by false text is = absurd cc
 
   -- and so do the requests that lines add to a history
-  pub requests_fit : (before : List Entry) (lines : List Line) (printed : List Printed) (added : List Entry) → Fits src before lines printed added → RequestsFit tables added
-  requests_fit before [] [] [] told = tt
-  requests_fit before [] [] (e ∷ added) told = absurd told
-  requests_fit before [] (p ∷ printed) added told = absurd told
-  requests_fit before (line ∷ lines) [] added told = absurd told
-  requests_fit before (line ∷ lines) (Nothing ∷ printed) added told = requests_fit before lines printed added told.1
-  requests_fit before (line ∷ lines) (Refused number what ∷ printed) added told = requests_fit before lines printed added told.1
-  requests_fit before (line ∷ lines) (Again place ∷ printed) added told = requests_fit before lines printed added told.1
-  requests_fit before (line ∷ lines) (Reply place ∷ printed) [] told = absurd told
-  requests_fit before (line ∷ lines) (Reply place ∷ printed) (e ∷ added) told = (ask_fits line e.request told.0, requests_fit (before ++ e ∷ []) lines printed added told.1)
+  pub requests_fit : (most : ℕ) (before : List Entry) (lines : List Line) (printed : List Printed) (added : List Entry)
+      → Fits src most before lines printed added → RequestsFit tables added
+  requests_fit most before [] [] [] told = tt
+  requests_fit most before [] [] (e ∷ added) told = absurd told
+  requests_fit most before [] (p ∷ printed) added told = absurd told
+  requests_fit most before (line ∷ lines) [] [] told = tt
+  requests_fit most before (line ∷ lines) [] (e ∷ added) told = absurd told
+  requests_fit most before (line ∷ lines) (Nothing ∷ printed) added told = requests_fit most before lines printed added told.1
+  requests_fit most before (line ∷ lines) (Refused number what ∷ printed) added told = requests_fit most before lines printed added told.1
+  requests_fit most before (line ∷ lines) (Again place ∷ printed) added told = requests_fit most before lines printed added told.1
+  requests_fit most before (line ∷ lines) (Reply place ∷ printed) [] told = absurd told
+  requests_fit most before (line ∷ lines) (Reply place ∷ printed) (e ∷ added) told =
+      (ask_fits line e.request told.0, requests_fit most (before ++ e ∷ []) lines printed added told.1)

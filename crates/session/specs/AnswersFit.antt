@@ -10,5 +10,6 @@ use Rattle.session.specs.SerialOutput.{SerialLines}
 
 -- the entries of the run that answers these lines fit, and so does the state behind them
 abbrev pub AnswersFit : Type 0
-AnswersFit = (names : List (List ℕ)) (program : PlainProgram) → IsKnownAccepted names program → (lines : List Line) (serial : SerialLines (record { program = program; names = names }) lines)
+AnswersFit = (names : List (List ℕ)) (program : PlainProgram) → IsKnownAccepted names program
+    → (most : ℕ) (lines : List Line) (serial : SerialLines (record { program = program; names = names }) most lines)
     → EntriesFit (tables_of names program) serial.core.history × StateFits (tables_of names program) serial.core.state

@@ -1,5 +1,6 @@
 pub mod OutputText
 pub mod Standings
+pub mod Stops
 pub mod Feeds
 pub mod Takes
 pub mod Served

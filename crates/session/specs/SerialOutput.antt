@@ -1,5 +1,5 @@
 -- What a session prints, as the replies of one serial run.
-use Rattle.std.specs.Prelude.{◌≡◌, ℕ, ◌+◌, List, [], ◌∷◌, ◌++◌, map, length, ⊤, None, Some}
+use Rattle.std.specs.Prelude.{◌≡◌, ℕ, ◌+◌, ◌≤◌, false, List, [], ◌∷◌, ◌++◌, map, length, ⊤, None, Some}
 use Rattle.std.specs.List.{range_with_len}
 use Rattle.std.specs.declared.option.Option.{Option}
 use Rattle.std.specs.declared.result.Result.{Result}
@@ -7,18 +7,18 @@ use Rattle.sf_value.specs.declared.Entry.{Entry}
 use Rattle.sf_value.specs.declared.Request.{Request}
 use Rattle.sf_outside.specs.Bytes.{AppendsPrefix}
 use Rattle.sf_outside.specs.Gains.{joined}
-use Rattle.sf_outside.specs.declared.gains.WriteStop.{WriteStop}
 use Rattle.program_meaning.specs.ClassTables.{Source}
-use Rattle.program_meaning.specs.Serial.{Core}
+use Rattle.program_meaning.specs.Serial.{Core, is_committed}
 use Rattle.request_history.specs.Repeats.{entry_at}
 use Rattle.request_history.specs.SoundHistory.{IsSoundHistory}
 use Rattle.request_json.specs.Actions.{Line, Action, Skip, Refuse, Ask, cause_text, action_of}
 use Rattle.request_json.specs.ReplyLines.{reply_line, bad_line}
 use Rattle.session.specs.declared.feeding.InputEnd.{InputEnd}
+use Rattle.session.specs.declared.stopping.SessionStop.{SessionStop}
 use Rattle.session.specs.OutputText.{reused, replies, start}
 use Rattle.session.specs.Served.{Served}
 
--- what is printed for one line: nothing, the refusal of the line with this number in these words, the reply to the request
+-- what is printed for one line that is answered: nothing, the refusal of the line with this number in these words, the reply to the request
 -- that stands at this place of the history, or that reply once more; lines and places are counted from 1
 pub data Printed : Type 0 where
   Nothing : Printed
@@ -83,26 +83,37 @@ pub record IsRepeated (before : List Entry) (action : Action) (place : ℕ) : Ty
   pub stands : entry_at before place ≡ Some entry
   pub asks : action ≡ Ask entry.request
 
+-- it asks a new request, and as many entries stand before it as there may be
+pub record StopsFull (most : ℕ) (before : List Entry) (action : Action) : Type 0 where
+  pub request : Request
+  pub asks : action ≡ Ask request
+  pub new : is_committed before request.id ≡ false
+  pub full : length before ≡ most
+
 -- what is printed for these lines fits what they ask, where these entries stand before and the lines add those: nothing
 -- for an empty line, a refusal as above, the reply to the entry that the line's request adds, or the reply to the entry that it
--- repeats
-abbrev pub Fits : Source → List Entry → List Line → List Printed → List Entry → Type 0
-Fits src before [] [] [] = ⊤
-Fits src before (line ∷ lines) (Nothing ∷ printed) added = (action_of src line ≡ Skip) × Fits src before lines printed added
-Fits src before (line ∷ lines) (Refused number what ∷ printed) added = IsRefused before (action_of src line) what × Fits src before lines printed added
-Fits src before (line ∷ lines) (Reply place ∷ printed) (entry ∷ added) = (action_of src line ≡ Ask entry.request) × Fits src (before ++ entry ∷ []) lines printed added
-Fits src before (line ∷ lines) (Again place ∷ printed) added = IsRepeated before (action_of src line) place × Fits src before lines printed added
-Fits src before lines printed added = ⊥
+-- repeats; and nothing is printed any more from the line on that finds the history full
+abbrev pub Fits : Source → ℕ → List Entry → List Line → List Printed → List Entry → Type 0
+Fits src most before [] [] [] = ⊤
+Fits src most before (line ∷ lines) [] [] = StopsFull most before (action_of src line)
+Fits src most before (line ∷ lines) (Nothing ∷ printed) added = (action_of src line ≡ Skip) × Fits src most before lines printed added
+Fits src most before (line ∷ lines) (Refused number what ∷ printed) added =
+    IsRefused before (action_of src line) what × Fits src most before lines printed added
+Fits src most before (line ∷ lines) (Reply place ∷ printed) (entry ∷ added) =
+    (action_of src line ≡ Ask entry.request) × Fits src most (before ++ entry ∷ []) lines printed added
+Fits src most before (line ∷ lines) (Again place ∷ printed) added = IsRepeated before (action_of src line) place × Fits src most before lines printed added
+Fits src most before lines printed added = ⊥
 
 -- what these lines are answered is what a serial run prints: the replies to the requests of a sound history, which
--- the lines asked, each at its place, and refusals between them
-pub record SerialLines (src : Source) (lines : List Line) : Type 0 where
+-- the lines asked, each at its place, and refusals between them; the history has no more entries than it may have
+pub record SerialLines (src : Source) (most : ℕ) (lines : List Line) : Type 0 where
   pub core : Core
   pub sound : IsSoundHistory src core
+  pub few : length core.history ≤ most
   pub printed : List Printed
   pub report : IsReport core.history printed
-  pub fits : Fits src [] lines printed core.history
-  pub texts : replies src start lines ≡ printed_texts core.history printed
+  pub fits : Fits src most [] lines printed core.history
+  pub texts : replies src most start lines ≡ printed_texts core.history printed
 
 -- known bytes grew by what a serial run prints, or by a prefix of it
 pub record SerialRun (src : Source) (old new : Option (List ℕ)) : Type 0 where
@@ -114,5 +125,5 @@ pub record SerialRun (src : Source) (old new : Option (List ℕ)) : Type 0 where
 
 -- whatever the result of a session that served so, it wrote what a serial run prints, or a prefix of it
 abbrev pub ServesSerially : Type 0
-ServesSerially = (src : Source) (limit : ℕ) (left left' held held' : Option (List ℕ)) (result : Result InputEnd WriteStop)
-    → Served src limit left left' held held' result → SerialRun src held held'
+ServesSerially = (src : Source) (limit most : ℕ) (left left' held held' : Option (List ℕ)) (result : Result InputEnd SessionStop)
+    → Served src limit most left left' held held' result → SerialRun src held held'

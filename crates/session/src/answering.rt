@@ -1,14 +1,15 @@
 //! One line at a time: what it asks, what it comes to, and its reply line.
 
-ghost use Rattle.std.specs.Prelude.{◌≡◌, ◌+◌, ◌<◌, ◌≤◌, ◌^◌, [], ◌∷◌, ◌++◌, length, None, take, IfOk, OnOk};
+ghost use Rattle.std.specs.Prelude.{◌≡◌, ◌+◌, ◌<◌, ◌≤◌, ◌^◌, [], length, None, is_none, IfOk, OnOk};
+ghost use Rattle.std.specs.List.{cons_option};
 ghost use Rattle.program_meaning.specs.Sources.{source_of};
-ghost use Rattle.request_json.specs.Actions.{Ask, without_cr, used};
+ghost use Rattle.request_json.specs.Actions.{Ask, used};
 ghost use Rattle.request_history.specs.Repeats.{kept_of};
 ghost use Rattle.request_history.specs.HistoryView.{kept_at};
-ghost use Rattle.session.specs.OutputText.{answer_again, new_line, after_action, reply_to, reply, step, commit};
-ghost use Rattle.session.specs.Standings.{core_of, standing_of, line_of};
+ghost use Rattle.session.specs.OutputText.{answer_again, new_line, new_lines, after_new, has_no_place, after_action, stops, reply_to, reply, step, commit};
+ghost use Rattle.session.specs.Standings.{core_of, standing_of, standing_behind, line_of};
 
-use input_lines::LONGEST;
+use input_lines::{LONGEST, trimmed};
 use py_tree::Checked;
 use request_history::{Found, History};
 use request_json::{LineError, read_line, write_bad, write_entry};
@@ -23,17 +24,6 @@ pub struct Standing {
     pub local: Local,
     pub history: History,
     pub lines: u64,
-}
-
-/// A line without a CR at its end.
-fn trimmed(line: &[u8]) -> &[u8]
-    ensures { result.now ≡ without_cr line.now }
-{
-    if !line.is_empty() && line[line.len() - 1] == b'\r' {
-        &line[..line.len() - 1]
-    } else {
-        line
-    }
 }
 
 /// The kept line of an entry, where the same is asked, and else that the id was reused.
@@ -69,75 +59,107 @@ impl Standing {
         Ok(line)
     }
 
+    /// Answers a new request. Where the history has no place for it, there is no line.
+    fn ask_new(
+        &mut self,
+        alloc: Global,
+        program: &Checked,
+        request: Request,
+        most: u32,
+    ) -> Result<Option<Bytes>, AllocError>
+        requires fresh { kept_of self.old.history.entries request.id ≡ None }
+        requires few { length self.old.history.entries ≤ most }
+        ensures lines { self.new.lines ≡ self.old.lines }
+        ensures few { length self.new.history.entries ≤ most }
+        ensures text { IfOk result (λ made. cons_option made [] ≡ new_lines (source_of program.now) most (core_of self.old) request) }
+        ensures full { IfOk result (λ made. is_none made ≡ has_no_place (source_of program.now) most (core_of self.old)) }
+        ensures core { OnOk result (core_of self.new ≡ after_new (source_of program.now) most (core_of self.old) request) }
+    {
+        if self.history.len() >= most as usize {
+            return Ok(None);
+        }
+        Ok(Some(self.commit(alloc, program, request)?))
+    }
+
     /// Answers what a line asks.
-    #[tactic(auto, unfolding(crate::specs::OutputText::reply_to, crate::specs::OutputText::after_action))]
+    #[tactic(auto, unfolding(crate::specs::OutputText::reply_to, crate::specs::OutputText::after_action, crate::specs::OutputText::stops))]
     fn ask(
         &mut self,
         alloc: Global,
         program: &Checked,
         request: Request,
         number: u64,
-    ) -> Result<Bytes, AllocError>
-        requires { length self.old.history.entries + 1 < 2 ^ 32 }
+        most: u32,
+    ) -> Result<Option<Bytes>, AllocError>
+        requires few { length self.old.history.entries ≤ most }
         ensures lines { self.new.lines ≡ self.old.lines }
-        ensures length { length self.new.history.entries ≤ length self.old.history.entries + 1 }
-        ensures text { IfOk result (λ line. line ≡ reply_to (source_of program.now) (core_of self.old) number (Ask request)) }
-        ensures core { OnOk result (core_of self.new ≡ after_action (source_of program.now) (core_of self.old) (Ask request)) }
+        ensures few { length self.new.history.entries ≤ most }
+        ensures text { IfOk result (λ made. cons_option made [] ≡ reply_to (source_of program.now) most (core_of self.old) number (Ask request)) }
+        ensures full { IfOk result (λ made. is_none made ≡ stops (source_of program.now) most (core_of self.old) (Ask request)) }
+        ensures core { OnOk result (core_of self.new ≡ after_action (source_of program.now) most (core_of self.old) (Ask request)) }
     {
         match self.history.find(&request.id) {
-            Some(found) => repeat(alloc, found, &request.act, number),
-            None => self.commit(alloc, program, request),
+            Some(found) => Ok(Some(repeat(alloc, found, &request.act, number)?)),
+            None => self.ask_new(alloc, program, request, most),
         }
     }
 
     /// Answers the content of a line.
-    #[tactic(auto, unfolding(crate::specs::OutputText::reply_to, crate::specs::OutputText::after_action))]
+    #[tactic(auto, unfolding(crate::specs::OutputText::reply_to, crate::specs::OutputText::after_action, crate::specs::OutputText::stops))]
     fn answer_content(
         &mut self,
         alloc: Global,
         program: &Checked,
         content: &[u8],
         number: u64,
-    ) -> Result<Bytes, AllocError>
-        requires { length self.old.history.entries + 1 < 2 ^ 32 }
+        most: u32,
+    ) -> Result<Option<Bytes>, AllocError>
+        requires few { length self.old.history.entries ≤ most }
         ensures lines { self.new.lines ≡ self.old.lines }
-        ensures length { length self.new.history.entries ≤ length self.old.history.entries + 1 }
-        ensures text { IfOk result (λ line. line ≡ reply_to (source_of program.now) (core_of self.old) number (used (source_of program.now) content.now)) }
-        ensures core { OnOk result (core_of self.new ≡ after_action (source_of program.now) (core_of self.old) (used (source_of program.now) content.now)) }
+        ensures few { length self.new.history.entries ≤ most }
+        ensures text { IfOk result (λ made. cons_option made []
+            ≡ reply_to (source_of program.now) most (core_of self.old) number (used (source_of program.now) content.now)) }
+        ensures full { IfOk result (λ made. is_none made
+            ≡ stops (source_of program.now) most (core_of self.old) (used (source_of program.now) content.now)) }
+        ensures core { OnOk result (core_of self.new
+            ≡ after_action (source_of program.now) most (core_of self.old) (used (source_of program.now) content.now)) }
     {
         if content.is_empty() {
-            return Ok(Sequence::new(alloc));
+            return Ok(Some(Sequence::new(alloc)));
         }
         match read_line(alloc, program, content) {
-            Ok(request) => self.ask(alloc, program, request, number),
-            Err(LineError::Fault(fault)) => write_bad(alloc, fault.text(), number),
+            Ok(request) => self.ask(alloc, program, request, number, most),
+            Err(LineError::Fault(fault)) => Ok(Some(write_bad(alloc, fault.text(), number)?)),
             Err(LineError::NoMemory) => Err(AllocError),
         }
     }
 
     /// Answers a line, given without its LF. Of a line that is too long, its first bytes up to one
-    /// more than it may have are enough.
-    #[tactic(auto, unfolding(crate::specs::OutputText::reply_to, crate::specs::OutputText::after_action, request_json::specs::Actions::action_of))]
+    /// more than it may have are enough. Where it asks a new request and the history has so many entries
+    /// already, there is no answer.
+    #[tactic(auto, unfolding(crate::specs::OutputText::reply_to, crate::specs::OutputText::after_action, crate::specs::OutputText::stops, request_json::specs::Actions::action_of))]
     pub(crate) fn answer(
         &mut self,
         alloc: Global,
         program: &Checked,
         line: &[u8],
         ended: bool,
-    ) -> Result<Bytes, AllocError>
-        requires history { length self.old.history.entries + 1 < 2 ^ 32 }
+        most: u32,
+    ) -> Result<Option<Bytes>, AllocError>
+        requires few { length self.old.history.entries ≤ most }
         requires lines { self.old.lines + 1 < 2 ^ 64 }
         ensures lines { self.new.lines ≤ self.old.lines + 1 }
-        ensures length { length self.new.history.entries ≤ length self.old.history.entries + 1 }
-        ensures text { IfOk result (λ made. made ≡ reply (source_of program.now) (standing_of self.old) (line_of ended line.now)) }
-        ensures standing { OnOk result (standing_of self.new ≡ step (source_of program.now) (standing_of self.old) (line_of ended line.now)) }
+        ensures few { length self.new.history.entries ≤ most }
+        ensures text { IfOk result (λ made. cons_option made [] ≡ reply (source_of program.now) most (standing_of self.old) (line_of ended line.now)) }
+        ensures standing { IfOk result (λ made. standing_behind self.new made
+            ≡ step (source_of program.now) most (standing_of self.old) (line_of ended line.now)) }
     {
         let number = self.lines + 1;
         let made = if line.len() > LONGEST {
-            write_bad(alloc, "line too long", number)?
+            Some(write_bad(alloc, "line too long", number)?)
         } else {
             let content = if ended { trimmed(line) } else { line };
-            self.answer_content(alloc, program, content, number)?
+            self.answer_content(alloc, program, content, number, most)?
         };
         self.lines = number;
         Ok(made)

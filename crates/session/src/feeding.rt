@@ -1,25 +1,23 @@
 //! The input, piece by piece: each line is answered as soon as it is whole.
 
-ghost use Rattle.std.specs.Prelude.{◌≡◌, ◌≤◌, ◌<◌, ◌+◌, ◌^◌, min, length, [], OnOk, IfOk};
+ghost use Rattle.std.specs.Prelude.{◌≡◌, ◌≤◌, ◌<◌, ◌+◌, ◌^◌, length, [], IfOk};
 ghost use Rattle.sf_outside.specs.Causes.{Rose};
-ghost use Rattle.sf_outside.specs.Gains.{Wrote, Counts};
 ghost use Rattle.program_meaning.specs.Sources.{source_of};
 ghost use Rattle.input_lines.specs.Cuts.{IsStart, IsWithin};
 ghost use Rattle.session.specs.OutputText.{start};
 ghost use Rattle.session.specs.Standings.{standing_of};
-ghost use Rattle.session.specs.Feeds.{line_replies, behind_line, FeedsBytes, fed_of, AnswersLast};
+ghost use Rattle.session.specs.Stops.{Counts};
+ghost use Rattle.session.specs.Feeds.{AnswersKept, FeedsBytes, fed_of, AnswersLast};
 ghost use Rattle.session.specs.Takes.{Takes};
 
 use crate::answering::Standing;
-use input_lines::LineBuffer;
+use crate::stopping::SessionStop;
+use input_lines::{LineBuffer, PIECE, next_piece};
 use py_tree::Checked;
 use request_history::History;
-use sf_outside::{Sink, Source, WriteStop, write_line};
+use sf_outside::{Sink, Source, write_line};
 use source_meaning::Local;
 use std::alloc::Global;
-
-/// How many bytes one read may take.
-pub const PIECE: usize = 4096;
 
 /// How the input ended, where the session didn't stop before.
 #[derive(Clone, Copy, PartialEq, Eq, Debug)]
@@ -59,19 +57,21 @@ impl Session {
         program: &Checked,
         out: &mut K,
         ended: bool,
-    ) -> Result<(), WriteStop>
-        requires history { length self.old.standing.history.entries + 1 < 2 ^ 32 }
+        most: u32,
+    ) -> Result<(), SessionStop>
+        requires few { length self.old.standing.history.entries ≤ most }
         requires lines { self.old.standing.lines + 1 < 2 ^ 64 }
         ensures lines { self.new.standing.lines ≤ self.old.standing.lines + 1 }
-        ensures length { length self.new.standing.history.entries ≤ length self.old.standing.history.entries + 1 }
-        ensures wrote { Wrote result (K.held out.old) (K.held out.new) (line_replies (source_of program.now) self.old ended) }
+        ensures few { length self.new.standing.history.entries ≤ most }
+        ensures answers { AnswersKept (source_of program.now) most result self.old self.new (K.held out.old) (K.held out.new) ended }
         ensures counts { Counts (K.faults out.old) (K.faults out.new) result }
-        ensures standing { OnOk result (standing_of self.new.standing ≡ behind_line (source_of program.now) self.old ended) }
-        ensures kept { OnOk result (self.new.line ≡ []) }
     {
-        let line = self
+        let answer = self
             .standing
-            .answer(alloc, program, self.line.as_slice(), ended)?;
+            .answer(alloc, program, self.line.as_slice(), ended, most)?;
+        let Some(line) = answer else {
+            return Err(SessionStop::HistoryFull);
+        };
         write_line(out, line.as_slice())?;
         self.line.clear();
         Ok(())
@@ -85,18 +85,19 @@ impl Session {
         program: &Checked,
         out: &mut K,
         piece: &[u8],
-    ) -> Result<Option<usize>, WriteStop>
-        requires history { length self.old.standing.history.entries + length piece.now < 2 ^ 32 }
+        most: u32,
+    ) -> Result<Option<usize>, SessionStop>
+        requires few { length self.old.standing.history.entries ≤ most }
         requires lines { self.old.standing.lines + length piece.now < 2 ^ 64 }
         ensures within { IfOk result (λ taken. IsWithin piece.now taken) }
         ensures lines { self.new.standing.lines ≤ self.old.standing.lines + length (fed_of result piece.now) }
-        ensures length { length self.new.standing.history.entries ≤ length self.old.standing.history.entries + length (fed_of result piece.now) }
-        ensures feeds { FeedsBytes (source_of program.now) result self.old self.new (K.held out.old) (K.held out.new) (fed_of result piece.now) }
+        ensures few { length self.new.standing.history.entries ≤ most }
+        ensures feeds { FeedsBytes (source_of program.now) most result self.old self.new (K.held out.old) (K.held out.new) (fed_of result piece.now) }
         ensures counts { Counts (K.faults out.old) (K.faults out.new) result }
     {
         match self.line.take_line(piece)? {
             Some(count) => {
-                self.answer(alloc, program, out, true)?;
+                self.answer(alloc, program, out, true, most)?;
                 Ok(Some(count))
             }
             None => Ok(None),
@@ -110,16 +111,17 @@ impl Session {
         program: &Checked,
         out: &mut K,
         piece: &[u8],
-    ) -> Result<(), WriteStop>
-        requires history { length self.old.standing.history.entries + length piece.now < 2 ^ 32 }
+        most: u32,
+    ) -> Result<(), SessionStop>
+        requires few { length self.old.standing.history.entries ≤ most }
         requires lines { self.old.standing.lines + length piece.now < 2 ^ 64 }
         ensures lines { self.new.standing.lines ≤ self.old.standing.lines + length piece.now }
-        ensures length { length self.new.standing.history.entries ≤ length self.old.standing.history.entries + length piece.now }
-        ensures feeds { FeedsBytes (source_of program.now) result self.old self.new (K.held out.old) (K.held out.new) piece.now }
+        ensures few { length self.new.standing.history.entries ≤ most }
+        ensures feeds { FeedsBytes (source_of program.now) most result self.old self.new (K.held out.old) (K.held out.new) piece.now }
         ensures counts { Counts (K.faults out.old) (K.faults out.new) result }
     {
         let mut start = 0;
-        while let Some(count) = self.take_line(alloc, program, out, &piece[start..])? {
+        while let Some(count) = self.take_line(alloc, program, out, &piece[start..], most)? {
             start += count;
         }
         Ok(())
@@ -131,16 +133,17 @@ impl Session {
         alloc: Global,
         program: &Checked,
         out: &mut K,
-    ) -> Result<(), WriteStop>
-        requires history { length self.old.standing.history.entries + 1 < 2 ^ 32 }
+        most: u32,
+    ) -> Result<(), SessionStop>
+        requires few { length self.old.standing.history.entries ≤ most }
         requires lines { self.old.standing.lines + 1 < 2 ^ 64 }
-        ensures wrote { AnswersLast (source_of program.now) result self.old (K.held out.old) (K.held out.new) }
+        ensures answers { AnswersLast (source_of program.now) most result self.old self.new (K.held out.old) (K.held out.new) }
         ensures counts { Counts (K.faults out.old) (K.faults out.new) result }
     {
         if self.line.is_empty() {
             return Ok(());
         }
-        self.answer(alloc, program, out, false)
+        self.answer(alloc, program, out, false, most)
     }
 
     /// Takes at most `limit` bytes, piece by piece, and answers each line as soon as it is whole.
@@ -151,27 +154,29 @@ impl Session {
         program: &Checked,
         input: &mut S,
         out: &mut K,
-    ) -> Result<InputEnd, WriteStop>
+        most: u32,
+    ) -> Result<InputEnd, SessionStop>
         requires fresh { IsStart self.old.line [] }
         requires lines { self.old.standing.lines ≡ 0 }
         requires history { self.old.standing.history.entries ≡ [] }
-        requires limit { limit < 2 ^ 31 }
+        requires limit { limit ≤ 2 ^ 62 }
         ensures lines { self.new.standing.lines ≤ limit }
-        ensures length { length self.new.standing.history.entries ≤ limit }
+        ensures few { length self.new.standing.history.entries ≤ most }
         ensures counts { Counts (K.faults out.old) (K.faults out.new) result }
         ensures read { S.faults input.old ≤ S.faults input.new }
         ensures cause { result ≡ Ok InputEnd.ReadFault → Rose (S.faults input.old) (S.faults input.new) }
-        ensures takes { Takes (source_of program.now) limit (S.left input.old) (S.left input.new) (K.held out.old) (K.held out.new) self.old self.new result }
+        ensures takes { Takes (source_of program.now) limit most (S.left input.old) (S.left input.new)
+            (K.held out.old) (K.held out.new) self.old self.new result }
     {
         let mut buf = [0; PIECE];
         let mut taken: u64 = 0;
         while taken < limit {
-            let room = least(limit - taken);
+            let room = next_piece(limit - taken);
             match input.read(&mut buf[..room]) {
                 Err(_) => return Ok(InputEnd::ReadFault),
                 Ok(0) => return Ok(InputEnd::End),
                 Ok(count) => {
-                    self.take_piece(alloc, program, out, &buf[..count])?;
+                    self.take_piece(alloc, program, out, &buf[..count], most)?;
                     taken += count as u64;
                 }
             }
@@ -181,18 +186,5 @@ impl Session {
             Ok(0) => Ok(InputEnd::End),
             Ok(_) => Ok(InputEnd::TooLong),
         }
-    }
-}
-
-/// The next piece's greatest size.
-fn least(left: u64) -> usize
-    requires { 0 < left }
-    ensures value { result ≡ min left PIECE }
-    ensures some { 0 < result }
-{
-    if left < PIECE as u64 {
-        left as usize
-    } else {
-        PIECE
     }
 }

@@ -1,7 +1,7 @@
 //! What the definitions of a session say by themselves: it prints what one serial run prints, and
 //! over an accepted program nothing goes wrong in that run.
 
-ghost use Rattle.std.specs.Prelude.{List};
+ghost use Rattle.std.specs.Prelude.{ℕ, List};
 ghost use Rattle.program_meaning.specs.ClassTables.{Source};
 ghost use Rattle.request_json.specs.Actions.{Line};
 ghost use Rattle.session.specs.Served.{AnswersWhatWasTaken};
@@ -9,9 +9,10 @@ ghost use Rattle.session.specs.SerialOutput.{SerialLines, ServesSerially};
 ghost use Rattle.session.specs.AnswersFit.{AnswersFit};
 
 /// The replies to all lines are those of one serial run: each that names a place is the line of the
-/// entry there, also where it is given again.
+/// entry there, also where it is given again. They end before the first new request that finds as many
+/// entries in the history as there may be.
 pub fn replies_are_serial()
-    ensures { (src : Source) (lines : List Line) → SerialLines src lines }
+    ensures { (src : Source) (most : ℕ) (lines : List Line) → SerialLines src most lines }
 {}
 
 /// Whatever the result, a session wrote what one serial run prints, or a prefix of it.

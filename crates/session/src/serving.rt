@@ -1,33 +1,37 @@
 //! The whole of a session.
 
-ghost use Rattle.std.specs.Prelude.{◌≡◌, ◌≤◌, ◌<◌, ◌^◌};
+ghost use Rattle.std.specs.Prelude.{◌≡◌, ◌≤◌, ◌^◌, ◌⊎◌, Ok, Err};
+ghost use Rattle.std.specs.Io.KnownBytes.{Keeps};
 ghost use Rattle.sf_outside.specs.Causes.{Rose};
-ghost use Rattle.sf_outside.specs.Gains.{Counts};
 ghost use Rattle.program_meaning.specs.Sources.{source_of};
+ghost use Rattle.session.specs.Stops.{Counts};
 ghost use Rattle.session.specs.Served.{Served};
 
 use crate::feeding::{InputEnd, Session};
+use crate::stopping::SessionStop;
 use py_tree::Checked;
-use sf_outside::{Sink, Source, WriteStop};
+use sf_outside::{Sink, Source};
 use std::alloc::Global;
 
+/// Answers the lines of the input, and doesn't flush at the end.
 fn answer_all<S: Source, K: Sink>(
     alloc: Global,
     limit: u64,
+    history: u32,
     program: &Checked,
     input: &mut S,
     out: &mut K,
-) -> Result<InputEnd, WriteStop>
-    requires { limit < 2 ^ 31 }
+) -> Result<InputEnd, SessionStop>
+    requires { limit ≤ 2 ^ 62 }
     ensures counts { Counts (K.faults out.old) (K.faults out.new) result }
     ensures read { S.faults input.old ≤ S.faults input.new }
     ensures cause { result ≡ Ok InputEnd.ReadFault → Rose (S.faults input.old) (S.faults input.new) }
-    ensures served { Served (source_of program.now) limit (S.left input.old) (S.left input.new) (K.held out.old) (K.held out.new) result }
+    ensures served { Served (source_of program.now) limit history (S.left input.old) (S.left input.new) (K.held out.old) (K.held out.new) result }
 {
     let mut session = Session::new(alloc);
-    match session.take_input(alloc, limit, program, input, out)? {
+    match session.take_input(alloc, limit, program, input, out, history)? {
         InputEnd::End => {
-            session.take_end(alloc, program, out)?;
+            session.take_end(alloc, program, out, history)?;
             Ok(InputEnd::End)
         }
         InputEnd::ReadFault => Ok(InputEnd::ReadFault),
@@ -35,22 +39,42 @@ fn answer_all<S: Source, K: Sink>(
     }
 }
 
+/// Flushes the sink, unless it failed before.
+fn flushed<K: Sink>(
+    out: &mut K,
+    served: Result<InputEnd, SessionStop>,
+) -> Result<InputEnd, SessionStop>
+    ensures kept { Keeps (K.held out.old) (K.held out.new) }
+    ensures later { K.faults out.old ≤ K.faults out.new }
+    ensures flushed { (result ≡ served) ⊎ (result ≡ Err SessionStop.WriteFault) }
+    ensures cause { result ≡ Err SessionStop.WriteFault → (served ≡ Err SessionStop.WriteFault) ⊎ Rose (K.faults out.old) (K.faults out.new) }
+{
+    if let Err(SessionStop::WriteFault) = served {
+        return Err(SessionStop::WriteFault);
+    }
+    match out.flush() {
+        Ok(()) => served,
+        Err(_) => Err(SessionStop::WriteFault),
+    }
+}
+
 /// Answers the lines of the input, of which at most `limit` bytes are taken, from the empty state, and
-/// flushes the sink. Each line is answered before more is read than the piece that ends it.
+/// flushes the sink. Each line is answered before more is read than the piece that ends it. The history
+/// may have `history` entries: a new request that comes then stops the session.
 pub fn serve<S: Source, K: Sink>(
     alloc: Global,
     limit: u64,
+    history: u32,
     program: &Checked,
     input: &mut S,
     out: &mut K,
-) -> Result<InputEnd, WriteStop>
-    requires { limit < 2 ^ 31 }
+) -> Result<InputEnd, SessionStop>
+    requires { limit ≤ 2 ^ 62 }
     ensures counts { Counts (K.faults out.old) (K.faults out.new) result }
     ensures read { S.faults input.old ≤ S.faults input.new }
     ensures cause { result ≡ Ok InputEnd.ReadFault → Rose (S.faults input.old) (S.faults input.new) }
-    ensures served { Served (source_of program.now) limit (S.left input.old) (S.left input.new) (K.held out.old) (K.held out.new) result }
+    ensures served { Served (source_of program.now) limit history (S.left input.old) (S.left input.new) (K.held out.old) (K.held out.new) result }
 {
-    let ended = answer_all(alloc, limit, program, input, out)?;
-    out.flush()?;
-    Ok(ended)
+    let served = answer_all(alloc, limit, history, program, input, out);
+    flushed(out, served)
 }
