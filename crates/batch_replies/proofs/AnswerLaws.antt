@@ -1,5 +1,5 @@
 -- What a batch comes to, from its plan.
-use Rattle.std.proofs.Common.{◌≡◌, ℕ, ◌+◌, ◌≤◌, false, if◌then◌else◌, List, [], map as over, length, Ok, Err, sym, ap, ◌∙◌, subst, arith}
+use Rattle.std.proofs.Common.{◌≡◌, ◌≢◌, ℕ, ◌+◌, ◌≤◌, false, if◌then◌else◌, List, [], map as over, length, Some, Ok, Err, refl, sym, ap, ◌∙◌, subst, arith}
 use Rattle.std.proofs.lemmas.Bool.Decides.{nat_tests}
 use Rattle.std.specs.Prelude.{IfOk, IfErr, OnOk, OnErr}
 use Rattle.std.specs.declared.option.Option.{Option}
@@ -12,6 +12,8 @@ use Rattle.program_meaning.specs.ClassTables.{Source}
 use Rattle.program_meaning.specs.Serial.{outcomes_of}
 use Rattle.serial_order.specs.ConflictFree.{Access}
 use Rattle.reservations.specs.CommitRules.{Chosen}
+use Rattle.operator_graph.specs.Turns.{Outside}
+use Rattle.aria_batch.specs.BatchRun.{Batch, IsToldAlong}
 use Rattle.engine.specs.declared.engine.Engine.{Engine}
 use Rattle.engine.specs.declared.planned.Planned.{Planned}
 use Rattle.engine.specs.Cores.{Core}
@@ -24,7 +26,7 @@ use Rattle.batch_replies.specs.declared.counting.BatchCounts.{BatchCounts}
 use Rattle.batch_replies.specs.declared.answering.BatchStop.{BatchStop}
 use Rattle.batch_replies.specs.declared.answering.BatchStop.TheVariants.{HistoryFull, NoMemory, WriteFault}
 use Rattle.batch_replies.specs.LinesInOrder.{reply_lines}
-use Rattle.batch_replies.specs.BatchAnswers.{failure_count, AreCounts, Answers}
+use Rattle.batch_replies.specs.BatchAnswers.{failure_count, AreCounts, Answers, TellsBatch}
 use Rattle.batch_replies.proofs.ReplyLaws.{entry_lines_are, reply_outcomes}
 
 module _ (src : Source) (rule : List Access → Chosen) (limits : Limits) (core : Core) where
@@ -75,3 +77,11 @@ module _ (src : Source) (rule : List Access → Chosen) (limits : Limits) (core 
 -- the replies of a plan are those to the entries of its batch
 pub plan_replies : (e : Engine) (p : Planned) → IsPlanOf e p → p.replies ≡ replies_from (length (core_of e).history + 1) (batch_entries (source_of e) (core_of e) p.batch.committed)
 plan_replies e p plan = plan.told.replies ∙ ap (replies_from (length (core_of e).history + 1)) plan.made.entries
+
+-- what a plan told is what the batch told
+pub tells_planned : (batch : Batch) (parts events : ℕ) (result : Result BatchCounts BatchStop) (old new : Outside) → result ≢ Err HistoryFull → IfOk result (λ counts. counts.events ≡ events)
+    → IsToldAlong batch parts (Some events) old new → TellsBatch batch parts result old new
+tells_planned batch parts events (Ok counts) old new placed same told = subst (λ n. IsToldAlong batch parts (Some n) old new) (sym same) told
+tells_planned batch parts events (Err HistoryFull) old new placed same told = absurd (placed refl)
+tells_planned batch parts events (Err NoMemory) old new placed same told = record { picks = told.picks; picked = told.picked; told_of_them = told.told_of_them; ended = tt; counted_all = tt }
+tells_planned batch parts events (Err WriteFault) old new placed same told = (events, told)

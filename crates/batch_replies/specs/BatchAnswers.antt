@@ -16,7 +16,7 @@ use Rattle.operator_graph.specs.Turns.{Outside}
 use Rattle.aria_batch.specs.BatchRun.{Batch, IsToldAlong}
 use Rattle.engine.specs.declared.engine.Engine.{Engine}
 use Rattle.engine.specs.Cores.{Core}
-use Rattle.engine.specs.EngineViews.{core_of, source_of}
+use Rattle.engine.specs.EngineViews.{core_of, source_of, limit_of}
 use Rattle.engine.specs.Batches.{batch_entries, after_batch}
 use Rattle.engine.specs.RanBatches.{accesses_on}
 use Rattle.batch_output.specs.BatchOutput.{Limits, committed, has_no_place, batch_lines}
@@ -60,7 +60,8 @@ module _ (src : Source) (rule : List Access → Chosen) (limits : Limits) where
 
 -- so it is for a batch of an engine; how many requests make a batch is of no account here
 abbrev pub AnswersBatch : (List Access → Chosen) → ℕ → Result BatchCounts BatchStop → Engine → Engine → Option (List ℕ) → Option (List ℕ) → Type 0
-AnswersBatch rule size result old new held held' = Answers (source_of old) rule (record { batch = size; history = old.limit }) result (core_of old) (core_of new) held held'
+AnswersBatch rule size result old new held held' =
+    Answers (source_of old) rule (record { batch = size; history = limit_of old }) result (core_of old) (core_of new) held held'
 
 -- the rule commits these of the requests that wait
 abbrev pub IsChosenBy : (List Access → Chosen) → Engine → List ℕ → Type 0
@@ -74,9 +75,9 @@ fresh_behind (Err NoMemory) fresh = fresh
 fresh_behind (Err WriteFault) fresh = 0
 
 -- the chooser was asked, and the watch told, of the events along some picks: of all of them, as many as are counted, where the batch is
--- committed
+-- committed; and of none where the history has no place for it
 abbrev pub TellsBatch : Batch → ℕ → Result BatchCounts BatchStop → Outside → Outside → Type 0
 TellsBatch batch parts (Ok counts) old new = IsToldAlong batch parts (Some counts.events) old new
-TellsBatch batch parts (Err HistoryFull) old new = IsToldAlong batch parts None old new
+TellsBatch batch parts (Err HistoryFull) old new = new ≡ old
 TellsBatch batch parts (Err NoMemory) old new = IsToldAlong batch parts None old new
 TellsBatch batch parts (Err WriteFault) old new = (events : ℕ) × IsToldAlong batch parts (Some events) old new

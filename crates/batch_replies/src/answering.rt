@@ -1,7 +1,7 @@
 //! A batch from its run to its replies. All memory is taken before the commit, and the commit comes before
 //! the first reply.
 
-ghost use Rattle.std.specs.Prelude.{◌≡◌, ◌≤◌, ℕ, List, IfOk, IfErr, OnOk, OnErr, Err};
+ghost use Rattle.std.specs.Prelude.{◌≡◌, ◌≢◌, ◌≤◌, ℕ, List, IfOk, IfErr, OnOk, OnErr, Err};
 ghost use Rattle.std.specs.Io.KnownBytes.{Appends};
 ghost use Rattle.sf_outside.specs.Bytes.{AppendsPrefix};
 ghost use Rattle.sf_outside.specs.Causes.{Rose, HasCause};
@@ -12,7 +12,7 @@ ghost use Rattle.block_step.specs.CompiledViews.{IsWhole};
 ghost use Rattle.operator_graph.specs.Turns.{Outside};
 ghost use Rattle.aria_batch.specs.BatchRun.{batch_of};
 ghost use Rattle.engine.specs.Cores.{CoreFits, IsSoundCore};
-ghost use Rattle.engine.specs.EngineViews.{core_of, source_of, tables_of, RunsProgram};
+ghost use Rattle.engine.specs.EngineViews.{core_of, source_of, tables_of, compiled_of, limit_of, fresh_of, RunsProgram};
 ghost use Rattle.engine.specs.Plans.{IsPlanOf};
 ghost use Rattle.batch_replies.specs.BatchAnswers.{AnswersBatch, TellsBatch, IsChosenBy, fresh_behind};
 
@@ -47,17 +47,17 @@ pub fn answer_batch<R: CommitRule, K: Sink, C: Chooser, W: Watch>(
     chooser: &mut C,
     watch: &mut W,
 ) -> Result<BatchCounts, BatchStop>
-    requires whole { IsWhole engine.old.compiled }
+    requires whole { IsWhole (compiled_of engine.old) }
     requires least { 1 ≤ parts }
     requires most { parts ≤ 64 }
     requires fits { CoreFits (tables_of engine.old) (core_of engine.old) }
     ensures answers { (size : ℕ) → AnswersBatch (R.choice rule.now) size result engine.old engine.new (K.held out.old) (K.held out.new) }
-    ensures told { TellsBatch (batch_of engine.old.compiled (core_of engine.old).state (core_of engine.old).pending) parts result
+    ensures told { TellsBatch (batch_of (compiled_of engine.old) (core_of engine.old).state (core_of engine.old).pending) parts result
         (record { choices = C.choices chooser.old; told = W.told watch.old }) (record { choices = C.choices chooser.new; told = W.told watch.new }) }
-    ensures fresh { engine.new.fresh ≡ fresh_behind result engine.old.fresh }
+    ensures fresh { fresh_of engine.new ≡ fresh_behind result (fresh_of engine.old) }
     ensures later { K.faults out.old ≤ K.faults out.new }
     ensures cause { result ≡ Err BatchStop.WriteFault → Rose (K.faults out.old) (K.faults out.new) }
-    ensures runs { RunsProgram engine.new engine.old.compiled engine.old.limit }
+    ensures runs { RunsProgram engine.new (compiled_of engine.old) (limit_of engine.old) }
     ensures core_fits { CoreFits (tables_of engine.old) (core_of engine.new) }
     ensures sound { IsSoundCore (source_of engine.old) (core_of engine.old) → IsSoundCore (source_of engine.old) (core_of engine.new) }
 {
@@ -79,11 +79,12 @@ fn answer_planned<K: Sink>(
     requires fits { CoreFits (tables_of engine.old) (core_of engine.old) }
     ensures answers { (rule : List Access → Chosen) (size : ℕ) → IsChosenBy rule engine.old planned.batch.committed
         → AnswersBatch rule size result engine.old engine.new (K.held out.old) (K.held out.new) }
+    ensures placed { result ≢ Err BatchStop.HistoryFull }
     ensures events { IfOk result (λ counts. counts.events ≡ planned.events) }
-    ensures fresh { engine.new.fresh ≡ fresh_behind result engine.old.fresh }
+    ensures fresh { fresh_of engine.new ≡ fresh_behind result (fresh_of engine.old) }
     ensures later { K.faults out.old ≤ K.faults out.new }
     ensures cause { result ≡ Err BatchStop.WriteFault → Rose (K.faults out.old) (K.faults out.new) }
-    ensures runs { RunsProgram engine.new engine.old.compiled engine.old.limit }
+    ensures runs { RunsProgram engine.new (compiled_of engine.old) (limit_of engine.old) }
     ensures core_fits { CoreFits (tables_of engine.old) (core_of engine.new) }
     ensures sound { IsSoundCore (source_of engine.old) (core_of engine.old) → IsSoundCore (source_of engine.old) (core_of engine.new) }
 {

@@ -1,7 +1,8 @@
 pub mod SameProgram
 pub mod LineLaws
-pub mod ComesLaws
+pub mod RunLaws
+pub mod ReportLaws
 pub mod FeedLaws
 pub mod TakeLaws
-pub mod EndLaws
+pub mod FlushLaws
 pub mod ServeLaws

@@ -1,5 +1,5 @@
 -- Taking the input piece by piece.
-use Rattle.std.proofs.Common.{◌≡◌, ℕ, ◌+◌, ◌≤◌, List, [], ◌∷◌, ◌++◌, length, take, Some, None, Ok, Err, refl, sym, ◌∙◌, subst, arith}
+use Rattle.std.proofs.Common.{◌≡◌, ℕ, ◌+◌, ◌≤◌, Bool, List, [], ◌∷◌, ◌++◌, length, take, Some, None, Ok, Err, refl, sym, ◌∙◌, subst, arith}
 use Rattle.std.proofs.lemmas.List.{take-append-le, length-append}
 use Rattle.std.specs.declared.option.Option.{Option}
 use Rattle.std.specs.declared.result.Result.{Result}
@@ -7,20 +7,20 @@ use Rattle.std.specs.Io.KnownBytes.{Consumes, Keeps}
 use Rattle.std.proofs.KnownBytes.{Consumes-trans, Consumes-kept, Consumes-nil}
 use Rattle.request_json.specs.Actions.{rest_from}
 use Rattle.input_lines.specs.Cuts.{IsStart}
-use Rattle.engine.specs.Cores.{Core}
 use Rattle.line_answers.specs.declared.answering.LineStop.{LineStop}
+use Rattle.line_answers.specs.Services.{Service}
+use Rattle.session_steps.specs.Doings.{Point}
 use Rattle.batch_session.specs.declared.feeding.InputEnd.{InputEnd}
-use Rattle.batch_session.specs.Comes.{Service, Point}
 use Rattle.batch_session.specs.Feeds.{Feeds}
 use Rattle.batch_session.specs.Takes.{Went, WentOver, Takes}
 use Rattle.batch_session.proofs.FeedLaws.{Feeds-after, Feeds-none, Feeds-passed}
 
 -- so many bytes were taken and fed, and it goes on
-pub record Going (v : Service) (count : ℕ) (kept : List ℕ) (left left' : Option (List ℕ)) (old new : Point) : Type 0 where
+pub record Going (v : Service) (traces : Bool) (count : ℕ) (kept : List ℕ) (left left' : Option (List ℕ)) (old new : Point) : Type 0 where
   pub taken : List ℕ
   pub consumed : Consumes left left' taken
   pub counted : length taken ≡ count
-  pub fed : Feeds v {T = Unit {0}} (Ok (tt {0})) kept [] taken old new
+  pub fed : Feeds v traces {T = Unit {0}} (Ok (tt {0})) kept [] taken old new
 
 -- the bytes that a read gave are the front of the buffer
 pub front_of_buffer : (n : ℕ) (got rest : List ℕ) → n ≤ length got → take n (got ++ rest) ≡ take n got
@@ -38,38 +38,33 @@ Consumes-none None l₂ p = tt
 Consumes-none (Some x) None p = p
 Consumes-none (Some x) (Some y) p = sym p
 
--- it began before the first line
-pub Takes-first : (v : Service) (limit : ℕ) (r : Result InputEnd LineStop) (kept : List ℕ) (left left' : Option (List ℕ)) (core : Core) (lines : ℕ) (held : Option (List ℕ)) (q : Point) → lines ≡ 0
-    → Takes v limit r kept left left' (record { core = core; lines = lines; held = held }) q → Takes v limit r kept left left' (record { core = core; lines = 0; held = held }) q
-Takes-first v limit r kept left left' core lines held q none t = subst (λ n. Takes v limit r kept left left' (record { core = core; lines = n; held = held }) q) none t
-
-module _ (v : Service) where
-  pub Going-none : (kept : List ℕ) (left : Option (List ℕ)) (p : Point) → IsStart kept [] → Going v 0 kept left left p p
-  Going-none kept left p h = record { taken = []; consumed = Consumes-nil left; counted = refl; fed = Feeds-none v (tt {0}) kept [] p h }
+module _ (v : Service) (traces : Bool) where
+  pub Going-none : (kept : List ℕ) (left : Option (List ℕ)) (p : Point) → IsStart kept [] → Going v traces 0 kept left left p p
+  Going-none kept left p h = record { taken = []; consumed = Consumes-nil left; counted = refl; fed = Feeds-none v traces (tt {0}) kept [] p h }
 
   Went-step : {T : Type 0} (r : Result T LineStop) (limit count : ℕ) (k₁ k₂ : List ℕ) (left l₁ l₂ : Option (List ℕ)) (p₀ p₁ p₂ : Point) (piece : List ℕ)
-      → (w : Going v count k₁ left l₁ p₀ p₁) → Consumes l₁ l₂ piece → count + length piece ≤ limit → Feeds v r k₂ (rest_from [] w.taken) piece p₁ p₂
-      → Went v r limit k₂ left l₂ p₀ p₂
+      → (w : Going v traces count k₁ left l₁ p₀ p₁) → Consumes l₁ l₂ piece → count + length piece ≤ limit → Feeds v traces r k₂ (rest_from [] w.taken) piece p₁ p₂
+      → Went v traces r limit k₂ left l₂ p₀ p₂
   Went-step r limit count k₁ k₂ left l₁ l₂ p₀ p₁ p₂ piece w e n f = record {
     taken = w.taken ++ piece;
     consumed = Consumes-trans left l₁ l₂ w.taken piece w.consumed e;
     within = let c : length w.taken ≡ count = w.counted in omega (arith, length-append w.taken piece);
-    fed = Feeds-after v (tt {0}) r k₁ k₂ p₀ p₁ p₂ [] w.taken piece w.fed f;
+    fed = Feeds-after v traces (tt {0}) r k₁ k₂ p₀ p₁ p₂ [] w.taken piece w.fed f;
   }
 
   pub Going-step : (count : ℕ) (k₁ k₂ : List ℕ) (left l₁ l₂ : Option (List ℕ)) (p₀ p₁ p₂ : Point) (piece : List ℕ) (n : ℕ)
-      → (w : Going v count k₁ left l₁ p₀ p₁) → Consumes l₁ l₂ piece → length piece ≡ n → Feeds v {T = Unit {0}} (Ok (tt {0})) k₂ (rest_from [] w.taken) piece p₁ p₂
-      → Going v (count + n) k₂ left l₂ p₀ p₂
+      → (w : Going v traces count k₁ left l₁ p₀ p₁) → Consumes l₁ l₂ piece → length piece ≡ n → Feeds v traces {T = Unit {0}} (Ok (tt {0})) k₂ (rest_from [] w.taken) piece p₁ p₂
+      → Going v traces (count + n) k₂ left l₂ p₀ p₂
   Going-step count k₁ k₂ left l₁ l₂ p₀ p₁ p₂ piece n w e k f = record {
     taken = w.taken ++ piece;
     consumed = Consumes-trans left l₁ l₂ w.taken piece w.consumed e;
     counted = let c : length w.taken ≡ count = w.counted in omega (arith, length-append w.taken piece);
-    fed = Feeds-after v (tt {0}) (Ok (tt {0})) k₁ k₂ p₀ p₁ p₂ [] w.taken piece w.fed f;
+    fed = Feeds-after v traces (tt {0}) (Ok (tt {0})) k₁ k₂ p₀ p₁ p₂ [] w.taken piece w.fed f;
   }
 
   -- nothing more was taken
   pub Went-here : {U : Type 0} (u : U) (limit count : ℕ) (kept : List ℕ) (left l₁ l₂ : Option (List ℕ)) (p₀ p₁ : Point)
-      → Going v count kept left l₁ p₀ p₁ → Keeps l₁ l₂ → count ≤ limit → Went v (Ok u) limit kept left l₂ p₀ p₁
+      → Going v traces count kept left l₁ p₀ p₁ → Keeps l₁ l₂ → count ≤ limit → Went v traces (Ok u) limit kept left l₂ p₀ p₁
   Went-here u limit count kept left l₁ l₂ p₀ p₁ w e n = record {
     taken = w.taken;
     consumed = Consumes-kept left l₁ l₂ w.taken w.consumed e;
@@ -78,7 +73,7 @@ module _ (v : Service) where
   }
 
   pub Went-over : {U : Type 0} (u : U) (limit count : ℕ) (kept : List ℕ) (left l₁ l₂ : Option (List ℕ)) (p₀ p₁ : Point) (more : List ℕ)
-      → Going v count kept left l₁ p₀ p₁ → count ≡ limit → length more ≡ 1 → Consumes l₁ l₂ more → WentOver v (Ok u) limit kept left l₂ p₀ p₁
+      → Going v traces count kept left l₁ p₀ p₁ → count ≡ limit → length more ≡ 1 → Consumes l₁ l₂ more → WentOver v traces (Ok u) limit kept left l₂ p₀ p₁
   Went-over u limit count kept left l₁ l₂ p₀ p₁ more w e n m = let one = only_byte more n in record {
     before = l₁;
     went = record {
@@ -94,8 +89,8 @@ module _ (v : Service) where
 
   -- the session stopped while it answered the lines of a piece
   pub Takes-stopped : (V : Type 0) (stop : LineStop) (r : Result InputEnd LineStop) (limit count : ℕ) (k₁ k₂ : List ℕ) (left l₁ l₂ : Option (List ℕ)) (p₀ p₁ p₂ : Point) (piece fed : List ℕ) → r ≡ Err stop
-      → (w : Going v count k₁ left l₁ p₀ p₁) → Consumes l₁ l₂ piece → fed ≡ piece → count + length piece ≤ limit → Feeds v {T = V} (Err stop) k₂ (rest_from [] w.taken) fed p₁ p₂
-      → Takes v limit r k₂ left l₂ p₀ p₂
+      → (w : Going v traces count k₁ left l₁ p₀ p₁) → Consumes l₁ l₂ piece → fed ≡ piece → count + length piece ≤ limit → Feeds v traces {T = V} (Err stop) k₂ (rest_from [] w.taken) fed p₁ p₂
+      → Takes v traces limit r k₂ left l₂ p₀ p₂
   Takes-stopped V stop r limit count k₁ k₂ left l₁ l₂ p₀ p₁ p₂ piece fed k w c same n f =
-      let q : Feeds v {T = V} (Err stop) k₂ (rest_from [] w.taken) piece p₁ p₂ = subst (λ bytes. Feeds v {T = V} (Err stop) k₂ (rest_from [] w.taken) bytes p₁ p₂) same f in
-      subst (λ x. Takes v limit x k₂ left l₂ p₀ p₂) (sym k) (Went-step (Err stop) limit count k₁ k₂ left l₁ l₂ p₀ p₁ p₂ piece w c n (Feeds-passed v V stop (Err stop) k₂ _ piece p₁ p₂ refl q))
+      let q : Feeds v traces {T = V} (Err stop) k₂ (rest_from [] w.taken) piece p₁ p₂ = subst (λ bytes. Feeds v traces {T = V} (Err stop) k₂ (rest_from [] w.taken) bytes p₁ p₂) same f in
+      subst (λ x. Takes v traces limit x k₂ left l₂ p₀ p₂) (sym k) (Went-step (Err stop) limit count k₁ k₂ left l₁ l₂ p₀ p₁ p₂ piece w c n (Feeds-passed v traces V stop (Err stop) k₂ _ piece p₁ p₂ refl q))

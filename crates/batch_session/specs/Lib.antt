@@ -1,5 +1,5 @@
-pub mod Comes
+pub mod Points
 pub mod Feeds
 pub mod Takes
+pub mod Faults
 pub mod Served
-pub mod Tallies

@@ -1,34 +1,35 @@
 -- What a session in batches does with its input.
-use Rattle.std.specs.Prelude.{◌≡◌, ℕ, ◌≤◌, List, [], ◌∷◌, length, Ok, Err}
+use Rattle.std.specs.Prelude.{◌≡◌, ℕ, ◌≤◌, Bool, List, [], ◌∷◌, length, Ok, Err}
 use Rattle.std.specs.declared.option.Option.{Option}
 use Rattle.std.specs.declared.result.Result.{Result}
 use Rattle.std.specs.Io.KnownBytes.{Consumes, IsAtEnd}
 use Rattle.line_answers.specs.declared.answering.LineStop.{LineStop}
+use Rattle.line_answers.specs.Services.{Service}
+use Rattle.session_steps.specs.Doings.{Point}
 use Rattle.batch_session.specs.declared.feeding.InputEnd.{InputEnd}
 use Rattle.batch_session.specs.declared.feeding.InputEnd.TheVariants.{End, ReadFault, TooLong}
-use Rattle.batch_session.specs.Comes.{Service, Point}
 use Rattle.batch_session.specs.Feeds.{Feeds}
 
 -- these bytes were taken and fed
-pub record Went {T : Type 0} (v : Service) (result : Result T LineStop) (limit : ℕ) (kept : List ℕ) (left left' : Option (List ℕ))
+pub record Went {T : Type 0} (v : Service) (traces : Bool) (result : Result T LineStop) (limit : ℕ) (kept : List ℕ) (left left' : Option (List ℕ))
     (old new : Point) : Type 0 where
   pub taken : List ℕ
   pub consumed : Consumes left left' taken
   pub within : length taken ≤ limit
-  pub fed : Feeds v result kept [] taken old new
+  pub fed : Feeds v traces result kept [] taken old new
 
 -- more bytes than the limit came: so many were fed, and exactly one more was taken
-pub record WentOver {T : Type 0} (v : Service) (result : Result T LineStop) (limit : ℕ) (kept : List ℕ) (left left' : Option (List ℕ))
+pub record WentOver {T : Type 0} (v : Service) (traces : Bool) (result : Result T LineStop) (limit : ℕ) (kept : List ℕ) (left left' : Option (List ℕ))
     (old new : Point) : Type 0 where
   pub before : Option (List ℕ)
-  pub went : Went v result limit kept left before old new
+  pub went : Went v traces result limit kept left before old new
   pub full : length went.taken ≡ limit
   pub next : ℕ
   pub beyond : Consumes before left' (next ∷ [])
 
 -- the input ended, could not be read, or was too long; or the session stopped
-abbrev pub Takes : Service → ℕ → Result InputEnd LineStop → List ℕ → Option (List ℕ) → Option (List ℕ) → Point → Point → Type 0
-Takes v limit (Ok End) kept left left' old new = Went {T = InputEnd} v (Ok End) limit kept left left' old new × IsAtEnd left'
-Takes v limit (Ok ReadFault) kept left left' old new = Went {T = InputEnd} v (Ok ReadFault) limit kept left left' old new
-Takes v limit (Ok TooLong) kept left left' old new = WentOver {T = InputEnd} v (Ok TooLong) limit kept left left' old new
-Takes v limit (Err stop) kept left left' old new = Went {T = InputEnd} v (Err stop) limit kept left left' old new
+abbrev pub Takes : Service → Bool → ℕ → Result InputEnd LineStop → List ℕ → Option (List ℕ) → Option (List ℕ) → Point → Point → Type 0
+Takes v traces limit (Ok End) kept left left' old new = Went {T = InputEnd} v traces (Ok End) limit kept left left' old new × IsAtEnd left'
+Takes v traces limit (Ok ReadFault) kept left left' old new = Went {T = InputEnd} v traces (Ok ReadFault) limit kept left left' old new
+Takes v traces limit (Ok TooLong) kept left left' old new = WentOver {T = InputEnd} v traces (Ok TooLong) limit kept left left' old new
+Takes v traces limit (Err stop) kept left left' old new = Went {T = InputEnd} v traces (Err stop) limit kept left left' old new

@@ -1,54 +1,95 @@
 //! Batches at the end of the input, until nothing waits.
 
-ghost use Rattle.std.specs.Prelude.{◌≡◌, ◌≤◌, ℕ, [], OnOk, Err};
+ghost use Rattle.std.specs.Prelude.{◌≡◌, ◌≤◌, ◌<◌, ◌⊎◌, ℕ, [], length, OnOk, Err};
 ghost use Rattle.sf_outside.specs.Causes.{Rose};
 ghost use Rattle.block_step.specs.CompiledViews.{IsWhole};
 ghost use Rattle.engine.specs.Cores.{CoreFits, IsSoundCore};
-ghost use Rattle.engine.specs.EngineViews.{core_of, source_of, tables_of, RunsProgram};
-ghost use Rattle.batch_session.specs.Comes.{service_of, point_of, stop_of};
-ghost use Rattle.batch_session.specs.Feeds.{RunsWaiting};
+ghost use Rattle.engine.specs.EngineViews.{core_of, source_of, tables_of, compiled_of, limit_of, RunsProgram};
+ghost use Rattle.line_answers.specs.Services.{service_of};
+ghost use Rattle.batch_session.specs.Points.{point_of, stop_of};
+ghost use Rattle.batch_session.specs.Feeds.{RunsOne, RunsWaiting};
 
-use crate::tally::Tally;
+use crate::reporting::report;
+use crate::settings::Settings;
 use batch_replies::{BatchStop, answer_batch};
 use engine::Engine;
-use line_answers::{Batching, LineStop};
+use line_answers::LineStop;
 use operator_graph::Watch;
 use reservations::CommitRule;
+use session_steps::Tally;
 use sf_list::Sequence;
 use sf_outside::{Chooser, Sink};
 use std::alloc::Global;
 
-/// Runs batches until nothing waits, each as `answer_batch` does it.
-pub(crate) fn run_waiting<R: CommitRule, K: Sink, C: Chooser, W: Watch>(
+/// Runs batches until nothing waits.
+pub(crate) fn run_waiting<R: CommitRule, K: Sink, E: Sink, C: Chooser, W: Watch>(
     alloc: Global,
     engine: &mut Engine,
-    batching: &Batching,
+    settings: &Settings,
     out: &mut K,
+    err: &mut E,
     rule: &R,
     chooser: &mut C,
     watch: &mut W,
     tally: &mut Tally,
 ) -> Result<(), LineStop>
-    requires whole { IsWhole engine.old.compiled }
-    requires least { 1 ≤ batching.now.parts }
-    requires most { batching.now.parts ≤ 64 }
+    requires whole { IsWhole (compiled_of engine.old) }
+    requires least { 1 ≤ settings.now.parts }
+    requires most { settings.now.parts ≤ 64 }
     requires fits { CoreFits (tables_of engine.old) (core_of engine.old) }
-    ensures runs_waiting { (lines : ℕ) → RunsWaiting (service_of engine.old (R.choice rule.now) batching.now.batch) result
-        (point_of engine.old lines (K.held out.old)) (point_of engine.new lines (K.held out.new)) }
+    ensures runs_waiting { (lines : ℕ)
+        → RunsWaiting (service_of engine.old (R.choice rule.now) settings.now.batch settings.now.parts) settings.now.trace result
+        (point_of engine.old lines tally.old (K.held out.old) (E.held err.old) (C.choices chooser.old) (W.told watch.old))
+        (point_of engine.new lines tally.new (K.held out.new) (E.held err.new) (C.choices chooser.new) (W.told watch.new)) }
     ensures none { OnOk result ((core_of engine.new).pending ≡ []) }
     ensures later { K.faults out.old ≤ K.faults out.new }
-    ensures cause { result ≡ Err LineStop.WriteFault → Rose (K.faults out.old) (K.faults out.new) }
-    ensures runs { RunsProgram engine.new engine.old.compiled engine.old.limit }
+    ensures later_err { E.faults err.old ≤ E.faults err.new }
+    ensures cause { result ≡ Err LineStop.WriteFault → Rose (K.faults out.old) (K.faults out.new) ⊎ Rose (E.faults err.old) (E.faults err.new) }
+    ensures runs { RunsProgram engine.new (compiled_of engine.old) (limit_of engine.old) }
     ensures core_fits { CoreFits (tables_of engine.old) (core_of engine.new) }
     ensures sound { IsSoundCore (source_of engine.old) (core_of engine.old) → IsSoundCore (source_of engine.old) (core_of engine.new) }
 {
     while !engine.pending().is_empty() {
-        match answer_batch(alloc, engine, batching.parts, rule, out, chooser, watch) {
-            Ok(counts) => tally.count(counts),
-            Err(stop) => return Err(stop_of(stop)),
-        }
+        run_batch(
+            alloc, engine, settings, out, err, rule, chooser, watch, tally,
+        )?;
     }
     Ok(())
+}
+
+/// Runs a batch of all that wait, as `answer_batch` does it, and reports it.
+fn run_batch<R: CommitRule, K: Sink, E: Sink, C: Chooser, W: Watch>(
+    alloc: Global,
+    engine: &mut Engine,
+    settings: &Settings,
+    out: &mut K,
+    err: &mut E,
+    rule: &R,
+    chooser: &mut C,
+    watch: &mut W,
+    tally: &mut Tally,
+) -> Result<(), LineStop>
+    requires whole { IsWhole (compiled_of engine.old) }
+    requires least { 1 ≤ settings.now.parts }
+    requires most { settings.now.parts ≤ 64 }
+    requires some { 0 < length (core_of engine.old).pending }
+    requires fits { CoreFits (tables_of engine.old) (core_of engine.old) }
+    ensures runs_one { (lines : ℕ)
+        → RunsOne (service_of engine.old (R.choice rule.now) settings.now.batch settings.now.parts) settings.now.trace result
+        (point_of engine.old lines tally.old (K.held out.old) (E.held err.old) (C.choices chooser.old) (W.told watch.old))
+        (point_of engine.new lines tally.new (K.held out.new) (E.held err.new) (C.choices chooser.new) (W.told watch.new)) }
+    ensures fewer { OnOk result (length (core_of engine.new).pending < length (core_of engine.old).pending) }
+    ensures later { K.faults out.old ≤ K.faults out.new }
+    ensures later_err { E.faults err.old ≤ E.faults err.new }
+    ensures cause { result ≡ Err LineStop.WriteFault → Rose (K.faults out.old) (K.faults out.new) ⊎ Rose (E.faults err.old) (E.faults err.new) }
+    ensures runs { RunsProgram engine.new (compiled_of engine.old) (limit_of engine.old) }
+    ensures core_fits { CoreFits (tables_of engine.old) (core_of engine.new) }
+    ensures sound { IsSoundCore (source_of engine.old) (core_of engine.old) → IsSoundCore (source_of engine.old) (core_of engine.new) }
+{
+    match answer_batch(alloc, engine, settings.parts, rule, out, chooser, watch) {
+        Ok(counts) => report(err, settings.trace, tally, counts),
+        Err(stop) => Err(stop_of(stop)),
+    }
 }
 
 /// Why a session stops where a batch did.

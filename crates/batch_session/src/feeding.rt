@@ -1,28 +1,28 @@
 //! The input, piece by piece: each line is answered as soon as it is whole, and a batch runs where one is due.
 
-ghost use Rattle.std.specs.Prelude.{◌≡◌, ◌≤◌, ◌<◌, ◌+◌, ◌^◌, min, length, [], IfOk, OnOk, Ok, Err};
+ghost use Rattle.std.specs.Prelude.{◌≡◌, ◌≤◌, ◌<◌, ◌+◌, ◌^◌, ◌⊎◌, length, [], IfOk, OnOk, Ok, Err};
 ghost use Rattle.sf_outside.specs.Causes.{Rose};
 ghost use Rattle.block_step.specs.CompiledViews.{IsWhole};
 ghost use Rattle.engine.specs.Cores.{CoreFits, IsSoundCore};
-ghost use Rattle.engine.specs.EngineViews.{core_of, source_of, tables_of, RunsProgram};
+ghost use Rattle.engine.specs.EngineViews.{core_of, source_of, tables_of, compiled_of, limit_of, RunsProgram};
 ghost use Rattle.input_lines.specs.Cuts.{IsWithin};
-ghost use Rattle.batch_session.specs.Comes.{service_of, point_of};
+ghost use Rattle.line_answers.specs.Services.{service_of};
+ghost use Rattle.session_steps.specs.Traces.{no_batch};
+ghost use Rattle.batch_session.specs.Points.{point_of};
 ghost use Rattle.batch_session.specs.Feeds.{AnswersKept, FeedsBytes, fed_of, AnswersLast, Finishes};
 ghost use Rattle.batch_session.specs.Takes.{Takes};
-ghost use Rattle.batch_session.specs.Tallies.{no_batch};
 
 use crate::ending::run_waiting;
-use crate::tally::Tally;
+use crate::reporting::report;
+use crate::settings::Settings;
 use engine::Engine;
-use input_lines::LineBuffer;
+use input_lines::{LineBuffer, PIECE, next_piece};
 use line_answers::{Batching, InputLine, LineStop, answer_line};
 use operator_graph::Watch;
 use reservations::CommitRule;
+use session_steps::Tally;
 use sf_outside::{Chooser, Sink, Source};
 use std::alloc::Global;
-
-/// How many bytes one read may take.
-pub(crate) const PIECE: usize = 4096;
 
 /// How the input ended, where the session didn't stop before.
 #[derive(Clone, Copy, PartialEq, Eq, Debug)]
@@ -55,85 +55,102 @@ impl Intake {
         }
     }
 
-    /// Answers the line that is kept.
-    fn answer<R: CommitRule, K: Sink, C: Chooser, W: Watch>(
+    /// Answers the line that is kept, and reports the batch that ran.
+    fn answer<R: CommitRule, K: Sink, E: Sink, C: Chooser, W: Watch>(
         &mut self,
         alloc: Global,
         engine: &mut Engine,
-        batching: &Batching,
+        settings: &Settings,
         ended: bool,
         out: &mut K,
+        err: &mut E,
         rule: &R,
         chooser: &mut C,
         watch: &mut W,
     ) -> Result<(), LineStop>
-        requires whole { IsWhole engine.old.compiled }
-        requires batch { batching.now.batch ≤ 256 }
-        requires least { 1 ≤ batching.now.parts }
-        requires most { batching.now.parts ≤ 64 }
-        requires few { length (core_of engine.old).pending < batching.now.batch }
+        requires whole { IsWhole (compiled_of engine.old) }
+        requires batch { settings.now.batch ≤ 256 }
+        requires least { 1 ≤ settings.now.parts }
+        requires most { settings.now.parts ≤ 64 }
+        requires few { length (core_of engine.old).pending < settings.now.batch }
         requires fits { CoreFits (tables_of engine.old) (core_of engine.old) }
         requires lines { self.old.lines + 1 < 2 ^ 64 }
-        ensures answers { AnswersKept (service_of engine.old (R.choice rule.now) batching.now.batch) result ended self.old.line
-            (point_of engine.old self.old.lines (K.held out.old)) (point_of engine.new self.new.lines (K.held out.new)) }
+        ensures answers { AnswersKept (service_of engine.old (R.choice rule.now) settings.now.batch settings.now.parts)
+            settings.now.trace result ended self.old.line
+            (point_of engine.old self.old.lines self.old.tally (K.held out.old) (E.held err.old) (C.choices chooser.old) (W.told watch.old))
+            (point_of engine.new self.new.lines self.new.tally (K.held out.new) (E.held err.new) (C.choices chooser.new) (W.told watch.new)) }
         ensures within { self.new.lines ≤ self.old.lines + 1 }
         ensures kept { OnOk result (self.new.line ≡ []) }
         ensures later { K.faults out.old ≤ K.faults out.new }
-        ensures cause { result ≡ Err LineStop.WriteFault → Rose (K.faults out.old) (K.faults out.new) }
-        ensures few { OnOk result (length (core_of engine.new).pending < batching.now.batch) }
-        ensures runs { RunsProgram engine.new engine.old.compiled engine.old.limit }
+        ensures later_err { E.faults err.old ≤ E.faults err.new }
+        ensures cause { result ≡ Err LineStop.WriteFault → Rose (K.faults out.old) (K.faults out.new) ⊎ Rose (E.faults err.old) (E.faults err.new) }
+        ensures few { OnOk result (length (core_of engine.new).pending < settings.now.batch) }
+        ensures runs { RunsProgram engine.new (compiled_of engine.old) (limit_of engine.old) }
         ensures core_fits { CoreFits (tables_of engine.old) (core_of engine.new) }
         ensures sound { IsSoundCore (source_of engine.old) (core_of engine.old) → IsSoundCore (source_of engine.old) (core_of engine.new) }
     {
+        let batching = Batching {
+            batch: settings.batch,
+            parts: settings.parts,
+        };
         let line = InputLine {
             bytes: self.line.as_slice(),
             ended,
             number: self.lines + 1,
         };
-        match answer_line(alloc, engine, batching, line, out, rule, chooser, watch) {
-            Ok(None) => {}
-            Ok(Some(counts)) => self.tally.count(counts),
-            Err(stop) => return Err(stop),
+        match answer_line(alloc, engine, &batching, line, out, rule, chooser, watch) {
+            Ok(ran) => {
+                self.lines += 1;
+                self.line.clear();
+                match ran {
+                    Some(counts) => report(err, settings.trace, &mut self.tally, counts),
+                    None => Ok(()),
+                }
+            }
+            Err(stop) => Err(stop),
         }
-        self.lines += 1;
-        self.line.clear();
-        Ok(())
     }
 
     /// Takes the next bytes of the input up to a line end, and answers the line that they end; or all of
     /// them, where they end none. It answers how many bytes came to the line's end.
-    fn take_line<R: CommitRule, K: Sink, C: Chooser, W: Watch>(
+    fn take_line<R: CommitRule, K: Sink, E: Sink, C: Chooser, W: Watch>(
         &mut self,
         alloc: Global,
         engine: &mut Engine,
-        batching: &Batching,
+        settings: &Settings,
         piece: &[u8],
         out: &mut K,
+        err: &mut E,
         rule: &R,
         chooser: &mut C,
         watch: &mut W,
     ) -> Result<Option<usize>, LineStop>
-        requires whole { IsWhole engine.old.compiled }
-        requires batch { batching.now.batch ≤ 256 }
-        requires least { 1 ≤ batching.now.parts }
-        requires most { batching.now.parts ≤ 64 }
-        requires few { length (core_of engine.old).pending < batching.now.batch }
+        requires whole { IsWhole (compiled_of engine.old) }
+        requires batch { settings.now.batch ≤ 256 }
+        requires least { 1 ≤ settings.now.parts }
+        requires most { settings.now.parts ≤ 64 }
+        requires few { length (core_of engine.old).pending < settings.now.batch }
         requires fits { CoreFits (tables_of engine.old) (core_of engine.old) }
         requires lines { self.old.lines + length piece.now < 2 ^ 64 }
         ensures within { IfOk result (λ taken. IsWithin piece.now taken) }
         ensures lines { self.new.lines ≤ self.old.lines + length (fed_of result piece.now) }
-        ensures feeds { FeedsBytes (service_of engine.old (R.choice rule.now) batching.now.batch) result self.old.line self.new.line (fed_of result piece.now)
-            (point_of engine.old self.old.lines (K.held out.old)) (point_of engine.new self.new.lines (K.held out.new)) }
+        ensures feeds { FeedsBytes (service_of engine.old (R.choice rule.now) settings.now.batch settings.now.parts)
+            settings.now.trace result self.old.line self.new.line (fed_of result piece.now)
+            (point_of engine.old self.old.lines self.old.tally (K.held out.old) (E.held err.old) (C.choices chooser.old) (W.told watch.old))
+            (point_of engine.new self.new.lines self.new.tally (K.held out.new) (E.held err.new) (C.choices chooser.new) (W.told watch.new)) }
         ensures later { K.faults out.old ≤ K.faults out.new }
-        ensures cause { result ≡ Err LineStop.WriteFault → Rose (K.faults out.old) (K.faults out.new) }
-        ensures few { OnOk result (length (core_of engine.new).pending < batching.now.batch) }
-        ensures runs { RunsProgram engine.new engine.old.compiled engine.old.limit }
+        ensures later_err { E.faults err.old ≤ E.faults err.new }
+        ensures cause { result ≡ Err LineStop.WriteFault → Rose (K.faults out.old) (K.faults out.new) ⊎ Rose (E.faults err.old) (E.faults err.new) }
+        ensures few { OnOk result (length (core_of engine.new).pending < settings.now.batch) }
+        ensures runs { RunsProgram engine.new (compiled_of engine.old) (limit_of engine.old) }
         ensures core_fits { CoreFits (tables_of engine.old) (core_of engine.new) }
         ensures sound { IsSoundCore (source_of engine.old) (core_of engine.old) → IsSoundCore (source_of engine.old) (core_of engine.new) }
     {
         match self.line.take_line(piece) {
             Ok(Some(count)) => {
-                self.answer(alloc, engine, batching, true, out, rule, chooser, watch)?;
+                self.answer(
+                    alloc, engine, settings, true, out, err, rule, chooser, watch,
+                )?;
                 Ok(Some(count))
             }
             Ok(None) => Ok(None),
@@ -142,31 +159,35 @@ impl Intake {
     }
 
     /// Takes the next bytes of the input, and answers each line that they end.
-    fn take_piece<R: CommitRule, K: Sink, C: Chooser, W: Watch>(
+    fn take_piece<R: CommitRule, K: Sink, E: Sink, C: Chooser, W: Watch>(
         &mut self,
         alloc: Global,
         engine: &mut Engine,
-        batching: &Batching,
+        settings: &Settings,
         piece: &[u8],
         out: &mut K,
+        err: &mut E,
         rule: &R,
         chooser: &mut C,
         watch: &mut W,
     ) -> Result<(), LineStop>
-        requires whole { IsWhole engine.old.compiled }
-        requires batch { batching.now.batch ≤ 256 }
-        requires least { 1 ≤ batching.now.parts }
-        requires most { batching.now.parts ≤ 64 }
-        requires few { length (core_of engine.old).pending < batching.now.batch }
+        requires whole { IsWhole (compiled_of engine.old) }
+        requires batch { settings.now.batch ≤ 256 }
+        requires least { 1 ≤ settings.now.parts }
+        requires most { settings.now.parts ≤ 64 }
+        requires few { length (core_of engine.old).pending < settings.now.batch }
         requires fits { CoreFits (tables_of engine.old) (core_of engine.old) }
         requires lines { self.old.lines + length piece.now < 2 ^ 64 }
         ensures lines { self.new.lines ≤ self.old.lines + length piece.now }
-        ensures feeds { FeedsBytes (service_of engine.old (R.choice rule.now) batching.now.batch) result self.old.line self.new.line piece.now
-            (point_of engine.old self.old.lines (K.held out.old)) (point_of engine.new self.new.lines (K.held out.new)) }
+        ensures feeds { FeedsBytes (service_of engine.old (R.choice rule.now) settings.now.batch settings.now.parts)
+            settings.now.trace result self.old.line self.new.line piece.now
+            (point_of engine.old self.old.lines self.old.tally (K.held out.old) (E.held err.old) (C.choices chooser.old) (W.told watch.old))
+            (point_of engine.new self.new.lines self.new.tally (K.held out.new) (E.held err.new) (C.choices chooser.new) (W.told watch.new)) }
         ensures later { K.faults out.old ≤ K.faults out.new }
-        ensures cause { result ≡ Err LineStop.WriteFault → Rose (K.faults out.old) (K.faults out.new) }
-        ensures few { OnOk result (length (core_of engine.new).pending < batching.now.batch) }
-        ensures runs { RunsProgram engine.new engine.old.compiled engine.old.limit }
+        ensures later_err { E.faults err.old ≤ E.faults err.new }
+        ensures cause { result ≡ Err LineStop.WriteFault → Rose (K.faults out.old) (K.faults out.new) ⊎ Rose (E.faults err.old) (E.faults err.new) }
+        ensures few { OnOk result (length (core_of engine.new).pending < settings.now.batch) }
+        ensures runs { RunsProgram engine.new (compiled_of engine.old) (limit_of engine.old) }
         ensures core_fits { CoreFits (tables_of engine.old) (core_of engine.new) }
         ensures sound { IsSoundCore (source_of engine.old) (core_of engine.old) → IsSoundCore (source_of engine.old) (core_of engine.new) }
     {
@@ -174,9 +195,10 @@ impl Intake {
         while let Some(count) = self.take_line(
             alloc,
             engine,
-            batching,
+            settings,
             &piece[start..],
             out,
+            err,
             rule,
             chooser,
             watch,
@@ -186,44 +208,48 @@ impl Intake {
         Ok(())
     }
 
-    /// Takes at most `limit` bytes, piece by piece, and answers each line as soon as it is whole.
-    pub(crate) fn take_input<R: CommitRule, S: Source, K: Sink, C: Chooser, W: Watch>(
+    /// Takes at most as many bytes as the settings allow, piece by piece, and answers each line as soon as
+    /// it is whole.
+    pub(crate) fn take_input<R: CommitRule, S: Source, K: Sink, E: Sink, C: Chooser, W: Watch>(
         &mut self,
         alloc: Global,
         engine: &mut Engine,
-        batching: &Batching,
-        limit: u64,
+        settings: &Settings,
         input: &mut S,
         out: &mut K,
+        err: &mut E,
         rule: &R,
         chooser: &mut C,
         watch: &mut W,
     ) -> Result<InputEnd, LineStop>
-        requires whole { IsWhole engine.old.compiled }
-        requires batch { batching.now.batch ≤ 256 }
-        requires least { 1 ≤ batching.now.parts }
-        requires most { batching.now.parts ≤ 64 }
-        requires few { length (core_of engine.old).pending < batching.now.batch }
+        requires whole { IsWhole (compiled_of engine.old) }
+        requires batch { settings.now.batch ≤ 256 }
+        requires least { 1 ≤ settings.now.parts }
+        requires most { settings.now.parts ≤ 64 }
+        requires few { length (core_of engine.old).pending < settings.now.batch }
         requires fits { CoreFits (tables_of engine.old) (core_of engine.old) }
         requires fresh { self.old.line ≡ [] }
         requires lines { self.old.lines ≡ 0 }
-        requires limit { limit ≤ 2 ^ 62 }
-        ensures lines { self.new.lines ≤ limit }
+        requires limit { settings.now.limit ≤ 2 ^ 62 }
+        ensures lines { self.new.lines ≤ settings.now.limit }
         ensures read { S.faults input.old ≤ S.faults input.new }
         ensures fault { result ≡ Ok InputEnd.ReadFault → Rose (S.faults input.old) (S.faults input.new) }
-        ensures takes { Takes (service_of engine.old (R.choice rule.now) batching.now.batch) limit result self.new.line (S.left input.old) (S.left input.new)
-            (point_of engine.old self.old.lines (K.held out.old)) (point_of engine.new self.new.lines (K.held out.new)) }
+        ensures takes { Takes (service_of engine.old (R.choice rule.now) settings.now.batch settings.now.parts) settings.now.trace settings.now.limit result
+            self.new.line (S.left input.old) (S.left input.new)
+            (point_of engine.old self.old.lines self.old.tally (K.held out.old) (E.held err.old) (C.choices chooser.old) (W.told watch.old))
+            (point_of engine.new self.new.lines self.new.tally (K.held out.new) (E.held err.new) (C.choices chooser.new) (W.told watch.new)) }
         ensures later { K.faults out.old ≤ K.faults out.new }
-        ensures cause { result ≡ Err LineStop.WriteFault → Rose (K.faults out.old) (K.faults out.new) }
-        ensures few { OnOk result (length (core_of engine.new).pending < batching.now.batch) }
-        ensures runs { RunsProgram engine.new engine.old.compiled engine.old.limit }
+        ensures later_err { E.faults err.old ≤ E.faults err.new }
+        ensures cause { result ≡ Err LineStop.WriteFault → Rose (K.faults out.old) (K.faults out.new) ⊎ Rose (E.faults err.old) (E.faults err.new) }
+        ensures few { OnOk result (length (core_of engine.new).pending < settings.now.batch) }
+        ensures runs { RunsProgram engine.new (compiled_of engine.old) (limit_of engine.old) }
         ensures core_fits { CoreFits (tables_of engine.old) (core_of engine.new) }
         ensures sound { IsSoundCore (source_of engine.old) (core_of engine.old) → IsSoundCore (source_of engine.old) (core_of engine.new) }
     {
         let mut buf = [0; PIECE];
         let mut taken: u64 = 0;
-        while taken < limit {
-            let room = least(limit - taken);
+        while taken < settings.limit {
+            let room = next_piece(settings.limit - taken);
             match input.read(&mut buf[..room]) {
                 Err(_) => return Ok(InputEnd::ReadFault),
                 Ok(0) => return Ok(InputEnd::End),
@@ -231,9 +257,10 @@ impl Intake {
                     self.take_piece(
                         alloc,
                         engine,
-                        batching,
+                        settings,
                         &buf[..count],
                         out,
+                        err,
                         rule,
                         chooser,
                         watch,
@@ -250,88 +277,84 @@ impl Intake {
     }
 
     /// Answers a last line without LF, where it has a byte.
-    fn take_last<R: CommitRule, K: Sink, C: Chooser, W: Watch>(
+    fn take_last<R: CommitRule, K: Sink, E: Sink, C: Chooser, W: Watch>(
         &mut self,
         alloc: Global,
         engine: &mut Engine,
-        batching: &Batching,
+        settings: &Settings,
         out: &mut K,
+        err: &mut E,
         rule: &R,
         chooser: &mut C,
         watch: &mut W,
     ) -> Result<(), LineStop>
-        requires whole { IsWhole engine.old.compiled }
-        requires batch { batching.now.batch ≤ 256 }
-        requires least { 1 ≤ batching.now.parts }
-        requires most { batching.now.parts ≤ 64 }
-        requires few { length (core_of engine.old).pending < batching.now.batch }
+        requires whole { IsWhole (compiled_of engine.old) }
+        requires batch { settings.now.batch ≤ 256 }
+        requires least { 1 ≤ settings.now.parts }
+        requires most { settings.now.parts ≤ 64 }
+        requires few { length (core_of engine.old).pending < settings.now.batch }
         requires fits { CoreFits (tables_of engine.old) (core_of engine.old) }
         requires lines { self.old.lines + 1 < 2 ^ 64 }
-        ensures answers { AnswersLast (service_of engine.old (R.choice rule.now) batching.now.batch) result self.old.line
-            (point_of engine.old self.old.lines (K.held out.old)) (point_of engine.new self.new.lines (K.held out.new)) }
+        ensures answers { AnswersLast (service_of engine.old (R.choice rule.now) settings.now.batch settings.now.parts) settings.now.trace result self.old.line
+            (point_of engine.old self.old.lines self.old.tally (K.held out.old) (E.held err.old) (C.choices chooser.old) (W.told watch.old))
+            (point_of engine.new self.new.lines self.new.tally (K.held out.new) (E.held err.new) (C.choices chooser.new) (W.told watch.new)) }
         ensures later { K.faults out.old ≤ K.faults out.new }
-        ensures cause { result ≡ Err LineStop.WriteFault → Rose (K.faults out.old) (K.faults out.new) }
-        ensures few { OnOk result (length (core_of engine.new).pending < batching.now.batch) }
-        ensures runs { RunsProgram engine.new engine.old.compiled engine.old.limit }
+        ensures later_err { E.faults err.old ≤ E.faults err.new }
+        ensures cause { result ≡ Err LineStop.WriteFault → Rose (K.faults out.old) (K.faults out.new) ⊎ Rose (E.faults err.old) (E.faults err.new) }
+        ensures few { OnOk result (length (core_of engine.new).pending < settings.now.batch) }
+        ensures runs { RunsProgram engine.new (compiled_of engine.old) (limit_of engine.old) }
         ensures core_fits { CoreFits (tables_of engine.old) (core_of engine.new) }
         ensures sound { IsSoundCore (source_of engine.old) (core_of engine.old) → IsSoundCore (source_of engine.old) (core_of engine.new) }
     {
         if self.line.is_empty() {
             return Ok(());
         }
-        self.answer(alloc, engine, batching, false, out, rule, chooser, watch)
+        self.answer(
+            alloc, engine, settings, false, out, err, rule, chooser, watch,
+        )
     }
 
     /// The end of the input: answers a last line, and runs batches until nothing waits.
-    pub(crate) fn finish<R: CommitRule, K: Sink, C: Chooser, W: Watch>(
+    pub(crate) fn finish<R: CommitRule, K: Sink, E: Sink, C: Chooser, W: Watch>(
         &mut self,
         alloc: Global,
         engine: &mut Engine,
-        batching: &Batching,
+        settings: &Settings,
         out: &mut K,
+        err: &mut E,
         rule: &R,
         chooser: &mut C,
         watch: &mut W,
     ) -> Result<(), LineStop>
-        requires whole { IsWhole engine.old.compiled }
-        requires batch { batching.now.batch ≤ 256 }
-        requires least { 1 ≤ batching.now.parts }
-        requires most { batching.now.parts ≤ 64 }
-        requires few { length (core_of engine.old).pending < batching.now.batch }
+        requires whole { IsWhole (compiled_of engine.old) }
+        requires batch { settings.now.batch ≤ 256 }
+        requires least { 1 ≤ settings.now.parts }
+        requires most { settings.now.parts ≤ 64 }
+        requires few { length (core_of engine.old).pending < settings.now.batch }
         requires fits { CoreFits (tables_of engine.old) (core_of engine.old) }
         requires lines { self.old.lines + 1 < 2 ^ 64 }
-        ensures finishes { Finishes (service_of engine.old (R.choice rule.now) batching.now.batch) result self.old.line
-            (point_of engine.old self.old.lines (K.held out.old)) (point_of engine.new self.new.lines (K.held out.new)) }
+        ensures finishes { Finishes (service_of engine.old (R.choice rule.now) settings.now.batch settings.now.parts) settings.now.trace result self.old.line
+            (point_of engine.old self.old.lines self.old.tally (K.held out.old) (E.held err.old) (C.choices chooser.old) (W.told watch.old))
+            (point_of engine.new self.new.lines self.new.tally (K.held out.new) (E.held err.new) (C.choices chooser.new) (W.told watch.new)) }
         ensures none { OnOk result ((core_of engine.new).pending ≡ []) }
         ensures later { K.faults out.old ≤ K.faults out.new }
-        ensures cause { result ≡ Err LineStop.WriteFault → Rose (K.faults out.old) (K.faults out.new) }
-        ensures runs { RunsProgram engine.new engine.old.compiled engine.old.limit }
+        ensures later_err { E.faults err.old ≤ E.faults err.new }
+        ensures cause { result ≡ Err LineStop.WriteFault → Rose (K.faults out.old) (K.faults out.new) ⊎ Rose (E.faults err.old) (E.faults err.new) }
+        ensures runs { RunsProgram engine.new (compiled_of engine.old) (limit_of engine.old) }
         ensures core_fits { CoreFits (tables_of engine.old) (core_of engine.new) }
         ensures sound { IsSoundCore (source_of engine.old) (core_of engine.old) → IsSoundCore (source_of engine.old) (core_of engine.new) }
     {
-        self.take_last(alloc, engine, batching, out, rule, chooser, watch)?;
+        self.take_last(alloc, engine, settings, out, err, rule, chooser, watch)?;
         run_waiting(
             alloc,
             engine,
-            batching,
+            settings,
             out,
+            err,
             rule,
             chooser,
             watch,
             &mut self.tally,
         )
-    }
-}
-
-/// The next piece's greatest size.
-fn least(left: u64) -> usize
-    requires { 0 < left }
-    ensures value { result ≡ min left PIECE }
-    ensures some { 0 < result }
-{
-    if left < PIECE as u64 {
-        left as usize
-    } else {
-        PIECE
     }
 }

@@ -1,11 +1,13 @@
-//! A whole session that serves its input in batches: from its bytes to the replies, and the batches that run
-//! at its end.
+//! A whole session that serves its input in batches: from its bytes to the replies and the trace, and the
+//! batches that run at its end.
 #![tactic(auto)]
 
 mod ending;
 mod feeding;
+mod reporting;
 mod serving;
-mod tally;
+mod settings;
 
-pub use serving::{SessionFault, Settings, serve};
-pub use tally::Tally;
+pub use serving::{SessionFault, serve};
+pub use session_steps::Tally;
+pub use settings::Settings;

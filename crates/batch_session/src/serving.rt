@@ -5,36 +5,28 @@ ghost use Rattle.std.specs.Io.KnownBytes.{Keeps};
 ghost use Rattle.sf_outside.specs.Causes.{Rose};
 ghost use Rattle.block_step.specs.CompiledViews.{IsWhole};
 ghost use Rattle.engine.specs.Cores.{CoreFits, IsSoundCore};
-ghost use Rattle.engine.specs.EngineViews.{core_of, source_of, tables_of, RunsProgram};
-ghost use Rattle.batch_session.specs.Comes.{service_of};
-ghost use Rattle.batch_session.specs.Served.{view_of, fault_of, finished, with_tally, IsFlushed, Served};
+ghost use Rattle.engine.specs.EngineViews.{core_of, source_of, tables_of, compiled_of, limit_of, RunsProgram};
+ghost use Rattle.line_answers.specs.Services.{service_of};
+ghost use Rattle.session_steps.specs.Traces.{no_batch};
+ghost use Rattle.batch_session.specs.Served.{view_of, Served};
+ghost use Rattle.batch_session.specs.Faults.{fault_of, finished, IsFlushed};
 
 use crate::feeding::{InputEnd, Intake};
-use crate::tally::Tally;
+use crate::settings::Settings;
 use engine::Engine;
-use line_answers::{Batching, LineStop};
+use line_answers::LineStop;
 use operator_graph::Watch;
 use reservations::CommitRule;
+use session_steps::Tally;
 use sf_outside::{Chooser, Sink, Source};
 use std::alloc::Global;
-
-/// How a session serves.
-#[derive(Clone, Copy, PartialEq, Eq, Debug)]
-pub struct Settings {
-    /// How many requests make a batch, 1 to 256.
-    pub batch: u32,
-    /// How many partitions there are, 1 to 64.
-    pub parts: u32,
-    /// How many bytes of input a session may have.
-    pub limit: u64,
-}
 
 /// Why a session doesn't serve its whole input.
 #[derive(Clone, Copy, PartialEq, Eq, Debug)]
 pub enum SessionFault {
     /// The input can't be read. What waits isn't run.
     ReadFault,
-    /// The output can't be written or flushed.
+    /// The output can't be written or flushed, or the trace can't be written.
     WriteFault,
     /// More bytes come than the limit.
     InputTooLong,
@@ -43,67 +35,111 @@ pub enum SessionFault {
     NoMemory,
 }
 
-/// Serves the input and then what waits, and doesn't flush at the end.
-fn answer_all<R: CommitRule, S: Source, K: Sink, C: Chooser, W: Watch>(
-    intake: &mut Intake,
+/// Serves a whole input: each line is answered before more is read than the piece that ends it, a batch
+/// runs where one is due, and at the end batches run until nothing waits. A last line without LF counts
+/// where it has a byte. Once so many bytes were taken as the limit, one more is asked for, which tells the
+/// end from an input that is too long. The output is flushed after each batch, and before the end. The
+/// trace has a line for each batch, behind its replies, and isn't flushed.
+pub fn serve<R: CommitRule, S: Source, K: Sink, E: Sink, C: Chooser, W: Watch>(
     alloc: Global,
     engine: &mut Engine,
     settings: &Settings,
     input: &mut S,
     out: &mut K,
+    err: &mut E,
     rule: &R,
     chooser: &mut C,
     watch: &mut W,
-) -> Result<(), SessionFault>
-    requires fresh { intake.old.line ≡ [] }
-    requires lines { intake.old.lines ≡ 0 }
-    requires whole { IsWhole engine.old.compiled }
+) -> Result<Tally, SessionFault>
+    requires whole { IsWhole (compiled_of engine.old) }
     requires batch { settings.now.batch ≤ 256 }
     requires least { 1 ≤ settings.now.parts }
     requires most { settings.now.parts ≤ 64 }
     requires few { length (core_of engine.old).pending < settings.now.batch }
     requires fits { CoreFits (tables_of engine.old) (core_of engine.old) }
     requires limit { settings.now.limit ≤ 2 ^ 62 }
-    ensures served { Served (service_of engine.old (R.choice rule.now) settings.now.batch) settings.now.limit result
-        (view_of engine.old (S.left input.old) (K.held out.old)) (view_of engine.new (S.left input.new) (K.held out.new)) }
+    ensures served { Served (service_of engine.old (R.choice rule.now) settings.now.batch settings.now.parts) settings.now.trace settings.now.limit result
+        (view_of engine.old (S.left input.old) (K.held out.old) (E.held err.old) (C.choices chooser.old) (W.told watch.old))
+        (view_of engine.new (S.left input.new) (K.held out.new) (E.held err.new) (C.choices chooser.new) (W.told watch.new)) }
     ensures read { S.faults input.old ≤ S.faults input.new }
     ensures later { K.faults out.old ≤ K.faults out.new }
+    ensures later_err { E.faults err.old ≤ E.faults err.new }
     ensures read_cause { result ≡ Err SessionFault.ReadFault → Rose (S.faults input.old) (S.faults input.new) }
-    ensures write_cause { result ≡ Err SessionFault.WriteFault → Rose (K.faults out.old) (K.faults out.new) }
-    ensures runs { RunsProgram engine.new engine.old.compiled engine.old.limit }
+    ensures write_cause { result ≡ Err SessionFault.WriteFault → Rose (K.faults out.old) (K.faults out.new) ⊎ Rose (E.faults err.old) (E.faults err.new) }
+    ensures runs { RunsProgram engine.new (compiled_of engine.old) (limit_of engine.old) }
     ensures core_fits { CoreFits (tables_of engine.old) (core_of engine.new) }
     ensures sound { IsSoundCore (source_of engine.old) (core_of engine.old) → IsSoundCore (source_of engine.old) (core_of engine.new) }
 {
-    let batching = Batching {
-        batch: settings.batch,
-        parts: settings.parts,
-    };
-    match intake.take_input(
+    let mut intake = Intake::new(alloc);
+    let served = answer_all(
+        &mut intake,
         alloc,
         engine,
-        &batching,
-        settings.limit,
+        settings,
         input,
         out,
+        err,
         rule,
         chooser,
         watch,
+    );
+    flushed(out, served)
+}
+
+/// Serves the input and then what waits, and doesn't flush at the end.
+fn answer_all<R: CommitRule, S: Source, K: Sink, E: Sink, C: Chooser, W: Watch>(
+    intake: &mut Intake,
+    alloc: Global,
+    engine: &mut Engine,
+    settings: &Settings,
+    input: &mut S,
+    out: &mut K,
+    err: &mut E,
+    rule: &R,
+    chooser: &mut C,
+    watch: &mut W,
+) -> Result<Tally, SessionFault>
+    requires fresh { intake.old.line ≡ [] }
+    requires lines { intake.old.lines ≡ 0 }
+    requires tally { intake.old.tally ≡ no_batch }
+    requires whole { IsWhole (compiled_of engine.old) }
+    requires batch { settings.now.batch ≤ 256 }
+    requires least { 1 ≤ settings.now.parts }
+    requires most { settings.now.parts ≤ 64 }
+    requires few { length (core_of engine.old).pending < settings.now.batch }
+    requires fits { CoreFits (tables_of engine.old) (core_of engine.old) }
+    requires limit { settings.now.limit ≤ 2 ^ 62 }
+    ensures served { Served (service_of engine.old (R.choice rule.now) settings.now.batch settings.now.parts) settings.now.trace settings.now.limit result
+        (view_of engine.old (S.left input.old) (K.held out.old) (E.held err.old) (C.choices chooser.old) (W.told watch.old))
+        (view_of engine.new (S.left input.new) (K.held out.new) (E.held err.new) (C.choices chooser.new) (W.told watch.new)) }
+    ensures read { S.faults input.old ≤ S.faults input.new }
+    ensures later { K.faults out.old ≤ K.faults out.new }
+    ensures later_err { E.faults err.old ≤ E.faults err.new }
+    ensures read_cause { result ≡ Err SessionFault.ReadFault → Rose (S.faults input.old) (S.faults input.new) }
+    ensures write_cause { result ≡ Err SessionFault.WriteFault → Rose (K.faults out.old) (K.faults out.new) ⊎ Rose (E.faults err.old) (E.faults err.new) }
+    ensures runs { RunsProgram engine.new (compiled_of engine.old) (limit_of engine.old) }
+    ensures core_fits { CoreFits (tables_of engine.old) (core_of engine.new) }
+    ensures sound { IsSoundCore (source_of engine.old) (core_of engine.old) → IsSoundCore (source_of engine.old) (core_of engine.new) }
+{
+    match intake.take_input(
+        alloc, engine, settings, input, out, err, rule, chooser, watch,
     ) {
-        Ok(InputEnd::End) => finished(intake.finish(
-            alloc, engine, &batching, out, rule, chooser, watch,
-        )),
+        Ok(InputEnd::End) => {
+            let ended = intake.finish(alloc, engine, settings, out, err, rule, chooser, watch);
+            finished(ended, intake.tally)
+        }
         Ok(InputEnd::ReadFault) => Err(SessionFault::ReadFault),
         Ok(InputEnd::TooLong) => Err(SessionFault::InputTooLong),
         Err(stop) => Err(fault_of(stop)),
     }
 }
 
-/// Where the end of the input was served or the session stopped at it.
-fn finished(ended: Result<(), LineStop>) -> Result<(), SessionFault>
-    ensures { result ≡ finished ended }
+/// The tally where the end of the input was served, or why the session stopped at it.
+fn finished(ended: Result<(), LineStop>, tally: Tally) -> Result<Tally, SessionFault>
+    ensures { result ≡ finished ended tally }
 {
     match ended {
-        Ok(()) => Ok(()),
+        Ok(()) => Ok(tally),
         Err(stop) => Err(fault_of(stop)),
     }
 }
@@ -119,77 +155,18 @@ fn fault_of(stop: LineStop) -> SessionFault
     }
 }
 
-/// Serves a whole input: each line is answered before more is read than the piece that ends it, a batch
-/// runs where one is due, and at the end batches run until nothing waits. A last line without LF counts
-/// where it has a byte. Once so many bytes were taken as the limit, one more is asked for, which tells the
-/// end from an input that is too long. The output is flushed after each batch, and before the end.
-pub fn serve<R: CommitRule, S: Source, K: Sink, C: Chooser, W: Watch>(
-    alloc: Global,
-    engine: &mut Engine,
-    settings: &Settings,
-    input: &mut S,
-    out: &mut K,
-    rule: &R,
-    chooser: &mut C,
-    watch: &mut W,
-) -> Result<Tally, SessionFault>
-    requires whole { IsWhole engine.old.compiled }
-    requires batch { settings.now.batch ≤ 256 }
-    requires least { 1 ≤ settings.now.parts }
-    requires most { settings.now.parts ≤ 64 }
-    requires few { length (core_of engine.old).pending < settings.now.batch }
-    requires fits { CoreFits (tables_of engine.old) (core_of engine.old) }
-    requires limit { settings.now.limit ≤ 2 ^ 62 }
-    ensures served { Served (service_of engine.old (R.choice rule.now) settings.now.batch) settings.now.limit result
-        (view_of engine.old (S.left input.old) (K.held out.old)) (view_of engine.new (S.left input.new) (K.held out.new)) }
-    ensures read { S.faults input.old ≤ S.faults input.new }
-    ensures later { K.faults out.old ≤ K.faults out.new }
-    ensures read_cause { result ≡ Err SessionFault.ReadFault → Rose (S.faults input.old) (S.faults input.new) }
-    ensures write_cause { result ≡ Err SessionFault.WriteFault → Rose (K.faults out.old) (K.faults out.new) }
-    ensures runs { RunsProgram engine.new engine.old.compiled engine.old.limit }
-    ensures core_fits { CoreFits (tables_of engine.old) (core_of engine.new) }
-    ensures sound { IsSoundCore (source_of engine.old) (core_of engine.old) → IsSoundCore (source_of engine.old) (core_of engine.new) }
-{
-    let mut intake = Intake::new(alloc);
-    let served = answer_all(
-        &mut intake,
-        alloc,
-        engine,
-        settings,
-        input,
-        out,
-        rule,
-        chooser,
-        watch,
-    );
-    flushed(out, served, intake.tally)
-}
-
-/// Flushes the output, unless it failed before.
-fn flushed<K: Sink>(
-    out: &mut K,
-    served: Result<(), SessionFault>,
-    tally: Tally,
-) -> Result<Tally, SessionFault>
+/// Flushes the output, unless something couldn't be written before.
+fn flushed<K: Sink>(out: &mut K, served: Result<Tally, SessionFault>) -> Result<Tally, SessionFault>
     ensures kept { Keeps (K.held out.old) (K.held out.new) }
+    ensures flushed { IsFlushed served result }
     ensures later { K.faults out.old ≤ K.faults out.new }
-    ensures flushed { IsFlushed served tally result }
     ensures cause { result ≡ Err SessionFault.WriteFault → (served ≡ Err SessionFault.WriteFault) ⊎ Rose (K.faults out.old) (K.faults out.new) }
 {
     if let Err(SessionFault::WriteFault) = served {
         return Err(SessionFault::WriteFault);
     }
     match out.flush() {
-        Ok(()) => with_tally(served, tally),
+        Ok(()) => served,
         Err(_) => Err(SessionFault::WriteFault),
-    }
-}
-
-fn with_tally(served: Result<(), SessionFault>, tally: Tally) -> Result<Tally, SessionFault>
-    ensures { result ≡ with_tally tally served }
-{
-    match served {
-        Ok(()) => Ok(tally),
-        Err(fault) => Err(fault),
     }
 }

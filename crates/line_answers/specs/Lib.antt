@@ -1,2 +1,3 @@
 pub mod LineViews
+pub mod Services
 pub mod LineAnswers

@@ -9,9 +9,10 @@ ghost use Rattle.sf_outside.specs.Causes.{Rose, HasCause};
 ghost use Rattle.sf_outside.specs.Gains.{joined};
 ghost use Rattle.block_step.specs.CompiledViews.{IsWhole};
 ghost use Rattle.engine.specs.Cores.{CoreFits, IsSoundCore};
-ghost use Rattle.engine.specs.EngineViews.{core_of, source_of, tables_of, RunsProgram};
+ghost use Rattle.engine.specs.EngineViews.{core_of, source_of, tables_of, compiled_of, limit_of, RunsProgram};
 ghost use Rattle.line_answers.specs.LineViews.{line_of};
-ghost use Rattle.line_answers.specs.LineAnswers.{before, limits_of, core_taken, AnswersLine, AnswersTaken, batch_on, TellsLine, line_result};
+ghost use Rattle.line_answers.specs.Services.{service_of};
+ghost use Rattle.line_answers.specs.LineAnswers.{before, moment_of, Moves, AnswersLine, line_result};
 
 use crate::reading::InputLine;
 use crate::taking::{Taken, take_line};
@@ -55,22 +56,21 @@ pub fn answer_line<R: CommitRule, K: Sink, C: Chooser, W: Watch>(
     chooser: &mut C,
     watch: &mut W,
 ) -> Result<Option<BatchCounts>, LineStop>
-    requires whole { IsWhole engine.old.compiled }
+    requires whole { IsWhole (compiled_of engine.old) }
     requires batch { batching.now.batch ≤ 256 }
     requires least { 1 ≤ batching.now.parts }
     requires most { batching.now.parts ≤ 64 }
     requires first { 1 ≤ line.number }
     requires few { length (core_of engine.old).pending < batching.now.batch }
     requires fits { CoreFits (tables_of engine.old) (core_of engine.old) }
-    ensures answers { AnswersLine (source_of engine.old) (R.choice rule.now) (limits_of batching.now.batch engine.old.limit) result
-        (before (core_of engine.old) line.entry.number) (line_of line.entry) (core_of engine.new) (K.held out.old) (K.held out.new) }
-    ensures told { TellsLine (batch_on engine.old.compiled (core_taken (source_of engine.old) (core_of engine.old) (line_of line.entry)))
-        batching.now.parts result
-        (record { choices = C.choices chooser.old; told = W.told watch.old }) (record { choices = C.choices chooser.new; told = W.told watch.new }) }
+    ensures answers { AnswersLine (service_of engine.old (R.choice rule.now) batching.now.batch batching.now.parts) result
+        (before (core_of engine.old) line.entry.number) (line_of line.entry)
+        (moment_of engine.old (K.held out.old) (C.choices chooser.old) (W.told watch.old))
+        (moment_of engine.new (K.held out.new) (C.choices chooser.new) (W.told watch.new)) }
     ensures later { K.faults out.old ≤ K.faults out.new }
     ensures cause { result ≡ Err LineStop.WriteFault → Rose (K.faults out.old) (K.faults out.new) }
     ensures few { OnOk result (length (core_of engine.new).pending < batching.now.batch) }
-    ensures runs { RunsProgram engine.new engine.old.compiled engine.old.limit }
+    ensures runs { RunsProgram engine.new (compiled_of engine.old) (limit_of engine.old) }
     ensures core_fits { CoreFits (tables_of engine.old) (core_of engine.new) }
     ensures sound { IsSoundCore (source_of engine.old) (core_of engine.old) → IsSoundCore (source_of engine.old) (core_of engine.new) }
 {
@@ -100,17 +100,17 @@ fn answer_taken<R: CommitRule, K: Sink, C: Chooser, W: Watch>(
     chooser: &mut C,
     watch: &mut W,
 ) -> Result<Option<BatchCounts>, LineStop>
-    requires whole { IsWhole engine.old.compiled }
+    requires whole { IsWhole (compiled_of engine.old) }
     requires least { 1 ≤ parts }
     requires most { parts ≤ 64 }
     requires fits { CoreFits (tables_of engine.old) (core_of engine.old) }
-    ensures answers { (size : ℕ) → AnswersTaken (source_of engine.old) (R.choice rule.now) (limits_of size engine.old.limit) result
-        (cons_option taken.answer []) taken.is_due (core_of engine.old) (core_of engine.new) (K.held out.old) (K.held out.new) }
-    ensures told { TellsLine (batch_on engine.old.compiled (core_of engine.old)) parts result
-        (record { choices = C.choices chooser.old; told = W.told watch.old }) (record { choices = C.choices chooser.new; told = W.told watch.new }) }
+    ensures answers { (size : ℕ) → Moves (service_of engine.old (R.choice rule.now) size parts) result
+        (record { answer = cons_option taken.answer []; core = core_of engine.old; is_due = taken.is_due })
+        (moment_of engine.old (K.held out.old) (C.choices chooser.old) (W.told watch.old))
+        (moment_of engine.new (K.held out.new) (C.choices chooser.new) (W.told watch.new)) }
     ensures later { K.faults out.old ≤ K.faults out.new }
     ensures cause { result ≡ Err LineStop.WriteFault → Rose (K.faults out.old) (K.faults out.new) }
-    ensures runs { RunsProgram engine.new engine.old.compiled engine.old.limit }
+    ensures runs { RunsProgram engine.new (compiled_of engine.old) (limit_of engine.old) }
     ensures core_fits { CoreFits (tables_of engine.old) (core_of engine.new) }
     ensures sound { IsSoundCore (source_of engine.old) (core_of engine.old) → IsSoundCore (source_of engine.old) (core_of engine.new) }
 {

@@ -7,4 +7,4 @@ mod reading;
 mod taking;
 
 pub use answering::{Batching, LineStop, answer_line};
-pub use reading::{InputLine, LONGEST};
+pub use reading::InputLine;

@@ -2,16 +2,14 @@
 
 ghost use Rattle.std.specs.Prelude.{◌≡◌, IfOk};
 ghost use Rattle.program_meaning.specs.Sources.{source_of};
-ghost use Rattle.request_json.specs.Actions.{without_cr, used, action_of};
+ghost use Rattle.request_json.specs.Actions.{used, action_of};
 ghost use Rattle.line_answers.specs.LineViews.{line_of, asked};
 
+use input_lines::{LONGEST, trimmed};
 use py_tree::Checked;
 use request_json::{LineError, LineFault, read_line};
 use sf_value::Request;
 use std::alloc::{AllocError, Global};
-
-/// A line has at most this many bytes, its line end not counted.
-pub const LONGEST: usize = 1_048_576;
 
 /// A line of the input, with its number, counted from 1.
 #[derive(Clone, Copy)]
@@ -53,17 +51,6 @@ impl Cause {
             Cause::LineTooLong => "line too long",
             Cause::Unread(fault) => fault.text(),
         }
-    }
-}
-
-/// A line without a CR at its end.
-fn trimmed(line: &[u8]) -> &[u8]
-    ensures { result.now ≡ without_cr line.now }
-{
-    if !line.is_empty() && line[line.len() - 1] == b'\r' {
-        &line[..line.len() - 1]
-    } else {
-        line
     }
 }
 

@@ -8,10 +8,11 @@ ghost use Rattle.request_history.specs.Repeats.{kept_in};
 ghost use Rattle.request_history.specs.SoundHistory.{RequestFits};
 ghost use Rattle.request_json.specs.Actions.{Ask, action_of};
 ghost use Rattle.engine.specs.Cores.{CoreFits, IsSoundCore};
-ghost use Rattle.engine.specs.EngineViews.{core_of, source_of, tables_of, RunsProgram};
+ghost use Rattle.engine.specs.EngineViews.{core_of, source_of, tables_of, compiled_of, limit_of, RunsProgram};
 ghost use Rattle.batch_output.specs.BatchOutput.{kept_line, answer_on, answer, taken, is_due};
 ghost use Rattle.line_answers.specs.LineViews.{line_of, asked, ActionFits};
-ghost use Rattle.line_answers.specs.LineAnswers.{limits_of, fills_behind};
+ghost use Rattle.line_answers.specs.Services.{limits_of};
+ghost use Rattle.line_answers.specs.LineAnswers.{fills_behind};
 
 use crate::reading::{Action, InputLine, read_action};
 use engine::{Arrival, Engine};
@@ -79,7 +80,7 @@ fn ask(
     ensures answer { IfOk result (λ t. cons_option t.answer [] ≡ answer (core_of engine.old) number (Ask request)) }
     ensures due { (rule : List Access → Chosen) (history : ℕ)
         → IfOk result (λ t. t.is_due ≡ is_due (source_of engine.old) rule (limits_of batch history) (core_of engine.old) (Ask request)) }
-    ensures runs { RunsProgram engine.new engine.old.compiled engine.old.limit }
+    ensures runs { RunsProgram engine.new (compiled_of engine.old) (limit_of engine.old) }
     ensures core_fits { CoreFits (tables_of engine.old) (core_of engine.old) → CoreFits (tables_of engine.old) (core_of engine.new) }
     ensures sound { IsSoundCore (source_of engine.old) (core_of engine.old) → IsSoundCore (source_of engine.old) (core_of engine.new) }
 {
@@ -104,7 +105,7 @@ fn take_action(
     ensures answer { IfOk result (λ t. cons_option t.answer [] ≡ answer (core_of engine.old) number (asked action)) }
     ensures due { (rule : List Access → Chosen) (history : ℕ)
         → IfOk result (λ t. t.is_due ≡ is_due (source_of engine.old) rule (limits_of batch history) (core_of engine.old) (asked action)) }
-    ensures runs { RunsProgram engine.new engine.old.compiled engine.old.limit }
+    ensures runs { RunsProgram engine.new (compiled_of engine.old) (limit_of engine.old) }
     ensures core_fits { CoreFits (tables_of engine.old) (core_of engine.old) → CoreFits (tables_of engine.old) (core_of engine.new) }
     ensures sound { IsSoundCore (source_of engine.old) (core_of engine.old) → IsSoundCore (source_of engine.old) (core_of engine.new) }
 {
@@ -137,7 +138,7 @@ pub(crate) fn take_line(
     ensures due { (rule : List Access → Chosen) (history : ℕ)
         → IfOk result (λ t. t.is_due ≡ is_due (source_of engine.old) rule (limits_of batch history) (core_of engine.old)
         (action_of (source_of engine.old) (line_of line.entry))) }
-    ensures runs { RunsProgram engine.new engine.old.compiled engine.old.limit }
+    ensures runs { RunsProgram engine.new (compiled_of engine.old) (limit_of engine.old) }
     ensures core_fits { CoreFits (tables_of engine.old) (core_of engine.old) → CoreFits (tables_of engine.old) (core_of engine.new) }
     ensures sound { IsSoundCore (source_of engine.old) (core_of engine.old) → IsSoundCore (source_of engine.old) (core_of engine.new) }
 {

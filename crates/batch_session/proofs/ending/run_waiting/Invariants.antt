@@ -1,8 +1,9 @@
 use Rattle.std.proofs.Common.{◌≤◌, ℕ, length}
 use Rattle.engine.specs.Cores.{CoreFits, IsSoundCore}
-use Rattle.engine.specs.EngineViews.{core_of, source_of, tables_of, RunsProgram}
-use Rattle.batch_session.specs.Comes.{service_of, point_of}
-use Rattle.batch_session.proofs.EndLaws.{Ending}
+use Rattle.engine.specs.EngineViews.{core_of, source_of, tables_of, compiled_of, limit_of, RunsProgram}
+use Rattle.line_answers.specs.Services.{service_of}
+use Rattle.session_steps.proofs.Endings.{Ending}
+use Rattle.batch_session.specs.Points.{point_of}
 use Rattle.batch_session.proofs.ending.run_waiting.Given as goal
 
 -- each batch commits a request
@@ -11,10 +12,12 @@ decreases-loop-alloc g l = length (core_of l.engine).pending
 
 abbrev pub invariant-loop-alloc : goal.invariant-loop-alloc
 invariant-loop-alloc g l = record {
-  ending : (lines : ℕ) → Ending (service_of l.fn.engine (g.R.CommitRule.choice l.rule) l.batching.batch)
-      (point_of l.fn.engine lines (g.K.Sink.held l.fn.out)) (point_of l.engine lines (g.K.Sink.held l.out));
+  ending : (lines : ℕ) → Ending (service_of l.fn.engine (g.R.CommitRule.choice l.rule) l.settings.batch l.settings.parts) l.settings.trace
+      (point_of l.fn.engine lines l.fn.tally (g.K.Sink.held l.fn.out) (g.E.Sink.held l.fn.err) (g.C.Chooser.choices l.fn.chooser) (g.W.Watch.told l.fn.watch))
+      (point_of l.engine lines l.tally (g.K.Sink.held l.out) (g.E.Sink.held l.err) (g.C.Chooser.choices l.chooser) (g.W.Watch.told l.watch));
   later : g.K.Sink.faults l.fn.out ≤ g.K.Sink.faults l.out;
-  runs : RunsProgram l.engine l.fn.engine.compiled l.fn.engine.limit;
+  later_err : g.E.Sink.faults l.fn.err ≤ g.E.Sink.faults l.err;
+  runs : RunsProgram l.engine (compiled_of l.fn.engine) (limit_of l.fn.engine);
   fits : CoreFits (tables_of l.fn.engine) (core_of l.engine);
   sound : IsSoundCore (source_of l.fn.engine) (core_of l.fn.engine) → IsSoundCore (source_of l.fn.engine) (core_of l.engine);
 }

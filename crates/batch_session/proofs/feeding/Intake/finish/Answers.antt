@@ -1,21 +1,24 @@
 use Rattle.std.proofs.Common.{◌∙◌, ap, refl, Err}
 use Rattle.std.proofs.lemmas.Result.{err_from_is_err_and}
-use Rattle.batch_session.specs.Comes.{service_of}
-use Rattle.batch_session.proofs.SameProgram.{same_service}
-use Rattle.batch_session.proofs.ComesLaws.{Comes-passed}
-use Rattle.batch_session.proofs.EndLaws.{Ends-same, Finishes-stop, Finishes-then}
+use Rattle.request_json.specs.Actions.{last_line}
+use Rattle.line_answers.specs.Services.{service_of}
+use Rattle.line_answers.proofs.TakenLaws.{same_service}
+use Rattle.session_steps.proofs.Composing.{Comes-passed, Comes-same}
+use Rattle.session_steps.proofs.Endings.{Last-stop, Last-then}
 use Rattle.batch_session.proofs.feeding.Intake.finish.Goals as goal
 
 pub returns-in_err-take_last-clause-finishes : goal.returns-in_err-take_last-clause-finishes
 returns-in_err-take_last-clause-finishes g c = λ part h.
     let p = err_from_is_err_and c.from_residual.result c.from_residual.ensures.1 in
-    let v = service_of c.args.engine.now (g.R.CommitRule.choice c.args.rule.now) c.args.batching.now.batch in
-    Comes-passed (Unit {0}) _ _ _ _ _ _ (p.1 ∙ ap Err p.2) (Finishes-stop v {T = Unit {0}} (Err _) part _ _ refl (c.in_err-take_last.ensures.answers part h))
+    let v = service_of c.args.engine.now (g.R.CommitRule.choice c.args.rule.now) c.args.settings.now.batch c.args.settings.now.parts in
+    let traces = c.args.settings.now.trace in
+    Comes-passed v traces (Unit {0}) _ _ _ _ _ (p.1 ∙ ap Err p.2) (Last-stop v traces {T = Unit {0}} (Err _) (last_line part) _ _ refl (c.in_err-take_last.ensures.answers part h))
 
 pub returns-clause-finishes : goal.returns-clause-finishes
 returns-clause-finishes g c = λ part h.
     let rule = g.R.CommitRule.choice c.args.rule.now in
-    let v = service_of c.args.engine.now rule c.args.batching.now.batch in
-    let here = service_of c.take_last.new.engine rule c.args.batching.now.batch in
-    let same = same_service c.args.engine.now c.take_last.new.engine c.take_last.ensures.runs rule c.args.batching.now.batch in
-    Finishes-then v (tt {0}) _ part _ _ _ (c.in_ok-take_last.ensures.answers part h) (Ends-same v here _ _ _ same (c.run_waiting.ensures.runs_waiting c.take_last.new.self.lines))
+    let v = service_of c.args.engine.now rule c.args.settings.now.batch c.args.settings.now.parts in
+    let here = service_of c.take_last.new.engine rule c.args.settings.now.batch c.args.settings.now.parts in
+    let traces = c.args.settings.now.trace in
+    let same = same_service c.args.engine.now c.take_last.new.engine c.take_last.ensures.runs rule c.args.settings.now.batch c.args.settings.now.parts in
+    Last-then v traces _ (last_line part) _ _ _ (c.in_ok-take_last.ensures.answers part h) (Comes-same v here traces _ _ _ _ same (c.run_waiting.ensures.runs_waiting c.take_last.new.self.lines))

@@ -1,23 +1,26 @@
 use Rattle.std.proofs.Common.{◌≤◌, ◌<◌, ◌-◌, length}
 use Rattle.engine.specs.Cores.{CoreFits, IsSoundCore}
-use Rattle.engine.specs.EngineViews.{core_of, source_of, tables_of, RunsProgram}
-use Rattle.batch_session.specs.Comes.{service_of, point_of}
+use Rattle.engine.specs.EngineViews.{core_of, source_of, tables_of, compiled_of, limit_of, RunsProgram}
+use Rattle.line_answers.specs.Services.{service_of}
+use Rattle.batch_session.specs.Points.{point_of}
 use Rattle.batch_session.proofs.TakeLaws.{Going}
 use Rattle.batch_session.proofs.feeding.Intake.take_input.Given as goal
 
 abbrev pub decreases-loop-taken : goal.decreases-loop-taken
-decreases-loop-taken g l = l.limit - l.taken
+decreases-loop-taken g l = l.settings.limit - l.taken
 
 abbrev pub invariant-loop-taken : goal.invariant-loop-taken
 invariant-loop-taken g l = record {
-  going : Going (service_of l.fn.engine (g.R.CommitRule.choice l.rule) l.batching.batch) l.taken l.self.line (g.S.Source.left l.fn.input) (g.S.Source.left l.input)
-      (point_of l.fn.engine l.fn.self.lines (g.K.Sink.held l.fn.out)) (point_of l.engine l.self.lines (g.K.Sink.held l.out));
+  going : Going (service_of l.fn.engine (g.R.CommitRule.choice l.rule) l.settings.batch l.settings.parts) l.settings.trace l.taken l.self.line (g.S.Source.left l.fn.input) (g.S.Source.left l.input)
+      (point_of l.fn.engine l.fn.self.lines l.fn.self.tally (g.K.Sink.held l.fn.out) (g.E.Sink.held l.fn.err) (g.C.Chooser.choices l.fn.chooser) (g.W.Watch.told l.fn.watch))
+      (point_of l.engine l.self.lines l.self.tally (g.K.Sink.held l.out) (g.E.Sink.held l.err) (g.C.Chooser.choices l.chooser) (g.W.Watch.told l.watch));
   lines : l.self.lines ≤ l.taken;
-  within : l.taken ≤ l.limit;
+  within : l.taken ≤ l.settings.limit;
   read : g.S.Source.faults l.fn.input ≤ g.S.Source.faults l.input;
   later : g.K.Sink.faults l.fn.out ≤ g.K.Sink.faults l.out;
-  few : length (core_of l.engine).pending < l.batching.batch;
-  runs : RunsProgram l.engine l.fn.engine.compiled l.fn.engine.limit;
+  later_err : g.E.Sink.faults l.fn.err ≤ g.E.Sink.faults l.err;
+  few : length (core_of l.engine).pending < l.settings.batch;
+  runs : RunsProgram l.engine (compiled_of l.fn.engine) (limit_of l.fn.engine);
   fits : CoreFits (tables_of l.fn.engine) (core_of l.engine);
   sound : IsSoundCore (source_of l.fn.engine) (core_of l.fn.engine) → IsSoundCore (source_of l.fn.engine) (core_of l.engine);
 }

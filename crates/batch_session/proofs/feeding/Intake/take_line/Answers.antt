@@ -1,32 +1,32 @@
 use Rattle.std.proofs.Common.{◌∙◌, ap, refl, Ok, Err, Some}
 use Rattle.std.proofs.lemmas.Result.{err_from_is_err_and}
-use Rattle.batch_session.specs.Comes.{service_of}
+use Rattle.line_answers.specs.Services.{service_of}
 use Rattle.batch_session.proofs.FeedLaws.{Feeds-no_memory, Feeds-line, Feeds-none_whole, Feeds-stop, Feeds-told}
 use Rattle.batch_session.proofs.feeding.Intake.take_line.Goals as goal
 
 pub returns-in_err-answer-in-Ok-Some-clause-feeds : goal.returns-in_err-answer-in-Ok-Some-clause-feeds
 returns-in_err-answer-in-Ok-Some-clause-feeds g c = λ part h.
     let p = err_from_is_err_and c.from_residual.result c.from_residual.ensures.1 in
-    let v = service_of c.args.engine.now (g.R.CommitRule.choice c.args.rule.now) c.args.batching.now.batch in
+    let v = service_of c.args.engine.now (g.R.CommitRule.choice c.args.rule.now) c.args.settings.now.batch c.args.settings.now.parts in
     let cut = rw c.in-Ok-Some.field-0-is at c.in-Ok-Some.ensures.cut in
     let done = c.in_err-answer-in-Ok-Some.ensures in
-    Feeds-told v (Unit {0}) _ _ _ part c.args.piece.now _ _ (p.1 ∙ ap Err p.2)
-    (Feeds-stop v _ _ _ _ part c.args.piece.now c.in-Ok-Some.count refl (Feeds-line v _ c.take_line.new.self _ part _ _ _ (cut part h) done.answers done.kept))
+    Feeds-told v c.args.settings.now.trace (Unit {0}) _ _ _ part c.args.piece.now _ _ (p.1 ∙ ap Err p.2)
+    (Feeds-stop v c.args.settings.now.trace _ _ _ _ part c.args.piece.now c.in-Ok-Some.count refl (Feeds-line v c.args.settings.now.trace _ c.take_line.new.self _ part _ _ _ (cut part h) done.answers done.kept))
 
 pub returns-in_ok-answer-in-Ok-Some-clause-feeds : goal.returns-in_ok-answer-in-Ok-Some-clause-feeds
 returns-in_ok-answer-in-Ok-Some-clause-feeds g c = λ part h.
-    let v = service_of c.args.engine.now (g.R.CommitRule.choice c.args.rule.now) c.args.batching.now.batch in
+    let v = service_of c.args.engine.now (g.R.CommitRule.choice c.args.rule.now) c.args.settings.now.batch c.args.settings.now.parts in
     let cut = rw c.in-Ok-Some.field-0-is at c.in-Ok-Some.ensures.cut in
     let done = c.in_ok-answer-in-Ok-Some.ensures in
-    Feeds-line v (Ok (Some c.in-Ok-Some.count)) c.take_line.new.self _ part _ _ _ (cut part h) done.answers done.kept
+    Feeds-line v c.args.settings.now.trace (Ok (Some c.in-Ok-Some.count)) c.take_line.new.self _ part _ _ _ (cut part h) done.answers done.kept
 
 pub returns-in-Ok-None-clause-feeds : goal.returns-in-Ok-None-clause-feeds
 returns-in-Ok-None-clause-feeds g c = λ part h.
-    let v = service_of c.args.engine.now (g.R.CommitRule.choice c.args.rule.now) c.args.batching.now.batch in
+    let v = service_of c.args.engine.now (g.R.CommitRule.choice c.args.rule.now) c.args.settings.now.batch c.args.settings.now.parts in
     let cut = rw c.in-Ok-None.field-0-is at c.in-Ok-None.ensures.cut in
-    Feeds-none_whole v _ c.take_line.new.self part _ _ (cut part h)
+    Feeds-none_whole v c.args.settings.now.trace _ c.take_line.new.self part _ _ (cut part h)
 
 pub returns-in-Err-clause-feeds : goal.returns-in-Err-clause-feeds
 returns-in-Err-clause-feeds g c = λ part h.
-    let v = service_of c.args.engine.now (g.R.CommitRule.choice c.args.rule.now) c.args.batching.now.batch in
-    Feeds-no_memory v _ _ part _ _ _ refl refl
+    let v = service_of c.args.engine.now (g.R.CommitRule.choice c.args.rule.now) c.args.settings.now.batch c.args.settings.now.parts in
+    Feeds-no_memory v c.args.settings.now.trace _ _ part _ _ refl

@@ -1,17 +1,19 @@
 use Rattle.std.proofs.Common.{◌-◌, ◌∙◌, refl, ap, Ok, Err, List, ℕ, length, take, drop, arith}
 use Rattle.std.proofs.lemmas.List.{length-take, length-drop}
 use Rattle.std.proofs.lemmas.Result.{err_from_is_err_and}
-use Rattle.batch_session.specs.Comes.{service_of}
-use Rattle.batch_session.proofs.SameProgram.{same_service, fits_back, sound_on, sound_back, runs_on}
+use Rattle.line_answers.specs.Services.{service_of}
+use Rattle.line_answers.proofs.TakenLaws.{same_service}
+use Rattle.batch_session.proofs.SameProgram.{fits_back, sound_on, sound_back, runs_on}
 use Rattle.batch_session.proofs.FeedLaws.{Feeds-none, Feeds-next, Feeds-from, Feeds-passed, Feeds-other, Feeds-same, from_place}
 use Rattle.batch_session.proofs.feeding.Intake.take_piece.Goals as goal
 
 pub loop-count-init : goal.loop-count-init
 loop-count-init g c = record {
   within = omega arith;
-  feeds = λ part h. Feeds-none (service_of c.args.engine.now (g.R.CommitRule.choice c.args.rule.now) c.args.batching.now.batch) (tt {0}) _ part _ h;
+  feeds = λ part h. Feeds-none (service_of c.args.engine.now (g.R.CommitRule.choice c.args.rule.now) c.args.settings.now.batch c.args.settings.now.parts) c.args.settings.now.trace (tt {0}) _ part _ h;
   lines = omega arith;
   later = omega arith;
+  later_err = omega arith;
   few = c.requires.few;
   runs = record { compiled_is = refl; limit_is = refl };
   fits = c.requires.fits;
@@ -22,12 +24,12 @@ pub returns-in_err-count-clause-feeds : goal.returns-in_err-count-clause-feeds
 returns-in_err-count-clause-feeds g c = λ part h.
     let p = err_from_is_err_and c.from_residual.result c.from_residual.ensures.1 in
     let rule = g.R.CommitRule.choice c.args.rule.now in
-    let v = service_of c.args.engine.now rule c.args.batching.now.batch in
-    let here = service_of c.loop-count.engine rule c.args.batching.now.batch in
-    let same = same_service c.args.engine.now c.loop-count.engine c.loop-count.invariant.runs rule c.args.batching.now.batch in
+    let v = service_of c.args.engine.now rule c.args.settings.now.batch c.args.settings.now.parts in
+    let here = service_of c.loop-count.engine rule c.args.settings.now.batch c.args.settings.now.parts in
+    let same = same_service c.args.engine.now c.loop-count.engine c.loop-count.invariant.runs rule c.args.settings.now.batch c.args.settings.now.parts in
     let f = c.loop-count.invariant.feeds part h in
-    Feeds-from v (tt {0}) _ _ _ _ _ _ part c.args.piece.now _ c.loop-count.start (from_place c.loop-count.start c.args.piece.now) f
-    (Feeds-passed v _ _ _ _ _ _ _ _ (p.1 ∙ ap Err p.2) (Feeds-same v here _ _ _ _ _ _ same (c.in_err-count.ensures.feeds _ f.start)))
+    Feeds-from v c.args.settings.now.trace (tt {0}) _ _ _ _ _ _ part c.args.piece.now _ c.loop-count.start (from_place c.loop-count.start c.args.piece.now) f
+    (Feeds-passed v c.args.settings.now.trace _ _ _ _ _ _ _ _ (p.1 ∙ ap Err p.2) (Feeds-same v here c.args.settings.now.trace _ _ _ _ _ _ same (c.in_err-count.ensures.feeds _ f.start)))
 
 pub loop-count-preserved : goal.loop-count-preserved
 loop-count-preserved g c =
@@ -36,19 +38,20 @@ loop-count-preserved g c =
     let within = rw c.in-Some.is at c.in_ok-count.ensures.within in
     let lines = rw c.in-Some.is at c.in_ok-count.ensures.lines in
     let rule = g.R.CommitRule.choice c.args.rule.now in
-    let v = service_of c.args.engine.now rule c.args.batching.now.batch in
-    let here = service_of c.loop-count.engine rule c.args.batching.now.batch in
+    let v = service_of c.args.engine.now rule c.args.settings.now.batch c.args.settings.now.parts in
+    let here = service_of c.loop-count.engine rule c.args.settings.now.batch c.args.settings.now.parts in
     let runs = c.loop-count.invariant.runs in
-    let same = same_service c.args.engine.now c.loop-count.engine runs rule c.args.batching.now.batch in
+    let same = same_service c.args.engine.now c.loop-count.engine runs rule c.args.settings.now.batch c.args.settings.now.parts in
     record {
       within = omega (arith, c.loop-count.invariant.within, within.1, ap length all, length-drop c.loop-count.start c.args.piece.now);
       feeds = λ part h.
           let f = c.loop-count.invariant.feeds part h in
           let k = rw c.in-Some.is at (c.in_ok-count.ensures.feeds _ f.start) in
-          Feeds-next v (tt {0}) (Ok (tt {0})) _ _ _ _ _ part c.args.piece.now rest c.loop-count.start c.in-Some.count all f
-          (Feeds-other v _ (tt {0}) _ _ _ _ _ (Feeds-same v here _ _ _ _ _ _ same k));
+          Feeds-next v c.args.settings.now.trace (tt {0}) (Ok (tt {0})) _ _ _ _ _ part c.args.piece.now rest c.loop-count.start c.in-Some.count all f
+          (Feeds-other v c.args.settings.now.trace _ (tt {0}) _ _ _ _ _ (Feeds-same v here c.args.settings.now.trace _ _ _ _ _ _ same k));
       lines = omega (arith, c.loop-count.invariant.lines, lines, length-take c.in-Some.count rest);
       later = omega (arith, c.loop-count.invariant.later, c.take_line.ensures.later);
+      later_err = omega (arith, c.loop-count.invariant.later_err, c.take_line.ensures.later_err);
       few = c.in_ok-count.ensures.few;
       runs = runs_on c.args.engine.now c.loop-count.engine runs c.take_line.new.engine c.take_line.ensures.runs;
       fits = fits_back c.args.engine.now c.loop-count.engine runs _ c.take_line.ensures.core_fits;
@@ -58,10 +61,10 @@ loop-count-preserved g c =
 pub returns-clause-feeds : goal.returns-clause-feeds
 returns-clause-feeds g c = λ part h.
     let rule = g.R.CommitRule.choice c.args.rule.now in
-    let v = service_of c.args.engine.now rule c.args.batching.now.batch in
-    let here = service_of c.loop-count.engine rule c.args.batching.now.batch in
-    let same = same_service c.args.engine.now c.loop-count.engine c.loop-count.invariant.runs rule c.args.batching.now.batch in
+    let v = service_of c.args.engine.now rule c.args.settings.now.batch c.args.settings.now.parts in
+    let here = service_of c.loop-count.engine rule c.args.settings.now.batch c.args.settings.now.parts in
+    let same = same_service c.args.engine.now c.loop-count.engine c.loop-count.invariant.runs rule c.args.settings.now.batch c.args.settings.now.parts in
     let f = c.loop-count.invariant.feeds part h in
     let k = rw c.in_default.is at (c.in_ok-count.ensures.feeds _ f.start) in
-    Feeds-from v (tt {0}) (Ok (tt {0})) _ _ _ _ _ part c.args.piece.now _ c.loop-count.start (from_place c.loop-count.start c.args.piece.now) f
-    (Feeds-other v _ (tt {0}) _ _ _ _ _ (Feeds-same v here _ _ _ _ _ _ same k))
+    Feeds-from v c.args.settings.now.trace (tt {0}) (Ok (tt {0})) _ _ _ _ _ part c.args.piece.now _ c.loop-count.start (from_place c.loop-count.start c.args.piece.now) f
+    (Feeds-other v c.args.settings.now.trace _ (tt {0}) _ _ _ _ _ (Feeds-same v here c.args.settings.now.trace _ _ _ _ _ _ same k))

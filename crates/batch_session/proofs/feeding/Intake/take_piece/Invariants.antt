@@ -1,7 +1,8 @@
 use Rattle.std.proofs.Common.{◌≤◌, ◌<◌, ◌+◌, ◌-◌, length, take, Ok}
 use Rattle.engine.specs.Cores.{CoreFits, IsSoundCore}
-use Rattle.engine.specs.EngineViews.{core_of, source_of, tables_of, RunsProgram}
-use Rattle.batch_session.specs.Comes.{service_of, point_of}
+use Rattle.engine.specs.EngineViews.{core_of, source_of, tables_of, compiled_of, limit_of, RunsProgram}
+use Rattle.line_answers.specs.Services.{service_of}
+use Rattle.batch_session.specs.Points.{point_of}
 use Rattle.batch_session.specs.Feeds.{FeedsBytes}
 use Rattle.batch_session.proofs.feeding.Intake.take_piece.Given as goal
 
@@ -12,12 +13,14 @@ decreases-loop-count g l = length l.piece - l.start
 abbrev pub invariant-loop-count : goal.invariant-loop-count
 invariant-loop-count g l = record {
   within : l.start ≤ length l.piece;
-  feeds : FeedsBytes (service_of l.fn.engine (g.R.CommitRule.choice l.rule) l.batching.batch) {T = Unit {0}} (Ok (tt {0})) l.fn.self.line l.self.line (take l.start l.piece)
-      (point_of l.fn.engine l.fn.self.lines (g.K.Sink.held l.fn.out)) (point_of l.engine l.self.lines (g.K.Sink.held l.out));
+  feeds : FeedsBytes (service_of l.fn.engine (g.R.CommitRule.choice l.rule) l.settings.batch l.settings.parts) l.settings.trace {T = Unit {0}} (Ok (tt {0})) l.fn.self.line l.self.line (take l.start l.piece)
+      (point_of l.fn.engine l.fn.self.lines l.fn.self.tally (g.K.Sink.held l.fn.out) (g.E.Sink.held l.fn.err) (g.C.Chooser.choices l.fn.chooser) (g.W.Watch.told l.fn.watch))
+      (point_of l.engine l.self.lines l.self.tally (g.K.Sink.held l.out) (g.E.Sink.held l.err) (g.C.Chooser.choices l.chooser) (g.W.Watch.told l.watch));
   lines : l.self.lines ≤ l.fn.self.lines + l.start;
   later : g.K.Sink.faults l.fn.out ≤ g.K.Sink.faults l.out;
-  few : length (core_of l.engine).pending < l.batching.batch;
-  runs : RunsProgram l.engine l.fn.engine.compiled l.fn.engine.limit;
+  later_err : g.E.Sink.faults l.fn.err ≤ g.E.Sink.faults l.err;
+  few : length (core_of l.engine).pending < l.settings.batch;
+  runs : RunsProgram l.engine (compiled_of l.fn.engine) (limit_of l.fn.engine);
   fits : CoreFits (tables_of l.fn.engine) (core_of l.engine);
   sound : IsSoundCore (source_of l.fn.engine) (core_of l.fn.engine) → IsSoundCore (source_of l.fn.engine) (core_of l.engine);
 }

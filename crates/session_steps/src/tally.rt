@@ -14,10 +14,10 @@ pub struct Tally {
 
 impl Tally {
     ghost use Rattle.std.specs.Prelude.{◌≡◌};
-    ghost use Rattle.batch_session.specs.Tallies.{no_batch, with_batch};
+    ghost use Rattle.session_steps.specs.Traces.{no_batch, with_batch};
 
     /// Of no batch.
-    pub(crate) fn new() -> Tally
+    pub fn new() -> Tally
         ensures { result ≡ no_batch }
     {
         Tally {
@@ -28,7 +28,7 @@ impl Tally {
     }
 
     /// Counts a batch.
-    pub(crate) fn count(&mut self, counts: BatchCounts)
+    pub fn count(&mut self, counts: BatchCounts)
         ensures { self.new ≡ with_batch self.old counts }
     {
         self.batches = self.batches.saturating_add(1);

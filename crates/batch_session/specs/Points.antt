@@ -1,0 +1,29 @@
+-- Where a session is, as its parts have it.
+use Rattle.std.specs.Prelude.{ℕ, List}
+use Rattle.std.specs.declared.option.Option.{Option}
+use Rattle.sf_outside.specs.Choices.{Choices}
+use Rattle.operator_graph.specs.Telling.{Told}
+use Rattle.engine.specs.declared.engine.Engine.{Engine}
+use Rattle.engine.specs.EngineViews.{core_of}
+use Rattle.batch_replies.specs.declared.answering.BatchStop.{BatchStop}
+use Rattle.batch_replies.specs.declared.answering.BatchStop.TheVariants as batch
+use Rattle.line_answers.specs.declared.answering.LineStop.{LineStop}
+use Rattle.line_answers.specs.declared.answering.LineStop.TheVariants.{HistoryFull, NoMemory, WriteFault}
+use Rattle.session_steps.specs.declared.tally.Tally.{Tally}
+use Rattle.session_steps.specs.Doings.{Point}
+
+abbrev pub point_of : Engine → ℕ → Tally → Option (List ℕ) → Option (List ℕ) → Option Choices → Option (List Told) → Point
+point_of engine lines tally held traced choices told = record {
+  core = core_of engine;
+  lines = lines;
+  held = held;
+  traced = traced;
+  outside = record { choices = choices; told = told };
+  tally = tally;
+}
+
+-- why a session stops where a batch did
+abbrev pub stop_of : BatchStop → LineStop
+stop_of batch.HistoryFull = HistoryFull
+stop_of batch.NoMemory = NoMemory
+stop_of batch.WriteFault = WriteFault

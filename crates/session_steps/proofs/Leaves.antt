@@ -1,0 +1,233 @@
+-- One step that was done, or at which the session stopped: from what a line or a batch came to.
+use Rattle.std.proofs.Common.{◌≡◌, ℕ, ◌+◌, ◌-◌, ◌<◌, inl, inr, Bool, true, false, Option, Some, None, List, [], ◌∷◌, Ok, Err, length, refl, sym, ap, ◌∙◌, subst, arith}
+use Rattle.std.proofs.lemmas.Bool.Decides.{nat_tests}
+use Rattle.std.specs.declared.result.Result.{Result}
+use Rattle.std.specs.Io.KnownBytes.{Appends}
+use Rattle.std.proofs.KnownBytes.{Appends-nil}
+use Rattle.sf_outside.specs.Bytes.{AppendsPrefix}
+use Rattle.sf_outside.specs.Gains.{joined}
+use Rattle.sf_outside.proofs.GainLaws.{joined-nil, joined_one}
+use Rattle.request_json.specs.Actions.{Line, Action, action_of}
+use Rattle.engine.specs.Cores.{Core}
+use Rattle.batch_output.specs.BatchOutput.{Standing, waits, answer, taken, is_due}
+use Rattle.batch_replies.specs.declared.counting.BatchCounts.{BatchCounts}
+use Rattle.batch_replies.specs.declared.answering.BatchStop.{BatchStop}
+use Rattle.batch_replies.specs.declared.answering.BatchStop.TheVariants as batch
+use Rattle.batch_replies.specs.BatchAnswers.{Answers, TellsBatch, core_behind}
+use Rattle.line_answers.specs.declared.answering.LineStop.{LineStop}
+use Rattle.line_answers.specs.declared.answering.LineStop.TheVariants.{HistoryFull, NoMemory, WriteFault}
+use Rattle.line_answers.specs.Services.{Service, program_of}
+use Rattle.line_answers.specs.LineAnswers.{before, Move, Moment, Moves, IsUntaken, FindsFull, IsUnplanned, AnswersLine, batch_on, line_result}
+use Rattle.line_answers.proofs.TakenLaws.{batch_moved}
+use Rattle.session_steps.specs.declared.tally.Tally.{Tally}
+use Rattle.session_steps.specs.Steps.{Step, Answer, RunWaiting, move_of}
+use Rattle.session_steps.specs.Traces.{with_batch, trace_line, trace_lines, trace_text}
+use Rattle.session_steps.specs.Doings.{Point, going, moment, RunBatches, IsUncounted, Does, StopsAt, Comes}
+use Rattle.session_steps.proofs.StepFacts.{open_at, lines_behind, printed_undue, behind_undue, ran_undue, printed_placed, behind_placed, ran_placed, standing-one, printed-one, ran-one}
+use Rattle.session_steps.proofs.Composing.{tally-nil, tally-one, trace-nil, Does-none, Comes-at}
+
+-- What is counted and traced of a step
+
+-- its batch was counted, and traced where that is asked for
+pub record IsCounted (traces : Bool) (counts : BatchCounts) (old new : Point) : Type 0 where
+  pub tally : new.tally ≡ with_batch old.tally counts
+  pub traced : Appends old.traced new.traced (trace_text traces old.tally (counts ∷ []))
+
+-- or there was none
+abbrev pub Counts : Bool → Option BatchCounts → Point → Point → Type 0
+Counts traces None old new = IsUncounted old new
+Counts traces (Some counts) old new = IsCounted traces counts old new
+
+-- the trace of one batch, where batches are traced and where they aren't
+pub trace_on : (traces : Bool) (t : Tally) (counts : BatchCounts) → traces ≡ true
+    → trace_text traces t (counts ∷ []) ≡ trace_line (with_batch t counts).batches counts
+unfolding trace_lines
+trace_on true t counts on = joined_one (trace_line (with_batch t counts).batches counts)
+trace_on false t counts on = cc
+
+pub trace_off : (traces : Bool) (t : Tally) (more : List BatchCounts) → traces ≡ false → trace_text traces t more ≡ []
+trace_off true t more off = cc
+trace_off false t more off = refl
+
+-- its line was written, or a part of it; or none was to be written
+pub Traced-whole : (traces : Bool) (t : Tally) (counts : BatchCounts) (a b : Option (List ℕ)) → traces ≡ true
+    → Appends a b (trace_line (with_batch t counts).batches counts) → Appends a b (trace_text traces t (counts ∷ []))
+Traced-whole traces t counts a b on whole = subst (Appends a b) (sym (trace_on traces t counts on)) whole
+
+pub Traced-part : (traces : Bool) (t : Tally) (counts : BatchCounts) (a b : Option (List ℕ)) → traces ≡ true
+    → AppendsPrefix a b (trace_line (with_batch t counts).batches counts) → AppendsPrefix a b (trace_text traces t (counts ∷ []))
+Traced-part traces t counts a b on part = subst (AppendsPrefix a b) (sym (trace_on traces t counts on)) part
+
+pub Traced-none : (traces : Bool) (t : Tally) (more : List BatchCounts) (a : Option (List ℕ)) → traces ≡ false → Appends a a (trace_text traces t more)
+Traced-none traces t more a off = subst (Appends a a) (sym (trace_off traces t more off)) (Appends-nil a)
+
+-- why a session stops where a batch did
+abbrev pub stop_of : BatchStop → LineStop
+stop_of batch.HistoryFull = HistoryFull
+stop_of batch.NoMemory = NoMemory
+stop_of batch.WriteFault = WriteFault
+
+module _ (v : Service) (traces : Bool) where
+  -- A step
+
+  abbrev move_from : Point → Step → Move
+  move_from p step = move_of v (going p) step
+
+  opened : (core core' : Core) (n n' : ℕ) → core' ≡ core → n' ≡ n → open_at core n ≡ open_at core' n'
+  opened core core' n n' same count = sym (ap (λ c. open_at c n') same ∙ ap (open_at core) count)
+
+  -- the step was done: no batch was due, or it was committed
+  pub Does-step : (counts : Option BatchCounts) (step : Step) (old new : Point) → new.lines ≡ lines_behind old.lines step
+      → Moves v (Ok counts) (move_from old step) (moment old) (moment new) → Counts traces counts old new → Does v traces (step ∷ []) old new
+  Does-step None step old new lines a u =
+      let m = move_from old step in
+      record {
+        stands = standing-one v (going old) step ∙ behind_undue v old.core old.lines step a.undue
+            ∙ opened m.core new.core (lines_behind old.lines step) new.lines a.core lines;
+        wrote = subst (λ l. Appends old.held new.held (joined l))
+            (sym (printed-one v (going old) step ∙ printed_undue v old.core old.lines step a.undue)) a.wrote;
+        counts = [];
+        ran = subst (λ cores. RunBatches v cores [] old.outside new.outside)
+            (sym (ran-one v (going old) step ∙ ran_undue v old.core old.lines step a.undue)) a.untold;
+        tally = u.tally ∙ sym (tally-nil old.tally);
+        traced = subst (λ t. Appends old.traced t (trace_text traces old.tally [])) (sym u.traced)
+            (subst (Appends old.traced old.traced) (sym (trace-nil traces old.tally)) (Appends-nil old.traced));
+      }
+  Does-step (Some counts) step old new lines a u =
+      let m = move_from old step in
+      record {
+        stands =
+            standing-one v (going old) step ∙ behind_placed v old.core old.lines step a.due a.place
+            ∙ opened (core_behind (program_of v) v.rule v.limits m.core) new.core (lines_behind old.lines step) new.lines a.core lines;
+        wrote = subst (λ l. Appends old.held new.held (joined l))
+            (sym (printed-one v (going old) step ∙ printed_placed v old.core old.lines step a.due)) a.wrote;
+        counts = counts ∷ [];
+        ran =
+            subst (λ cores. RunBatches v cores (counts ∷ []) old.outside new.outside)
+            (sym (ran-one v (going old) step ∙ ran_placed v old.core old.lines step a.due a.place))
+            (new.outside, a.ran, refl);
+        tally = u.tally ∙ sym (tally-one old.tally counts);
+        traced = u.traced;
+      }
+
+  -- the session stopped at the step, and counted nothing
+  pub Stops-step : (stop : LineStop) (step : Step) (old new : Point) → Moves v (Err stop) (move_from old step) (moment old) (moment new)
+      → IsUncounted old new → StopsAt v traces stop step old new
+  Stops-step HistoryFull step old new a u = (a, u)
+  Stops-step NoMemory step old new a u = (inr a, u)
+  Stops-step WriteFault step old new a u = inl (a, u)
+
+  -- its batch was committed, and the line of its trace was written in part
+  pub Stops-untraced : (counts : BatchCounts) (step : Step) (old new : Point) → Moves v (Ok (Some counts)) (move_from old step) (moment old) (moment new)
+      → new.tally ≡ with_batch old.tally counts
+      → AppendsPrefix old.traced new.traced (trace_text traces old.tally (counts ∷ [])) → StopsAt v traces WriteFault step old new
+  Stops-untraced counts step old new a tally part = inr (record { counts = counts; committed = a; tally = tally; part = part })
+
+  -- A stop at one step is one of it alone
+
+  pub Comes-one : {T : Type 0} (r : Result T LineStop) (stop : LineStop) (step : Step) (old new : Point) → r ≡ Err stop → StopsAt v traces stop step old new
+      → Comes v traces r (step ∷ []) old new
+  Comes-one r stop step old new is s = Comes-at v traces r stop [] [] step old old new is (Does-none v traces old) s
+
+  -- A line
+
+  before_is : (p : Point) → before p.core (p.lines + 1) ≡ going p
+  before_is p = let same : p.lines + 1 - 1 ≡ p.lines = omega arith in ap (open_at p.core) same
+
+  abbrev LineComes : Result (Option BatchCounts) LineStop → Line → Point → Point → Type 0
+  LineComes r line old new = AnswersLine v r (before old.core (old.lines + 1)) line (moment old) (moment new)
+
+  pub Does-line : (counts : Option BatchCounts) (line : Line) (old new : Point) → new.lines ≡ old.lines + 1
+      → AnswersLine v (Ok counts) (before old.core (old.lines + 1)) line (moment old) (moment new)
+      → Counts traces counts old new → Does v traces (Answer line ∷ []) old new
+  Does-line counts line old new lines a u =
+      Does-step counts (Answer line) old new lines (subst (λ s. AnswersLine v (Ok counts) s line (moment old) (moment new)) (before_is old) a) u
+
+  stops_line : (stop : LineStop) (line : Line) (old new : Point) → AnswersLine v (Err stop) (going old) line (moment old) (moment new) → IsUncounted old new
+      → StopsAt v traces stop (Answer line) old new
+  stops_line HistoryFull line old new a u = (a, u)
+  stops_line NoMemory line old new (inl a) u = (inl a, u)
+  stops_line NoMemory line old new (inr a) u = (inr a, u)
+  stops_line WriteFault line old new a u = inl (a, u)
+
+  pub Stops-line : (stop : LineStop) (line : Line) (old new : Point)
+      → AnswersLine v (Err stop) (before old.core (old.lines + 1)) line (moment old) (moment new) → IsUncounted old new
+      → StopsAt v traces stop (Answer line) old new
+  Stops-line stop line old new a u = stops_line stop line old new (subst (λ s. AnswersLine v (Err stop) s line (moment old) (moment new)) (before_is old) a) u
+
+  pub Untraced-line : (counts : BatchCounts) (line : Line) (old new : Point)
+      → AnswersLine v (Ok (Some counts)) (before old.core (old.lines + 1)) line (moment old) (moment new)
+      → new.tally ≡ with_batch old.tally counts → AppendsPrefix old.traced new.traced (trace_text traces old.tally (counts ∷ []))
+      → StopsAt v traces WriteFault (Answer line) old new
+  Untraced-line counts line old new a tally part =
+      Stops-untraced counts (Answer line) old new (subst (λ s. AnswersLine v (Ok (Some counts)) s line (moment old) (moment new)) (before_is old) a) tally part
+
+  -- A batch of what waits, at the end of the input
+
+  nothing : (a : Option (List ℕ)) → Appends a a (joined [])
+  nothing a = subst (Appends a a) (sym joined-nil) (Appends-nil a)
+
+  -- from what the batch came to and told
+  pub Moves-waiting : (result : Result BatchCounts BatchStop) (old new : Point) → waits old.core ≡ true
+      → Answers (program_of v) v.rule v.limits result old.core new.core old.held new.held
+      → TellsBatch (batch_on v.compiled old.core) v.parts result old.outside new.outside
+      → Moves v (line_result result) (move_from old RunWaiting) (moment old) (moment new)
+  Moves-waiting result old new some a t = batch_moved v result (move_from old RunWaiting) (moment old) (moment new) old.held some (nothing old.held) a t
+
+  pub some_waits : (core : Core) → 0 < length core.pending → waits core ≡ true
+  some_waits core some = grind (arith, nat_tests)
+
+  pub none_waits : (core : Core) → length core.pending ≡ 0 → waits core ≡ false
+  none_waits core none = grind (arith, nat_tests)
+
+  pub Does-batch : (counts : BatchCounts) (old new : Point) → new.lines ≡ old.lines → 0 < length old.core.pending
+      → Answers (program_of v) v.rule v.limits (Ok counts) old.core new.core old.held new.held
+      → TellsBatch (batch_on v.compiled old.core) v.parts (Ok counts) old.outside new.outside → IsCounted traces counts old new
+      → Does v traces (RunWaiting ∷ []) old new
+  Does-batch counts old new lines some a t u = Does-step (Some counts) RunWaiting old new lines
+      (Moves-waiting (Ok counts) old new (some_waits old.core some) a t) u
+
+  stops_batch : (stop : BatchStop) (old new : Point) → Moves v (line_result (Err stop)) (move_from old RunWaiting) (moment old) (moment new)
+      → IsUncounted old new → StopsAt v traces (stop_of stop) RunWaiting old new
+  stops_batch batch.HistoryFull old new a u = (a, u)
+  stops_batch batch.NoMemory old new a u = (inr a, u)
+  stops_batch batch.WriteFault old new a u = inl (a, u)
+
+  pub Stops-batch : (stop : BatchStop) (old new : Point) → 0 < length old.core.pending
+      → Answers (program_of v) v.rule v.limits (Err stop) old.core new.core old.held new.held
+      → TellsBatch (batch_on v.compiled old.core) v.parts (Err stop) old.outside new.outside → IsUncounted old new
+      → StopsAt v traces (stop_of stop) RunWaiting old new
+  Stops-batch stop old new some a t u = stops_batch stop old new (Moves-waiting (Err stop) old new (some_waits old.core some) a t) u
+
+  pub Untraced-batch : (counts : BatchCounts) (old new : Point) → 0 < length old.core.pending
+      → Answers (program_of v) v.rule v.limits (Ok counts) old.core new.core old.held new.held
+      → TellsBatch (batch_on v.compiled old.core) v.parts (Ok counts) old.outside new.outside → new.tally ≡ with_batch old.tally counts
+      → AppendsPrefix old.traced new.traced (trace_text traces old.tally (counts ∷ [])) → StopsAt v traces WriteFault RunWaiting old new
+  Untraced-batch counts old new some a t tally part = Stops-untraced counts RunWaiting old new
+      (Moves-waiting (Ok counts) old new (some_waits old.core some) a t) tally part
+
+  -- where nothing waits it does nothing
+  pub Does-idle : (p : Point) → length p.core.pending ≡ 0 → Does v traces (RunWaiting ∷ []) p p
+  Does-idle p none = Does-step None RunWaiting p p refl (record { undue = none_waits p.core none; core = refl; wrote = nothing p.held; untold = refl })
+      (record { tally = refl; traced = refl })
+
+-- A line that asks the same
+
+module _ (v : Service) where
+  abbrev move_by : Standing → Action → Move
+  move_by s action =
+      record { answer = answer s.core (s.lines + 1) action; core = taken s.core action; is_due = is_due (program_of v) v.rule v.limits s.core action }
+
+  move_as : (s : Standing) (line line' : Line) → action_of (program_of v) line ≡ action_of (program_of v) line'
+      → move_of v s (Answer line) ≡ move_of v s (Answer line')
+  move_as s line line' same = ap (move_by s) same
+
+  -- is answered the same
+  pub Line-as : (r : Result (Option BatchCounts) LineStop) (s : Standing) (line line' : Line) (old new : Moment)
+      → action_of (program_of v) line ≡ action_of (program_of v) line'
+      → AnswersLine v r s line old new → AnswersLine v r s line' old new
+  Line-as (Ok counts) s line line' old new same a = subst (λ m. Moves v (Ok counts) m old new) (move_as s line line' same) a
+  Line-as (Err HistoryFull) s line line' old new same a = subst (λ m. FindsFull v m old new) (move_as s line line' same) a
+  Line-as (Err NoMemory) s line line' old new same (inl a) = inl (subst (λ m. IsUntaken s m old new) (move_as s line line' same) a)
+  Line-as (Err NoMemory) s line line' old new same (inr a) = inr (subst (λ m. IsUnplanned v m old new) (move_as s line line' same) a)
+  Line-as (Err WriteFault) s line line' old new same a = subst (λ m. Moves v (Err WriteFault) m old new) (move_as s line line' same) a

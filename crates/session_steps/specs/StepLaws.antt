@@ -1,0 +1,85 @@
+-- What steps print is what a session in batches prints; and what a session has come to, wherever it stopped.
+use Rattle.std.specs.Prelude.{◌≡◌, ℕ, Bool, true, List, take, Ok, Err, ⊤}
+use Rattle.std.specs.declared.option.Option.{Option}
+use Rattle.std.specs.declared.result.Result.{Result}
+use Rattle.std.specs.Io.KnownBytes.{Appends}
+use Rattle.sf_outside.specs.Bytes.{AppendsPrefix}
+use Rattle.sf_outside.specs.Gains.{joined}
+use Rattle.request_json.specs.Actions.{Line, all_lines}
+use Rattle.operator_graph.specs.Turns.{Outside}
+use Rattle.engine.specs.Cores.{Core}
+use Rattle.batch_output.specs.BatchOutput.{Standing, begun, after, replies, at_end, all_replies}
+use Rattle.batch_replies.specs.declared.counting.BatchCounts.{BatchCounts}
+use Rattle.line_answers.specs.declared.answering.LineStop.{LineStop}
+use Rattle.line_answers.specs.declared.answering.LineStop.TheVariants.{HistoryFull, NoMemory, WriteFault}
+use Rattle.line_answers.specs.Services.{Service, program_of}
+use Rattle.session_steps.specs.Steps.{Step, answers, all_steps, standing_after, printed, ran_on}
+use Rattle.session_steps.specs.Traces.{trace_text}
+use Rattle.session_steps.specs.Doings.{Point, going, RunBatches, BeginBatches, Comes}
+
+-- What steps print
+
+-- the steps of lines print their replies, and lead to where the session stands behind them
+pub record AnswersPrint (v : Service) (s : Standing) (lines : List Line) : Type 0 where
+  pub stands : standing_after v s (answers lines) ≡ after (program_of v) v.rule v.limits s lines
+  pub prints : printed v s (answers lines) ≡ replies (program_of v) v.rule v.limits s lines
+
+-- and so do those of a whole input, its end with them
+pub record InputPrints (v : Service) (core : Core) (bytes : List ℕ) : Type 0 where
+  pub stands : standing_after v (begun core) (all_steps v core bytes)
+      ≡ at_end (program_of v) v.rule v.limits (after (program_of v) v.rule v.limits (begun core) (all_lines bytes))
+  pub prints : printed v (begun core) (all_steps v core bytes) ≡ all_replies (program_of v) v.rule v.limits core bytes
+
+abbrev pub StepsPrint : Type 0
+StepsPrint = (v : Service) → ((s : Standing) (lines : List Line) → AnswersPrint v s lines) × ((core : Core) (bytes : List ℕ) → InputPrints v core bytes)
+
+-- What a session has come to
+
+-- the text of what they print was written; where it stopped for want of memory or at a write fault, a prefix of it
+abbrev pub WroteAs : {T : Type 0} → Result T LineStop → Option (List ℕ) → Option (List ℕ) → List ℕ → Type 0
+WroteAs (Ok value) old new text = Appends old new text
+WroteAs (Err HistoryFull) old new text = Appends old new text
+WroteAs (Err NoMemory) old new text = AppendsPrefix old new text
+WroteAs (Err WriteFault) old new text = AppendsPrefix old new text
+
+-- where memory was wanted whole lines stand on its output
+abbrev pub WholeAs : {T : Type 0} → Result T LineStop → Option (List ℕ) → Option (List ℕ) → List (List ℕ) → Type 0
+WholeAs (Ok value) old new lines = ⊤
+WholeAs (Err HistoryFull) old new lines = ⊤
+WholeAs (Err NoMemory) old new lines = (k : ℕ) × Appends old new (joined (take k lines))
+WholeAs (Err WriteFault) old new lines = ⊤
+
+-- their batches were told; where it stopped for want of memory or at a write fault, some first ones, and perhaps some events of the next
+abbrev pub ToldAs : {T : Type 0} → Service → Result T LineStop → List Core → List BatchCounts → Outside → Outside → Type 0
+ToldAs v (Ok value) cores counts old new = RunBatches v cores counts old new
+ToldAs v (Err HistoryFull) cores counts old new = RunBatches v cores counts old new
+ToldAs v (Err NoMemory) cores counts old new = BeginBatches v cores counts old new
+ToldAs v (Err WriteFault) cores counts old new = BeginBatches v cores counts old new
+
+-- the lines of those that were counted were traced; at a write fault perhaps a part of them
+abbrev pub TracedAs : {T : Type 0} → Result T LineStop → Option (List ℕ) → Option (List ℕ) → List ℕ → Type 0
+TracedAs (Ok value) old new text = Appends old new text
+TracedAs (Err HistoryFull) old new text = Appends old new text
+TracedAs (Err NoMemory) old new text = Appends old new text
+TracedAs (Err WriteFault) old new text = AppendsPrefix old new text
+
+-- where it stands is where they lead; or the history is full there
+abbrev pub StandsAs : {T : Type 0} → Result T LineStop → Standing → Standing → Type 0
+StandsAs (Ok value) stands new = stands ≡ new
+StandsAs (Err HistoryFull) stands new = stands.is_full ≡ true
+StandsAs (Err NoMemory) stands new = ⊤
+StandsAs (Err WriteFault) stands new = ⊤
+
+-- a first part of what the steps print was printed, and of their batches some first ones were run, told, counted and traced; all of it where the
+-- steps were done or the history was full
+pub record HasBegun {T : Type 0} (v : Service) (traces : Bool) (result : Result T LineStop) (steps : List Step) (old new : Point) : Type 0 where
+  pub stands : StandsAs result (standing_after v (going old) steps) (going new)
+  pub wrote : WroteAs result old.held new.held (joined (printed v (going old) steps))
+  pub whole : WholeAs result old.held new.held (printed v (going old) steps)
+  pub counts : List BatchCounts
+  pub told : ToldAs v result (ran_on v (going old) steps) counts old.outside new.outside
+  pub traced : TracedAs result old.traced new.traced (trace_text traces old.tally counts)
+
+abbrev pub ComesBegin : Type 0
+ComesBegin = (v : Service) (traces : Bool) (result : Result (Unit {0}) LineStop) (steps : List Step) (old new : Point)
+    → Comes v traces result steps old new → HasBegun v traces result steps old new
