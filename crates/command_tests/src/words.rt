@@ -74,12 +74,19 @@ const SERVED: &str = "
     run, the file last       | run --batch 1 a.py               | served
     run, joined and first    | run --batch=1 a.py               | served
     run, a number of zeros   | run a.py --batch=0001            | served
-    run, all that is usual   | run --history=16777216 --every 64 a.py --schedule=0 --partitions 4 --batch=1 | served
+    run, all that is usual   | run --history=16777216 --every 64 a.py --schedule=0 --partitions 4 --batch=64 | served
+    run, the usual batch     | run a.py                         | served
+    run, a batch of two      | run a.py --batch 2               | served
+    run, partitions          | run a.py --batch 1 --partitions 64 | served
+    run, a schedule          | run a.py --schedule=18446744073709551615 | served
+    run, checkpoints         | run a.py --every 2               | served
+    run, a history           | run a.py --history 1             | served
+    run, a trace             | run --trace a.py                 | served
 ";
 
 #[test]
 fn words_that_are_served(rt: HostRuntime) -> Result<(), Fail> {
-    let other = other(rt.alloc(), SERVED, 9)?;
+    let other = other(rt.alloc(), SERVED, 16)?;
     assert_eq!(rt; other.as_str(), "");
     Ok(())
 }
@@ -118,20 +125,13 @@ fn words_of_no_command_are_told_the_usage(rt: HostRuntime) -> Result<(), Fail> {
 }
 
 const NOT_SERVED: &str = "
-    the usual batch          | run a.py                         | usage
-    a batch of two           | run a.py --batch 2               | usage
-    partitions               | run a.py --batch 1 --partitions 2 | usage
-    a schedule               | run a.py --batch 1 --schedule 7  | usage
     a store                  | run a.py --batch 1 --store s     | usage
-    checkpoints              | run a.py --batch 1 --every 2     | usage
-    a history                | run a.py --batch 1 --history 2   | usage
-    a trace                  | run a.py --batch 1 --trace       | usage
     generated work           | gen --number 7 --size 3          | usage
 ";
 
 #[test]
 fn what_is_not_served_is_told_the_usage(rt: HostRuntime) -> Result<(), Fail> {
-    let other = other(rt.alloc(), NOT_SERVED, 9)?;
+    let other = other(rt.alloc(), NOT_SERVED, 2)?;
     assert_eq!(rt; other.as_str(), "");
     Ok(())
 }

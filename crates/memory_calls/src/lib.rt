@@ -1,7 +1,8 @@
 //! Calls of the program over devices in memory, for the crates of tests.
 #![tactic(auto)]
 
-use sf_outside::{MemFiles, MemSink, MemSource, Source};
+use operator_graph::MemWatch;
+use sf_outside::{Chooser, ListChooser, MemFiles, MemSink, MemSource, Source};
 use stateflow_cli::stateflow;
 use std::alloc::{AllocError, Global};
 
@@ -21,12 +22,13 @@ pub const NO_FAULTS: Faults<'static> = Faults {
     err: &[],
 };
 
-/// What a call answered and wrote.
+/// What a call answered, wrote and told.
 #[derive(Drop)]
 pub struct Answer {
     pub status: u8,
     pub out: MemSink,
     pub err: MemSink,
+    pub watch: MemWatch,
 }
 
 /// Words, as a call takes them.
@@ -38,7 +40,39 @@ pub fn words_of(alloc: Global, words: &[&str]) -> Result<Vec<String>, AllocError
     Ok(owned)
 }
 
-/// Makes a call with these words, where a file has this text, beside an input of any kind.
+/// Makes a call with these words, where a file has this text, on an input of any kind, with whoever chooses the order of events.
+pub fn call_along<S: Source, C: Chooser>(
+    alloc: Global,
+    words: &[&str],
+    file: (&str, &[u8]),
+    input: &mut S,
+    chooser: &mut C,
+    faults: Faults<'_>,
+) -> Result<Answer, AllocError> {
+    let words = words_of(alloc, words)?;
+    let mut files = MemFiles::new(alloc, &[file.0], &[file.1], faults.file)?;
+    let mut out = MemSink::new(alloc, 1000, faults.out)?;
+    let mut err = MemSink::new(alloc, 1000, faults.err)?;
+    let mut watch = MemWatch::new(alloc);
+    let status = stateflow(
+        alloc,
+        words.as_slice(),
+        &mut files,
+        input,
+        &mut out,
+        &mut err,
+        chooser,
+        &mut watch,
+    );
+    Ok(Answer {
+        status,
+        out,
+        err,
+        watch,
+    })
+}
+
+/// Makes a call with these words, where a file has this text, on an input of any kind.
 pub fn call_beside<S: Source>(
     alloc: Global,
     words: &[&str],
@@ -47,19 +81,8 @@ pub fn call_beside<S: Source>(
     input: &mut S,
     faults: Faults<'_>,
 ) -> Result<Answer, AllocError> {
-    let words = words_of(alloc, words)?;
-    let mut files = MemFiles::new(alloc, &[file], &[text], faults.file)?;
-    let mut out = MemSink::new(alloc, 1000, faults.out)?;
-    let mut err = MemSink::new(alloc, 1000, faults.err)?;
-    let status = stateflow(
-        alloc,
-        words.as_slice(),
-        &mut files,
-        input,
-        &mut out,
-        &mut err,
-    );
-    Ok(Answer { status, out, err })
+    let mut chooser = ListChooser::new(alloc, &[])?;
+    call_along(alloc, words, (file, text), input, &mut chooser, faults)
 }
 
 /// Makes a call with these words, where a file has this text, on this input.

@@ -74,9 +74,21 @@ fn failed_read_of_the_input_leaves_whole_lines(rt: HostRuntime) -> Result<(), Fa
     Ok(())
 }
 
+/// The output is flushed behind the lines of each batch, and at the end.
 #[test]
 fn failed_write_leaves_the_lines_before(rt: HostRuntime) -> Result<(), Fail> {
-    for (call, written) in [(1, 0), (2, 28), (3, 54), (4, 105), (5, 133), (6, 162)] {
+    let rows = [
+        (1, 0),
+        (2, 28),
+        (3, 28),
+        (4, 54),
+        (5, 54),
+        (6, 105),
+        (7, 105),
+        (8, 133),
+        (9, 162),
+    ];
+    for (call, written) in rows {
         let faults = Faults {
             out: &[call],
             ..NO_FAULTS
@@ -96,14 +108,14 @@ fn failed_error_stream_is_status_4(rt: HostRuntime) -> Result<(), Fail> {
         err: &[1],
         ..NO_FAULTS
     };
-    let answer = run_counter(rt.alloc(), "2", once)?;
+    let answer = run_counter(rt.alloc(), "0", once)?;
     assert_eq!(rt; answer.status, 4);
     assert_eq!(rt; answer.err.bytes(), b"stateflow: write fault\n".as_slice());
     let twice = Faults {
         err: &[1, 2],
         ..NO_FAULTS
     };
-    let answer = run_counter(rt.alloc(), "2", twice)?;
+    let answer = run_counter(rt.alloc(), "0", twice)?;
     assert_eq!(rt; answer.status, 4);
     assert_eq!(rt; answer.err.bytes(), b"".as_slice());
     Ok(())

@@ -4,6 +4,8 @@
 #[cfg(test)]
 mod arguments;
 #[cfg(test)]
+mod batches;
+#[cfg(test)]
 mod bounds;
 #[cfg(test)]
 mod counter;
@@ -11,6 +13,8 @@ mod counter;
 mod echo;
 #[cfg(test)]
 mod entities;
+#[cfg(test)]
+mod limits;
 #[cfg(test)]
 mod lists;
 #[cfg(test)]
@@ -22,6 +26,10 @@ mod repeats;
 #[cfg(test)]
 mod request_lines;
 #[cfg(test)]
+mod schedules;
+#[cfg(test)]
 mod shop;
 #[cfg(test)]
 mod system_files;
+#[cfg(test)]
+mod told_runs;

@@ -2,10 +2,12 @@
 
 ghost use Rattle.std.specs.Prelude.{None};
 
-use crate::counter::{REPLIES, REQUESTS};
+use crate::counter::REQUESTS;
 use memory_calls::words_of;
-use sf_outside::{Failed, MemFiles, MemSink, MemSource, Sink, Source};
+use operator_graph::NoWatch;
+use sf_outside::{Failed, ListChooser, MemFiles, MemSink, MemSource, Sink, Source};
 use stateflow_cli::stateflow;
+use std::alloc::{AllocError, Global};
 use std::cell::Cell;
 use std::test::Fail;
 use test_support::COUNTER;
@@ -60,9 +62,8 @@ impl Source for WatchingSource<'_> {
     }
 }
 
-#[test]
-fn lines_of_a_piece_are_answered_before_the_next_is_read(rt: HostRuntime) -> Result<(), Fail> {
-    let alloc = rt.alloc();
+/// How many bytes the output had when the second piece of the input was asked for, where so many requests make a batch.
+fn written_before_second(alloc: Global, size: &str) -> Result<u64, AllocError> {
     let written = Cell::new(0);
     let mut files = MemFiles::new(alloc, &["counter.py"], &[COUNTER.as_bytes()], &[])?;
     let mut input = WatchingSource {
@@ -73,17 +74,27 @@ fn lines_of_a_piece_are_answered_before_the_next_is_read(rt: HostRuntime) -> Res
     };
     let mut out = CountingSink { written: &written };
     let mut err = MemSink::new(alloc, 1000, &[])?;
-    let words = words_of(alloc, &["run", "counter.py", "--batch", "1"])?;
-    let status = stateflow(
+    let words = words_of(alloc, &["run", "counter.py", "--batch", size])?;
+    let _status = stateflow(
         alloc,
         words.as_slice(),
         &mut files,
         &mut input,
         &mut out,
         &mut err,
+        &mut ListChooser::new(alloc, &[])?,
+        &mut NoWatch,
     );
-    assert_eq!(rt; status, 0);
-    assert_eq!(rt; input.at_second, 54);
-    assert_eq!(rt; written.get(), REPLIES.len() as u64);
+    Ok(input.at_second)
+}
+
+/// The first piece has two requests. One at a time both are answered; as a batch the first is, and the second, which it stands in
+/// the way of, waits on.
+#[test]
+fn lines_of_a_piece_are_answered_before_the_next_is_read(rt: HostRuntime) -> Result<(), Fail> {
+    for (size, bytes) in [("1", 54), ("2", 28), ("3", 0)] {
+        let at_second = written_before_second(rt.alloc(), size)?;
+        assert_eq!(rt; at_second, bytes, "{size}");
+    }
     Ok(())
 }

@@ -1,8 +1,9 @@
 //! The devices of the system, one at a time: the program's file, the input or the output is a file of the system.
 
 use memory_calls::words_of;
+use operator_graph::NoWatch;
 use sf_outside::{Files, MemFiles, MemSink, MemSource, Sink, Source};
-use stateflow_cli::{NamedFiles, Reading, Writing, stateflow};
+use stateflow_cli::{Generator, NamedFiles, Reading, Writing, stateflow};
 use std::alloc::{AllocError, Global};
 use std::fs;
 use std::test::Fail;
@@ -25,7 +26,16 @@ fn call_on<F: Files, S: Source, K: Sink>(
 ) -> Result<Told, AllocError> {
     let words = words_of(alloc, words)?;
     let mut err = MemSink::new(alloc, 1000, &[])?;
-    let status = stateflow(alloc, words.as_slice(), files, input, out, &mut err);
+    let status = stateflow(
+        alloc,
+        words.as_slice(),
+        files,
+        input,
+        out,
+        &mut err,
+        &mut Generator::new(),
+        &mut NoWatch,
+    );
     Ok(Told { status, err })
 }
 

@@ -1,7 +1,8 @@
 //! The program: the top call on the standard streams and the files of the system.
 #![tactic(auto)]
 
-use stateflow_cli::{NamedFiles, Reading, Writing, stateflow};
+use operator_graph::NoWatch;
+use stateflow_cli::{Generator, NamedFiles, Reading, Writing, stateflow};
 use std::env;
 use std::process::ExitCode;
 
@@ -21,6 +22,8 @@ fn main(rt: HostRuntime) -> ExitCode {
     let mut input = Reading::new(rt.stdin());
     let mut out = Writing::new(rt.stdout());
     let mut err = Writing::new(rt.stderr());
+    let mut chooser = Generator::new();
+    let mut watch = NoWatch;
     let status = stateflow(
         rt.alloc(),
         words.as_slice(),
@@ -28,6 +31,8 @@ fn main(rt: HostRuntime) -> ExitCode {
         &mut input,
         &mut out,
         &mut err,
+        &mut chooser,
+        &mut watch,
     );
     ExitCode::from(status)
 }

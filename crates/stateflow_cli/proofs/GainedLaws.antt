@@ -1,81 +1,43 @@
--- What the error stream gained, piece after piece.
-use Rattle.std.proofs.Common.{◌≡◌, ℕ, ◌+◌, ◌<◌, ◌≤◌, false, ◌==◌, List, [], ◌∷◌, ◌++◌, length, map, take, drop, get_or, take-append-drop, min, Ok, Err, OnOk, OnErr, refl, sym, ap, ◌∙◌, subst, append-nil, arith}
-use Rattle.std.proofs.lemmas.List.{take_at, take_more, map-append}
-use Rattle.std.proofs.lemmas.List.Folds.{concat-append}
-use Rattle.std.specs.List.{concat}
-use Rattle.std.proofs.KnownBytes.{Appends-trans, Appends-nil, Appends-kept}
+-- What the error stream gained by a line that could not be written.
+use Rattle.std.proofs.Common.{◌≡◌, ℕ, ◌≤◌, false, ◌==◌, List, [], Ok, Err, OnOk, OnErr, refl, sym, subst, arith}
+use Rattle.std.proofs.KnownBytes.{Appends-kept}
 use Rattle.std.specs.declared.option.Option.{Option}
 use Rattle.std.specs.declared.result.Result.{Result}
 use Rattle.std.specs.Io.KnownBytes.{Appends, Keeps}
 use Rattle.sf_outside.specs.Bytes.{AppendsPrefix}
 use Rattle.sf_outside.specs.Causes.{Rose}
+use Rattle.session_steps.proofs.PieceLaws.{prefix_whole}
 use Rattle.stateflow_cli.specs.StatusLines.{write_fault_line}
-use Rattle.stateflow_cli.specs.Telling.{second_line, Told, Part}
-use Rattle.sf_outside.proofs.Fronts.{take_into, take_first}
-
--- all of it is a prefix
-pub prefix_whole : (a b : Option (List ℕ)) (xs : List ℕ) → Appends a b xs → AppendsPrefix a b xs
-prefix_whole a b xs p = (length xs, subst (Appends a b) (sym (take_at xs [] (length xs) refl) ∙ ap (take (length xs)) (append-nil xs)) p)
-
-pub prefix_none : (a : Option (List ℕ)) (xs : List ℕ) → AppendsPrefix a a xs
-prefix_none a xs = (0, Appends-nil a)
-
--- a prefix of the first piece is one of the whole
-pub prefix_more : (a b : Option (List ℕ)) (xs ys : List ℕ) → AppendsPrefix a b xs → AppendsPrefix a b (xs ++ ys)
-prefix_more a b xs ys p = (min p.0 (length xs), subst (Appends a b) (sym (take_first xs ys p.0)) p.1)
-
--- the first piece, and then a prefix of the next
-pub prefix_after : (a b c : Option (List ℕ)) (xs ys : List ℕ) → Appends a b xs → AppendsPrefix b c ys → AppendsPrefix a c (xs ++ ys)
-prefix_after a b c xs ys p q = (length xs + q.0, subst (Appends a c) (sym (take_into xs ys q.0)) (Appends-trans a b c xs (take q.0 ys) p q.1))
-
--- pieces, written one after another
-module _ {X : Type 0} (text : X → List ℕ) (pieces : List X) (i : ℕ) (d : X) (within : i < length pieces) where
-  concat_more : concat (map text (take (i + 1) pieces)) ≡ concat (map text (take i pieces)) ++ text (get_or pieces i d)
-  concat_more =
-      ap (λ ps. concat (map text ps)) (take_more pieces i d within) ∙ ap concat (map-append text (take i pieces) (get_or pieces i d ∷ []))
-      ∙ concat-append (map text (take i pieces)) (text (get_or pieces i d) ∷ []) ∙ ap (λ l. concat (map text (take i pieces)) ++ l) (append-nil (text (get_or pieces i d)))
-
-  concat_split : concat (map text pieces) ≡ (concat (map text (take i pieces)) ++ text (get_or pieces i d)) ++ concat (map text (drop (i + 1) pieces))
-  concat_split =
-      ap (λ ps. concat (map text ps)) (sym (take-append-drop (i + 1) pieces)) ∙ ap concat (map-append text (take (i + 1) pieces) (drop (i + 1) pieces))
-      ∙ concat-append (map text (take (i + 1) pieces)) (map text (drop (i + 1) pieces)) ∙ ap (λ l. l ++ concat (map text (drop (i + 1) pieces))) concat_more
-
-  module _ (a b c : Option (List ℕ)) (so_far : Appends a b (concat (map text (take i pieces)))) where
-    -- one more, whole
-    pub one_more : Appends b c (text (get_or pieces i d)) → Appends a c (concat (map text (take (i + 1) pieces)))
-    one_more p = subst (Appends a c) (sym concat_more) (Appends-trans a b c (concat (map text (take i pieces))) (text (get_or pieces i d)) so_far p)
-
-    -- one more, in part
-    pub part_more : AppendsPrefix b c (text (get_or pieces i d)) → AppendsPrefix a c (concat (map text pieces))
-    part_more p = subst (AppendsPrefix a c) (sym concat_split)
-        (prefix_more a c (concat (map text (take i pieces)) ++ text (get_or pieces i d)) (concat (map text (drop (i + 1) pieces))) (prefix_after a b c (concat (map text (take i pieces))) (text (get_or pieces i d)) so_far p))
+use Rattle.stateflow_cli.specs.Telling.{second_line, Told, Whole, Part}
 
 -- what is kept after a line was written whole is a prefix of it
 pub prefix_kept : (a b c : Option (List ℕ)) (xs : List ℕ) → Appends a b xs → Keeps b c → AppendsPrefix a c xs
 prefix_kept a b c xs p k = prefix_whole a c xs (Appends-kept a b c xs p k)
 
--- a fact that follows from a success
-pub on_ok_weaker : {T E P Q : Type 0} (r : Result T E) → (P → Q) → OnOk r P → OnOk r Q
-on_ok_weaker (Ok x) f p = f p
-on_ok_weaker (Err e) f p = tt
-
 -- whether a write was whole or not, a prefix was written
-pub prefix_written : {T E : Type 0} (r : Result T E) (a b : Option (List ℕ)) (xs : List ℕ) → OnOk r (Appends a b xs) → OnErr r (AppendsPrefix a b xs) → AppendsPrefix a b xs
+prefix_written : {T E : Type 0} (r : Result T E) (a b : Option (List ℕ)) (xs : List ℕ) → OnOk r (Appends a b xs) → OnErr r (AppendsPrefix a b xs) → AppendsPrefix a b xs
 prefix_written (Ok x) a b xs p q = prefix_whole a b xs p
 prefix_written (Err e) a b xs p q = q
 
 chain : (x y z : ℕ) → x ≤ y → y ≤ z → x ≤ z
 chain x y z p q = omega (arith, p, q)
 
+-- a count that rose has risen later on
 pub Rose-later : (a b c : ℕ) → Rose a b → b ≤ c → Rose a c
 Rose-later a b c p q = chain _ b c p q
 
--- the line failed, and it was that of a write fault
-pub Told-once : (line : List ℕ) (own : ℕ) (a b : Option (List ℕ)) (before after : ℕ) → own ≡ 4 → AppendsPrefix a b line → Rose before after → Told line own a b before after 4
-Told-once line own a b before after e p r = Part refl r (record { between = b; first = p; second = subst (λ n. AppendsPrefix b b (second_line n)) (sym e) (prefix_none b []) })
+-- and one that rose later has risen from before
+pub Rose-earlier : (a b c : ℕ) → a ≤ b → Rose b c → Rose a c
+Rose-earlier a b c p q = omega (arith, p, q)
 
 -- the line failed, and that of a write fault was tried
 pub Told-twice : {T E : Type 0} (result : Result T E) (line : List ℕ) (own : ℕ) (a b c : Option (List ℕ)) (before between after : ℕ) → (own == 4) ≡ false → AppendsPrefix a b line → Rose before between
     → OnOk result (Appends b c write_fault_line) → OnErr result (AppendsPrefix b c write_fault_line) → between ≤ after → Told line own a c before after 4
 Told-twice result line own a b c before between after e p r w x l =
     Part refl (Rose-later before between after r l) (record { between = b; first = p; second = rw e (prefix_written result b c write_fault_line w x) })
+
+-- what was told behind a moment at which the error stream held what it held before
+pub Told-before : (line : List ℕ) (own : ℕ) (a b c : Option (List ℕ)) (before between after status : ℕ) → b ≡ a → before ≤ between → Told line own b c between after status → Told line own a c before after status
+Told-before line own a b c before between after status same later (Whole is wrote) = Whole is (subst (λ x. Appends x c line) same wrote)
+Told-before line own a b c before between after status same later (Part is rose said) =
+    Part is (Rose-earlier before between after later rose) (record { between = said.between; first = subst (λ x. AppendsPrefix x said.between line) same said.first; second = said.second })

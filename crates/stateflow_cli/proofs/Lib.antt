@@ -7,5 +7,6 @@ pub mod WordLaws
 pub mod WordNames
 pub mod GraphTexts
 pub mod ReportEndings
+pub mod LocalEndings
 pub mod RunEndings
 pub mod AnswerLaws

@@ -1,9 +1,13 @@
 -- From what was read of an accepted text to the report on it that was printed.
-use Rattle.std.proofs.Common.{◌≡◌, ℕ, List, length, Some, None, refl, ap, ◌∙◌}
+use Rattle.std.proofs.Common.{◌≡◌, ℕ, List, [], ◌∷◌, length, refl, ap, ◌∙◌}
 use Rattle.std.specs.Prelude.{decimal}
 use Rattle.std.specs.Str.{chars, encode_utf8_all}
 use Rattle.std.specs.declared.option.Option.{Option}
-use Rattle.std.specs.Io.KnownBytes.{Appends, Keeps}
+use Rattle.std.specs.Io.KnownBytes.{Appends}
+use Rattle.std.proofs.KnownBytes.{Keeps-refl}
+use Rattle.sf_outside.specs.Choices.{Choices}
+use Rattle.operator_graph.specs.Telling.{Told, GraphTold, AlsoTold}
+use Rattle.operator_graph.specs.Turns.{Outside}
 use Rattle.sf_outside.specs.Bytes.{AppendsPrefix}
 use Rattle.sf_outside.specs.Causes.{Rose}
 use Rattle.block_step.specs.CompiledViews.{compiled_program, compiled_names, compiled_tables, compiled_blocks}
@@ -12,27 +16,24 @@ use Rattle.entity_compiler.specs.Compiling.{IsCompiledOf}
 use Rattle.stateflow_cli.specs.declared.printing.Counts.{Counts}
 use Rattle.stateflow_cli.specs.CheckLine.{counts_line, IsCheckLine}
 use Rattle.stateflow_cli.specs.CompiledText.{IsCompiledText, compiled_text}
-use Rattle.stateflow_cli.specs.Devices.{devices}
+use Rattle.stateflow_cli.specs.Devices.{Input, Output, devices, outside}
 use Rattle.stateflow_cli.specs.Loading.{HoldsOne, IsCounted, Holds}
-use Rattle.stateflow_cli.specs.Endings.{Report, Prints, PrintsInPart}
+use Rattle.stateflow_cli.specs.Endings.{Report, ReportEnds}
+use Rattle.stateflow_cli.specs.declared.ending.Ending.TheVariants.{Printed, Unprinted}
 use Rattle.stateflow_cli.proofs.WordNames.{names_are_texts}
 use Rattle.stateflow_cli.proofs.GraphTexts.{same_bytes}
 
--- known bytes that stay
-pub keeps_itself : (known : Option (List ℕ)) → Keeps known known
-keeps_itself None = tt
-keeps_itself (Some xs) = refl
-
--- a report on the program that a file holds
-module _ (Is : Report) (content : List ℕ → Option (List ℕ)) (file : List ℕ) (holds : Holds (content file)) (text : List ℕ) (is : Is holds.names holds.program text) where
-  module _ (content' : List ℕ → Option (List ℕ)) (faults faults' : List ℕ → ℕ) (left : Option (List ℕ)) (input_faults : ℕ) (out out' : Option (List ℕ)) (out_faults out_faults' : ℕ) where
+-- a report on the program that a file holds, and what was chosen and told for it
+module _ (Is : Report) (content : List ℕ → Option (List ℕ)) (file : List ℕ) (holds : Holds (content file)) (text : List ℕ) (old new : Outside) (is : Is holds.names holds.program old new text) where
+  module _ (content' : List ℕ → Option (List ℕ)) (faults faults' : List ℕ → ℕ) (input : Input) (out out' err : Output) where
     -- it was written whole
-    pub prints : Appends out out' text → Prints Is file (devices content faults left input_faults out out_faults) (devices content' faults' left input_faults out' out_faults')
-    prints wrote = record { holds = holds; text = text; is = is; wrote = wrote; left = keeps_itself left }
+    pub prints : Appends out.held out'.held text → ReportEnds Is file (devices content faults input out err old) (devices content' faults' input out' err new) Printed
+    prints wrote = (record { holds = holds; text = text; is = is; wrote = wrote; left = Keeps-refl input.left }, refl)
 
     -- a part of it was written
-    pub prints_in_part : AppendsPrefix out out' text → Rose out_faults out_faults' → PrintsInPart Is file (devices content faults left input_faults out out_faults) (devices content' faults' left input_faults out' out_faults')
-    prints_in_part wrote rose = record { holds = holds; text = text; is = is; wrote = wrote; left = keeps_itself left; out_cause = rose }
+    pub prints_in_part : AppendsPrefix out.held out'.held text → Rose out.faults out'.faults
+        → ReportEnds Is file (devices content faults input out err old) (devices content' faults' input out' err new) Unprinted
+    prints_in_part wrote rose = (record { holds = holds; text = text; is = is; wrote = wrote; left = Keeps-refl input.left; out_cause = rose }, refl)
 
 -- what was counted
 module _ (content : Option (List ℕ)) (counts : Counts) (one : HoldsOne (λ text. IsCounted text counts) content) where
@@ -43,8 +44,11 @@ module _ (content : Option (List ℕ)) (counts : Counts) (one : HoldsOne (λ tex
     holds = record { text = one.text; told = one.told; is = one.is.is_accepted };
   }
 
-  pub counted_line : IsCheckLine one.is.names one.is.program (counts_line (decimal counts.classes) (decimal counts.methods))
-  counted_line = ap (λ n. counts_line (decimal n) (decimal counts.methods)) one.is.classes ∙ ap (λ n. counts_line (decimal (length one.is.program)) (decimal n)) one.is.methods
+  pub counted_line : (outside : Outside) → IsCheckLine one.is.names one.is.program outside outside (counts_line (decimal counts.classes) (decimal counts.methods))
+  counted_line outside = record {
+    same = ap (λ n. counts_line (decimal n) (decimal counts.methods)) one.is.classes ∙ ap (λ n. counts_line (decimal (length one.is.program)) (decimal n)) one.is.methods;
+    untold = refl;
+  }
 
 -- what was compiled
 module _ (content : Option (List ℕ)) (c : Compiled) (one : HoldsOne (λ text. IsCompiledOf text c) content) where
@@ -55,12 +59,16 @@ module _ (content : Option (List ℕ)) (c : Compiled) (one : HoldsOne (λ text. 
     holds = record { text = one.text; told = one.told; is = one.is.is_accepted };
   }
 
-  pub compiled_is : (made bytes : List ℕ) → made ≡ chars (compiled_text c) → bytes ≡ encode_utf8_all made → IsCompiledText (compiled_names c) (compiled_program c) bytes
-  compiled_is made bytes is spelt =
+  pub compiled_is : (made bytes : List ℕ) → made ≡ chars (compiled_text c) → bytes ≡ encode_utf8_all made → (choices : Option Choices) (old new : Option (List Told))
+      → AlsoTold old new (GraphTold (compiled_tables c) (compiled_blocks c) ∷ [])
+      → IsCompiledText (compiled_names c) (compiled_program c) (outside choices old) (outside choices new) bytes
+  compiled_is made bytes is spelt choices old new told =
       let texts = names_are_texts one.is.is_accepted.logical (compiled_program c) (compiled_names c) one.is.is_accepted.parsed in
       record {
         tables = compiled_tables c;
         blocks = compiled_blocks c;
         graph = record { blocks = one.is.blocks; whole = one.is.whole };
         same = spelt ∙ ap encode_utf8_all is ∙ same_bytes (compiled_names c) (compiled_program c) (compiled_tables c) (compiled_blocks c) texts one.is.whole.has_tables;
+        told = told;
+        unchosen = refl;
       }

@@ -1,158 +1,336 @@
--- How a run ends, by its status.
-use Rattle.std.proofs.Common.{◌≡◌, ℕ, ◌<◌, ◌⊎◌, inl, inr, List, [], ◌∷◌, ◌++◌, length, Some, None, Ok, Err, refl, sym, ap, ◌∙◌, subst, append-nil, arith}
-use Rattle.std.proofs.lemmas.List.{length-append}
+-- How a run in batches ends, by its status.
+use Rattle.std.proofs.Common.{◌≡◌, ℕ, ◌≤◌, ◌<◌, ◌⊎◌, inl, inr, List, [], ◌∷◌, Some, Ok, Err, refl, sym, ap, ◌∙◌, subst, arith}
+use Rattle.std.proofs.KnownBytes.{Keeps-refl}
 use Rattle.std.specs.declared.option.Option.{Option}
-use Rattle.std.specs.Io.KnownBytes.{Appends, Consumes, IsAtEnd, Keeps}
+use Rattle.std.specs.declared.result.Result.{Result}
+use Rattle.std.specs.Io.KnownBytes.{Appends, Keeps}
+use Rattle.sf_outside.specs.Bytes.{AppendsPrefix}
 use Rattle.sf_outside.specs.Causes.{Rose}
-use Rattle.sf_outside.specs.declared.gains.WriteStop.{WriteStop}
-use Rattle.sf_outside.specs.declared.gains.WriteStop.TheVariants as stop
 use Rattle.py_tree.specs.PlainProgram.{PlainProgram}
 use Rattle.program_meaning.specs.ClassTables.{Source}
-use Rattle.request_json.specs.Actions.{all_lines}
-use Rattle.session.specs.declared.feeding.InputEnd.{InputEnd}
-use Rattle.session.specs.declared.feeding.InputEnd.TheVariants as input
-use Rattle.session.specs.OutputText.{output_text}
-use Rattle.session.specs.Served.{Answered, AnsweredOver}
-use Rattle.session.proofs.SerialOutputLaws.{Served-serial}
-use Rattle.session.proofs.TakenLaws.{Served-taken}
+use Rattle.block_step.specs.declared.compiled.Compiled.{Compiled}
+use Rattle.operator_graph.specs.Turns.{Outside}
+use Rattle.aria_batch.specs.BatchRun.{source_of}
+use Rattle.engine.specs.Cores.{Core}
+use Rattle.batch_replies.specs.declared.counting.BatchCounts.{BatchCounts}
+use Rattle.session_steps.specs.declared.tally.Tally.{Tally}
+use Rattle.session_steps.specs.Traces.{no_batch, trace_text}
+use Rattle.session_steps.specs.Doings.{RunBatches, BeginBatches}
+use Rattle.session_steps.proofs.PieceLaws.{prefix_whole}
+use Rattle.batch_session.specs.declared.serving.SessionFault.{SessionFault}
+use Rattle.batch_session.specs.declared.serving.SessionFault.TheVariants as stop
+use Rattle.batch_run.specs.declared.running.RunSettings.{RunSettings}
+use Rattle.batch_run.specs.RunViews.{Shown, run_service, CanServe}
+use Rattle.batch_run.specs.RunTexts.{AnswersAll, AnswersWhole, AnswersFirst, FillsAtLine, FillsAtEnd, AnswersSome, AnswersInPart, PrintsOneRun}
+use Rattle.batch_run.specs.RunEvents.{TellsBatches, TracesBatches, TellsRun, batches_of}
+use Rattle.batch_run.specs.Runs.{IsUnbegun}
+use Rattle.batch_run.proofs.EventLaws.{run_have_begun}
+use Rattle.batch_run.proofs.FullLaws.{run_fits, run_exceeds, run_fills}
+use Rattle.command_words.specs.Commands as words
+use Rattle.stateflow_cli.proofs.GainedLaws.{Rose-later, Told-before}
 use Rattle.stateflow_cli.proofs.OneReading.{never_refused, never_held}
-use Rattle.stateflow_cli.specs.Words.{Run}
-use Rattle.stateflow_cli.specs.Devices.{Devices, Untouched}
+use Rattle.stateflow_cli.proofs.PrintLaws.{holds_compiled}
+use Rattle.stateflow_cli.proofs.ReportEndings.{still_idle}
+use Rattle.stateflow_cli.proofs.LocalEndings.{no_stop}
+use Rattle.stateflow_cli.specs.Words.{Run, AreInRange}
+use Rattle.stateflow_cli.specs.Devices.{Devices, Output, with_err, IsIdle}
 use Rattle.program_text.specs.Readings.{IsAcceptedText, HasFault}
-use Rattle.stateflow_cli.specs.Loading.{source_in}
-use Rattle.stateflow_cli.specs.Endings.{RunEnds, Ran}
-use Rattle.stateflow_cli.specs.StatusLines.{status_of}
-use Rattle.stateflow_cli.specs.Answers.{WritesText, PrintsRun, AnswersInput, IsRefused, ServedRose, Exceeds, Fits, IsUndisturbed, RunsWhole}
+use Rattle.stateflow_cli.specs.Endings.{RunEnds, RunsFile, longest_input, shown_of, settings_for, run_ending}
+use Rattle.stateflow_cli.specs.RunClauses.{OfProgram, TellsStatus, TellsByStatus, TracesByStatus, RunTells, RunTraces}
+use Rattle.stateflow_cli.specs.StatusLines.{status_of, line_of}
+use Rattle.stateflow_cli.specs.Telling.{Told}
+use Rattle.stateflow_cli.specs.Answers.{IsRefused, ServedRose, InputFits, InputExceeds, InputFills, IsUndisturbed, RunsWhole}
 use Rattle.program_text.specs.declared.fault.ProgramFault.{ProgramFault}
 use Rattle.stateflow_cli.specs.declared.ending.Ending.{Ending}
 use Rattle.stateflow_cli.specs.declared.ending.Ending.TheVariants.{Misused, Refused, FileFault, NoMemory, Printed, Unprinted, Served, Stopped}
 
--- the statuses of a served input, and of a stop
-no_served : (end : InputEnd) (n : ℕ) → (0 ≡ n → ⊥) → (3 ≡ n → ⊥) → (9 ≡ n → ⊥) → status_of (Served end) ≡ n → ⊥
-no_served input.End n a b c s = a s
-no_served input.ReadFault n a b c s = b s
-no_served input.TooLong n a b c s = c s
+-- a run's result is how it ends
+came_to : (limit : ℕ) (file : List ℕ) (w : words.RunSettings) (before after : Devices) (result : Result Tally SessionFault) → RunsFile limit file w before after result
+    → RunEnds limit file w before after (run_ending result)
+came_to limit file w before after (Ok tally) r = (tally, r)
+came_to limit file w before after (Err stopped) r = r
 
-no_stopped : (stopped : WriteStop) (n : ℕ) → (4 ≡ n → ⊥) → (8 ≡ n → ⊥) → status_of (Stopped stopped) ≡ n → ⊥
-no_stopped stop.WriteFault n a b s = a s
-no_stopped stop.NoMemory n a b s = b s
+pub run_ends : (limit : ℕ) (file : List ℕ) (w : words.RunSettings) (before after : Devices) (result : Result Tally SessionFault) (e : Ending) → e ≡ run_ending result
+    → RunsFile limit file w before after result → RunEnds limit file w before after e
+run_ends limit file w before after result e is r = subst (RunEnds limit file w before after) (sym is) (came_to limit file w before after result r)
 
--- more came than the limit
-exceeds : (src : Source) (limit : ℕ) (left left' held held' : Option (List ℕ)) → AnsweredOver src limit (Ok input.TooLong) left left' held held' → Exceeds limit left
-exceeds src limit None left' held held' a = tt
-exceeds src limit (Some all) left' held held' a = past a.before a.answered.consumed a.beyond where
-  past : (before : Option (List ℕ)) → Consumes (Some all) before a.answered.taken → Consumes before left' (a.next ∷ []) → limit < length all
-  past None c d = absurd c
-  past (Some rest) c d = rest_past left' d where
-    rest_past : (l : Option (List ℕ)) → Consumes (Some rest) l (a.next ∷ []) → limit < length all
-    rest_past None d = absurd d
-    rest_past (Some last) d = omega (arith, a.full, ap length c, length-append a.answered.taken rest, ap length d)
+-- settings in range can be served
+pub can_serve : (w : words.RunSettings) (s : RunSettings) → s ≡ settings_for longest_input w → AreInRange w → CanServe s
+can_serve w s is r = subst CanServe (sym is) (record { some = r.some; few = r.few; least = r.least; most = r.most; limit = omega arith })
 
--- all that came is within the limit
-fits : (src : Source) (limit : ℕ) (left left' held held' : Option (List ℕ)) → Answered {T = InputEnd} src limit all_lines (Ok input.End) left left' held held' → IsAtEnd left' → Fits limit left
-fits src limit None left' held held' a e = tt
-fits src limit (Some all) None held held' a e = absurd a.consumed
-fits src limit (Some all) (Some rest) held held' a e = omega (arith, a.within, ap length a.consumed, length-append a.taken rest, ap length e)
+-- Batches that were told and traced, by the result
 
--- and all of it was answered
-whole_text : (src : Source) (limit : ℕ) (all : List ℕ) (left' held held' : Option (List ℕ)) → Answered {T = InputEnd} src limit all_lines (Ok input.End) (Some all) left' held held' → IsAtEnd left' → Appends held held' (output_text src all)
-whole_text src limit all None held held' a e = absurd a.consumed
-whole_text src limit all (Some rest) held held' a e =
-    let taken : all ≡ a.taken = a.consumed ∙ ap (λ l. a.taken ++ l) e ∙ append-nil a.taken in
-    subst (λ bytes. Appends held held' (output_text src bytes)) (sym taken) a.wrote
+module _ (compiled : Compiled) (s : RunSettings) (cores : List Core) (counts : List BatchCounts) (a b : Outside) where
+  begun_of : (result : Result Tally SessionFault) → TellsBatches compiled s result cores counts a b → BeginBatches (run_service compiled s) cores counts a b
+  begun_of (Ok tally) h = run_have_begun (run_service compiled s) cores counts a b h
+  begun_of (Err stop.ReadFault) h = run_have_begun (run_service compiled s) cores counts a b h
+  begun_of (Err stop.InputTooLong) h = run_have_begun (run_service compiled s) cores counts a b h
+  begun_of (Err stop.HistoryFull) h = run_have_begun (run_service compiled s) cores counts a b h
+  begun_of (Err stop.NoMemory) h = h
+  begun_of (Err stop.WriteFault) h = h
 
-module _ (limit : ℕ) (before after : Devices) (file : List ℕ) where
-  pub run_completes : (e : Ending) → RunEnds limit file before after e → status_of e ≡ 0 → Ran limit file before after (Ok input.End)
-  run_completes (Served input.End) ends s = ends
-  run_completes Printed ends s = absurd ends
-  run_completes (Stopped stopped) ends s = absurd (no_stopped stopped 0 (λ z. omega (arith, z)) (λ z. omega (arith, z)) s)
-  run_completes e ends s = absurd (omega (arith, s))
+  whole_of : (result : Result Tally SessionFault) → (status_of (run_ending result) ≡ 4 → ⊥) → (status_of (run_ending result) ≡ 8 → ⊥)
+      → TellsBatches compiled s result cores counts a b → RunBatches (run_service compiled s) cores counts a b
+  whole_of (Ok tally) p q h = h
+  whole_of (Err stop.ReadFault) p q h = h
+  whole_of (Err stop.InputTooLong) p q h = h
+  whole_of (Err stop.HistoryFull) p q h = h
+  whole_of (Err stop.NoMemory) p q h = absurd (q refl)
+  whole_of (Err stop.WriteFault) p q h = absurd (p refl)
 
-  pub run_fits : Ran limit file before after (Ok input.End) → Fits limit before.left
-  run_fits ran = fits _ limit _ _ _ _ ran.served.0 ran.served.1
+module _ (compiled : Compiled) (s : RunSettings) (counts : List BatchCounts) (a b : Option (List ℕ)) where
+  part_traced : (result : Result Tally SessionFault) → TracesBatches compiled s result counts a b → AppendsPrefix a b (trace_text s.trace no_batch counts)
+  part_traced (Ok tally) h = prefix_whole a b (trace_text s.trace no_batch counts) h
+  part_traced (Err stop.ReadFault) h = prefix_whole a b (trace_text s.trace no_batch counts) h
+  part_traced (Err stop.InputTooLong) h = prefix_whole a b (trace_text s.trace no_batch counts) h
+  part_traced (Err stop.HistoryFull) h = prefix_whole a b (trace_text s.trace no_batch counts) h
+  part_traced (Err stop.NoMemory) h = prefix_whole a b (trace_text s.trace no_batch counts) h
+  part_traced (Err stop.WriteFault) h = h
 
-  pub run_text : Ran limit file before after (Ok input.End) → WritesText file before after
-  run_text ran = record {
-    holds = ran.holds;
-    text = λ all is. whole_text (source_in (before.content file) ran.holds) limit all after.left before.held after.held
-        (subst (λ o. Answered {T = InputEnd} (source_in (before.content file) ran.holds) limit all_lines (Ok input.End) o after.left before.held after.held) is ran.served.0) ran.served.1;
+  whole_traced : (result : Result Tally SessionFault) → (status_of (run_ending result) ≡ 4 → ⊥) → TracesBatches compiled s result counts a b → Appends a b (trace_text s.trace no_batch counts)
+  whole_traced (Ok tally) p h = h
+  whole_traced (Err stop.ReadFault) p h = h
+  whole_traced (Err stop.InputTooLong) p h = h
+  whole_traced (Err stop.HistoryFull) p h = h
+  whole_traced (Err stop.NoMemory) p h = h
+  whole_traced (Err stop.WriteFault) p h = absurd (p refl)
+
+module _ (limit : ℕ) (before after : Devices) (behind : Output) (file : List ℕ) (s : words.RunSettings) where
+  abbrev mid : Devices
+  mid = with_err behind after
+
+  of_program : (P : Source → Type 0) (result : Result Tally SessionFault) (r : RunsFile limit file s before mid result) → P (source_of r.compiled) → OfProgram file before P
+  of_program P result r p = record { holds = holds_compiled (before.content file) r.compiled r.holds; is = p }
+
+  -- By the status
+
+  pub run_completes : (e : Ending) → RunEnds limit file s before mid e → status_of e ≡ 0
+      → OfProgram file before (λ src. AnswersAll src (settings_for limit s) before.input.left after.input.left before.out.held after.out.held)
+  run_completes Served ends n = of_program _ (Ok ends.0) ends.1 ends.1.runs.prints
+  run_completes Printed ends n = absurd ends
+  run_completes (Stopped stopped) ends n = absurd (no_stop stopped 0 (omega arith) n)
+  run_completes e ends n = absurd (omega (arith, n))
+
+  pub run_done : OfProgram file before (λ src. AnswersAll src (settings_for limit s) before.input.left after.input.left before.out.held after.out.held) → InputFits limit (Run file s) before
+  run_done o = record { holds = o.holds; is = run_fits _ (settings_for limit s) before.input.left after.input.left before.out.held after.out.held o.is }
+
+  pub run_refused : (e : Ending) → RunEnds limit file s before mid e → status_of e ≡ 1 → IsRefused (Some (Run file s)) before × IsIdle before after
+  run_refused (Refused f) ends n = ((f, ends.refused), still_idle before after behind ends.still)
+  run_refused (Stopped stopped) ends n = absurd (no_stop stopped 1 (omega arith) n)
+  run_refused e ends n = absurd (omega (arith, n))
+
+  pub run_misused : {P : Type 0} (e : Ending) → RunEnds limit file s before mid e → status_of e ≡ 2 → P
+  run_misused Misused ends n = absurd ends
+  run_misused (Stopped stopped) ends n = absurd (no_stop stopped 2 (omega arith) n)
+  run_misused e ends n = absurd (omega (arith, n))
+
+  pub run_unread : (e : Ending) → RunEnds limit file s before mid e → status_of e ≡ 3 → ServedRose file before after
+  run_unread FileFault ends n = inl ends.file_cause
+  run_unread (Stopped stop.ReadFault) ends n = inr (ends.input_cause refl)
+  run_unread (Stopped stop.WriteFault) ends n = absurd (omega (arith, n))
+  run_unread (Stopped stop.InputTooLong) ends n = absurd (omega (arith, n))
+  run_unread (Stopped stop.HistoryFull) ends n = absurd (omega (arith, n))
+  run_unread (Stopped stop.NoMemory) ends n = absurd (omega (arith, n))
+  run_unread e ends n = absurd (omega (arith, n))
+
+  pub run_whole_lines : (e : Ending) → RunEnds limit file s before mid e → status_of e ≡ 3
+      → IsIdle before after ⊎ OfProgram file before (λ src. AnswersWhole src (settings_for limit s) before.input.left after.input.left before.out.held after.out.held)
+  run_whole_lines FileFault ends n = inl (still_idle before after behind ends.still)
+  run_whole_lines (Stopped stop.ReadFault) ends n = inr (of_program _ (Err stop.ReadFault) ends ends.runs.prints)
+  run_whole_lines (Stopped stop.WriteFault) ends n = absurd (omega (arith, n))
+  run_whole_lines (Stopped stop.InputTooLong) ends n = absurd (omega (arith, n))
+  run_whole_lines (Stopped stop.HistoryFull) ends n = absurd (omega (arith, n))
+  run_whole_lines (Stopped stop.NoMemory) ends n = absurd (omega (arith, n))
+  run_whole_lines e ends n = absurd (omega (arith, n))
+
+  pub run_some_lines : (e : Ending) → RunEnds limit file s before mid e → status_of e ≡ 8
+      → IsIdle before after ⊎ OfProgram file before (λ src. AnswersSome src (settings_for limit s) before.input.left after.input.left before.out.held after.out.held)
+  run_some_lines NoMemory ends n = inl (still_idle before after behind ends)
+  run_some_lines (Stopped stop.NoMemory) ends n = inr (of_program _ (Err stop.NoMemory) ends ends.runs.prints)
+  run_some_lines (Stopped stop.ReadFault) ends n = absurd (omega (arith, n))
+  run_some_lines (Stopped stop.WriteFault) ends n = absurd (omega (arith, n))
+  run_some_lines (Stopped stop.InputTooLong) ends n = absurd (omega (arith, n))
+  run_some_lines (Stopped stop.HistoryFull) ends n = absurd (omega (arith, n))
+  run_some_lines e ends n = absurd (omega (arith, n))
+
+  pub run_unwritten : (e : Ending) → RunEnds limit file s before mid e → status_of e ≡ 4 → Rose before.out.faults after.out.faults ⊎ Rose before.err.faults behind.faults
+  run_unwritten Unprinted ends n = absurd ends
+  run_unwritten (Stopped stop.WriteFault) ends n = ends.write_cause refl
+  run_unwritten (Stopped stop.ReadFault) ends n = absurd (omega (arith, n))
+  run_unwritten (Stopped stop.InputTooLong) ends n = absurd (omega (arith, n))
+  run_unwritten (Stopped stop.HistoryFull) ends n = absurd (omega (arith, n))
+  run_unwritten (Stopped stop.NoMemory) ends n = absurd (omega (arith, n))
+  run_unwritten e ends n = absurd (omega (arith, n))
+
+  pub run_first_lines : (e : Ending) → RunEnds limit file s before mid e → status_of e ≡ 9
+      → OfProgram file before (λ src. AnswersFirst src (settings_for limit s) before.input.left after.input.left before.out.held after.out.held)
+  run_first_lines (Stopped stop.InputTooLong) ends n = of_program _ (Err stop.InputTooLong) ends ends.runs.prints
+  run_first_lines (Stopped stop.ReadFault) ends n = absurd (omega (arith, n))
+  run_first_lines (Stopped stop.WriteFault) ends n = absurd (omega (arith, n))
+  run_first_lines (Stopped stop.HistoryFull) ends n = absurd (omega (arith, n))
+  run_first_lines (Stopped stop.NoMemory) ends n = absurd (omega (arith, n))
+  run_first_lines e ends n = absurd (omega (arith, n))
+
+  pub run_long : (e : Ending) → RunEnds limit file s before mid e → status_of e ≡ 9 → InputExceeds limit (Run file s) before
+  run_long e ends n =
+      let o = run_first_lines e ends n in
+      record { holds = o.holds; is = run_exceeds _ (settings_for limit s) before.input.left after.input.left before.out.held after.out.held o.is }
+
+  pub run_until_full : (e : Ending) → RunEnds limit file s before mid e → status_of e ≡ 10
+      → OfProgram file before (λ src. FillsAtLine src (settings_for limit s) before.input.left after.input.left before.out.held after.out.held
+      ⊎ FillsAtEnd src (settings_for limit s) before.input.left after.input.left before.out.held after.out.held)
+  run_until_full (Stopped stop.HistoryFull) ends n = of_program _ (Err stop.HistoryFull) ends ends.runs.prints
+  run_until_full (Stopped stop.ReadFault) ends n = absurd (omega (arith, n))
+  run_until_full (Stopped stop.WriteFault) ends n = absurd (omega (arith, n))
+  run_until_full (Stopped stop.InputTooLong) ends n = absurd (omega (arith, n))
+  run_until_full (Stopped stop.NoMemory) ends n = absurd (omega (arith, n))
+  run_until_full e ends n = absurd (omega (arith, n))
+
+  pub run_full : (e : Ending) → RunEnds limit file s before mid e → status_of e ≡ 10 → InputFills limit (Run file s) before
+  run_full e ends n =
+      let o = run_until_full e ends n in
+      record { holds = o.holds; is = run_fills _ (settings_for limit s) before.input.left after.input.left before.out.held after.out.held o.is }
+
+  -- Whatever the ending
+
+  -- nothing was done, or a run came to a result
+  run_came : {P : Type 0} → (IsIdle before after → behind ≡ before.err → after.outside ≡ before.outside → P)
+      → (e : Ending) → ((result : Result Tally SessionFault) → RunsFile limit file s before mid result → status_of e ≡ status_of (run_ending result) → P)
+      → RunEnds limit file s before mid e → P
+  run_came idle Misused ran ends = absurd ends
+  run_came idle (Refused f) ran ends = idle (still_idle before after behind ends.still) ends.still.err ends.still.outside
+  run_came idle FileFault ran ends = idle (still_idle before after behind ends.still) ends.still.err ends.still.outside
+  run_came idle NoMemory ran ends = idle (still_idle before after behind ends) ends.err ends.outside
+  run_came idle Printed ran ends = absurd ends
+  run_came idle Unprinted ran ends = absurd ends
+  run_came idle Served ran ends = ran (Ok ends.0) ends.1 refl
+  run_came idle (Stopped stopped) ran ends = ran (Err stopped) ends refl
+
+  pub run_prints : (e : Ending) → RunEnds limit file s before mid e
+      → Keeps before.out.held after.out.held ⊎ OfProgram file before (λ src. PrintsOneRun src before.out.held after.out.held)
+  run_prints e ends = run_came (λ idle same untold. inl idle.held) e (λ result r is. inr (of_program _ result r r.runs.serial)) ends
+
+  pub run_takes : (e : Ending) → RunEnds limit file s before mid e
+      → IsIdle before after ⊎ OfProgram file before (λ src. AnswersInPart src (settings_for limit s) before.input.left after.input.left before.out.held after.out.held)
+  run_takes e ends = run_came (λ idle same untold. inl idle) e (λ result r is. inr (of_program _ result r r.runs.answers)) ends
+
+  pub run_later : (e : Ending) → RunEnds limit file s before mid e → before.err.faults ≤ behind.faults
+  run_later e ends = run_came (λ idle same untold. subst (λ (o : Output). before.err.faults ≤ o.faults) (sym same) (omega arith)) e (λ result r is. r.err_later) ends
+
+  unbegun_idle : shown_of mid ≡ shown_of before → IsIdle before after
+  unbegun_idle same = record {
+    left = subst (Keeps before.input.left) (sym (ap (λ (x : Shown). x.left) same)) (Keeps-refl before.input.left);
+    held = subst (Keeps before.out.held) (sym (ap (λ (x : Shown). x.held) same)) (Keeps-refl before.out.held);
   }
 
-  pub run_refused : (e : Ending) → RunEnds limit file before after e → status_of e ≡ 1 → IsRefused (Some (Run file)) before × Untouched before after
-  run_refused (Refused f) ends s = ((f, ends.refused), ends.untouched)
-  run_refused (Served end) ends s = absurd (no_served end 1 (λ z. omega (arith, z)) (λ z. omega (arith, z)) (λ z. omega (arith, z)) s)
-  run_refused (Stopped stopped) ends s = absurd (no_stopped stopped 1 (λ z. omega (arith, z)) (λ z. omega (arith, z)) s)
-  run_refused e ends s = absurd (omega (arith, s))
+  -- What was told and traced, where the status is that of the ending, but for a write fault
 
-  pub run_misused : {P : Type 0} (e : Ending) → RunEnds limit file before after e → status_of e ≡ 2 → P
-  run_misused Misused ends s = absurd ends
-  run_misused (Served end) ends s = absurd (no_served end 2 (λ z. omega (arith, z)) (λ z. omega (arith, z)) (λ z. omega (arith, z)) s)
-  run_misused (Stopped stopped) ends s = absurd (no_stopped stopped 2 (λ z. omega (arith, z)) (λ z. omega (arith, z)) s)
-  run_misused e ends s = absurd (omega (arith, s))
+  module _ (status : ℕ) (e : Ending) (own : (status ≡ 4 → ⊥) → status ≡ status_of e) where
+    module _ (result : Result Tally SessionFault) (r : RunsFile limit file s before mid result) (is : status_of e ≡ status_of (run_ending result)) where
+      not_unwritten : (status ≡ 4 → ⊥) → status_of (run_ending result) ≡ 4 → ⊥
+      not_unwritten p n = p (own p ∙ is ∙ n)
 
-  pub run_unread : (e : Ending) → RunEnds limit file before after e → status_of e ≡ 3 → ServedRose file before after
-  run_unread FileFault ends s = inl ends.file_cause
-  run_unread (Served input.ReadFault) ends s = inr (ends.input_cause refl)
-  run_unread (Stopped stopped) ends s = absurd (no_stopped stopped 3 (λ z. omega (arith, z)) (λ z. omega (arith, z)) s)
-  run_unread e ends s = absurd (omega (arith, s))
+      not_unkept : (status ≡ 4 → ⊥) → (status ≡ 8 → ⊥) → status_of (run_ending result) ≡ 8 → ⊥
+      not_unkept p q n = q (own p ∙ is ∙ n)
 
-  pub run_unwritten : (e : Ending) → RunEnds limit file before after e → status_of e ≡ 4 → Rose before.out_faults after.out_faults
-  run_unwritten Unprinted ends s = absurd ends
-  run_unwritten (Stopped stop.WriteFault) ends s = ends.out_cause refl
-  run_unwritten (Served end) ends s = absurd (no_served end 4 (λ z. omega (arith, z)) (λ z. omega (arith, z)) (λ z. omega (arith, z)) s)
-  run_unwritten e ends s = absurd (omega (arith, s))
+      tells : TellsRun r.compiled (settings_for limit s) result (shown_of before) (shown_of mid) → TellsByStatus limit file s before after status
+      tells t = record {
+        compiled = r.compiled;
+        holds = r.holds;
+        graph = record { blocks = r.holds.is.blocks; whole = r.holds.is.whole };
+        started = t.started;
+        starts = t.starts;
+        taken = t.taken;
+        consumed = t.consumed;
+        steps = t.steps;
+        of_taken = t.of_taken;
+        counts = t.counts;
+        begun = begun_of r.compiled (settings_for limit s) (batches_of r.compiled (settings_for limit s) t.steps) t.counts t.started after.outside result t.told;
+        whole = λ p q. whole_of r.compiled (settings_for limit s) (batches_of r.compiled (settings_for limit s) t.steps) t.counts t.started after.outside result (not_unwritten p) (not_unkept p q) t.told;
+      }
 
-  pub run_exceeds : (e : Ending) → RunEnds limit file before after e → status_of e ≡ 9 → Exceeds limit before.left
-  run_exceeds (Served input.TooLong) ends s = exceeds _ limit _ _ _ _ ends.served
-  run_exceeds (Stopped stopped) ends s = absurd (no_stopped stopped 9 (λ z. omega (arith, z)) (λ z. omega (arith, z)) s)
-  run_exceeds e ends s = absurd (omega (arith, s))
+      tells_either : RunTells limit file s before after status
+      tells_either = by r.runs.tells
+        where
+          by : IsUnbegun result (shown_of before) (shown_of mid) ⊎ TellsRun r.compiled (settings_for limit s) result (shown_of before) (shown_of mid) → RunTells limit file s before after status
+          by (inl u) = inl (unbegun_idle u.1, ap (λ (x : Shown). x.outside) u.1)
+          by (inr t) = inr (tells t)
 
-  -- what it printed, whatever the ending
-  pub run_prints : (e : Ending) → RunEnds limit file before after e → Keeps before.held after.held ⊎ PrintsRun file before after
-  run_prints Misused ends = absurd ends
-  run_prints (Refused f) ends = inl ends.untouched.held
-  run_prints FileFault ends = inl ends.untouched.held
-  run_prints NoMemory ends = inl ends.held
-  run_prints Printed ends = absurd ends
-  run_prints Unprinted ends = absurd ends
-  run_prints (Served end) ends = inr (record { holds = ends.holds; serial = Served-serial (source_in (before.content file) ends.holds) limit before.left after.left before.held after.held (Ok end) ends.served })
-  run_prints (Stopped stopped) ends = inr (record { holds = ends.holds; serial = Served-serial (source_in (before.content file) ends.holds) limit before.left after.left before.held after.held (Err stopped) ends.served })
+      module _ (told : Told (line_of file e) (status_of e) behind.held after.err.held behind.faults after.err.faults status) where
+        traces : TellsRun r.compiled (settings_for limit s) result (shown_of before) (shown_of mid) → TracesByStatus limit file s before after status
+        unfolding tells
+        traces t = record {
+          tells = tells t;
+          behind = behind;
+          part = part_traced r.compiled (settings_for limit s) t.counts before.err.held behind.held result t.traced;
+          whole = λ p. whole_traced r.compiled (settings_for limit s) t.counts before.err.held behind.held result (not_unwritten p) t.traced;
+          line = record { ending = e; told = told };
+        }
 
-  -- and that answers what it took
-  pub run_takes : (e : Ending) → RunEnds limit file before after e → Untouched before after ⊎ AnswersInput limit file before after
-  run_takes Misused ends = absurd ends
-  run_takes (Refused f) ends = inl ends.untouched
-  run_takes FileFault ends = inl ends.untouched
-  run_takes NoMemory ends = inl ends
-  run_takes Printed ends = absurd ends
-  run_takes Unprinted ends = absurd ends
-  run_takes (Served end) ends = inr (record { holds = ends.holds; answered = Served-taken (source_in (before.content file) ends.holds) limit before.left after.left before.held after.held (Ok end) ends.served })
-  run_takes (Stopped stopped) ends = inr (record { holds = ends.holds; answered = Served-taken (source_in (before.content file) ends.holds) limit before.left after.left before.held after.held (Err stopped) ends.served })
+        traces_none : shown_of mid ≡ shown_of before → RunTraces limit file s before after status
+        traces_none same =
+            inl (
+              unbegun_idle same,
+              record {
+                ending = e;
+                told = Told-before (line_of file e) (status_of e) before.err.held behind.held after.err.held before.err.faults behind.faults after.err.faults status (ap (λ (x : Shown). x.said) same) r.err_later told;
+              },
+            )
+
+        traces_either : RunTraces limit file s before after status
+        traces_either = by r.runs.tells
+          where
+            by : IsUnbegun result (shown_of before) (shown_of mid) ⊎ TellsRun r.compiled (settings_for limit s) result (shown_of before) (shown_of mid) → RunTraces limit file s before after status
+            by (inl u) = traces_none u.1
+            by (inr t) = inr (traces t)
+
+    pub run_tells : RunEnds limit file s before mid e → RunTells limit file s before after status
+    run_tells ends = run_came (λ idle same untold. inl (idle, untold)) e (λ result r is. tells_either result r is) ends
+
+    pub run_traces : RunEnds limit file s before mid e → Told (line_of file e) (status_of e) behind.held after.err.held behind.faults after.err.faults status
+        → RunTraces limit file s before after status
+    run_traces ends told =
+        run_came
+        (λ idle same untold. inl (
+          idle,
+          record {
+            ending = e;
+            told = subst (λ (o : Output). Told (line_of file e) (status_of e) o.held after.err.held o.faults after.err.faults status) same told;
+          },
+        ))
+        e (λ result r is. traces_either result r is told) ends
 
 -- what an undisturbed run ends with
-module _ (limit : ℕ) (before after : Devices) (file text : List ℕ) (errors errors' status : ℕ) (u : IsUndisturbed file text before after errors errors') where
-  run_accepted : (program : PlainProgram) (names : List (List ℕ)) → IsAcceptedText text program names → (e : Ending) → RunEnds limit file before after e → status ≡ status_of e → (status ≡ 0) ⊎ ((status ≡ 8) ⊎ (status ≡ 9))
-  run_accepted program names is Misused ends s = absurd ends
-  run_accepted program names is (Refused f) ends s = never_refused (before.content file) text u.holds program names f is ends.refused
-  run_accepted program names is FileFault ends s = absurd (u.file_still ends.file_cause)
-  run_accepted program names is NoMemory ends s = inr (inl s)
-  run_accepted program names is Printed ends s = absurd ends
-  run_accepted program names is Unprinted ends s = absurd ends
-  run_accepted program names is (Served input.End) ends s = inl s
-  run_accepted program names is (Served input.ReadFault) ends s = absurd (u.input_still (ends.input_cause refl))
-  run_accepted program names is (Served input.TooLong) ends s = inr (inr s)
-  run_accepted program names is (Stopped stop.NoMemory) ends s = inr (inl s)
-  run_accepted program names is (Stopped stop.WriteFault) ends s = absurd (u.out_still (ends.out_cause refl))
+module _ (limit : ℕ) (before after : Devices) (behind : Output) (file : List ℕ) (s : words.RunSettings) (text : List ℕ) (status : ℕ) (u : IsUndisturbed file text before after) (later : behind.faults ≤ after.err.faults) where
+  not_risen : {P : Type 0} → Rose before.out.faults after.out.faults ⊎ Rose before.err.faults behind.faults → P
+  not_risen (inl rose) = absurd (u.out_still rose)
+  not_risen (inr rose) = absurd (u.err_still (Rose-later before.err.faults behind.faults after.err.faults rose later))
 
-  run_faulty : (fault : ProgramFault) → HasFault text fault → (e : Ending) → RunEnds limit file before after e → status ≡ status_of e → (status ≡ 1) ⊎ (status ≡ 8)
-  run_faulty fault has Misused ends s = absurd ends
-  run_faulty fault has (Refused f) ends s = inl s
-  run_faulty fault has FileFault ends s = absurd (u.file_still ends.file_cause)
-  run_faulty fault has NoMemory ends s = inr s
-  run_faulty fault has Printed ends s = absurd ends
-  run_faulty fault has Unprinted ends s = absurd ends
-  run_faulty fault has (Served end) ends s = never_held (before.content file) text u.holds fault has ends.holds
-  run_faulty fault has (Stopped stopped) ends s = never_held (before.content file) text u.holds fault has ends.holds
+  run_accepted : (program : PlainProgram) (names : List (List ℕ)) → IsAcceptedText text program names
+      → (e : Ending) → RunEnds limit file s before (with_err behind after) e → status ≡ status_of e → (status ≡ 0) ⊎ ((status ≡ 8) ⊎ ((status ≡ 9) ⊎ (status ≡ 10)))
+  run_accepted program names is Misused ends n = absurd ends
+  run_accepted program names is (Refused f) ends n = never_refused (before.content file) text u.holds program names f is ends.refused
+  run_accepted program names is FileFault ends n = absurd (u.file_still ends.file_cause)
+  run_accepted program names is NoMemory ends n = inr (inl n)
+  run_accepted program names is Printed ends n = absurd ends
+  run_accepted program names is Unprinted ends n = absurd ends
+  run_accepted program names is Served ends n = inl n
+  run_accepted program names is (Stopped stop.ReadFault) ends n = absurd (u.input_still (ends.input_cause refl))
+  run_accepted program names is (Stopped stop.WriteFault) ends n = not_risen (ends.write_cause refl)
+  run_accepted program names is (Stopped stop.NoMemory) ends n = inr (inl n)
+  run_accepted program names is (Stopped stop.InputTooLong) ends n = inr (inr (inl n))
+  run_accepted program names is (Stopped stop.HistoryFull) ends n = inr (inr (inr n))
 
-  pub runs_whole : (e : Ending) → RunEnds limit file before after e → status ≡ status_of e → RunsWhole text status
-  runs_whole e ends s = record { accepted = λ program names is. run_accepted program names is e ends s; refused = λ fault has. run_faulty fault has e ends s }
+  run_faulty : (fault : ProgramFault) → HasFault text fault
+      → (e : Ending) → RunEnds limit file s before (with_err behind after) e → status ≡ status_of e → (status ≡ 1) ⊎ (status ≡ 8)
+  run_faulty fault has Misused ends n = absurd ends
+  run_faulty fault has (Refused f) ends n = inl n
+  run_faulty fault has FileFault ends n = absurd (u.file_still ends.file_cause)
+  run_faulty fault has NoMemory ends n = inr n
+  run_faulty fault has Printed ends n = absurd ends
+  run_faulty fault has Unprinted ends n = absurd ends
+  run_faulty fault has Served ends n = never_held (before.content file) text u.holds fault has (holds_compiled (before.content file) ends.1.compiled ends.1.holds)
+  run_faulty fault has (Stopped stopped) ends n = never_held (before.content file) text u.holds fault has (holds_compiled (before.content file) ends.compiled ends.holds)
+
+  pub runs_whole : (e : Ending) → RunEnds limit file s before (with_err behind after) e → status ≡ status_of e → RunsWhole text status
+  runs_whole e ends n = record { accepted = λ program names is. run_accepted program names is e ends n; refused = λ fault has. run_faulty fault has e ends n }

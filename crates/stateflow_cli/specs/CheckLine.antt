@@ -3,6 +3,7 @@ use Rattle.std.specs.Prelude.{ℕ, ◌≡◌, List, [], ◌∷◌, length, codes
 use Rattle.std.specs.List.{concat, sum_by}
 use Rattle.py_tree.specs.PlainProgram.{PlainProgram}
 use Rattle.py_tree.specs.ClassRules.{methods_of}
+use Rattle.operator_graph.specs.Turns.{Outside}
 
 -- how many methods a program has, without `__init__` and `__key__`
 abbrev pub count_methods : List (List ℕ) → PlainProgram → ℕ
@@ -15,5 +16,7 @@ counts_line classes methods = concat (codes "ok: " ∷ classes ∷ codes " class
 abbrev pub check_line : List (List ℕ) → PlainProgram → List ℕ
 check_line names program = counts_line (decimal (length program)) (decimal (count_methods names program))
 
-abbrev pub IsCheckLine : List (List ℕ) → PlainProgram → List ℕ → Type 0
-IsCheckLine names program text = text ≡ check_line names program
+-- nothing is chosen and told
+pub record IsCheckLine (names : List (List ℕ)) (program : PlainProgram) (old new : Outside) (text : List ℕ) : Type 0 where
+  pub same : text ≡ check_line names program
+  pub untold : new ≡ old

@@ -1,21 +1,55 @@
 -- What the devices of a call show at a moment.
-use Rattle.std.specs.Prelude.{ℕ, List}
+use Rattle.std.specs.Prelude.{ℕ, ◌≡◌, List}
 use Rattle.std.specs.declared.option.Option.{Option}
 use Rattle.std.specs.Io.KnownBytes.{Keeps}
+use Rattle.sf_outside.specs.Choices.{Choices}
+use Rattle.operator_graph.specs.Telling.{Told}
+use Rattle.operator_graph.specs.Turns.{Outside}
 
--- the files' content and their counts of faults by name, what is left of the input, what the output holds, and their counts
+-- what is left of an input, and its count of faults
+pub record Input : Type 0 where
+  pub left : Option (List ℕ)
+  pub faults : ℕ
+
+-- what an output holds, and its count of faults
+pub record Output : Type 0 where
+  pub held : Option (List ℕ)
+  pub faults : ℕ
+
+-- the files' content and their counts of faults by name, the input, the output, the error stream, and what was chosen and told
 pub record Devices : Type 0 where
   pub content : List ℕ → Option (List ℕ)
   pub file_faults : List ℕ → ℕ
-  pub left : Option (List ℕ)
-  pub input_faults : ℕ
-  pub held : Option (List ℕ)
-  pub out_faults : ℕ
+  pub input : Input
+  pub out : Output
+  pub err : Output
+  pub outside : Outside
+
+abbrev pub source : Option (List ℕ) → ℕ → Input
+source left faults = record { left = left; faults = faults }
+
+abbrev pub sink : Option (List ℕ) → ℕ → Output
+sink held faults = record { held = held; faults = faults }
+
+abbrev pub outside : Option Choices → Option (List Told) → Outside
+outside choices told = record { choices = choices; told = told }
+
+abbrev pub devices : (List ℕ → Option (List ℕ)) → (List ℕ → ℕ) → Input → Output → Output → Outside → Devices
+devices content file_faults input out err out_side =
+    record { content = content; file_faults = file_faults; input = input; out = out; err = err; outside = out_side }
+
+-- the same, but for the error stream
+abbrev pub with_err : Output → Devices → Devices
+with_err err d =
+    record { content = d.content; file_faults = d.file_faults; input = d.input; out = d.out; err = err; outside = d.outside }
 
 -- nothing was taken from the input, and the output gained nothing
-pub record Untouched (before after : Devices) : Type 0 where
-  pub left : Keeps before.left after.left
-  pub held : Keeps before.held after.held
+pub record IsIdle (before after : Devices) : Type 0 where
+  pub left : Keeps before.input.left after.input.left
+  pub held : Keeps before.out.held after.out.held
 
-abbrev pub devices : (List ℕ → Option (List ℕ)) → (List ℕ → ℕ) → Option (List ℕ) → ℕ → Option (List ℕ) → ℕ → Devices
-devices content file_faults left input_faults held out_faults = record { content = content; file_faults = file_faults; left = left; input_faults = input_faults; held = held; out_faults = out_faults }
+-- besides nothing was said, chosen and told
+pub record IsStill (before after : Devices) : Type 0 where
+  pub idle : IsIdle before after
+  pub err : after.err ≡ before.err
+  pub outside : after.outside ≡ before.outside

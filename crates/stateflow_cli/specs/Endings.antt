@@ -1,97 +1,159 @@
 -- Why a call ends, and what it did to its devices by then.
-use Rattle.std.specs.Prelude.{ℕ, ◌≡◌, ◌⊎◌, List, None, Some, Ok, Err}
+use Rattle.std.specs.Prelude.{ℕ, ◌≡◌, ◌≤◌, ◌⊎◌, List, None, Some, Ok, Err}
 use Rattle.std.specs.declared.option.Option.{Option}
 use Rattle.std.specs.declared.result.Result.{Result}
 use Rattle.std.specs.Io.KnownBytes.{Appends, Keeps}
 use Rattle.sf_outside.specs.Bytes.{AppendsPrefix}
 use Rattle.sf_outside.specs.Causes.{Rose}
-use Rattle.sf_outside.specs.declared.gains.WriteStop.{WriteStop}
-use Rattle.sf_outside.specs.declared.gains.WriteStop.TheVariants.{WriteFault}
+use Rattle.block_step.specs.declared.compiled.Compiled.{Compiled}
+use Rattle.entity_compiler.specs.Compiling.{IsCompiledOf}
 use Rattle.session.specs.Served as session
 use Rattle.session.specs.declared.feeding.InputEnd.{InputEnd}
-use Rattle.session.specs.declared.feeding.InputEnd.TheVariants.{ReadFault}
+use Rattle.session.specs.declared.feeding.InputEnd.TheVariants as input
+use Rattle.session.specs.declared.stopping.SessionStop.{SessionStop}
+use Rattle.session.specs.declared.stopping.SessionStop.TheVariants as local
+use Rattle.command_words.specs.Commands as words
+use Rattle.session_steps.specs.declared.tally.Tally.{Tally}
+use Rattle.batch_session.specs.declared.serving.SessionFault.{SessionFault}
+use Rattle.batch_session.specs.declared.serving.SessionFault.TheVariants.{ReadFault, WriteFault, InputTooLong, HistoryFull}
+use Rattle.batch_session.specs.declared.serving.SessionFault.TheVariants as cause
+use Rattle.batch_run.specs.declared.running.RunSettings.{RunSettings}
+use Rattle.batch_run.specs.RunViews.{Shown}
+use Rattle.batch_run.specs.Runs.{Runs}
 use Rattle.stateflow_cli.specs.Words.{Asked, Check, Compile, Local, Run}
 use Rattle.stateflow_cli.specs.CheckLine.{IsCheckLine}
 use Rattle.stateflow_cli.specs.CompiledText.{IsCompiledText}
-use Rattle.stateflow_cli.specs.Devices.{Devices, Untouched}
-use Rattle.stateflow_cli.specs.Loading.{Refuses, Holds, source_in}
+use Rattle.stateflow_cli.specs.Devices.{Devices, IsIdle, IsStill}
+use Rattle.stateflow_cli.specs.Loading.{Refuses, Holds, HoldsOne, source_in}
 use Rattle.py_tree.specs.PlainProgram.{PlainProgram}
+use Rattle.operator_graph.specs.Turns.{Outside}
 use Rattle.program_text.specs.declared.fault.ProgramFault.{ProgramFault}
 use Rattle.stateflow_cli.specs.declared.ending.Ending.{Ending}
 use Rattle.stateflow_cli.specs.declared.ending.Ending.TheVariants.{Misused, Refused, FileFault, NoMemory, Printed, Unprinted, Served, Stopped}
 
--- the most bytes of input that a call takes in
+-- the most bytes of input that a call takes in, 2^40, and the most entries of the history that `local` keeps
 abbrev pub longest_input : ℕ
-longest_input = 16777216
+longest_input = 1099511627776
 
--- which text is a report on a program: by its names and its tree
+abbrev pub local_history : ℕ
+local_history = 16777216
+
+-- which text is a report on a program, by its names and its tree, and what is chosen and told for it
 abbrev pub Report : Type 1
-Report = List (List ℕ) → PlainProgram → List ℕ → Type 0
+Report = List (List ℕ) → PlainProgram → Outside → Outside → List ℕ → Type 0
 
 -- the file's program is accepted and a report on it was printed
 pub record Prints (Is : Report) (file : List ℕ) (before after : Devices) : Type 0 where
   pub holds : Holds (before.content file)
   pub text : List ℕ
-  pub is : Is holds.names holds.program text
-  pub wrote : Appends before.held after.held text
-  pub left : Keeps before.left after.left
+  pub is : Is holds.names holds.program before.outside after.outside text
+  pub wrote : Appends before.out.held after.out.held text
+  pub left : Keeps before.input.left after.input.left
 
 -- the file's program is accepted and a report on it was printed in part, since the output failed
 pub record PrintsInPart (Is : Report) (file : List ℕ) (before after : Devices) : Type 0 where
   pub holds : Holds (before.content file)
   pub text : List ℕ
-  pub is : Is holds.names holds.program text
-  pub wrote : AppendsPrefix before.held after.held text
-  pub left : Keeps before.left after.left
-  pub out_cause : Rose before.out_faults after.out_faults
+  pub is : Is holds.names holds.program before.outside after.outside text
+  pub wrote : AppendsPrefix before.out.held after.out.held text
+  pub left : Keeps before.input.left after.input.left
+  pub out_cause : Rose before.out.faults after.out.faults
 
--- the file's program served the input, of which at most so many bytes count
-pub record Ran (limit : ℕ) (file : List ℕ) (before after : Devices) (result : Result InputEnd WriteStop) : Type 0 where
+-- the file's program served the input by the direct interpreter
+pub record Interprets (limit : ℕ) (file : List ℕ) (before after : Devices) (result : Result InputEnd SessionStop) : Type 0 where
   pub holds : Holds (before.content file)
-  pub served : session.Served (source_in (before.content file) holds) limit before.left after.left before.held after.held result
-  pub input_cause : result ≡ Ok ReadFault → Rose before.input_faults after.input_faults
-  pub out_cause : result ≡ Err WriteFault → Rose before.out_faults after.out_faults
+  pub served : session.Served (source_in (before.content file) holds) limit local_history before.input.left after.input.left before.out.held after.out.held
+      result
+  pub input_cause : result ≡ Ok input.ReadFault → Rose before.input.faults after.input.faults
+  pub out_cause : result ≡ Err local.WriteFault → Rose before.out.faults after.out.faults
+  pub err : after.err ≡ before.err
+  pub outside : after.outside ≡ before.outside
+
+-- what a run shows of the devices
+abbrev pub shown_of : Devices → Shown
+shown_of d = record { left = d.input.left; held = d.out.held; said = d.err.held; outside = d.outside }
+
+-- the settings that words give, with the most bytes of input that count
+abbrev pub settings_for : ℕ → words.RunSettings → RunSettings
+settings_for limit s =
+    record { batch = s.batch; partitions = s.partitions; schedule = s.schedule; history = s.history; limit = limit; trace = s.trace }
+
+-- the file's program was compiled and run on the input
+pub record RunsFile (limit : ℕ) (file : List ℕ) (s : words.RunSettings) (before after : Devices) (result : Result Tally SessionFault) : Type 0 where
+  pub compiled : Compiled
+  pub holds : HoldsOne (λ text. IsCompiledOf text compiled) (before.content file)
+  pub runs : Runs compiled (settings_for limit s) result (shown_of before) (shown_of after)
+  pub input_cause : result ≡ Err ReadFault → Rose before.input.faults after.input.faults
+  pub write_cause : result ≡ Err WriteFault → Rose before.out.faults after.out.faults ⊎ Rose before.err.faults after.err.faults
+  pub err_later : before.err.faults ≤ after.err.faults
 
 -- the file's text has this fault
 pub record IsTurnedDown (file : List ℕ) (before after : Devices) (fault : ProgramFault) : Type 0 where
   pub refused : Refuses (before.content file) fault
-  pub untouched : Untouched before after
+  pub still : IsStill before after
 
 -- the file could not be read
 pub record IsUnread (file : List ℕ) (before after : Devices) : Type 0 where
   pub file_cause : Rose (before.file_faults file) (after.file_faults file)
-  pub untouched : Untouched before after
+  pub still : IsStill before after
 
--- what reports on the program serves no input
+-- what reports on the program serves no input, and says nothing
 abbrev pub ReportEnds : Report → List ℕ → Devices → Devices → Ending → Type 0
 ReportEnds Is file before after Misused = ⊥
 ReportEnds Is file before after (Refused fault) = IsTurnedDown file before after fault
 ReportEnds Is file before after FileFault = IsUnread file before after
-ReportEnds Is file before after NoMemory = Untouched before after
-ReportEnds Is file before after Printed = Prints Is file before after
-ReportEnds Is file before after Unprinted = PrintsInPart Is file before after
-ReportEnds Is file before after (Served end) = ⊥
+ReportEnds Is file before after NoMemory = IsStill before after
+ReportEnds Is file before after Printed = Prints Is file before after × (after.err ≡ before.err)
+ReportEnds Is file before after Unprinted = PrintsInPart Is file before after × (after.err ≡ before.err)
+ReportEnds Is file before after Served = ⊥
 ReportEnds Is file before after (Stopped stop) = ⊥
 
--- a run prints nothing of what it found of the program
-abbrev pub RunEnds : ℕ → List ℕ → Devices → Devices → Ending → Type 0
-RunEnds limit file before after Misused = ⊥
-RunEnds limit file before after (Refused fault) = IsTurnedDown file before after fault
-RunEnds limit file before after FileFault = IsUnread file before after
-RunEnds limit file before after NoMemory = Untouched before after
-RunEnds limit file before after Printed = ⊥
-RunEnds limit file before after Unprinted = ⊥
-RunEnds limit file before after (Served end) = Ran limit file before after (Ok end)
-RunEnds limit file before after (Stopped stop) = Ran limit file before after (Err stop)
+-- what serves the input prints nothing of what it found of the program
+abbrev pub LocalEnds : ℕ → List ℕ → Devices → Devices → Ending → Type 0
+LocalEnds limit file before after Misused = ⊥
+LocalEnds limit file before after (Refused fault) = IsTurnedDown file before after fault
+LocalEnds limit file before after FileFault = IsUnread file before after
+LocalEnds limit file before after NoMemory = IsStill before after
+LocalEnds limit file before after Printed = ⊥
+LocalEnds limit file before after Unprinted = ⊥
+LocalEnds limit file before after Served = Interprets limit file before after (Ok input.End)
+LocalEnds limit file before after (Stopped ReadFault) = Interprets limit file before after (Ok input.ReadFault)
+LocalEnds limit file before after (Stopped InputTooLong) = Interprets limit file before after (Ok input.TooLong)
+LocalEnds limit file before after (Stopped HistoryFull) = Interprets limit file before after (Err local.HistoryFull)
+LocalEnds limit file before after (Stopped cause.NoMemory) = Interprets limit file before after (Err local.NoMemory)
+LocalEnds limit file before after (Stopped WriteFault) = Interprets limit file before after (Err local.WriteFault)
 
--- `check` and `compile` report on the program; `local` and `run` serve the input, each request at once
+abbrev pub RunEnds : ℕ → List ℕ → words.RunSettings → Devices → Devices → Ending → Type 0
+RunEnds limit file s before after Misused = ⊥
+RunEnds limit file s before after (Refused fault) = IsTurnedDown file before after fault
+RunEnds limit file s before after FileFault = IsUnread file before after
+RunEnds limit file s before after NoMemory = IsStill before after
+RunEnds limit file s before after Printed = ⊥
+RunEnds limit file s before after Unprinted = ⊥
+RunEnds limit file s before after Served = (tally : Tally) × RunsFile limit file s before after (Ok tally)
+RunEnds limit file s before after (Stopped stop) = RunsFile limit file s before after (Err stop)
+
+-- how a session ends the call
+abbrev pub local_ending : Result InputEnd SessionStop → Ending
+local_ending (Ok input.End) = Served
+local_ending (Ok input.ReadFault) = Stopped ReadFault
+local_ending (Ok input.TooLong) = Stopped InputTooLong
+local_ending (Err local.HistoryFull) = Stopped HistoryFull
+local_ending (Err local.NoMemory) = Stopped cause.NoMemory
+local_ending (Err local.WriteFault) = Stopped WriteFault
+
+abbrev pub run_ending : Result Tally SessionFault → Ending
+run_ending (Ok tally) = Served
+run_ending (Err fault) = Stopped fault
+
+-- `check` and `compile` report on the program; `local` and `run` serve the input
 abbrev pub EndsOn : ℕ → Asked → Devices → Devices → Ending → Type 0
 EndsOn limit (Check file) before after ending = ReportEnds IsCheckLine file before after ending
 EndsOn limit (Compile file) before after ending = ReportEnds IsCompiledText file before after ending
-EndsOn limit (Local file) before after ending = RunEnds limit file before after ending
-EndsOn limit (Run file) before after ending = RunEnds limit file before after ending
+EndsOn limit (Local file) before after ending = LocalEnds limit file before after ending
+EndsOn limit (Run file settings) before after ending = RunEnds limit file settings before after ending
 
 -- where no command is asked for the words are misused, unless memory ran out as they were read; else it is done
 abbrev pub Ends : ℕ → Option Asked → Devices → Devices → Ending → Type 0
-Ends limit None before after ending = ((ending ≡ Misused) ⊎ (ending ≡ NoMemory)) × Untouched before after
+Ends limit None before after ending = ((ending ≡ Misused) ⊎ (ending ≡ NoMemory)) × IsStill before after
 Ends limit (Some asked) before after ending = EndsOn limit asked before after ending

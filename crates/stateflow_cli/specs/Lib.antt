@@ -6,4 +6,5 @@ pub mod Devices
 pub mod Loading
 pub mod Endings
 pub mod Telling
+pub mod RunClauses
 pub mod Answers

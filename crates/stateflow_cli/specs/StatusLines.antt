@@ -7,10 +7,8 @@ use Rattle.py_tree.specs.declared.rule.Rule.{Rule}
 use Rattle.py_tree.specs.declared.rule.Rule.TheVariants as rule
 use Rattle.py_lexer.specs.declared.fault.LexKind.{LexKind}
 use Rattle.py_lexer.specs.declared.fault.LexKind.TheVariants as lex
-use Rattle.sf_outside.specs.declared.gains.WriteStop.{WriteStop}
-use Rattle.sf_outside.specs.declared.gains.WriteStop.TheVariants as stop
-use Rattle.session.specs.declared.feeding.InputEnd.{InputEnd}
-use Rattle.session.specs.declared.feeding.InputEnd.TheVariants as input
+use Rattle.batch_session.specs.declared.serving.SessionFault.{SessionFault}
+use Rattle.batch_session.specs.declared.serving.SessionFault.TheVariants as stop
 use Rattle.program_text.specs.declared.fault.ProgramFault.{ProgramFault}
 use Rattle.program_text.specs.declared.fault.ProgramFault.TheVariants as program
 use Rattle.program_text.specs.Readings.{place_of}
@@ -24,11 +22,12 @@ status_of FileFault = 3
 status_of NoMemory = 8
 status_of Printed = 0
 status_of Unprinted = 4
-status_of (Served input.End) = 0
-status_of (Served input.ReadFault) = 3
-status_of (Served input.TooLong) = 9
-status_of (Stopped stop.NoMemory) = 8
+status_of Served = 0
+status_of (Stopped stop.ReadFault) = 3
 status_of (Stopped stop.WriteFault) = 4
+status_of (Stopped stop.NoMemory) = 8
+status_of (Stopped stop.InputTooLong) = 9
+status_of (Stopped stop.HistoryFull) = 10
 
 abbrev pub usage_line : List ℕ
 usage_line = codes "usage: stateflow check FILE | compile FILE | local FILE | run FILE [options] | gen [options]\n"
@@ -99,17 +98,17 @@ no_memory_line = codes "stateflow: out of memory\n"
 abbrev pub too_long_line : List ℕ
 too_long_line = codes "stateflow: input too long\n"
 
--- nothing is said where the whole input was served
-abbrev pub end_line : InputEnd → List ℕ
-end_line input.End = []
-end_line input.ReadFault = read_fault_line
-end_line input.TooLong = too_long_line
+abbrev pub history_full_line : List ℕ
+history_full_line = codes "stateflow: history full\n"
 
-abbrev pub stop_line : WriteStop → List ℕ
-stop_line stop.NoMemory = no_memory_line
+abbrev pub stop_line : SessionFault → List ℕ
+stop_line stop.ReadFault = read_fault_line
 stop_line stop.WriteFault = write_fault_line
+stop_line stop.NoMemory = no_memory_line
+stop_line stop.InputTooLong = too_long_line
+stop_line stop.HistoryFull = history_full_line
 
--- what is said of a call on this file
+-- what is said of a call on this file; nothing where it did what was asked
 abbrev pub line_of : List ℕ → Ending → List ℕ
 line_of file Misused = usage_line
 line_of file (Refused fault) = fault_line file fault
@@ -117,5 +116,5 @@ line_of file FileFault = read_fault_line
 line_of file NoMemory = no_memory_line
 line_of file Printed = []
 line_of file Unprinted = write_fault_line
-line_of file (Served end) = end_line end
-line_of file (Stopped stop) = stop_line stop
+line_of file Served = []
+line_of file (Stopped fault) = stop_line fault

@@ -1,34 +1,35 @@
 -- What the words of a call ask for, as far as it is served.
-use Rattle.std.specs.Prelude.{ℕ, Bool, not, is_none, ◌&&◌, ◌==◌, List, Some, None, option_and_then, if◌then◌else◌}
+use Rattle.std.specs.Prelude.{ℕ, ◌≤◌, Bool, is_none, List, Some, None, option_and_then, if◌then◌else◌, ⊤}
 use Rattle.std.specs.declared.option.Option.{Option}
 use Rattle.command_words.specs.Commands as words
 use Rattle.command_words.specs.CommandReading as reading
 use Rattle.stateflow_cli.specs.declared.words.Command.{Command}
 use Rattle.stateflow_cli.specs.declared.words.Command.TheVariants as command
 
--- a command with its file: its program is to be checked, or compiled, or to serve the input by the direct interpreter, or to be run on it
+-- a command with its file: its program is to be checked, or compiled, or to serve the input by the direct interpreter, or by the dataflow
+-- with these settings
 pub data Asked : Type 0 where
   Check : List ℕ → Asked
   Compile : List ℕ → Asked
   Local : List ℕ → Asked
-  Run : List ℕ → Asked
+  Run : List ℕ → words.RunSettings → Asked
 
 abbrev pub file_of : Asked → List ℕ
 file_of (Check file) = file
 file_of (Compile file) = file
 file_of (Local file) = file
-file_of (Run file) = file
+file_of (Run file settings) = file
 
--- the settings of `run` that are served: a batch for each request, and all else as where it isn't given
+-- the settings of `run` that are served: all that name no store
 abbrev pub are_served : words.RunSettings → Bool
-are_served s = s.batch == 1 && s.partitions == 4 && s.schedule == 0 && is_none s.store && s.every == 64 && s.history == 16777216 && not s.trace
+are_served settings = is_none settings.store
 
 -- what is served of what words may ask for
 abbrev pub served : words.Asked → Option Asked
 served (words.Check file) = Some (Check file)
 served (words.Compile file) = Some (Compile file)
 served (words.Local file) = Some (Local file)
-served (words.Run file settings) = if are_served settings then Some (Run file) else None
+served (words.Run file settings) = if are_served settings then Some (Run file settings) else None
 served (words.Gen settings) = None
 
 -- what the words ask for by their grammar, where that is served
@@ -40,4 +41,18 @@ abbrev pub asked_by : Command → Asked
 asked_by (command.Check file) = Check file.now
 asked_by (command.Compile file) = Compile file.now
 asked_by (command.Local file) = Local file.now
-asked_by (command.Run file) = Run file.now
+asked_by (command.Run file settings) = Run file.now (words.settings_by settings)
+
+-- batches of 1 to 256 requests, and 1 to 64 partitions
+pub record AreInRange (settings : words.RunSettings) : Type 0 where
+  pub some : 1 ≤ settings.batch
+  pub few : settings.batch ≤ 256
+  pub least : 1 ≤ settings.partitions
+  pub most : settings.partitions ≤ 64
+
+-- words ask for no others
+abbrev pub IsInRange : Asked → Type 0
+IsInRange (Check file) = ⊤
+IsInRange (Compile file) = ⊤
+IsInRange (Local file) = ⊤
+IsInRange (Run file settings) = AreInRange settings

@@ -1,8 +1,8 @@
 //! Checking a file's program.
 
-ghost use Rattle.std.specs.Prelude.{ℕ, List, Option};
+ghost use Rattle.operator_graph.specs.Turns.{Outside};
 ghost use Rattle.stateflow_cli.specs.CheckLine.{IsCheckLine};
-ghost use Rattle.stateflow_cli.specs.Devices.{devices};
+ghost use Rattle.stateflow_cli.specs.Devices.{Input, Output, devices, sink};
 ghost use Rattle.stateflow_cli.specs.Endings.{ReportEnds};
 
 use crate::ending::Ending;
@@ -11,16 +11,17 @@ use crate::printing::print_counts;
 use sf_outside::{Failed, Files, Sink};
 use std::alloc::Global;
 
-/// Checks the file's program, and prints how many classes and methods it has. What is left of the input is no matter.
+/// Checks the file's program, and prints how many classes and methods it has. The other devices are
+/// no matter.
 pub(crate) fn check_file<F: Files, K: Sink>(
     alloc: Global,
     file: &str,
     files: &mut F,
     out: &mut K,
 ) -> Ending
-    ensures { (left : Option (List ℕ)) (input_faults : ℕ) → ReportEnds IsCheckLine file.now
-        (devices (F.content files.old) (F.faults files.old) left input_faults (K.held out.old) (K.faults out.old))
-        (devices (F.content files.new) (F.faults files.new) left input_faults (K.held out.new) (K.faults out.new))
+    ensures { (input : Input) (err : Output) (outside : Outside) → ReportEnds IsCheckLine file.now
+        (devices (F.content files.old) (F.faults files.old) input (sink (K.held out.old) (K.faults out.old)) err outside)
+        (devices (F.content files.new) (F.faults files.new) input (sink (K.held out.new) (K.faults out.new)) err outside)
         result }
 {
     let counts = match count(alloc, files, file) {

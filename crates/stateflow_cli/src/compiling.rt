@@ -1,17 +1,19 @@
 //! Compiling a file's program.
 
-ghost use Rattle.std.specs.Prelude.{◌≡◌, IfOk, OnOk, OnErr, ℕ, List, Option};
+ghost use Rattle.std.specs.Prelude.{◌≡◌, IfOk, OnOk, OnErr, Option};
 ghost use Rattle.std.specs.Io.KnownBytes.{Appends};
 ghost use Rattle.std.specs.Str.{chars};
 ghost use Rattle.sf_outside.specs.Bytes.{AppendsPrefix};
 ghost use Rattle.sf_outside.specs.Causes.{HasCause};
 ghost use Rattle.stateflow_cli.specs.CompiledText.{IsCompiledText, compiled_text};
-ghost use Rattle.stateflow_cli.specs.Devices.{devices};
+ghost use Rattle.sf_outside.specs.Choices.{Choices};
+ghost use Rattle.stateflow_cli.specs.Devices.{Input, Output, devices, sink, outside};
 ghost use Rattle.stateflow_cli.specs.Endings.{ReportEnds};
 
 use crate::ending::Ending;
 use crate::loading::{LoadStop, load_compiled};
 use entity_compiler::Compiled;
+use operator_graph::Watch;
 use sf_outside::{Failed, Files, Sink};
 use sf_value::Text;
 use std::alloc::{AllocError, Global};
@@ -33,16 +35,18 @@ fn print_text<K: Sink>(out: &mut K, text: &[u8]) -> Result<(), Failed>
     out.flush()
 }
 
-/// Compiles the file's program, and prints the text of its graph. What is left of the input is no matter.
-pub(crate) fn compile_file<F: Files, K: Sink>(
+/// Compiles the file's program, tells its graph, and prints the graph's text. The input, the error stream and
+/// the chooser are no matter.
+pub(crate) fn compile_file<F: Files, K: Sink, W: Watch>(
     alloc: Global,
     file: &str,
     files: &mut F,
     out: &mut K,
+    watch: &mut W,
 ) -> Ending
-    ensures { (left : Option (List ℕ)) (input_faults : ℕ) → ReportEnds IsCompiledText file.now
-        (devices (F.content files.old) (F.faults files.old) left input_faults (K.held out.old) (K.faults out.old))
-        (devices (F.content files.new) (F.faults files.new) left input_faults (K.held out.new) (K.faults out.new))
+    ensures { (input : Input) (err : Output) (choices : Option Choices) → ReportEnds IsCompiledText file.now
+        (devices (F.content files.old) (F.faults files.old) input (sink (K.held out.old) (K.faults out.old)) err (outside choices (W.told watch.old)))
+        (devices (F.content files.new) (F.faults files.new) input (sink (K.held out.new) (K.faults out.new)) err (outside choices (W.told watch.new)))
         result }
 {
     let compiled = match load_compiled(alloc, files, file) {
@@ -51,11 +55,11 @@ pub(crate) fn compile_file<F: Files, K: Sink>(
         Err(LoadStop::FileFault) => return Ending::FileFault,
         Err(LoadStop::NoMemory) => return Ending::NoMemory,
     };
-    let text = text_of(alloc, &compiled);
-    drop(compiled);
-    let Ok(text) = text else {
+    let Ok(text) = text_of(alloc, &compiled) else {
         return Ending::NoMemory;
     };
+    watch.graph(compiled.graph());
+    drop(compiled);
     match print_text(out, text.as_str().as_bytes()) {
         Ok(()) => Ending::Printed,
         Err(Failed) => Ending::Unprinted,

@@ -3,9 +3,8 @@
 ghost use Rattle.std.specs.Prelude.{◌≡◌};
 ghost use Rattle.stateflow_cli.specs.StatusLines.{status_of};
 
+use batch_run::SessionFault;
 use program_text::ProgramFault;
-use session::InputEnd;
-use sf_outside::WriteStop;
 
 #[derive(Clone, Copy, PartialEq, Eq, Debug)]
 pub enum Ending {
@@ -21,10 +20,10 @@ pub enum Ending {
     Printed,
     /// The output failed as the report was printed.
     Unprinted,
-    /// The program served the input, as far as that could be read.
-    Served(InputEnd),
+    /// The program served the whole input.
+    Served,
     /// The program served the input until this stop.
-    Stopped(WriteStop),
+    Stopped(SessionFault),
 }
 
 impl Ending {
@@ -32,13 +31,14 @@ impl Ending {
         ensures { result ≡ status_of self }
     {
         match self {
-            Ending::Printed | Ending::Served(InputEnd::End) => 0,
+            Ending::Printed | Ending::Served => 0,
             Ending::Refused(_) => 1,
             Ending::Misused => 2,
-            Ending::FileFault | Ending::Served(InputEnd::ReadFault) => 3,
-            Ending::Unprinted | Ending::Stopped(WriteStop::WriteFault) => 4,
-            Ending::NoMemory | Ending::Stopped(WriteStop::NoMemory) => 8,
-            Ending::Served(InputEnd::TooLong) => 9,
+            Ending::FileFault | Ending::Stopped(SessionFault::ReadFault) => 3,
+            Ending::Unprinted | Ending::Stopped(SessionFault::WriteFault) => 4,
+            Ending::NoMemory | Ending::Stopped(SessionFault::NoMemory) => 8,
+            Ending::Stopped(SessionFault::InputTooLong) => 9,
+            Ending::Stopped(SessionFault::HistoryFull) => 10,
         }
     }
 }

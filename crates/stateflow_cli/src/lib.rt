@@ -5,14 +5,16 @@ mod checking;
 mod compiling;
 mod ending;
 mod fault;
+mod generator;
 mod loading;
-mod pieces;
 mod printing;
 mod real_devices;
 mod running;
+mod serving;
 mod telling;
 mod top_call;
 mod words;
 
+pub use generator::Generator;
 pub use real_devices::{NamedFiles, Reading, Writing};
 pub use top_call::stateflow;

@@ -1,20 +1,19 @@
 //! Telling an ending: its line, written without memory, and its status.
 
-ghost use Rattle.std.specs.Prelude.{◌≡◌, map, OnOk, OnErr};
-ghost use Rattle.std.specs.List.{concat};
+ghost use Rattle.std.specs.Prelude.{◌≡◌, ◌≤◌, OnOk, OnErr};
 ghost use Rattle.std.specs.Io.KnownBytes.{Appends};
 ghost use Rattle.sf_outside.specs.Bytes.{AppendsPrefix};
 ghost use Rattle.sf_outside.specs.Causes.{HasCause};
-ghost use Rattle.stateflow_cli.specs.StatusLines.{status_of, line_of, end_line, stop_line, placed_line, fault_line};
+ghost use Rattle.stateflow_cli.specs.StatusLines.{status_of, line_of, stop_line, placed_line, fault_line};
 ghost use Rattle.stateflow_cli.specs.Telling.{Told};
 
 use crate::ending::Ending;
 use crate::fault::fault_name_of;
-use crate::pieces::write_pieces;
+use batch_run::SessionFault;
 use itoa::Buffer;
 use program_text::ProgramFault;
-use session::InputEnd;
-use sf_outside::{Failed, Sink, WriteStop};
+use session_steps::write_pieces;
+use sf_outside::{Failed, Sink};
 
 /// The status where an output can't be written.
 const WRITE_FAULT: u8 = 4;
@@ -29,6 +28,8 @@ const WRITE_FAULT_LINE: &[u8] = b"stateflow: write fault\n";
 const NO_MEMORY_LINE: &[u8] = b"stateflow: out of memory\n";
 
 const TOO_LONG_LINE: &[u8] = b"stateflow: input too long\n";
+
+const HISTORY_FULL_LINE: &[u8] = b"stateflow: history full\n";
 
 /// Says what a file's fault is, where the digits of its line and column are given.
 fn say_placed<E: Sink>(
@@ -75,26 +76,17 @@ fn say_fault<E: Sink>(err: &mut E, file: &str, fault: ProgramFault) -> Result<()
     )
 }
 
-fn say_end<E: Sink>(err: &mut E, end: InputEnd) -> Result<(), Failed>
-    ensures whole { OnOk result (Appends (E.held err.old) (E.held err.new) (end_line end)) }
-    ensures part { OnErr result (AppendsPrefix (E.held err.old) (E.held err.new) (end_line end)) }
-    ensures cause { HasCause (E.faults err.old) (E.faults err.new) result }
-{
-    match end {
-        InputEnd::End => Ok(()),
-        InputEnd::ReadFault => err.write(READ_FAULT_LINE),
-        InputEnd::TooLong => err.write(TOO_LONG_LINE),
-    }
-}
-
-fn say_stop<E: Sink>(err: &mut E, stop: WriteStop) -> Result<(), Failed>
+fn say_stop<E: Sink>(err: &mut E, stop: SessionFault) -> Result<(), Failed>
     ensures whole { OnOk result (Appends (E.held err.old) (E.held err.new) (stop_line stop)) }
     ensures part { OnErr result (AppendsPrefix (E.held err.old) (E.held err.new) (stop_line stop)) }
     ensures cause { HasCause (E.faults err.old) (E.faults err.new) result }
 {
     match stop {
-        WriteStop::NoMemory => err.write(NO_MEMORY_LINE),
-        WriteStop::WriteFault => err.write(WRITE_FAULT_LINE),
+        SessionFault::ReadFault => err.write(READ_FAULT_LINE),
+        SessionFault::WriteFault => err.write(WRITE_FAULT_LINE),
+        SessionFault::InputTooLong => err.write(TOO_LONG_LINE),
+        SessionFault::HistoryFull => err.write(HISTORY_FULL_LINE),
+        SessionFault::NoMemory => err.write(NO_MEMORY_LINE),
     }
 }
 
@@ -110,7 +102,7 @@ fn say<E: Sink>(err: &mut E, file: &str, ending: Ending) -> Result<(), Failed>
         Ending::NoMemory => err.write(NO_MEMORY_LINE),
         Ending::Printed => Ok(()),
         Ending::Unprinted => err.write(WRITE_FAULT_LINE),
-        Ending::Served(end) => say_end(err, end),
+        Ending::Served => Ok(()),
         Ending::Stopped(stop) => say_stop(err, stop),
     }
 }
@@ -127,7 +119,8 @@ fn say_whole<E: Sink>(err: &mut E, file: &str, ending: Ending) -> Result<(), Fai
 
 /// Tells an ending of a call on this file, and gives its status.
 pub(crate) fn tell<E: Sink>(err: &mut E, file: &str, ending: Ending) -> u8
-    ensures { Told (line_of file.now ending) (status_of ending) (E.held err.old) (E.held err.new) (E.faults err.old) (E.faults err.new) result }
+    ensures told { Told (line_of file.now ending) (status_of ending) (E.held err.old) (E.held err.new) (E.faults err.old) (E.faults err.new) result }
+    ensures later { E.faults err.old ≤ E.faults err.new }
 {
     let status = ending.status();
     match say_whole(err, file, ending) {

@@ -1,9 +1,9 @@
 //! The words of a call, as far as what they ask for is served.
 
-ghost use Rattle.std.specs.Prelude.{◌≡◌, map, option_map, string_bytes};
+ghost use Rattle.std.specs.Prelude.{◌≡◌, map, option_map, string_bytes, IfOk};
 ghost use Rattle.command_words.specs.Commands as given;
 ghost use Rattle.command_words.specs.Readings.{Reads};
-ghost use Rattle.stateflow_cli.specs.Words.{asked, asked_by, file_of, are_served, served};
+ghost use Rattle.stateflow_cli.specs.Words.{asked, asked_by, file_of, served, IsInRange};
 
 use command_words::{Command as Given, RunWords, WordsError};
 use std::alloc::Global;
@@ -14,7 +14,7 @@ pub enum Command<'a> {
     Check(&'a str),
     Compile(&'a str),
     Local(&'a str),
-    Run(&'a str),
+    Run(&'a str, RunWords<'a>),
 }
 
 impl<'a> Command<'a> {
@@ -26,26 +26,12 @@ impl<'a> Command<'a> {
             Command::Check(file) => file,
             Command::Compile(file) => file,
             Command::Local(file) => file,
-            Command::Run(file) => file,
+            Command::Run(file, _) => file,
         }
     }
 }
 
-/// Whether these are the settings that are served: a batch for each request, and all else as where it
-/// isn't given.
-fn are_served(settings: RunWords<'_>) -> bool
-    ensures { result ≡ are_served (given.settings_by settings.entry) }
-{
-    settings.batch == 1
-        && settings.partitions == 4
-        && settings.schedule == 0
-        && settings.store.is_none()
-        && settings.every == 64
-        && settings.history == 16_777_216
-        && !settings.trace
-}
-
-/// The command as it is served, if it is.
+/// The command as it is served, if it is: no store is served.
 fn served(command: Given<'_>) -> Option<Command<'_>>
     ensures { option_map asked_by result ≡ served (given.asked_by command.entry) }
 {
@@ -54,8 +40,8 @@ fn served(command: Given<'_>) -> Option<Command<'_>>
         Given::Compile { file } => Some(Command::Compile(file)),
         Given::Local { file } => Some(Command::Local(file)),
         Given::Run { file, settings } => {
-            if are_served(settings) {
-                Some(Command::Run(file))
+            if settings.store.is_none() {
+                Some(Command::Run(file, settings))
             } else {
                 None
             }
@@ -67,7 +53,8 @@ fn served(command: Given<'_>) -> Option<Command<'_>>
 /// The command that the words ask for, where it is served; else they are misused. Memory may run out
 /// before that is known.
 pub(crate) fn command_of<'a>(alloc: Global, words: &'a [String]) -> Result<Command<'a>, WordsError>
-    ensures { Reads asked_by (asked (map string_bytes words.entry.now)) result }
+    ensures reads { Reads asked_by (asked (map string_bytes words.entry.now)) result }
+    ensures in_range { IfOk result (λ command. IsInRange (asked_by command)) }
 {
     let command = command_words::command_of(alloc, words)?;
     match served(command) {

@@ -1,0 +1,7 @@
+pub mod SessionTakes
+pub mod TextLaws
+pub mod SerialLaws
+pub mod EventLaws
+pub mod FullLaws
+pub mod RunLaws
+pub mod GraphLaws

@@ -1,0 +1,4 @@
+pub mod RunViews
+pub mod RunTexts
+pub mod RunEvents
+pub mod Runs
