@@ -5,3 +5,5 @@
 mod bank;
 #[cfg(test)]
 mod generated;
+#[cfg(test)]
+mod runs;

@@ -1,0 +1,70 @@
+-- A run on generated work, from its start to its sums.
+use Rattle.std.proofs.Common.{◌≡◌, ℕ, inl, inr, Option, Ok, Err, List, [], ◌∷◌, IfOk, subst}
+use Rattle.std.specs.declared.result.Result.{Result}
+use Rattle.std.specs.declared.alloc.AllocError.{AllocError}
+use Rattle.py_tree.specs.ClassRules.{PlainTable}
+use Rattle.work_gen.specs.Requests as work
+use Rattle.entity_compiler.specs.Compiling.{IsCompiledOf}
+use Rattle.block_code.specs.PlainBlocks.{PlainBlock}
+use Rattle.block_step.specs.declared.compiled.Compiled.{Compiled}
+use Rattle.operator_graph.specs.Telling.{Told, AlsoTold, GraphTold}
+use Rattle.operator_graph.specs.Turns.{Outside}
+use Rattle.engine.specs.Cores.{Core}
+use Rattle.batch_replies.specs.declared.counting.BatchCounts.{BatchCounts}
+use Rattle.line_answers.specs.Services.{Service}
+use Rattle.session_steps.specs.declared.tally.Tally.{Tally}
+use Rattle.session_steps.specs.Doings.{RunBatches, BeginBatches}
+use Rattle.generated_run.specs.declared.running.GenSettings.{GenSettings}
+use Rattle.generated_run.specs.declared.running.GenStop.TheVariants.{NoMemory}
+use Rattle.generated_run.specs.declared.summing.Summary.{Summary}
+use Rattle.generated_run.specs.Summaries.{IsSummary}
+use Rattle.generated_run.specs.Generated.{service_by, input_of, batch_cores, ServesAll, ServesSome, Starts, Comes, Gives}
+
+-- the graph that was told is the one of these tables and blocks
+pub told_as : (old new : Option (List Told)) (tables tables' : List PlainTable) (blocks blocks' : List (List PlainBlock)) → tables ≡ tables' → blocks ≡ blocks'
+    → AlsoTold old new (GraphTold tables blocks ∷ []) → AlsoTold old new (GraphTold tables' blocks' ∷ [])
+told_as old new tables tables' blocks blocks' same_tables same_blocks told =
+    subst (λ t. AlsoTold old new (GraphTold t blocks' ∷ [])) same_tables (subst (λ b. AlsoTold old new (GraphTold tables b ∷ [])) same_blocks told)
+
+-- batches that were run were begun
+all_begun : (v : Service) (cores : List Core) (counts : List BatchCounts) (old new : Outside) → RunBatches v cores counts old new
+    → BeginBatches v cores counts old new
+all_begun v [] [] old new ran = ran
+all_begun v [] (c ∷ counts) old new ran = ran
+all_begun v (core ∷ cores) [] old new ran = absurd ran
+all_begun v (core ∷ cores) (c ∷ counts) old new ran = (ran.0, ran.1, all_begun v cores counts ran.0 new ran.2)
+
+module _ (s : GenSettings) (compiled made : Compiled) (same : made ≡ compiled) (input : List ℕ) (is : input ≡ input_of s) (old started new : Outside)
+    (starts : Starts s compiled old started) where
+  -- the session wanted memory
+  pub came_short : ServesSome (service_by s made) input started new → (error : AllocError) → Comes s compiled (Err error) old new
+  came_short some error = inr record {
+    started = started;
+    starts = starts;
+    served =
+        subst (λ c. ServesSome (service_by s c) (input_of s) started new) same
+        (subst (λ bytes. ServesSome (service_by s made) bytes started new) is some);
+  }
+
+  -- it served all, and that was summed up, or memory was wanted for the sum
+  pub came : (core : Core) (tally : Tally) → ServesAll (service_by s made) input core tally started new → (r : Result Summary AllocError)
+      → IfOk r (λ summary. IsSummary s.size core tally summary) → Comes s compiled r old new
+  came core tally all (Ok summary) sums = record {
+    started = started;
+    starts = starts;
+    core = core;
+    tally = tally;
+    served =
+        subst (λ c. ServesAll (service_by s c) (input_of s) core tally started new) same
+        (subst (λ bytes. ServesAll (service_by s made) bytes core tally started new) is all);
+    summed = sums;
+  }
+  came core tally all (Err error) sums =
+      let v : Service = service_by s made in
+      came_short (record { counts = all.counts; begun_on = all_begun v (batch_cores v input) all.counts started new all.ran }) error
+
+-- so it is for the bank's program
+pub gives_up : (s : GenSettings) (compiled : Compiled) (old new : Outside) (error : AllocError) → IsCompiledOf work.program compiled
+    → Comes s compiled (Err error) old new → Gives s (Err NoMemory) old new
+gives_up s compiled old new error is (inl nothing) = inl nothing
+gives_up s compiled old new error is (inr some) = inr (compiled, is, some)

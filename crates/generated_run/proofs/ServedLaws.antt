@@ -1,0 +1,207 @@
+-- What a session on generated work came to, from what a session in batches promises.
+use Rattle.std.proofs.Common.{◌≡◌, ℕ, arith, ◌≤◌, inl, inr, false, Option, None, Some, Ok, Err, List, [], ◌∷◌, ◌++◌, length, refl, sym, ap, ◌∙◌, subst}
+use Rattle.std.proofs.Common.{append_assoc, append-nil}
+use Rattle.std.specs.declared.result.Result.{Result}
+use Rattle.std.specs.Io.KnownBytes.{Consumes, IsAtEnd}
+use Rattle.std.proofs.lemmas.Bool.{ltb-true}
+use Rattle.std.proofs.lemmas.List.{length-append, map-append}
+use Rattle.std.proofs.lemmas.Option.{none-some}
+use Rattle.request_json.specs.Actions.{Line, whole_from, rest_from, last_line, whole_lines, all_lines}
+use Rattle.input_lines.proofs.CutLaws.{whole-append}
+use Rattle.operator_graph.specs.Turns.{Outside}
+use Rattle.engine.specs.Cores.{Core, empty_core, IsSoundCore}
+use Rattle.batch_output.specs.BatchOutput.{Standing, begun}
+use Rattle.batch_output.specs.SerialBatches.{IsLawfulRule}
+use Rattle.batch_replies.specs.declared.counting.BatchCounts.{BatchCounts}
+use Rattle.line_answers.specs.declared.answering.LineStop.TheVariants as line
+use Rattle.line_answers.specs.Services.{Service, program_of}
+use Rattle.session_steps.specs.declared.tally.Tally.{Tally}
+use Rattle.session_steps.specs.Steps.{Step, answers, endings, whole_steps, all_steps, standing_after, ran_on, move_of}
+use Rattle.session_steps.specs.Doings.{Point, going, RunBatches, BeginBatches, StopsWithin}
+use Rattle.session_steps.specs.StepLaws.{StepsPrint, ComesBegin}
+use Rattle.session_steps.proofs.StepFacts.{ran-append}
+use Rattle.batch_session.specs.declared.serving.SessionFault.{SessionFault}
+use Rattle.batch_session.specs.declared.serving.SessionFault.TheVariants as session
+use Rattle.batch_session.specs.Served.{View, first_point, point_at, ServedWhole, ServedAll, ServedOver, ServedEnd, StopsServing, Served}
+use Rattle.generated_run.specs.Generated.{IsNoFault, tally_of, ServesAll, ServesSome, Serves}
+use Rattle.generated_run.proofs.WorkLaws.{line_ends}
+use Rattle.generated_run.proofs.LineCounts.{few_lines, few_whole_lines}
+use Rattle.generated_run.proofs.Places.{places_of, lines_in, lines_in-append, lines_in-answers, lines_in-endings, behind_all, next_move}
+
+-- Known bytes
+
+taken_of : (a b : Option (List ℕ)) (taken input rest : List ℕ) → a ≡ Some input → b ≡ Some rest → Consumes a b taken → input ≡ taken ++ rest
+taken_of None b taken input rest p q c = absurd (none-some input p)
+taken_of (Some x) None taken input rest p q c = absurd c
+taken_of (Some x) (Some y) taken input rest p q c =
+    let first : x ≡ input = cc in
+    let second : y ≡ rest = cc in
+    sym first ∙ c ∙ ap (λ l. taken ++ l) second
+
+none_left : (a : Option (List ℕ)) (taken input : List ℕ) → a ≡ Some input → Consumes a None taken → ⊥
+none_left None taken input p c = none-some input p
+none_left (Some x) taken input p c = c
+
+at_end : (b : Option (List ℕ)) (rest : List ℕ) → b ≡ Some rest → IsAtEnd b → rest ≡ []
+at_end None rest p end = absurd (none-some rest p)
+at_end (Some y) rest p end = let same : y ≡ rest = cc in sym same ∙ end
+
+-- the steps of the whole lines of the first bytes are the first steps of all
+
+module _ (v : Service) (core : Core) (taken rest : List ℕ) where
+  abbrev later_lines : List Line
+  later_lines = whole_from (rest_from [] taken) rest ++ last_line (rest_from [] (taken ++ rest))
+
+  abbrev later_steps : List Step
+  later_steps = answers later_lines ++ endings (standing_after v (begun core) (answers (all_lines (taken ++ rest))))
+
+  lines_split : all_lines (taken ++ rest) ≡ whole_lines taken ++ later_lines
+  lines_split =
+      ap (λ l. l ++ last_line (rest_from [] (taken ++ rest))) (whole-append taken rest [])
+      ∙ append_assoc (whole_lines taken) (whole_from (rest_from [] taken) rest) (last_line (rest_from [] (taken ++ rest)))
+
+  steps_split : all_steps v core (taken ++ rest) ≡ whole_steps taken ++ later_steps
+  steps_split =
+      ap (λ l. answers l ++ endings (standing_after v (begun core) (answers (all_lines (taken ++ rest))))) lines_split
+      ∙ ap (λ l. l ++ endings (standing_after v (begun core) (answers (all_lines (taken ++ rest))))) (map-append _ (whole_lines taken) later_lines)
+      ∙ append_assoc (whole_steps taken) (answers later_lines) (endings (standing_after v (begun core) (answers (all_lines (taken ++ rest)))))
+
+-- what was begun of some cores was begun of more
+
+begun_more : (v : Service) (cores more : List Core) (counts : List BatchCounts) (old new : Outside) → BeginBatches v cores counts old new
+    → BeginBatches v (cores ++ more) counts old new
+begun_more v [] [] counts old new b = b
+begun_more v [] (core ∷ more) [] old new b = inl b
+begun_more v [] (core ∷ more) (c ∷ counts) old new b = absurd b
+begun_more v (core ∷ cores) more [] old new b = b
+begun_more v (core ∷ cores) more (c ∷ counts) old new b = (b.0, b.1, begun_more v cores more counts b.0 new b.2)
+
+module _ (v : Service) (input : List ℕ) (old new : View) (rest : List ℕ) (empty : old.core ≡ empty_core) (given : old.left ≡ Some input)
+    (left : new.left ≡ Some rest) where
+  -- the whole input was served
+
+  whole_taken : (taken : List ℕ) → Consumes old.left new.left taken → IsAtEnd new.left → taken ≡ input
+  whole_taken taken consumed ended =
+      sym (taken_of old.left new.left taken input rest given left consumed ∙ ap (λ l. taken ++ l) (at_end new.left rest left ended) ∙ append-nil taken)
+
+  serves_all : StepsPrint → (tally : Tally) (s : ServedEnd v false (length input) old new) → s.all.tally ≡ tally → IsSoundCore (program_of v) new.core
+      → ServesAll v input new.core tally old.outside new.outside
+  serves_all prints tally s counted sound =
+      let all : s.all.taken ≡ input = whole_taken s.all.taken s.all.consumed s.all.ended in
+      let last : Standing = record { core = new.core; lines = s.all.lines; is_full = false } in
+      let Stands : Core → List ℕ → Type 0 = λ core bytes. standing_after v (begun core) (all_steps v core bytes) ≡ last in
+      let Ran : Core → List ℕ → Type 0 =
+      λ core bytes. RunBatches v (ran_on v (begun core) (all_steps v core bytes)) s.all.came.counts old.outside new.outside in
+      let stands : Stands empty_core input = subst (λ core. Stands core input) empty (subst (λ bytes. Stands old.core bytes) all s.all.came.stands) in
+      record {
+        lines = s.all.lines;
+        stands = sym ((prints v).1 empty_core input).stands ∙ stands;
+        none = s.none;
+        sound = sound;
+        counts = s.all.came.counts;
+        ran = subst (λ core. Ran core input) empty (subst (λ bytes. Ran old.core bytes) all s.all.came.ran);
+        tally_is = sym counted ∙ s.all.came.tally;
+      }
+
+  -- a part of it was served
+
+  abbrev Begins : Core → List ℕ → Type 0
+  Begins core bytes = (counts : List BatchCounts) × BeginBatches v (ran_on v (begun core) (all_steps v core bytes)) counts old.outside new.outside
+
+  begins_all : ComesBegin → ServedAll v false (length input) {T = Unit {0}} (Err line.NoMemory) old new → Begins old.core input
+  begins_all law s =
+      let h = law v false (Err line.NoMemory) (all_steps v old.core s.taken) (first_point old) (point_at new s.lines s.tally) s.came in
+      subst (λ bytes. Begins old.core bytes) (whole_taken s.taken s.consumed s.ended) (h.counts, h.told)
+
+  begins_whole : ComesBegin → ServedWhole v false (length input) {T = Unit {0}} (Err line.NoMemory) old new → Begins old.core input
+  begins_whole law s =
+      let h = law v false (Err line.NoMemory) (whole_steps s.taken) (first_point old) (point_at new s.lines s.tally) s.came in
+      let later : List Step = later_steps v old.core s.taken rest in
+      let first : List Core = ran_on v (begun old.core) (whole_steps s.taken) in
+      let next : List Core = ran_on v (standing_after v (begun old.core) (whole_steps s.taken)) later in
+      let cores : ran_on v (begun old.core) (all_steps v old.core (s.taken ++ rest)) ≡ first ++ next =
+      ap (ran_on v (begun old.core)) (steps_split v old.core s.taken rest) ∙ ran-append v (whole_steps s.taken) later (begun old.core) in
+      let more = begun_more v first next h.counts old.outside new.outside h.told in
+      subst (λ bytes. Begins old.core bytes) (sym (taken_of old.left new.left s.taken input rest given left s.consumed))
+      (h.counts, subst (λ l. BeginBatches v l h.counts old.outside new.outside) (sym cores) more)
+
+  serves_some : ComesBegin → StopsServing v false (length input) line.NoMemory old new → ServesSome v input old.outside new.outside
+  serves_some law s =
+      let begins : Begins old.core input = elim s as (λ x. Begins old.core input) [ inl w ↦ begins_whole law w | inr a ↦ begins_all law a ] in
+      let from_empty : Begins empty_core input = subst (λ core. Begins core input) empty begins in
+      record { counts = from_empty.0; begun_on = from_empty.1 }
+
+  -- either, by what it came to
+
+  serves : StepsPrint → ComesBegin → (r : Result Tally SessionFault) → Served v false (length input) r old new → IsNoFault r
+      → IsSoundCore (program_of v) new.core → Serves v input (tally_of r) new.core old.outside new.outside
+  serves prints begins (Ok tally) s none sound = serves_all prints tally s.0 s.1 sound
+  serves prints begins (Err session.ReadFault) s none sound = absurd none
+  serves prints begins (Err session.WriteFault) s none sound = absurd none
+  serves prints begins (Err session.InputTooLong) s none sound = absurd none
+  serves prints begins (Err session.HistoryFull) s none sound = absurd none
+  serves prints begins (Err session.NoMemory) s none sound = serves_some begins s
+
+  -- no input is too long for its own length
+
+  never_over : ServedOver v false (length input) old new → ⊥
+  never_over s = by s.before s.served.consumed s.beyond
+    where
+      by : (before : Option (List ℕ)) → Consumes old.left before s.served.taken → Consumes before new.left (s.next ∷ []) → ⊥
+      by None first second = none_left old.left s.served.taken input given first
+      by (Some more) first second =
+          let front = taken_of old.left (Some more) s.served.taken input more given refl first in
+          let back = taken_of (Some more) new.left (s.next ∷ []) more rest refl left second in
+          omega (arith, ap length front, ap length back, length-append s.served.taken more, s.full)
+
+  -- the history never is full
+
+  module _ (lawful : IsLawfulRule v.rule) (room : v.limits.history ≡ 16777216) (few : line_ends input ≤ 100000) where
+    never_within : (steps : List Step) (p q : Point) → p.core ≡ empty_core → lines_in steps ≤ 100001 → StopsWithin v false line.HistoryFull steps p q → ⊥
+    never_within steps p q none some s =
+        let split = ap lines_in s.split ∙ lines_in-append s.first (s.step ∷ s.rest) in
+        let split_rest = lines_in-append (s.step ∷ []) s.rest in
+        let nothing : places_of p.core ≡ 0 = ap places_of none in
+        let behind = behind_all v lawful s.first (going p) (omega arith) in
+        let stands : places_of (standing_after v (going p) s.first).core ≡ places_of s.between.core = ap (λ (x : Standing). places_of x.core) s.did.stands in
+        let next = next_move v lawful s.step (going s.between) in
+        let full = ltb-true v.limits.history (places_of (move_of v (going s.between) s.step).core) s.stopped.0.full in
+        omega arith
+
+    never_full : StopsServing v false (length input) line.HistoryFull old new → ⊥
+    never_full (inl s) =
+        never_within (whole_steps s.taken) (first_point old) (point_at new s.lines s.tally) empty
+        (omega (
+          arith,
+          lines_in-answers (whole_lines s.taken),
+          few_whole_lines s.taken rest,
+          ap line_ends (taken_of old.left new.left s.taken input rest given left s.consumed),
+        ))
+        s.came
+    never_full (inr s) =
+        let lines : List Line = all_lines s.taken in
+        never_within (all_steps v old.core s.taken) (first_point old) (point_at new s.lines s.tally) empty
+        (omega (
+          arith,
+          lines_in-append (answers lines) (endings (standing_after v (begun old.core) (answers lines))),
+          lines_in-answers lines,
+          lines_in-endings (length (standing_after v (begun old.core) (answers lines)).core.pending),
+          few_lines s.taken,
+          ap line_ends (whole_taken s.taken s.consumed s.ended),
+        ))
+        s.came
+
+    -- so nothing but want of memory stops it
+
+    pub no_fault : (r : Result Tally SessionFault) → Served v false (length input) r old new → (r ≡ Err session.ReadFault → ⊥)
+        → (r ≡ Err session.WriteFault → ⊥) → IsNoFault r
+    no_fault (Ok tally) s unread unwritten = tt
+    no_fault (Err session.ReadFault) s unread unwritten = unread refl
+    no_fault (Err session.WriteFault) s unread unwritten = unwritten refl
+    no_fault (Err session.InputTooLong) s unread unwritten = never_over s
+    no_fault (Err session.HistoryFull) s unread unwritten = never_full s
+    no_fault (Err session.NoMemory) s unread unwritten = tt
+
+    pub serves_work : StepsPrint → ComesBegin → (r : Result Tally SessionFault) → Served v false (length input) r old new → (r ≡ Err session.ReadFault → ⊥)
+        → (r ≡ Err session.WriteFault → ⊥) → IsSoundCore (program_of v) new.core → Serves v input (tally_of r) new.core old.outside new.outside
+    serves_work prints begins r s unread unwritten sound = serves prints begins r s (no_fault r s unread unwritten) sound

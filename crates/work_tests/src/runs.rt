@@ -1,0 +1,107 @@
+//! What runs on generated work come to, in their lines.
+
+ghost use Rattle.std.specs.Prelude.{◌≤◌};
+
+use generated_run::{GenSettings, GenStop, run_generated, write_summary};
+use operator_graph::NoWatch;
+use sf_outside::{ListChooser, MemSink};
+use std::alloc::Global;
+use std::test::Fail;
+
+/// The line of a run, where these are picked first of the events in flight.
+fn line_of(alloc: Global, settings: &GenSettings, picks: &[u32]) -> Result<MemSink, Fail>
+    requires size { settings.now.size ≤ 100000 }
+    requires some { 1 ≤ settings.now.batch }
+    requires batch { settings.now.batch ≤ 256 }
+    requires least { 1 ≤ settings.now.parts }
+    requires most { settings.now.parts ≤ 64 }
+{
+    let mut chooser = ListChooser::new(alloc, picks)?;
+    let mut watch = NoWatch;
+    let came = run_generated(alloc, settings, &mut chooser, &mut watch);
+    let NoWatch = watch;
+    drop(chooser);
+    let mut out = MemSink::new(alloc, 1000, &[])?;
+    match came {
+        Ok(summary) => match write_summary(&mut out, &summary) {
+            Ok(()) => Ok(out),
+            Err(_) => Err(Fail::from("the line isn't written")),
+        },
+        Err(GenStop::Refused(_)) => Err(Fail::from("the program is refused")),
+        Err(GenStop::NoMemory) => Err(Fail::from("no memory for the run")),
+    }
+}
+
+#[test]
+fn three_accounts_are_opened(rt: HostRuntime) -> Result<(), Fail> {
+    let settings = GenSettings {
+        number: 7,
+        size: 3,
+        batch: 64,
+        parts: 4,
+    };
+    let line = line_of(rt.alloc(), &settings, &[])?;
+    assert_eq!(rt;
+        line.bytes(),
+        "requests 3 committed 3 failed 0 batches 1 events 3 total 300\n".as_bytes()
+    );
+    Ok(())
+}
+
+/// Each of three accounts in a batch of its own.
+#[test]
+fn batches_of_one_are_as_many_as_requests(rt: HostRuntime) -> Result<(), Fail> {
+    let settings = GenSettings {
+        number: 7,
+        size: 3,
+        batch: 1,
+        parts: 4,
+    };
+    let line = line_of(rt.alloc(), &settings, &[])?;
+    assert_eq!(rt;
+        line.bytes(),
+        "requests 3 committed 3 failed 0 batches 3 events 3 total 300\n".as_bytes()
+    );
+    Ok(())
+}
+
+/// Money moves among 200 accounts that opened with 100 each, and none is lost.
+#[test]
+fn no_money_is_lost(rt: HostRuntime) -> Result<(), Fail> {
+    let settings = GenSettings {
+        number: 1,
+        size: 10_000,
+        batch: 64,
+        parts: 4,
+    };
+    let line = line_of(rt.alloc(), &settings, &[])?;
+    assert!(rt;
+        line.bytes()
+            .starts_with(b"requests 10000 committed 10000 failed 0 batches ")
+    );
+    assert!(rt; line.bytes().ends_with(b" total 20000\n"));
+    Ok(())
+}
+
+#[test]
+fn order_of_events_and_partitions_change_no_number(rt: HostRuntime) -> Result<(), Fail> {
+    let alloc = rt.alloc();
+    let settings = GenSettings {
+        number: 1,
+        size: 600,
+        batch: 64,
+        parts: 4,
+    };
+    let alone = GenSettings {
+        number: 1,
+        size: 600,
+        batch: 64,
+        parts: 1,
+    };
+    let line = line_of(alloc, &settings, &[])?;
+    let again = line_of(alloc, &settings, &[])?;
+    let other = line_of(alloc, &alone, &[5, 3, 8, 1, 0, 7, 2])?;
+    assert_eq!(rt; line.bytes(), again.bytes());
+    assert_eq!(rt; line.bytes(), other.bytes());
+    Ok(())
+}
