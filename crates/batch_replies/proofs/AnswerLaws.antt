@@ -24,7 +24,7 @@ use Rattle.engine.specs.RanBatches.{accesses_on}
 use Rattle.batch_output.specs.BatchOutput.{Limits, committed, has_no_place, batch_lines, entry_lines}
 use Rattle.batch_replies.specs.declared.counting.BatchCounts.{BatchCounts}
 use Rattle.batch_replies.specs.declared.answering.BatchStop.{BatchStop}
-use Rattle.batch_replies.specs.declared.answering.BatchStop.TheVariants.{HistoryFull, NoMemory, WriteFault}
+use Rattle.batch_replies.specs.declared.answering.BatchStop.TheVariants.{HistoryFull, NoMemory, DiskFault, WriteFault}
 use Rattle.batch_replies.specs.LinesInOrder.{reply_lines}
 use Rattle.batch_replies.specs.BatchAnswers.{failure_count, AreCounts, Answers, TellsBatch}
 use Rattle.batch_replies.proofs.ReplyLaws.{entry_lines_are, reply_outcomes}
@@ -68,6 +68,7 @@ module _ (src : Source) (rule : List Access → Chosen) (limits : Limits) (core 
     )
     answered (Err HistoryFull) new held held' lines counts made behind pending count failed same stop whole part = cc
     answered (Err NoMemory) new held held' lines counts made behind pending count failed same stop whole part = cc
+    answered (Err DiskFault) new held held' lines counts made behind pending count failed same stop whole part = cc
     answered (Err WriteFault) new held held' lines counts made behind pending count failed same stop whole part = (
       has_place within,
       behind ∙ ap (after_batch src core) chosen,
@@ -84,4 +85,5 @@ pub tells_planned : (batch : Batch) (parts events : ℕ) (result : Result BatchC
 tells_planned batch parts events (Ok counts) old new placed same told = subst (λ n. IsToldAlong batch parts (Some n) old new) (sym same) told
 tells_planned batch parts events (Err HistoryFull) old new placed same told = absurd (placed refl)
 tells_planned batch parts events (Err NoMemory) old new placed same told = record { picks = told.picks; picked = told.picked; told_of_them = told.told_of_them; ended = tt; counted_all = tt }
+tells_planned batch parts events (Err DiskFault) old new placed same told = (events, told)
 tells_planned batch parts events (Err WriteFault) old new placed same told = (events, told)

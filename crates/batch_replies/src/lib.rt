@@ -1,8 +1,9 @@
-//! Batches that are due: each is run, committed and answered.
+//! Batches that are due: each is run, logged where there is a store, committed and answered.
 #![tactic(auto)]
 
 mod answering;
 mod counting;
+mod drafts;
 mod lines;
 mod writing;
 

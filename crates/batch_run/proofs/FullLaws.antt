@@ -10,7 +10,7 @@ use Rattle.program_meaning.specs.ClassTables.{Source}
 use Rattle.reservations.specs.BatchRule.{batch_rule}
 use Rattle.request_json.specs.Actions.{Line, whole_lines, whole_from, rest_from, last_line}
 use Rattle.input_lines.proofs.CutLaws.{whole-append}
-use Rattle.engine.specs.Cores.{empty_core}
+use Rattle.engine.specs.Cores.{Core}
 use Rattle.batch_output.specs.BatchOutput.{begun, Standing, after, step}
 use Rattle.batch_output.proofs.SessionLaws.{stopped, stopped_at_end}
 use Rattle.batch_run.specs.RunViews.{run_limits}
@@ -83,7 +83,7 @@ module _ (limit : ℕ) (behind at_end : List ℕ → Bool) (later : (taken more 
 
 -- Of a run
 
-module _ (src : Source) (s : RunSettings) where
+module _ (src : Source) (s : RunSettings) (start : Core) where
   abbrev lines_behind : Standing → List Line → Standing
   lines_behind t lines = after src batch_rule (run_limits s) t lines
 
@@ -93,29 +93,29 @@ module _ (src : Source) (s : RunSettings) where
   behind_both (x ∷ xs) ys t = behind_both xs ys (step src batch_rule (run_limits s) t x)
 
   abbrev run_behind : List ℕ → Bool
-  run_behind bytes = (stands_behind src s bytes).is_full
+  run_behind bytes = (stands_behind src s start bytes).is_full
 
   abbrev run_at_end : List ℕ → Bool
-  run_at_end bytes = (stands_at_end src s bytes).is_full
+  run_at_end bytes = (stands_at_end src s start bytes).is_full
 
   run_later : (taken more : List ℕ) → run_behind taken ≡ true → run_behind (taken ++ more) ≡ true
   run_later taken more full =
-      ap (λ lines. (lines_behind (begun empty_core) lines).is_full) (whole-append taken more [])
-      ∙ ap (λ (t : Standing). t.is_full) (behind_both (whole_lines taken) (whole_from (rest_from [] taken) more) (begun empty_core))
-      ∙ stopped src batch_rule (run_limits s) (whole_from (rest_from [] taken) more) (stands_behind src s taken) full
+      ap (λ lines. (lines_behind (begun start) lines).is_full) (whole-append taken more [])
+      ∙ ap (λ (t : Standing). t.is_full) (behind_both (whole_lines taken) (whole_from (rest_from [] taken) more) (begun start))
+      ∙ stopped src batch_rule (run_limits s) (whole_from (rest_from [] taken) more) (stands_behind src s start taken) full
 
   run_to_end : (all : List ℕ) → run_behind all ≡ true → run_at_end all ≡ true
   run_to_end all full =
       stopped_at_end src batch_rule (run_limits s) _ _
-      (ap (λ (t : Standing). t.is_full) (behind_both (whole_lines all) (last_line (rest_from [] all)) (begun empty_core))
-      ∙ stopped src batch_rule (run_limits s) (last_line (rest_from [] all)) (stands_behind src s all) full)
+      (ap (λ (t : Standing). t.is_full) (behind_both (whole_lines all) (last_line (rest_from [] all)) (begun start))
+      ∙ stopped src batch_rule (run_limits s) (last_line (rest_from [] all)) (stands_behind src s start all) full)
 
-  pub run_fits : (left left' held held' : Option (List ℕ)) → AnswersAll src s left left' held held' → IfSome left (λ all. (length all ≤ s.limit) × (fills_history src s all ≡ false))
-  run_fits left left' held held' a = fits_whole s.limit run_behind run_at_end run_later run_to_end left left' a.taken a.consumed a.within a.ended a.goes_on
+  pub run_fits : (left left' held held' : Option (List ℕ)) (last : Core) → AnswersAll src s start left left' held held' last → IfSome left (λ all. (length all ≤ s.limit) × (fills_history src s start all ≡ false))
+  run_fits left left' held held' last a = fits_whole s.limit run_behind run_at_end run_later run_to_end left left' a.taken a.consumed a.within a.ended a.goes_on
 
-  pub run_exceeds : (left left' held held' : Option (List ℕ)) → AnswersFirst src s left left' held held' → IfSome left (λ all. (s.limit < length all) × (fills_history src s all ≡ false))
-  run_exceeds left left' held held' a = exceeds s.limit run_behind run_at_end run_later run_to_end left left' a.taken a.next a.consumed a.full a.goes_on
+  pub run_exceeds : (left left' held held' : Option (List ℕ)) (last : Core) → AnswersFirst src s start left left' held held' last → IfSome left (λ all. (s.limit < length all) × (fills_history src s start all ≡ false))
+  run_exceeds left left' held held' last a = exceeds s.limit run_behind run_at_end run_later run_to_end left left' a.taken a.next a.consumed a.full a.goes_on
 
-  pub run_fills : (left left' held held' : Option (List ℕ)) → FillsAtLine src s left left' held held' ⊎ FillsAtEnd src s left left' held held' → IfSome left (λ all. fills_history src s all ≡ true)
-  run_fills left left' held held' (inl a) = full_at_line s.limit run_behind run_at_end run_later run_to_end left left' a.taken a.consumed a.within a.full
-  run_fills left left' held held' (inr a) = full_at_end s.limit run_behind run_at_end run_later run_to_end left left' a.taken a.consumed a.within a.ended a.full
+  pub run_fills : (left left' held held' : Option (List ℕ)) (last : Core) → FillsAtLine src s start left left' held held' last ⊎ FillsAtEnd src s start left left' held held' last → IfSome left (λ all. fills_history src s start all ≡ true)
+  run_fills left left' held held' last (inl a) = full_at_line s.limit run_behind run_at_end run_later run_to_end left left' a.taken a.consumed a.within a.full
+  run_fills left left' held held' last (inr a) = full_at_end s.limit run_behind run_at_end run_later run_to_end left left' a.taken a.consumed a.within a.ended a.full

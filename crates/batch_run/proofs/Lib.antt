@@ -1,5 +1,6 @@
 pub mod SessionTakes
 pub mod TextLaws
+pub mod LastCores
 pub mod SerialLaws
 pub mod EventLaws
 pub mod FullLaws

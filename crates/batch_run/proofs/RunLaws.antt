@@ -1,5 +1,5 @@
--- From an engine that began with nothing committed, and the session that it served, to what the run has done.
-use Rattle.std.proofs.Common.{◌≡◌, ℕ, ◌≤◌, ◌⊎◌, inl, inr, List, [], ◌∷◌, length, Ok, Err, refl, sym, ap, ◌∙◌, subst, take, arith}
+-- From an engine, and the session that it served, to what the run has done.
+use Rattle.std.proofs.Common.{◌≡◌, ℕ, ◌≤◌, ◌<◌, ◌⊎◌, inl, inr, List, [], ◌∷◌, length, Ok, Err, refl, sym, ap, ◌∙◌, subst, take, arith}
 use Rattle.std.specs.declared.option.Option.{Option}
 use Rattle.std.specs.declared.result.Result.{Result}
 use Rattle.std.specs.Io.KnownBytes.{Appends}
@@ -10,61 +10,84 @@ use Rattle.block_step.specs.declared.compiled.Compiled.{Compiled}
 use Rattle.operator_graph.specs.Turns.{Outside}
 use Rattle.aria_batch.specs.BatchRun as batch
 use Rattle.engine.specs.declared.engine.Engine.{Engine}
-use Rattle.engine.specs.Cores.{Core, empty_core}
-use Rattle.engine.specs.EngineViews.{core_of, source_of, compiled_of, limit_of, RunsProgram}
-use Rattle.line_answers.specs.Services.{Service, service_of, limits_of}
+use Rattle.engine.specs.Cores.{Core, IsSoundCore}
+use Rattle.engine.specs.EngineViews.{core_of, limit_of, RunsProgram}
+use Rattle.line_answers.specs.Services.{service_of, limits_of}
 use Rattle.session_steps.specs.declared.tally.Tally.{Tally}
 use Rattle.batch_session.specs.declared.serving.SessionFault.{SessionFault}
 use Rattle.batch_session.specs.declared.serving.SessionFault.TheVariants.{NoMemory}
-use Rattle.batch_session.specs.Served.{View, Served}
+use Rattle.batch_session.specs.Served.{View, first_point, point_at, Served}
 use Rattle.batch_run.specs.RunViews.{Shown, run_service}
-use Rattle.batch_run.specs.RunTexts.{AnswersInPart}
 use Rattle.batch_run.specs.RunEvents.{Starts}
-use Rattle.batch_run.specs.Runs.{Runs}
+use Rattle.batch_run.specs.Runs.{IsSerialRun, Runs}
 use Rattle.batch_run.specs.declared.running.RunSettings.{RunSettings}
+use Rattle.batch_run.proofs.SessionTakes.{served_took}
 use Rattle.batch_run.proofs.TextLaws.{at_begin, served_in_part, served_prints}
-use Rattle.batch_run.proofs.SerialLaws.{prints_one_run}
+use Rattle.batch_run.proofs.SerialLaws.{serial_session, serial_none}
 use Rattle.batch_run.proofs.EventLaws.{served_tells}
 
 abbrev pub shown_by : View → Shown
 shown_by view = record { left = view.left; held = view.held; said = view.traced; outside = view.outside }
 
-module _ (compiled : Compiled) (s : RunSettings) (few : s.batch ≤ 256) (result : Result Tally SessionFault) where
+module _ (compiled : Compiled) (s : RunSettings) (result : Result Tally SessionFault) where
   -- nothing was done
-  pub unbegun : result ≡ Err NoMemory → (shown : Shown) → Runs compiled s result shown shown
-  unbegun is shown = subst (λ r. Runs compiled s r shown shown) (sym is) (nothing shown)
+  pub unbegun : result ≡ Err NoMemory → (start : Core) (shown : Shown) → Runs compiled s start start result shown shown
+  unbegun is start shown = subst (λ r. Runs compiled s start start r shown shown) (sym is) nothing
     where
-      nothing : (shown : Shown) → Runs compiled s (Err NoMemory) shown shown
-      nothing shown =
-          let a : AnswersInPart (batch.source_of compiled) s shown.left shown.left shown.held shown.held = record {
-            taken = [];
-            consumed = Consumes-nil shown.left;
-            within = omega arith;
-            wrote = inl (0, Appends-nil shown.held);
-          } in
-          record {
-            prints = record { taken = []; consumed = Consumes-nil shown.left; within = omega arith; count = 0; wrote = inl (subst (Appends shown.held shown.held) (sym joined-nil) (Appends-nil shown.held)) };
-            answers = a;
-            serial = prints_one_run (batch.source_of compiled) s few shown.left shown.left shown.held shown.held a;
-            tells = inl (refl, refl);
-          }
+      unserial : IsSoundCore (batch.source_of compiled) start → IsSerialRun compiled start start shown shown
+      unserial sound = let none = serial_none (batch.source_of compiled) start sound shown.held in record { prints = none.0; replies = none.1 }
 
-  -- it began with nothing committed
-  begun_so : (left held said : Option (List ℕ)) (before started : Outside) (new : View) → Starts compiled s before started → Served (run_service compiled s) s.trace s.limit result (at_begin left held said started) new
-      → Runs compiled s result (record { left = left; held = held; said = said; outside = before }) (shown_by new)
-  begun_so left held said before started new starts served =
-      let a = served_in_part compiled s left held said started new result served in
-      record {
-        prints = served_prints compiled s left held said started new result served;
-        answers = a;
-        serial = prints_one_run (batch.source_of compiled) s few left new.left held new.held a;
-        tells = inr (served_tells compiled s left held said before started starts new result served);
+      nothing : Runs compiled s start start (Err NoMemory) shown shown
+      nothing = record {
+        prints = record {
+          taken = [];
+          consumed = Consumes-nil shown.left;
+          within = omega arith;
+          count = 0;
+          wrote = inl (subst (Appends shown.held shown.held) (sym joined-nil) (Appends-nil shown.held));
+        };
+        answers = record { taken = []; consumed = Consumes-nil shown.left; within = omega arith; wrote = inl (0, Appends-nil shown.held) };
+        serial = unserial;
+        tells = inl (refl, refl, refl);
       }
 
-  pub runs_so : (e : Engine) → RunsProgram e compiled s.history → core_of e ≡ empty_core → (left held said : Option (List ℕ)) (before started : Outside) (new : View) → Starts compiled s before started
-      → Served (service_of e batch_rule s.batch s.partitions) s.trace s.limit result (record { core = core_of e; left = left; held = held; traced = said; outside = started }) new
-      → Runs compiled s result (record { left = left; held = held; said = said; outside = before }) (shown_by new)
-  runs_so e runs empty left held said before started new starts served =
-      let of_compiled = subst (λ (c : Compiled). Served (record { compiled = c; parts = s.partitions; rule = batch_rule; limits = limits_of s.batch (limit_of e) }) s.trace s.limit result (record { core = core_of e; left = left; held = held; traced = said; outside = started }) new) runs.compiled_is served in
-      let of_limit = subst (λ (n : ℕ). Served (record { compiled = compiled; parts = s.partitions; rule = batch_rule; limits = limits_of s.batch n }) s.trace s.limit result (record { core = core_of e; left = left; held = held; traced = said; outside = started }) new) runs.limit_is of_compiled in
-      begun_so left held said before started new starts (subst (λ (c : Core). Served (run_service compiled s) s.trace s.limit result (record { core = c; left = left; held = held; traced = said; outside = started }) new) empty of_limit)
+  module _ (few : s.batch ≤ 256) (start : Core) (waiting : length start.pending < 256) (left held said : Option (List ℕ)) (before started : Outside) (new : View) where
+    abbrev old : View
+    old = at_begin start left held said started
+
+    abbrev first : Shown
+    first = record { left = left; held = held; said = said; outside = before }
+
+    serial : Served (run_service compiled s) s.trace s.limit result old new → IsSoundCore (batch.source_of compiled) start
+        → IsSerialRun compiled start new.core first (shown_by new)
+    serial served sound =
+        let t = served_took (run_service compiled s) s.trace s.limit result old new served in
+        let runs = serial_session compiled s few t.0 t.1.steps (first_point old) (point_at new t.1.lines t.1.tally) t.1.came refl sound waiting in
+        record { prints = runs.0; replies = runs.1 }
+
+    begun_so : Starts compiled s before started → Served (run_service compiled s) s.trace s.limit result old new
+        → Runs compiled s start new.core result first (shown_by new)
+    begun_so starts served = record {
+      prints = served_prints compiled s start left held said started new result served;
+      answers = served_in_part compiled s start left held said started new result served;
+      serial = serial served;
+      tells = inr (served_tells compiled s start left held said before started starts new result served);
+    }
+
+-- an engine with this core, of this program
+pub runs_so : (compiled : Compiled) (s : RunSettings) (result : Result Tally SessionFault) → s.batch ≤ 256 → (e : Engine) → RunsProgram e compiled s.history
+    → length (core_of e).pending < 256 → (left held said : Option (List ℕ)) (before started : Outside) (new : View) → Starts compiled s before started
+    → Served (service_of e batch_rule s.batch s.partitions) s.trace s.limit result (at_begin (core_of e) left held said started) new
+    → Runs compiled s (core_of e) new.core result (record { left = left; held = held; said = said; outside = before }) (shown_by new)
+runs_so compiled s result few e runs waiting left held said before started new starts served =
+    let of_compiled = subst (λ (c : Compiled). Served (record { compiled = c; parts = s.partitions; rule = batch_rule; limits = limits_of s.batch (limit_of e) })
+    s.trace s.limit result (at_begin (core_of e) left held said started) new) runs.compiled_is served in
+    let of_limit = subst (λ (n : ℕ). Served (record { compiled = compiled; parts = s.partitions; rule = batch_rule; limits = limits_of s.batch n })
+    s.trace s.limit result (at_begin (core_of e) left held said started) new) runs.limit_is of_compiled in
+    begun_so compiled s result few (core_of e) waiting left held said before started new starts of_limit
+
+-- the same program, from the same core
+pub runs_from : (compiled made : Compiled) (s : RunSettings) (start core last : Core) (result : Result Tally SessionFault) (old new : Shown) → made ≡ compiled
+    → core ≡ start → Runs made s core last result old new → Runs compiled s start last result old new
+runs_from compiled made s start core last result old new program same runs =
+    subst (λ c. Runs compiled s c last result old new) same (subst (λ (k : Compiled). Runs k s core last result old new) program runs)

@@ -5,11 +5,14 @@ use Rattle.std.proofs.KnownBytes.{Consumes-trans}
 use Rattle.std.specs.declared.result.Result.{Result}
 use Rattle.std.specs.Io.KnownBytes.{Consumes, IsAtEnd}
 use Rattle.line_answers.specs.declared.answering.LineStop.{LineStop}
+use Rattle.line_answers.specs.declared.answering.LineStop.TheVariants as stop
 use Rattle.line_answers.specs.Services.{Service}
 use Rattle.session_steps.specs.declared.tally.Tally.{Tally}
 use Rattle.session_steps.specs.Steps.{Step, whole_steps, all_steps}
 use Rattle.session_steps.specs.Doings.{Comes}
-use Rattle.batch_session.specs.Served.{View, first_point, point_at, ServedWhole, ServedAll, ServedOver, StopsServing}
+use Rattle.batch_session.specs.declared.serving.SessionFault.{SessionFault}
+use Rattle.batch_session.specs.declared.serving.SessionFault.TheVariants.{ReadFault, WriteFault, DiskFault, InputTooLong, HistoryFull, NoMemory}
+use Rattle.batch_session.specs.Served.{View, first_point, point_at, ServedWhole, ServedAll, ServedOver, StopsServing, Serves, Served}
 
 module _ (v : Service) (traces : Bool) (limit : ℕ) where
   pub record Took (result : Result (Unit {0}) LineStop) (old new : View) : Type 0 where
@@ -61,3 +64,26 @@ module _ (v : Service) (traces : Bool) (limit : ℕ) where
   pub took_stopped : (stop : LineStop) (old new : View) → StopsServing v traces limit stop old new → Took (Err stop) old new
   took_stopped stop old new (inl w) = took_whole (Err stop) old new w
   took_stopped stop old new (inr a) = took_all (Err stop) old new a
+
+  -- By the result
+
+  abbrev pub TookSome : View → View → Type 0
+  TookSome old new = (result : Result (Unit {0}) LineStop) × Took result old new
+
+  pub serves_took : (result : Result (Unit {0}) SessionFault) (old new : View) → Serves v traces limit result old new → TookSome old new
+  serves_took (Ok value) old new p = (Ok (tt {0}), took_all (Ok (tt {0})) old new p.all)
+  serves_took (Err ReadFault) old new p = (Ok (tt {0}), took_whole (Ok (tt {0})) old new p)
+  serves_took (Err InputTooLong) old new p = (Ok (tt {0}), took_over old new p)
+  serves_took (Err HistoryFull) old new p = (Err stop.HistoryFull, took_stopped stop.HistoryFull old new p)
+  serves_took (Err NoMemory) old new p = (Err stop.NoMemory, took_stopped stop.NoMemory old new p)
+  serves_took (Err DiskFault) old new p = (Err stop.DiskFault, took_stopped stop.DiskFault old new p)
+  serves_took (Err WriteFault) old new p = (Err stop.WriteFault, took_stopped stop.WriteFault old new p)
+
+  pub served_took : (result : Result Tally SessionFault) (old new : View) → Served v traces limit result old new → TookSome old new
+  served_took (Ok tally) old new p = serves_took (Ok (tt {0})) old new p.0
+  served_took (Err ReadFault) old new p = serves_took (Err ReadFault) old new p
+  served_took (Err InputTooLong) old new p = serves_took (Err InputTooLong) old new p
+  served_took (Err HistoryFull) old new p = serves_took (Err HistoryFull) old new p
+  served_took (Err NoMemory) old new p = serves_took (Err NoMemory) old new p
+  served_took (Err DiskFault) old new p = serves_took (Err DiskFault) old new p
+  served_took (Err WriteFault) old new p = serves_took p.0 old new p.1

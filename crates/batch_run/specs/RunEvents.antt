@@ -1,5 +1,5 @@
--- What a run chooses and tells: its start, and then its batches, one after another; and what it traces of them.
-use Rattle.std.specs.Prelude.{◌≡◌, ℕ, ◌≤◌, ◌⊎◌, List, [], ◌∷◌, length, take, Ok, Err}
+-- What a run chooses and tells: its start, and then its batches, one after another; what it traces of them; and what it commits.
+use Rattle.std.specs.Prelude.{◌≡◌, ℕ, ◌≤◌, ◌⊎◌, List, [], ◌∷◌, ◌++◌, length, take, ⊤, Ok, Err}
 use Rattle.std.specs.declared.option.Option.{Option}
 use Rattle.std.specs.declared.result.Result.{Result}
 use Rattle.std.specs.Io.KnownBytes.{Appends, Consumes, IsAtEnd}
@@ -9,15 +9,15 @@ use Rattle.block_step.specs.declared.compiled.Compiled.{Compiled}
 use Rattle.block_step.specs.CompiledViews.{compiled_tables, compiled_blocks}
 use Rattle.operator_graph.specs.Telling.{GraphTold, AlsoTold}
 use Rattle.operator_graph.specs.Turns.{Outside}
-use Rattle.engine.specs.Cores.{Core, empty_core}
-use Rattle.batch_output.specs.BatchOutput.{begun}
+use Rattle.engine.specs.Cores.{Core}
+use Rattle.batch_output.specs.BatchOutput.{Standing, begun}
 use Rattle.batch_replies.specs.declared.counting.BatchCounts.{BatchCounts}
 use Rattle.session_steps.specs.declared.tally.Tally.{Tally}
-use Rattle.session_steps.specs.Steps.{Step, whole_steps, all_steps, ran_on}
-use Rattle.session_steps.specs.Traces.{no_batch, trace_text}
+use Rattle.session_steps.specs.Steps.{Step, whole_steps, all_steps, standing_after, ran_on}
+use Rattle.session_steps.specs.Traces.{no_batch, tally_after, trace_text}
 use Rattle.session_steps.specs.Doings.{RunBatches, BeginBatches}
 use Rattle.batch_session.specs.declared.serving.SessionFault.{SessionFault}
-use Rattle.batch_session.specs.declared.serving.SessionFault.TheVariants.{ReadFault, WriteFault, InputTooLong, HistoryFull, NoMemory}
+use Rattle.batch_session.specs.declared.serving.SessionFault.TheVariants.{ReadFault, WriteFault, DiskFault, InputTooLong, HistoryFull, NoMemory}
 use Rattle.batch_run.specs.RunViews.{Shown, run_service}
 use Rattle.batch_run.specs.declared.running.RunSettings.{RunSettings}
 
@@ -27,15 +27,30 @@ module _ (compiled : Compiled) (s : RunSettings) where
     pub begins : Begins old.choices s.schedule new.choices
     pub told : AlsoTold old.told new.told (GraphTold (compiled_tables compiled) (compiled_blocks compiled) ∷ [])
 
-  -- the steps of what was taken: of the whole lines of the first bytes, as many as may come; or of all of it where the input had ended
-  abbrev pub AreStepsOf : List ℕ → Option (List ℕ) → List Step → Type 0
-  AreStepsOf taken left steps =
-      (steps ≡ whole_steps (take s.limit taken))
-      ⊎ ((length taken ≤ s.limit) × IsAtEnd left × (steps ≡ all_steps (run_service compiled s) empty_core taken))
+  -- From the core that a run begins with
 
-  -- the cores that the batches of steps run on
-  abbrev pub batches_of : List Step → List Core
-  batches_of steps = ran_on (run_service compiled s) (begun empty_core) steps
+  module _ (start : Core) where
+    -- the steps of what was taken: of the whole lines of the first bytes, as many as may come; or of all of it where the input had ended
+    abbrev pub AreStepsOf : List ℕ → Option (List ℕ) → List Step → Type 0
+    AreStepsOf taken left steps =
+        (steps ≡ whole_steps (take s.limit taken))
+        ⊎ ((length taken ≤ s.limit) × IsAtEnd left × (steps ≡ all_steps (run_service compiled s) start taken))
+
+    -- the cores that the batches of steps run on
+    abbrev pub batches_of : List Step → List Core
+    batches_of steps = ran_on (run_service compiled s) (begun start) steps
+
+    -- where a run stands behind steps
+    abbrev pub stands_after : List Step → Standing
+    stands_after steps = standing_after (run_service compiled s) (begun start) steps
+
+    -- what was committed is what the batches of some first ones of these steps commit
+    pub record CommitsFirst (steps : List Step) (last : Core) : Type 0 where
+      pub first : List Step
+      pub rest : List Step
+      pub split : steps ≡ first ++ rest
+      pub history : last.history ≡ (stands_after first).core.history
+      pub state : last.state ≡ (stands_after first).core.state
 
   -- these batches were run and told; where it stopped in their midst, the first of them, and perhaps some events of the next
   abbrev pub TellsBatches : Result Tally SessionFault → List Core → List BatchCounts → Outside → Outside → Type 0
@@ -44,6 +59,7 @@ module _ (compiled : Compiled) (s : RunSettings) where
   TellsBatches (Err InputTooLong) cores counts old new = RunBatches (run_service compiled s) cores counts old new
   TellsBatches (Err HistoryFull) cores counts old new = RunBatches (run_service compiled s) cores counts old new
   TellsBatches (Err NoMemory) cores counts old new = BeginBatches (run_service compiled s) cores counts old new
+  TellsBatches (Err DiskFault) cores counts old new = BeginBatches (run_service compiled s) cores counts old new
   TellsBatches (Err WriteFault) cores counts old new = BeginBatches (run_service compiled s) cores counts old new
 
   -- the lines of these batches were traced, where that is asked for; where something couldn't be written, a part of them
@@ -51,14 +67,21 @@ module _ (compiled : Compiled) (s : RunSettings) where
   TracesBatches (Err WriteFault) counts said said' = AppendsPrefix said said' (trace_text s.trace no_batch counts)
   TracesBatches result counts said said' = Appends said said' (trace_text s.trace no_batch counts)
 
-  -- it started, and then its batches were told, along the picks made, and traced
-  pub record TellsRun (result : Result Tally SessionFault) (old new : Shown) : Type 0 where
+  -- where all was served the tally is that of these batches
+  abbrev pub CountsBatches : Result Tally SessionFault → List BatchCounts → Type 0
+  CountsBatches (Ok tally) counts = tally ≡ tally_after no_batch counts
+  CountsBatches (Err fault) counts = ⊤
+
+  -- it started, and then its batches were told, along the picks made, traced and counted, and its last core has what they committed
+  pub record TellsRun (start last : Core) (result : Result Tally SessionFault) (old new : Shown) : Type 0 where
     pub started : Outside
     pub starts : Starts old.outside started
     pub taken : List ℕ
     pub consumed : Consumes old.left new.left taken
     pub steps : List Step
-    pub of_taken : AreStepsOf taken new.left steps
+    pub of_taken : AreStepsOf start taken new.left steps
     pub counts : List BatchCounts
-    pub told : TellsBatches result (batches_of steps) counts started new.outside
+    pub told : TellsBatches result (batches_of start steps) counts started new.outside
     pub traced : TracesBatches result counts old.said new.said
+    pub counted : CountsBatches result counts
+    pub commits : CommitsFirst start steps last

@@ -1,8 +1,9 @@
-//! A run of a compiled program: from nothing committed on, its input is served in batches along a schedule.
+//! A run of a compiled program: its input is served in batches along a schedule, from nothing committed on, or from the core of an engine and on its
+//! store.
 #![tactic(auto)]
 
 mod running;
 
 pub use batch_session::SessionFault;
-pub use running::{RunSettings, run_program};
+pub use running::{RunSettings, run_opened, run_program};
 pub use session_steps::Tally;

@@ -7,11 +7,11 @@ use Rattle.sf_outside.specs.Bytes.{AppendsPrefix}
 use Rattle.sf_outside.specs.Gains.{joined}
 use Rattle.batch_replies.specs.declared.counting.BatchCounts.{BatchCounts}
 use Rattle.line_answers.specs.declared.answering.LineStop.{LineStop}
-use Rattle.line_answers.specs.declared.answering.LineStop.TheVariants.{HistoryFull, NoMemory, WriteFault}
+use Rattle.line_answers.specs.declared.answering.LineStop.TheVariants.{HistoryFull, NoMemory, DiskFault, WriteFault}
 use Rattle.line_answers.specs.Services.{Service}
-use Rattle.line_answers.specs.LineAnswers.{Moment, Move, whole_text, IsUntaken, IsCommitted, FindsFull, IsUnplanned, IsUnanswered, IsUnreplied}
+use Rattle.line_answers.specs.LineAnswers.{Moment, Move, whole_text, IsUntaken, IsCommitted, FindsFull, IsUnplanned, IsUnlogged, IsUnanswered, IsUnreplied}
 use Rattle.session_steps.specs.Steps.{Step, move_of}
-use Rattle.session_steps.specs.Doings.{Point, going, moment, Does, IsUncounted, StopsAt, StopsWithin, Comes}
+use Rattle.session_steps.specs.Doings.{Point, going, moment, Does, IsUncounted, StopsAt, StopsWithin, StopsBetween, Comes}
 
 -- the output holds this instead
 abbrev moment_with : Moment → Option (List ℕ) → Moment
@@ -54,6 +54,16 @@ module _ (v : Service) (m : Move) (held : Option (List ℕ)) (old new : Moment) 
     core = u.core;
     wrote = Appends-kept old.held new.held held (joined m.answer) u.wrote kept;
     begun = u.begun;
+  }
+
+  unlogged_kept : IsUnlogged v m old new → IsUnlogged v m old (moment_with new held)
+  unlogged_kept u = record {
+    due = u.due;
+    place = u.place;
+    core = u.core;
+    wrote = Appends-kept old.held new.held held (joined m.answer) u.wrote kept;
+    events = u.events;
+    told = u.told;
   }
 
   fault_kept : IsUnanswered v m old new ⊎ IsUnreplied v m old new → IsUnanswered v m old (moment_with new held) ⊎ IsUnreplied v m old (moment_with new held)
@@ -118,6 +128,17 @@ module _ (v : Service) (traces : Bool) (held : Option (List ℕ)) where
       stopped = (inr (unplanned_kept v move held (moment between) (moment q) kept u), uncounted_kept held between q n);
     }
 
+    at_disk : StopsAt v traces DiskFault step between q → StopsWithin v traces DiskFault steps p (point_with q held)
+    at_disk s = record {
+      first = first;
+      step = step;
+      rest = rest;
+      split = split;
+      between = between;
+      did = did;
+      stopped = (unlogged_kept v move held (moment between) (moment q) kept s.0, uncounted_kept held between q s.1);
+    }
+
     at_fault : StopsAt v traces WriteFault step between q → StopsWithin v traces WriteFault steps p (point_with q held)
     at_fault (inl s) = record {
       first = first;
@@ -143,10 +164,15 @@ module _ (v : Service) (traces : Bool) (held : Option (List ℕ)) where
       });
     }
 
+  between_kept : (steps : List Step) (p q : Point) → Keeps q.held held → StopsBetween v traces steps p q → StopsBetween v traces steps p (point_with q held)
+  between_kept steps p q kept s = record { first = s.first; rest = s.rest; split = s.split; did = does_kept s.first p q kept s.did }
+
   -- what it came to
   pub Comes-flushed : {T : Type 0} (r : Result T LineStop) (steps : List Step) (p q : Point) → Keeps q.held held → Comes v traces r steps p q → Comes v traces r steps p (point_with q held)
   Comes-flushed (Ok value) steps p q kept d = does_kept steps p q kept d
   Comes-flushed (Err HistoryFull) steps p q kept s = at_full steps s.first s.rest s.step s.split p s.between q s.did kept s.stopped
   Comes-flushed (Err NoMemory) steps p q kept (inl s) = inl (at_memory steps s.first s.rest s.step s.split p s.between q s.did kept s.stopped.0 s.stopped.1)
-  Comes-flushed (Err NoMemory) steps p q kept (inr s) = inr (record { first = s.first; rest = s.rest; split = s.split; did = does_kept s.first p q kept s.did })
+  Comes-flushed (Err NoMemory) steps p q kept (inr s) = inr (between_kept steps p q kept s)
+  Comes-flushed (Err DiskFault) steps p q kept (inl s) = inl (at_disk steps s.first s.rest s.step s.split p s.between q s.did kept s.stopped)
+  Comes-flushed (Err DiskFault) steps p q kept (inr s) = inr (between_kept steps p q kept s)
   Comes-flushed (Err WriteFault) steps p q kept s = at_fault steps s.first s.rest s.step s.split p s.between q s.did kept s.stopped

@@ -1,4 +1,5 @@
 pub mod SameProgram
+pub mod KeepLaws
 pub mod LineLaws
 pub mod RunLaws
 pub mod ReportLaws

@@ -1,54 +1,47 @@
--- A line or a batch that was done, and what its report came to.
-use Rattle.std.proofs.Common.{◌≡◌, ◌+◌, ◌<◌, Bool, [], ◌∷◌, Some, Ok, Err, length, refl}
-use Rattle.std.specs.Prelude.{OnOk, OnErr, IfErr}
+-- A line or a batch that was done, and what its end came to.
+use Rattle.std.proofs.Common.{◌≡◌, ◌≢◌, ◌+◌, ◌<◌, inr, Bool, [], ◌∷◌, Some, Ok, Err, length, refl}
 use Rattle.std.specs.declared.result.Result.{Result}
-use Rattle.std.specs.Io.KnownBytes.{Appends}
 use Rattle.sf_outside.specs.Bytes.{AppendsPrefix}
 use Rattle.request_json.specs.Actions.{Line}
 use Rattle.batch_replies.specs.declared.counting.BatchCounts.{BatchCounts}
 use Rattle.batch_replies.specs.BatchAnswers.{Answers, TellsBatch}
 use Rattle.line_answers.specs.declared.answering.LineStop.{LineStop}
-use Rattle.line_answers.specs.declared.answering.LineStop.TheVariants.{HistoryFull, NoMemory, WriteFault}
+use Rattle.line_answers.specs.declared.answering.LineStop.TheVariants.{HistoryFull, NoMemory, DiskFault, WriteFault}
 use Rattle.line_answers.specs.Services.{Service, program_of}
 use Rattle.line_answers.specs.LineAnswers.{before, AnswersLine, batch_on}
-use Rattle.session_steps.specs.Steps.{Answer, RunWaiting}
+use Rattle.session_steps.specs.Steps.{Step, Answer, RunWaiting}
+use Rattle.session_steps.specs.StepLaws.{TracedAs}
 use Rattle.session_steps.specs.Traces.{with_batch, trace_text}
-use Rattle.session_steps.specs.Doings.{Point, moment, Comes}
-use Rattle.session_steps.proofs.Leaves.{Does-line, Untraced-line, Does-batch, Untraced-batch, Comes-one}
+use Rattle.session_steps.specs.Doings.{Point, moment, Does, StopsAt, Comes}
+use Rattle.session_steps.proofs.Composing.{Between-behind}
+use Rattle.session_steps.proofs.Leaves.{IsCounted, Does-line, Untraced-line, Does-batch, Untraced-batch, Comes-one}
 
 module _ (v : Service) (traces : Bool) (counts : BatchCounts) where
-  -- a batch was counted, and its line was written or not
-  pub record Reports (r : Result (Unit {0}) LineStop) (old new : Point) : Type 0 where
+  -- a batch was counted, its line was written or not, and perhaps no checkpoint was made where one was due
+  pub record Ends (r : Result (Unit {0}) LineStop) (old new : Point) : Type 0 where
     pub tally : new.tally ≡ with_batch old.tally counts
-    pub whole : OnOk r (Appends old.traced new.traced (trace_text traces old.tally (counts ∷ [])))
-    pub part : OnErr r (AppendsPrefix old.traced new.traced (trace_text traces old.tally (counts ∷ [])))
-    pub stop : IfErr r (λ stop. stop ≡ WriteFault)
+    pub traced : TracedAs r old.traced new.traced (trace_text traces old.tally (counts ∷ []))
+    pub placed : r ≢ Err HistoryFull
+
+  -- a step whose batch is over is done in full, but for its line of the trace
+  module _ (step : Step) (old new : Point) (did : IsCounted traces counts old new → Does v traces (step ∷ []) old new)
+      (untraced : new.tally ≡ with_batch old.tally counts → AppendsPrefix old.traced new.traced (trace_text traces old.tally (counts ∷ [])) → StopsAt v traces WriteFault step old new) where
+    step_ended : (r : Result (Unit {0}) LineStop) → new.tally ≡ with_batch old.tally counts → TracedAs r old.traced new.traced (trace_text traces old.tally (counts ∷ []))
+        → r ≢ Err HistoryFull → Comes v traces r (step ∷ []) old new
+    step_ended (Ok value) tally traced placed = did (record { tally = tally; traced = traced })
+    step_ended (Err HistoryFull) tally traced placed = absurd (placed refl)
+    step_ended (Err NoMemory) tally traced placed = inr (Between-behind v traces (step ∷ []) old new (did (record { tally = tally; traced = traced })))
+    step_ended (Err DiskFault) tally traced placed = inr (Between-behind v traces (step ∷ []) old new (did (record { tally = tally; traced = traced })))
+    step_ended (Err WriteFault) tally traced placed = Comes-one v traces {T = Unit {0}} (Err WriteFault) WriteFault step old new refl (untraced tally traced)
 
   -- behind a line
-  reported_line : (r : Result (Unit {0}) LineStop) (line : Line) (old new : Point) → new.lines ≡ old.lines + 1 → AnswersLine v (Ok (Some counts)) (before old.core (old.lines + 1)) line (moment old) (moment new)
-      → new.tally ≡ with_batch old.tally counts → OnOk r (Appends old.traced new.traced (trace_text traces old.tally (counts ∷ [])))
-      → OnErr r (AppendsPrefix old.traced new.traced (trace_text traces old.tally (counts ∷ []))) → IfErr r (λ stop. stop ≡ WriteFault) → Comes v traces r (Answer line ∷ []) old new
-  reported_line (Ok value) line old new lines a tally whole part stop = Does-line v traces (Some counts) line old new lines a (record { tally = tally; traced = whole })
-  reported_line (Err HistoryFull) line old new lines a tally whole part stop = cc
-  reported_line (Err NoMemory) line old new lines a tally whole part stop = cc
-  reported_line (Err WriteFault) line old new lines a tally whole part stop =
-      Comes-one v traces {T = Unit {0}} (Err WriteFault) WriteFault (Answer line) old new refl (Untraced-line v traces counts line old new a tally part)
-
-  pub Line-reported : (r : Result (Unit {0}) LineStop) (line : Line) (old new : Point) → new.lines ≡ old.lines + 1 → AnswersLine v (Ok (Some counts)) (before old.core (old.lines + 1)) line (moment old) (moment new)
-      → Reports r old new → Comes v traces r (Answer line ∷ []) old new
-  Line-reported r line old new lines a report = reported_line r line old new lines a report.tally report.whole report.part report.stop
+  pub Line-ended : (r : Result (Unit {0}) LineStop) (line : Line) (old new : Point) → new.lines ≡ old.lines + 1 → AnswersLine v (Ok (Some counts)) (before old.core (old.lines + 1)) line (moment old) (moment new)
+      → Ends r old new → Comes v traces r (Answer line ∷ []) old new
+  Line-ended r line old new lines a end = step_ended (Answer line) old new (Does-line v traces (Some counts) line old new lines a) (Untraced-line v traces counts line old new a)
+      r end.tally end.traced end.placed
 
   -- behind a batch of what waits
-  reported_batch : (r : Result (Unit {0}) LineStop) (old new : Point) → new.lines ≡ old.lines → 0 < length old.core.pending → Answers (program_of v) v.rule v.limits (Ok counts) old.core new.core old.held new.held
-      → TellsBatch (batch_on v.compiled old.core) v.parts (Ok counts) old.outside new.outside
-      → new.tally ≡ with_batch old.tally counts → OnOk r (Appends old.traced new.traced (trace_text traces old.tally (counts ∷ [])))
-      → OnErr r (AppendsPrefix old.traced new.traced (trace_text traces old.tally (counts ∷ []))) → IfErr r (λ stop. stop ≡ WriteFault) → Comes v traces r (RunWaiting ∷ []) old new
-  reported_batch (Ok value) old new lines some a told tally whole part stop = Does-batch v traces counts old new lines some a told (record { tally = tally; traced = whole })
-  reported_batch (Err HistoryFull) old new lines some a told tally whole part stop = cc
-  reported_batch (Err NoMemory) old new lines some a told tally whole part stop = cc
-  reported_batch (Err WriteFault) old new lines some a told tally whole part stop =
-      Comes-one v traces {T = Unit {0}} (Err WriteFault) WriteFault RunWaiting old new refl (Untraced-batch v traces counts old new some a told tally part)
-
-  pub Batch-reported : (r : Result (Unit {0}) LineStop) (old new : Point) → new.lines ≡ old.lines → 0 < length old.core.pending → Answers (program_of v) v.rule v.limits (Ok counts) old.core new.core old.held new.held
-      → TellsBatch (batch_on v.compiled old.core) v.parts (Ok counts) old.outside new.outside → Reports r old new → Comes v traces r (RunWaiting ∷ []) old new
-  Batch-reported r old new lines some a told report = reported_batch r old new lines some a told report.tally report.whole report.part report.stop
+  pub Batch-ended : (r : Result (Unit {0}) LineStop) (old new : Point) → new.lines ≡ old.lines → 0 < length old.core.pending → Answers (program_of v) v.rule v.limits (Ok counts) old.core new.core old.held new.held
+      → TellsBatch (batch_on v.compiled old.core) v.parts (Ok counts) old.outside new.outside → Ends r old new → Comes v traces r (RunWaiting ∷ []) old new
+  Batch-ended r old new lines some a told end = step_ended RunWaiting old new (Does-batch v traces counts old new lines some a told) (Untraced-batch v traces counts old new some a told)
+      r end.tally end.traced end.placed

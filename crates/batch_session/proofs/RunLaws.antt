@@ -16,6 +16,7 @@ some_wait empty (x ∷ xs) ys told is same = subst (λ zs. 0 < length zs) same (
 pub same_stop : (stop : BatchStop) → stop_of stop ≡ leaves.stop_of stop
 same_stop batch.HistoryFull = refl
 same_stop batch.NoMemory = refl
+same_stop batch.DiskFault = refl
 same_stop batch.WriteFault = refl
 
 -- what holds, holds after an Ok

@@ -40,6 +40,7 @@ module _ (v : Service) (traces : Bool) (limit : ℕ) where
       → Went {T = InputEnd} v traces (Err stop) limit kept old.left new.left (first_point old) (point_at new lines tally) → Served v traces limit (Err (fault_of stop)) old new
   stopped line.HistoryFull kept old new lines tally w = inl (went_whole {T = InputEnd} {U = Unit {0}} (Err line.HistoryFull) (Err line.HistoryFull) kept old new lines tally w w.fed.came)
   stopped line.NoMemory kept old new lines tally w = inl (went_whole {T = InputEnd} {U = Unit {0}} (Err line.NoMemory) (Err line.NoMemory) kept old new lines tally w w.fed.came)
+  stopped line.DiskFault kept old new lines tally w = inl (went_whole {T = InputEnd} {U = Unit {0}} (Err line.DiskFault) (Err line.DiskFault) kept old new lines tally w w.fed.came)
   stopped line.WriteFault kept old new lines tally w =
       (Err fault.WriteFault, inl (went_whole {T = InputEnd} {U = Unit {0}} (Err line.WriteFault) (Err line.WriteFault) kept old new lines tally w w.fed.came))
 
@@ -72,6 +73,7 @@ module _ (v : Service) (traces : Bool) (limit : ℕ) where
     as_served (Ok value) none came = (record { all = as_all {T = Unit {0}} (Ok tt) came; none = none }, refl)
     as_served (Err line.HistoryFull) none came = inr (as_all {T = Unit {0}} (Err line.HistoryFull) came)
     as_served (Err line.NoMemory) none came = inr (as_all {T = Unit {0}} (Err line.NoMemory) came)
+    as_served (Err line.DiskFault) none came = inr (as_all {T = Unit {0}} (Err line.DiskFault) came)
     as_served (Err line.WriteFault) none came = (Err fault.WriteFault, inr (as_all {T = Unit {0}} (Err line.WriteFault) came))
 
   pub Served-finished : (r : Result (Unit {0}) LineStop) (result : Result Tally SessionFault) (kept : List ℕ) (old new : View) (q : Point) (lines : ℕ) (tally : Tally) → result ≡ finished r tally
@@ -135,6 +137,8 @@ module _ (v : Service) (traces : Bool) (limit : ℕ) where
   serves_kept (Err fault.HistoryFull) old mid held kept (inr s) = inr (all_kept {T = Unit {0}} (Err line.HistoryFull) old mid held kept s)
   serves_kept (Err fault.NoMemory) old mid held kept (inl s) = inl (whole_kept {T = Unit {0}} (Err line.NoMemory) old mid held kept s)
   serves_kept (Err fault.NoMemory) old mid held kept (inr s) = inr (all_kept {T = Unit {0}} (Err line.NoMemory) old mid held kept s)
+  serves_kept (Err fault.DiskFault) old mid held kept (inl s) = inl (whole_kept {T = Unit {0}} (Err line.DiskFault) old mid held kept s)
+  serves_kept (Err fault.DiskFault) old mid held kept (inr s) = inr (all_kept {T = Unit {0}} (Err line.DiskFault) old mid held kept s)
   serves_kept (Err fault.WriteFault) old mid held kept (inl s) = inl (whole_kept {T = Unit {0}} (Err line.WriteFault) old mid held kept s)
   serves_kept (Err fault.WriteFault) old mid held kept (inr s) = inr (all_kept {T = Unit {0}} (Err line.WriteFault) old mid held kept s)
 
@@ -144,19 +148,21 @@ module _ (v : Service) (traces : Bool) (limit : ℕ) where
   same_flushed (Err fault.InputTooLong) old mid held kept s = serves_kept (Err fault.InputTooLong) old mid held kept s
   same_flushed (Err fault.HistoryFull) old mid held kept s = serves_kept (Err fault.HistoryFull) old mid held kept s
   same_flushed (Err fault.NoMemory) old mid held kept s = serves_kept (Err fault.NoMemory) old mid held kept s
+  same_flushed (Err fault.DiskFault) old mid held kept s = serves_kept (Err fault.DiskFault) old mid held kept s
   same_flushed (Err fault.WriteFault) old mid held kept s = (s.0, serves_kept s.0 old mid held kept s.1)
 
   -- whatever was served before the flush failed
-  unflushed : (served : Result Tally SessionFault) (old new : View) → Served v traces limit served old new → Served v traces limit (Err fault.WriteFault) old new
-  unflushed (Ok tally) old new s = (Ok tt, s.0)
-  unflushed (Err fault.ReadFault) old new s = (Err fault.ReadFault, s)
-  unflushed (Err fault.InputTooLong) old new s = (Err fault.InputTooLong, s)
-  unflushed (Err fault.HistoryFull) old new s = (Err fault.HistoryFull, s)
-  unflushed (Err fault.NoMemory) old new s = (Err fault.NoMemory, s)
-  unflushed (Err fault.WriteFault) old new s = s
+  served_unflushed : (served : Result Tally SessionFault) (old new : View) → Served v traces limit served old new → Served v traces limit (Err fault.WriteFault) old new
+  served_unflushed (Ok tally) old new s = (Ok tt, s.0)
+  served_unflushed (Err fault.ReadFault) old new s = (Err fault.ReadFault, s)
+  served_unflushed (Err fault.InputTooLong) old new s = (Err fault.InputTooLong, s)
+  served_unflushed (Err fault.HistoryFull) old new s = (Err fault.HistoryFull, s)
+  served_unflushed (Err fault.NoMemory) old new s = (Err fault.NoMemory, s)
+  served_unflushed (Err fault.DiskFault) old new s = (Err fault.DiskFault, s)
+  served_unflushed (Err fault.WriteFault) old new s = s
 
   pub Served-flushed : (served result : Result Tally SessionFault) (old mid : View) (held : Option (List ℕ)) → IsFlushed served result → Keeps mid.held held
       → Served v traces limit served old mid → Served v traces limit result old (view_with mid held)
   Served-flushed served result old mid held (inl is) kept s = subst (λ x. Served v traces limit x old (view_with mid held)) (sym is) (same_flushed served old mid held kept s)
   Served-flushed served result old mid held (inr is) kept s =
-      subst (λ x. Served v traces limit x old (view_with mid held)) (sym is) (unflushed served old (view_with mid held) (same_flushed served old mid held kept s))
+      subst (λ x. Served v traces limit x old (view_with mid held)) (sym is) (served_unflushed served old (view_with mid held) (same_flushed served old mid held kept s))

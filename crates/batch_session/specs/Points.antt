@@ -8,7 +8,7 @@ use Rattle.engine.specs.EngineViews.{core_of}
 use Rattle.batch_replies.specs.declared.answering.BatchStop.{BatchStop}
 use Rattle.batch_replies.specs.declared.answering.BatchStop.TheVariants as batch
 use Rattle.line_answers.specs.declared.answering.LineStop.{LineStop}
-use Rattle.line_answers.specs.declared.answering.LineStop.TheVariants.{HistoryFull, NoMemory, WriteFault}
+use Rattle.line_answers.specs.declared.answering.LineStop.TheVariants.{HistoryFull, NoMemory, DiskFault, WriteFault}
 use Rattle.session_steps.specs.declared.tally.Tally.{Tally}
 use Rattle.session_steps.specs.Doings.{Point}
 
@@ -26,4 +26,5 @@ point_of engine lines tally held traced choices told = record {
 abbrev pub stop_of : BatchStop → LineStop
 stop_of batch.HistoryFull = HistoryFull
 stop_of batch.NoMemory = NoMemory
+stop_of batch.DiskFault = DiskFault
 stop_of batch.WriteFault = WriteFault

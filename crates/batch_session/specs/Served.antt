@@ -17,7 +17,7 @@ use Rattle.session_steps.specs.Steps.{whole_steps, all_steps}
 use Rattle.session_steps.specs.Traces.{no_batch}
 use Rattle.session_steps.specs.Doings.{Point, Comes}
 use Rattle.batch_session.specs.declared.serving.SessionFault.{SessionFault}
-use Rattle.batch_session.specs.declared.serving.SessionFault.TheVariants.{ReadFault, WriteFault, InputTooLong, HistoryFull, NoMemory}
+use Rattle.batch_session.specs.declared.serving.SessionFault.TheVariants.{ReadFault, WriteFault, DiskFault, InputTooLong, HistoryFull, NoMemory}
 
 -- a session from outside: its core, what its input has left, what its output and its trace hold, and what was chosen and told
 pub record View : Type 0 where
@@ -83,6 +83,7 @@ module _ (v : Service) (traces : Bool) (limit : ℕ) where
   Serves (Err InputTooLong) old new = ServedOver old new
   Serves (Err HistoryFull) old new = StopsServing line.HistoryFull old new
   Serves (Err NoMemory) old new = StopsServing line.NoMemory old new
+  Serves (Err DiskFault) old new = StopsServing line.DiskFault old new
   Serves (Err WriteFault) old new = StopsServing line.WriteFault old new
 
   -- And behind it: the tally counts the batches. An output that fails has failed within the session, or as it was flushed.
@@ -92,4 +93,5 @@ module _ (v : Service) (traces : Bool) (limit : ℕ) where
   Served (Err InputTooLong) old new = Serves (Err InputTooLong) old new
   Served (Err HistoryFull) old new = Serves (Err HistoryFull) old new
   Served (Err NoMemory) old new = Serves (Err NoMemory) old new
+  Served (Err DiskFault) old new = Serves (Err DiskFault) old new
   Served (Err WriteFault) old new = (before : Result (Unit {0}) SessionFault) × Serves before old new

@@ -1,15 +1,21 @@
 //! Batches at the end of the input, until nothing waits.
 
-ghost use Rattle.std.specs.Prelude.{◌≡◌, ◌≤◌, ◌<◌, ◌⊎◌, ℕ, [], length, OnOk, Err};
+ghost use Rattle.std.specs.Prelude.{◌≡◌, ◌≤◌, ◌<◌, ◌⊎◌, ℕ, true, [], length, OnOk, Err};
 ghost use Rattle.sf_outside.specs.Causes.{Rose};
 ghost use Rattle.block_step.specs.CompiledViews.{IsWhole};
 ghost use Rattle.engine.specs.Cores.{CoreFits, IsSoundCore};
-ghost use Rattle.engine.specs.EngineViews.{core_of, source_of, tables_of, compiled_of, limit_of, RunsProgram};
+ghost use Rattle.engine.specs.EngineViews.{core_of, source_of, tables_of, compiled_of, limit_of, fresh_of, RunsProgram};
+ghost use Rattle.store_meaning.specs.Engines.{logged_of};
+ghost use Rattle.storable_cores.specs.Storable.{IsStorable};
+ghost use Rattle.session_store.specs.Cycles.{IsInCycle};
+ghost use Rattle.session_store.specs.Endings.{KeepsWhere, next_core};
+ghost use Rattle.session_store.specs.Stores.{settings_of, Keeps, EndsPast};
+ghost use Rattle.line_answers.specs.LineAnswers.{disk_failed};
 ghost use Rattle.line_answers.specs.Services.{service_of};
 ghost use Rattle.batch_session.specs.Points.{point_of, stop_of};
 ghost use Rattle.batch_session.specs.Feeds.{RunsOne, RunsWaiting};
 
-use crate::reporting::report;
+use crate::reporting::end_batch;
 use crate::settings::Settings;
 use batch_replies::{BatchStop, answer_batch};
 use engine::Engine;
@@ -17,17 +23,20 @@ use line_answers::LineStop;
 use operator_graph::Watch;
 use reservations::CommitRule;
 use session_steps::Tally;
+use session_store::Store;
 use sf_list::Sequence;
-use sf_outside::{Chooser, Sink};
+use sf_outside::{Chooser, Disk, Sink};
 use std::alloc::Global;
 
 /// Runs batches until nothing waits.
-pub(crate) fn run_waiting<R: CommitRule, K: Sink, E: Sink, C: Chooser, W: Watch>(
+pub(crate) fn run_waiting<R: CommitRule, K: Sink, E: Sink, D: Disk, C: Chooser, W: Watch>(
     alloc: Global,
     engine: &mut Engine,
+    store: &mut Option<Store>,
     settings: &Settings,
     out: &mut K,
     err: &mut E,
+    disk: &mut D,
     rule: &R,
     chooser: &mut C,
     watch: &mut W,
@@ -36,7 +45,11 @@ pub(crate) fn run_waiting<R: CommitRule, K: Sink, E: Sink, C: Chooser, W: Watch>
     requires whole { IsWhole (compiled_of engine.old) }
     requires least { 1 ≤ settings.now.parts }
     requires most { settings.now.parts ≤ 64 }
+    requires few { length (core_of engine.old).pending < 256 }
     requires fits { CoreFits (tables_of engine.old) (core_of engine.old) }
+    requires storable { IsStorable (core_of engine.old) (fresh_of engine.old) }
+    requires kept { Keeps store.old (source_of engine.old) (logged_of engine.old) (D.facts disk.old) }
+    requires in_cycle { IsInCycle store.old tally.old.batches }
     ensures runs_waiting { (lines : ℕ)
         → RunsWaiting (service_of engine.old (R.choice rule.now) settings.now.batch settings.now.parts) settings.now.trace result
         (point_of engine.old lines tally.old (K.held out.old) (E.held err.old) (C.choices chooser.old) (W.told watch.old))
@@ -48,22 +61,33 @@ pub(crate) fn run_waiting<R: CommitRule, K: Sink, E: Sink, C: Chooser, W: Watch>
     ensures runs { RunsProgram engine.new (compiled_of engine.old) (limit_of engine.old) }
     ensures core_fits { CoreFits (tables_of engine.old) (core_of engine.new) }
     ensures sound { IsSoundCore (source_of engine.old) (core_of engine.old) → IsSoundCore (source_of engine.old) (core_of engine.new) }
+    ensures storable { IsStorable (core_of engine.new) (fresh_of engine.new) }
+    ensures kept { KeepsWhere (disk_failed result) store.new (source_of engine.new) (logged_of engine.new)
+        (next_core (R.choice rule.now) (source_of engine.new) (core_of engine.new)) (D.facts disk.new) }
+    ensures in_cycle { OnOk result (IsInCycle store.new tally.new.batches) }
+    ensures settings { settings_of store.new ≡ settings_of store.old }
+    ensures later_disk { D.faults disk.old ≤ D.faults disk.new }
+    ensures disk_cause { disk_failed result ≡ true → Rose (D.faults disk.old) (D.faults disk.new)
+        ⊎ EndsPast (R.choice rule.now) store.new (source_of engine.new) (core_of engine.new) (fresh_of engine.new) (D.facts disk.new) }
+    ensures mounts { D.mounts disk.new ≡ D.mounts disk.old }
 {
     while !engine.pending().is_empty() {
         run_batch(
-            alloc, engine, settings, out, err, rule, chooser, watch, tally,
+            alloc, engine, store, settings, out, err, disk, rule, chooser, watch, tally,
         )?;
     }
     Ok(())
 }
 
-/// Runs a batch of all that wait, as `answer_batch` does it, and reports it.
-fn run_batch<R: CommitRule, K: Sink, E: Sink, C: Chooser, W: Watch>(
+/// Runs a batch of all that wait, as `answer_batch` does it, and ends it.
+fn run_batch<R: CommitRule, K: Sink, E: Sink, D: Disk, C: Chooser, W: Watch>(
     alloc: Global,
     engine: &mut Engine,
+    store: &mut Option<Store>,
     settings: &Settings,
     out: &mut K,
     err: &mut E,
+    disk: &mut D,
     rule: &R,
     chooser: &mut C,
     watch: &mut W,
@@ -73,7 +97,11 @@ fn run_batch<R: CommitRule, K: Sink, E: Sink, C: Chooser, W: Watch>(
     requires least { 1 ≤ settings.now.parts }
     requires most { settings.now.parts ≤ 64 }
     requires some { 0 < length (core_of engine.old).pending }
+    requires few { length (core_of engine.old).pending < 256 }
     requires fits { CoreFits (tables_of engine.old) (core_of engine.old) }
+    requires storable { IsStorable (core_of engine.old) (fresh_of engine.old) }
+    requires kept { Keeps store.old (source_of engine.old) (logged_of engine.old) (D.facts disk.old) }
+    requires in_cycle { IsInCycle store.old tally.old.batches }
     ensures runs_one { (lines : ℕ)
         → RunsOne (service_of engine.old (R.choice rule.now) settings.now.batch settings.now.parts) settings.now.trace result
         (point_of engine.old lines tally.old (K.held out.old) (E.held err.old) (C.choices chooser.old) (W.told watch.old))
@@ -85,9 +113,28 @@ fn run_batch<R: CommitRule, K: Sink, E: Sink, C: Chooser, W: Watch>(
     ensures runs { RunsProgram engine.new (compiled_of engine.old) (limit_of engine.old) }
     ensures core_fits { CoreFits (tables_of engine.old) (core_of engine.new) }
     ensures sound { IsSoundCore (source_of engine.old) (core_of engine.old) → IsSoundCore (source_of engine.old) (core_of engine.new) }
+    ensures storable { IsStorable (core_of engine.new) (fresh_of engine.new) }
+    ensures kept { KeepsWhere (disk_failed result) store.new (source_of engine.new) (logged_of engine.new)
+        (next_core (R.choice rule.now) (source_of engine.new) (core_of engine.new)) (D.facts disk.new) }
+    ensures in_cycle { OnOk result (IsInCycle store.new tally.new.batches) }
+    ensures settings { settings_of store.new ≡ settings_of store.old }
+    ensures later_disk { D.faults disk.old ≤ D.faults disk.new }
+    ensures disk_cause { disk_failed result ≡ true → Rose (D.faults disk.old) (D.faults disk.new)
+        ⊎ EndsPast (R.choice rule.now) store.new (source_of engine.new) (core_of engine.new) (fresh_of engine.new) (D.facts disk.new) }
+    ensures mounts { D.mounts disk.new ≡ D.mounts disk.old }
 {
-    match answer_batch(alloc, engine, settings.parts, rule, out, chooser, watch) {
-        Ok(counts) => report(err, settings.trace, tally, counts),
+    match answer_batch(
+        alloc,
+        engine,
+        store,
+        settings.parts,
+        rule,
+        out,
+        disk,
+        chooser,
+        watch,
+    ) {
+        Ok(counts) => end_batch(alloc, engine, store, settings, err, disk, tally, counts),
         Err(stop) => Err(stop_of(stop)),
     }
 }
@@ -99,6 +146,7 @@ fn stop_of(stop: BatchStop) -> LineStop
     match stop {
         BatchStop::HistoryFull => LineStop::HistoryFull,
         BatchStop::NoMemory => LineStop::NoMemory,
+        BatchStop::DiskFault => LineStop::DiskFault,
         BatchStop::WriteFault => LineStop::WriteFault,
     }
 }

@@ -1,11 +1,17 @@
 //! The input, piece by piece: each line is answered as soon as it is whole, and a batch runs where one is due.
 
-ghost use Rattle.std.specs.Prelude.{◌≡◌, ◌≤◌, ◌<◌, ◌+◌, ◌^◌, ◌⊎◌, length, [], IfOk, OnOk, Ok, Err};
+ghost use Rattle.std.specs.Prelude.{◌≡◌, ◌≤◌, ◌<◌, ◌+◌, ◌^◌, ◌⊎◌, length, [], true, IfOk, OnOk, Ok, Err};
 ghost use Rattle.sf_outside.specs.Causes.{Rose};
 ghost use Rattle.block_step.specs.CompiledViews.{IsWhole};
 ghost use Rattle.engine.specs.Cores.{CoreFits, IsSoundCore};
-ghost use Rattle.engine.specs.EngineViews.{core_of, source_of, tables_of, compiled_of, limit_of, RunsProgram};
+ghost use Rattle.engine.specs.EngineViews.{core_of, source_of, tables_of, compiled_of, limit_of, fresh_of, RunsProgram};
+ghost use Rattle.store_meaning.specs.Engines.{logged_of};
+ghost use Rattle.storable_cores.specs.Storable.{IsStorable};
+ghost use Rattle.session_store.specs.Cycles.{IsInCycle};
+ghost use Rattle.session_store.specs.Endings.{KeepsWhere, next_core};
+ghost use Rattle.session_store.specs.Stores.{settings_of, Keeps, EndsPast};
 ghost use Rattle.input_lines.specs.Cuts.{IsWithin};
+ghost use Rattle.line_answers.specs.LineAnswers.{disk_failed};
 ghost use Rattle.line_answers.specs.Services.{service_of};
 ghost use Rattle.session_steps.specs.Traces.{no_batch};
 ghost use Rattle.batch_session.specs.Points.{point_of};
@@ -13,7 +19,7 @@ ghost use Rattle.batch_session.specs.Feeds.{AnswersKept, FeedsBytes, fed_of, Ans
 ghost use Rattle.batch_session.specs.Takes.{Takes};
 
 use crate::ending::run_waiting;
-use crate::reporting::report;
+use crate::reporting::end_batch;
 use crate::settings::Settings;
 use engine::Engine;
 use input_lines::{LineBuffer, PIECE, next_piece};
@@ -21,7 +27,8 @@ use line_answers::{Batching, InputLine, LineStop, answer_line};
 use operator_graph::Watch;
 use reservations::CommitRule;
 use session_steps::Tally;
-use sf_outside::{Chooser, Sink, Source};
+use session_store::Store;
+use sf_outside::{Chooser, Disk, Sink, Source};
 use std::alloc::Global;
 
 /// How the input ended, where the session didn't stop before.
@@ -44,7 +51,7 @@ pub(crate) struct Intake {
 
 impl Intake {
     pub(crate) fn new(alloc: Global) -> Intake
-        ensures kept { result.line ≡ [] }
+        ensures cleared { result.line ≡ [] }
         ensures lines { result.lines ≡ 0 }
         ensures tally { result.tally ≡ no_batch }
     {
@@ -55,15 +62,17 @@ impl Intake {
         }
     }
 
-    /// Answers the line that is kept, and reports the batch that ran.
-    fn answer<R: CommitRule, K: Sink, E: Sink, C: Chooser, W: Watch>(
+    /// Answers the line that is kept, and ends the batch that ran.
+    fn answer<R: CommitRule, K: Sink, E: Sink, D: Disk, C: Chooser, W: Watch>(
         &mut self,
         alloc: Global,
         engine: &mut Engine,
+        store: &mut Option<Store>,
         settings: &Settings,
         ended: bool,
         out: &mut K,
         err: &mut E,
+        disk: &mut D,
         rule: &R,
         chooser: &mut C,
         watch: &mut W,
@@ -72,22 +81,34 @@ impl Intake {
         requires batch { settings.now.batch ≤ 256 }
         requires least { 1 ≤ settings.now.parts }
         requires most { settings.now.parts ≤ 64 }
-        requires few { length (core_of engine.old).pending < settings.now.batch }
+        requires few { length (core_of engine.old).pending < 256 }
         requires fits { CoreFits (tables_of engine.old) (core_of engine.old) }
+        requires storable { IsStorable (core_of engine.old) (fresh_of engine.old) }
+        requires kept { Keeps store.old (source_of engine.old) (logged_of engine.old) (D.facts disk.old) }
+        requires in_cycle { IsInCycle store.old self.old.tally.batches }
         requires lines { self.old.lines + 1 < 2 ^ 64 }
         ensures answers { AnswersKept (service_of engine.old (R.choice rule.now) settings.now.batch settings.now.parts)
             settings.now.trace result ended self.old.line
             (point_of engine.old self.old.lines self.old.tally (K.held out.old) (E.held err.old) (C.choices chooser.old) (W.told watch.old))
             (point_of engine.new self.new.lines self.new.tally (K.held out.new) (E.held err.new) (C.choices chooser.new) (W.told watch.new)) }
         ensures within { self.new.lines ≤ self.old.lines + 1 }
-        ensures kept { OnOk result (self.new.line ≡ []) }
+        ensures cleared { OnOk result (self.new.line ≡ []) }
         ensures later { K.faults out.old ≤ K.faults out.new }
         ensures later_err { E.faults err.old ≤ E.faults err.new }
         ensures cause { result ≡ Err LineStop.WriteFault → Rose (K.faults out.old) (K.faults out.new) ⊎ Rose (E.faults err.old) (E.faults err.new) }
-        ensures few { OnOk result (length (core_of engine.new).pending < settings.now.batch) }
+        ensures few { OnOk result (length (core_of engine.new).pending < 256) }
         ensures runs { RunsProgram engine.new (compiled_of engine.old) (limit_of engine.old) }
         ensures core_fits { CoreFits (tables_of engine.old) (core_of engine.new) }
         ensures sound { IsSoundCore (source_of engine.old) (core_of engine.old) → IsSoundCore (source_of engine.old) (core_of engine.new) }
+        ensures storable { IsStorable (core_of engine.new) (fresh_of engine.new) }
+        ensures kept { KeepsWhere (disk_failed result) store.new (source_of engine.new) (logged_of engine.new)
+            (next_core (R.choice rule.now) (source_of engine.new) (core_of engine.new)) (D.facts disk.new) }
+        ensures in_cycle { OnOk result (IsInCycle store.new self.new.tally.batches) }
+        ensures settings { settings_of store.new ≡ settings_of store.old }
+        ensures later_disk { D.faults disk.old ≤ D.faults disk.new }
+        ensures disk_cause { disk_failed result ≡ true → Rose (D.faults disk.old) (D.faults disk.new)
+            ⊎ EndsPast (R.choice rule.now) store.new (source_of engine.new) (core_of engine.new) (fresh_of engine.new) (D.facts disk.new) }
+        ensures mounts { D.mounts disk.new ≡ D.mounts disk.old }
     {
         let batching = Batching {
             batch: settings.batch,
@@ -98,12 +119,23 @@ impl Intake {
             ended,
             number: self.lines + 1,
         };
-        match answer_line(alloc, engine, &batching, line, out, rule, chooser, watch) {
+        match answer_line(
+            alloc, engine, store, &batching, line, out, disk, rule, chooser, watch,
+        ) {
             Ok(ran) => {
                 self.lines += 1;
                 self.line.clear();
                 match ran {
-                    Some(counts) => report(err, settings.trace, &mut self.tally, counts),
+                    Some(counts) => end_batch(
+                        alloc,
+                        engine,
+                        store,
+                        settings,
+                        err,
+                        disk,
+                        &mut self.tally,
+                        counts,
+                    ),
                     None => Ok(()),
                 }
             }
@@ -113,14 +145,16 @@ impl Intake {
 
     /// Takes the next bytes of the input up to a line end, and answers the line that they end; or all of
     /// them, where they end none. It answers how many bytes came to the line's end.
-    fn take_line<R: CommitRule, K: Sink, E: Sink, C: Chooser, W: Watch>(
+    fn take_line<R: CommitRule, K: Sink, E: Sink, D: Disk, C: Chooser, W: Watch>(
         &mut self,
         alloc: Global,
         engine: &mut Engine,
+        store: &mut Option<Store>,
         settings: &Settings,
         piece: &[u8],
         out: &mut K,
         err: &mut E,
+        disk: &mut D,
         rule: &R,
         chooser: &mut C,
         watch: &mut W,
@@ -129,8 +163,11 @@ impl Intake {
         requires batch { settings.now.batch ≤ 256 }
         requires least { 1 ≤ settings.now.parts }
         requires most { settings.now.parts ≤ 64 }
-        requires few { length (core_of engine.old).pending < settings.now.batch }
+        requires few { length (core_of engine.old).pending < 256 }
         requires fits { CoreFits (tables_of engine.old) (core_of engine.old) }
+        requires storable { IsStorable (core_of engine.old) (fresh_of engine.old) }
+        requires kept { Keeps store.old (source_of engine.old) (logged_of engine.old) (D.facts disk.old) }
+        requires in_cycle { IsInCycle store.old self.old.tally.batches }
         requires lines { self.old.lines + length piece.now < 2 ^ 64 }
         ensures within { IfOk result (λ taken. IsWithin piece.now taken) }
         ensures lines { self.new.lines ≤ self.old.lines + length (fed_of result piece.now) }
@@ -141,15 +178,24 @@ impl Intake {
         ensures later { K.faults out.old ≤ K.faults out.new }
         ensures later_err { E.faults err.old ≤ E.faults err.new }
         ensures cause { result ≡ Err LineStop.WriteFault → Rose (K.faults out.old) (K.faults out.new) ⊎ Rose (E.faults err.old) (E.faults err.new) }
-        ensures few { OnOk result (length (core_of engine.new).pending < settings.now.batch) }
+        ensures few { OnOk result (length (core_of engine.new).pending < 256) }
         ensures runs { RunsProgram engine.new (compiled_of engine.old) (limit_of engine.old) }
         ensures core_fits { CoreFits (tables_of engine.old) (core_of engine.new) }
         ensures sound { IsSoundCore (source_of engine.old) (core_of engine.old) → IsSoundCore (source_of engine.old) (core_of engine.new) }
+        ensures storable { IsStorable (core_of engine.new) (fresh_of engine.new) }
+        ensures kept { KeepsWhere (disk_failed result) store.new (source_of engine.new) (logged_of engine.new)
+            (next_core (R.choice rule.now) (source_of engine.new) (core_of engine.new)) (D.facts disk.new) }
+        ensures in_cycle { OnOk result (IsInCycle store.new self.new.tally.batches) }
+        ensures settings { settings_of store.new ≡ settings_of store.old }
+        ensures later_disk { D.faults disk.old ≤ D.faults disk.new }
+        ensures disk_cause { disk_failed result ≡ true → Rose (D.faults disk.old) (D.faults disk.new)
+            ⊎ EndsPast (R.choice rule.now) store.new (source_of engine.new) (core_of engine.new) (fresh_of engine.new) (D.facts disk.new) }
+        ensures mounts { D.mounts disk.new ≡ D.mounts disk.old }
     {
         match self.line.take_line(piece) {
             Ok(Some(count)) => {
                 self.answer(
-                    alloc, engine, settings, true, out, err, rule, chooser, watch,
+                    alloc, engine, store, settings, true, out, err, disk, rule, chooser, watch,
                 )?;
                 Ok(Some(count))
             }
@@ -159,14 +205,16 @@ impl Intake {
     }
 
     /// Takes the next bytes of the input, and answers each line that they end.
-    fn take_piece<R: CommitRule, K: Sink, E: Sink, C: Chooser, W: Watch>(
+    fn take_piece<R: CommitRule, K: Sink, E: Sink, D: Disk, C: Chooser, W: Watch>(
         &mut self,
         alloc: Global,
         engine: &mut Engine,
+        store: &mut Option<Store>,
         settings: &Settings,
         piece: &[u8],
         out: &mut K,
         err: &mut E,
+        disk: &mut D,
         rule: &R,
         chooser: &mut C,
         watch: &mut W,
@@ -175,8 +223,11 @@ impl Intake {
         requires batch { settings.now.batch ≤ 256 }
         requires least { 1 ≤ settings.now.parts }
         requires most { settings.now.parts ≤ 64 }
-        requires few { length (core_of engine.old).pending < settings.now.batch }
+        requires few { length (core_of engine.old).pending < 256 }
         requires fits { CoreFits (tables_of engine.old) (core_of engine.old) }
+        requires storable { IsStorable (core_of engine.old) (fresh_of engine.old) }
+        requires kept { Keeps store.old (source_of engine.old) (logged_of engine.old) (D.facts disk.old) }
+        requires in_cycle { IsInCycle store.old self.old.tally.batches }
         requires lines { self.old.lines + length piece.now < 2 ^ 64 }
         ensures lines { self.new.lines ≤ self.old.lines + length piece.now }
         ensures feeds { FeedsBytes (service_of engine.old (R.choice rule.now) settings.now.batch settings.now.parts)
@@ -186,19 +237,30 @@ impl Intake {
         ensures later { K.faults out.old ≤ K.faults out.new }
         ensures later_err { E.faults err.old ≤ E.faults err.new }
         ensures cause { result ≡ Err LineStop.WriteFault → Rose (K.faults out.old) (K.faults out.new) ⊎ Rose (E.faults err.old) (E.faults err.new) }
-        ensures few { OnOk result (length (core_of engine.new).pending < settings.now.batch) }
+        ensures few { OnOk result (length (core_of engine.new).pending < 256) }
         ensures runs { RunsProgram engine.new (compiled_of engine.old) (limit_of engine.old) }
         ensures core_fits { CoreFits (tables_of engine.old) (core_of engine.new) }
         ensures sound { IsSoundCore (source_of engine.old) (core_of engine.old) → IsSoundCore (source_of engine.old) (core_of engine.new) }
+        ensures storable { IsStorable (core_of engine.new) (fresh_of engine.new) }
+        ensures kept { KeepsWhere (disk_failed result) store.new (source_of engine.new) (logged_of engine.new)
+            (next_core (R.choice rule.now) (source_of engine.new) (core_of engine.new)) (D.facts disk.new) }
+        ensures in_cycle { OnOk result (IsInCycle store.new self.new.tally.batches) }
+        ensures settings { settings_of store.new ≡ settings_of store.old }
+        ensures later_disk { D.faults disk.old ≤ D.faults disk.new }
+        ensures disk_cause { disk_failed result ≡ true → Rose (D.faults disk.old) (D.faults disk.new)
+            ⊎ EndsPast (R.choice rule.now) store.new (source_of engine.new) (core_of engine.new) (fresh_of engine.new) (D.facts disk.new) }
+        ensures mounts { D.mounts disk.new ≡ D.mounts disk.old }
     {
         let mut start = 0;
         while let Some(count) = self.take_line(
             alloc,
             engine,
+            store,
             settings,
             &piece[start..],
             out,
             err,
+            disk,
             rule,
             chooser,
             watch,
@@ -210,14 +272,24 @@ impl Intake {
 
     /// Takes at most as many bytes as the settings allow, piece by piece, and answers each line as soon as
     /// it is whole.
-    pub(crate) fn take_input<R: CommitRule, S: Source, K: Sink, E: Sink, C: Chooser, W: Watch>(
+    pub(crate) fn take_input<
+        R: CommitRule,
+        S: Source,
+        K: Sink,
+        E: Sink,
+        D: Disk,
+        C: Chooser,
+        W: Watch,
+    >(
         &mut self,
         alloc: Global,
         engine: &mut Engine,
+        store: &mut Option<Store>,
         settings: &Settings,
         input: &mut S,
         out: &mut K,
         err: &mut E,
+        disk: &mut D,
         rule: &R,
         chooser: &mut C,
         watch: &mut W,
@@ -226,8 +298,11 @@ impl Intake {
         requires batch { settings.now.batch ≤ 256 }
         requires least { 1 ≤ settings.now.parts }
         requires most { settings.now.parts ≤ 64 }
-        requires few { length (core_of engine.old).pending < settings.now.batch }
+        requires few { length (core_of engine.old).pending < 256 }
         requires fits { CoreFits (tables_of engine.old) (core_of engine.old) }
+        requires storable { IsStorable (core_of engine.old) (fresh_of engine.old) }
+        requires kept { Keeps store.old (source_of engine.old) (logged_of engine.old) (D.facts disk.old) }
+        requires in_cycle { IsInCycle store.old self.old.tally.batches }
         requires fresh { self.old.line ≡ [] }
         requires lines { self.old.lines ≡ 0 }
         requires limit { settings.now.limit ≤ 2 ^ 62 }
@@ -241,10 +316,19 @@ impl Intake {
         ensures later { K.faults out.old ≤ K.faults out.new }
         ensures later_err { E.faults err.old ≤ E.faults err.new }
         ensures cause { result ≡ Err LineStop.WriteFault → Rose (K.faults out.old) (K.faults out.new) ⊎ Rose (E.faults err.old) (E.faults err.new) }
-        ensures few { OnOk result (length (core_of engine.new).pending < settings.now.batch) }
+        ensures few { OnOk result (length (core_of engine.new).pending < 256) }
         ensures runs { RunsProgram engine.new (compiled_of engine.old) (limit_of engine.old) }
         ensures core_fits { CoreFits (tables_of engine.old) (core_of engine.new) }
         ensures sound { IsSoundCore (source_of engine.old) (core_of engine.old) → IsSoundCore (source_of engine.old) (core_of engine.new) }
+        ensures storable { IsStorable (core_of engine.new) (fresh_of engine.new) }
+        ensures kept { KeepsWhere (disk_failed result) store.new (source_of engine.new) (logged_of engine.new)
+            (next_core (R.choice rule.now) (source_of engine.new) (core_of engine.new)) (D.facts disk.new) }
+        ensures in_cycle { OnOk result (IsInCycle store.new self.new.tally.batches) }
+        ensures settings { settings_of store.new ≡ settings_of store.old }
+        ensures later_disk { D.faults disk.old ≤ D.faults disk.new }
+        ensures disk_cause { disk_failed result ≡ true → Rose (D.faults disk.old) (D.faults disk.new)
+            ⊎ EndsPast (R.choice rule.now) store.new (source_of engine.new) (core_of engine.new) (fresh_of engine.new) (D.facts disk.new) }
+        ensures mounts { D.mounts disk.new ≡ D.mounts disk.old }
     {
         let mut buf = [0; PIECE];
         let mut taken: u64 = 0;
@@ -257,10 +341,12 @@ impl Intake {
                     self.take_piece(
                         alloc,
                         engine,
+                        store,
                         settings,
                         &buf[..count],
                         out,
                         err,
+                        disk,
                         rule,
                         chooser,
                         watch,
@@ -277,13 +363,15 @@ impl Intake {
     }
 
     /// Answers a last line without LF, where it has a byte.
-    fn take_last<R: CommitRule, K: Sink, E: Sink, C: Chooser, W: Watch>(
+    fn take_last<R: CommitRule, K: Sink, E: Sink, D: Disk, C: Chooser, W: Watch>(
         &mut self,
         alloc: Global,
         engine: &mut Engine,
+        store: &mut Option<Store>,
         settings: &Settings,
         out: &mut K,
         err: &mut E,
+        disk: &mut D,
         rule: &R,
         chooser: &mut C,
         watch: &mut W,
@@ -292,8 +380,11 @@ impl Intake {
         requires batch { settings.now.batch ≤ 256 }
         requires least { 1 ≤ settings.now.parts }
         requires most { settings.now.parts ≤ 64 }
-        requires few { length (core_of engine.old).pending < settings.now.batch }
+        requires few { length (core_of engine.old).pending < 256 }
         requires fits { CoreFits (tables_of engine.old) (core_of engine.old) }
+        requires storable { IsStorable (core_of engine.old) (fresh_of engine.old) }
+        requires kept { Keeps store.old (source_of engine.old) (logged_of engine.old) (D.facts disk.old) }
+        requires in_cycle { IsInCycle store.old self.old.tally.batches }
         requires lines { self.old.lines + 1 < 2 ^ 64 }
         ensures answers { AnswersLast (service_of engine.old (R.choice rule.now) settings.now.batch settings.now.parts) settings.now.trace result self.old.line
             (point_of engine.old self.old.lines self.old.tally (K.held out.old) (E.held err.old) (C.choices chooser.old) (W.told watch.old))
@@ -301,27 +392,38 @@ impl Intake {
         ensures later { K.faults out.old ≤ K.faults out.new }
         ensures later_err { E.faults err.old ≤ E.faults err.new }
         ensures cause { result ≡ Err LineStop.WriteFault → Rose (K.faults out.old) (K.faults out.new) ⊎ Rose (E.faults err.old) (E.faults err.new) }
-        ensures few { OnOk result (length (core_of engine.new).pending < settings.now.batch) }
+        ensures few { OnOk result (length (core_of engine.new).pending < 256) }
         ensures runs { RunsProgram engine.new (compiled_of engine.old) (limit_of engine.old) }
         ensures core_fits { CoreFits (tables_of engine.old) (core_of engine.new) }
         ensures sound { IsSoundCore (source_of engine.old) (core_of engine.old) → IsSoundCore (source_of engine.old) (core_of engine.new) }
+        ensures storable { IsStorable (core_of engine.new) (fresh_of engine.new) }
+        ensures kept { KeepsWhere (disk_failed result) store.new (source_of engine.new) (logged_of engine.new)
+            (next_core (R.choice rule.now) (source_of engine.new) (core_of engine.new)) (D.facts disk.new) }
+        ensures in_cycle { OnOk result (IsInCycle store.new self.new.tally.batches) }
+        ensures settings { settings_of store.new ≡ settings_of store.old }
+        ensures later_disk { D.faults disk.old ≤ D.faults disk.new }
+        ensures disk_cause { disk_failed result ≡ true → Rose (D.faults disk.old) (D.faults disk.new)
+            ⊎ EndsPast (R.choice rule.now) store.new (source_of engine.new) (core_of engine.new) (fresh_of engine.new) (D.facts disk.new) }
+        ensures mounts { D.mounts disk.new ≡ D.mounts disk.old }
     {
         if self.line.is_empty() {
             return Ok(());
         }
         self.answer(
-            alloc, engine, settings, false, out, err, rule, chooser, watch,
+            alloc, engine, store, settings, false, out, err, disk, rule, chooser, watch,
         )
     }
 
     /// The end of the input: answers a last line, and runs batches until nothing waits.
-    pub(crate) fn finish<R: CommitRule, K: Sink, E: Sink, C: Chooser, W: Watch>(
+    pub(crate) fn finish<R: CommitRule, K: Sink, E: Sink, D: Disk, C: Chooser, W: Watch>(
         &mut self,
         alloc: Global,
         engine: &mut Engine,
+        store: &mut Option<Store>,
         settings: &Settings,
         out: &mut K,
         err: &mut E,
+        disk: &mut D,
         rule: &R,
         chooser: &mut C,
         watch: &mut W,
@@ -330,8 +432,11 @@ impl Intake {
         requires batch { settings.now.batch ≤ 256 }
         requires least { 1 ≤ settings.now.parts }
         requires most { settings.now.parts ≤ 64 }
-        requires few { length (core_of engine.old).pending < settings.now.batch }
+        requires few { length (core_of engine.old).pending < 256 }
         requires fits { CoreFits (tables_of engine.old) (core_of engine.old) }
+        requires storable { IsStorable (core_of engine.old) (fresh_of engine.old) }
+        requires kept { Keeps store.old (source_of engine.old) (logged_of engine.old) (D.facts disk.old) }
+        requires in_cycle { IsInCycle store.old self.old.tally.batches }
         requires lines { self.old.lines + 1 < 2 ^ 64 }
         ensures finishes { Finishes (service_of engine.old (R.choice rule.now) settings.now.batch settings.now.parts) settings.now.trace result self.old.line
             (point_of engine.old self.old.lines self.old.tally (K.held out.old) (E.held err.old) (C.choices chooser.old) (W.told watch.old))
@@ -343,14 +448,27 @@ impl Intake {
         ensures runs { RunsProgram engine.new (compiled_of engine.old) (limit_of engine.old) }
         ensures core_fits { CoreFits (tables_of engine.old) (core_of engine.new) }
         ensures sound { IsSoundCore (source_of engine.old) (core_of engine.old) → IsSoundCore (source_of engine.old) (core_of engine.new) }
+        ensures storable { IsStorable (core_of engine.new) (fresh_of engine.new) }
+        ensures kept { KeepsWhere (disk_failed result) store.new (source_of engine.new) (logged_of engine.new)
+            (next_core (R.choice rule.now) (source_of engine.new) (core_of engine.new)) (D.facts disk.new) }
+        ensures in_cycle { OnOk result (IsInCycle store.new self.new.tally.batches) }
+        ensures settings { settings_of store.new ≡ settings_of store.old }
+        ensures later_disk { D.faults disk.old ≤ D.faults disk.new }
+        ensures disk_cause { disk_failed result ≡ true → Rose (D.faults disk.old) (D.faults disk.new)
+            ⊎ EndsPast (R.choice rule.now) store.new (source_of engine.new) (core_of engine.new) (fresh_of engine.new) (D.facts disk.new) }
+        ensures mounts { D.mounts disk.new ≡ D.mounts disk.old }
     {
-        self.take_last(alloc, engine, settings, out, err, rule, chooser, watch)?;
+        self.take_last(
+            alloc, engine, store, settings, out, err, disk, rule, chooser, watch,
+        )?;
         run_waiting(
             alloc,
             engine,
+            store,
             settings,
             out,
             err,
+            disk,
             rule,
             chooser,
             watch,

@@ -1,15 +1,20 @@
 //! The whole of a session.
 
-ghost use Rattle.std.specs.Prelude.{◌≡◌, ◌≤◌, ◌<◌, ◌^◌, ◌⊎◌, [], length, Err};
-ghost use Rattle.std.specs.Io.KnownBytes.{Keeps};
+ghost use Rattle.std.specs.Prelude.{◌≡◌, ◌≤◌, ◌<◌, ◌^◌, ◌⊎◌, true, [], length, IfOk, Err};
+ghost use Rattle.std.specs.Io.KnownBytes.{Keeps as KeepsBytes};
 ghost use Rattle.sf_outside.specs.Causes.{Rose};
 ghost use Rattle.block_step.specs.CompiledViews.{IsWhole};
 ghost use Rattle.engine.specs.Cores.{CoreFits, IsSoundCore};
-ghost use Rattle.engine.specs.EngineViews.{core_of, source_of, tables_of, compiled_of, limit_of, RunsProgram};
+ghost use Rattle.engine.specs.EngineViews.{core_of, source_of, tables_of, compiled_of, limit_of, fresh_of, RunsProgram};
+ghost use Rattle.store_meaning.specs.Engines.{logged_of};
+ghost use Rattle.storable_cores.specs.Storable.{IsStorable};
+ghost use Rattle.session_store.specs.Cycles.{IsInCycle};
+ghost use Rattle.session_store.specs.Endings.{KeepsWhere, next_core};
+ghost use Rattle.session_store.specs.Stores.{settings_of, Keeps, EndsPast};
 ghost use Rattle.line_answers.specs.Services.{service_of};
 ghost use Rattle.session_steps.specs.Traces.{no_batch};
 ghost use Rattle.batch_session.specs.Served.{view_of, Served};
-ghost use Rattle.batch_session.specs.Faults.{fault_of, finished, IsFlushed};
+ghost use Rattle.batch_session.specs.Faults.{fault_of, finished, disk_failed, unflushed, IsFlushed};
 
 use crate::feeding::{InputEnd, Intake};
 use crate::settings::Settings;
@@ -18,7 +23,8 @@ use line_answers::LineStop;
 use operator_graph::Watch;
 use reservations::CommitRule;
 use session_steps::Tally;
-use sf_outside::{Chooser, Sink, Source};
+use session_store::Store;
+use sf_outside::{Chooser, Disk, Sink, Source};
 use std::alloc::Global;
 
 /// Why a session doesn't serve its whole input.
@@ -28,6 +34,9 @@ pub enum SessionFault {
     ReadFault,
     /// The output can't be written or flushed, or the trace can't be written.
     WriteFault,
+    /// The store can't be written: the record of a batch, which is neither committed nor answered then, or a
+    /// checkpoint behind a batch that is both.
+    DiskFault,
     /// More bytes come than the limit.
     InputTooLong,
     /// The history has no place for as many entries as requests wait.
@@ -39,14 +48,17 @@ pub enum SessionFault {
 /// runs where one is due, and at the end batches run until nothing waits. A last line without LF counts
 /// where it has a byte. Once so many bytes were taken as the limit, one more is asked for, which tells the
 /// end from an input that is too long. The output is flushed after each batch, and before the end. The
-/// trace has a line for each batch, behind its replies, and isn't flushed.
-pub fn serve<R: CommitRule, S: Source, K: Sink, E: Sink, C: Chooser, W: Watch>(
+/// trace has a line for each batch, behind its replies, and isn't flushed. Where there is a store the record of a
+/// batch is in it before the batch is committed, and a checkpoint follows behind the line of every so many batches.
+pub fn serve<R: CommitRule, S: Source, K: Sink, E: Sink, D: Disk, C: Chooser, W: Watch>(
     alloc: Global,
     engine: &mut Engine,
+    store: &mut Option<Store>,
     settings: &Settings,
     input: &mut S,
     out: &mut K,
     err: &mut E,
+    disk: &mut D,
     rule: &R,
     chooser: &mut C,
     watch: &mut W,
@@ -55,8 +67,11 @@ pub fn serve<R: CommitRule, S: Source, K: Sink, E: Sink, C: Chooser, W: Watch>(
     requires batch { settings.now.batch ≤ 256 }
     requires least { 1 ≤ settings.now.parts }
     requires most { settings.now.parts ≤ 64 }
-    requires few { length (core_of engine.old).pending < settings.now.batch }
+    requires few { length (core_of engine.old).pending < 256 }
     requires fits { CoreFits (tables_of engine.old) (core_of engine.old) }
+    requires storable { IsStorable (core_of engine.old) (fresh_of engine.old) }
+    requires kept { Keeps store.old (source_of engine.old) (logged_of engine.old) (D.facts disk.old) }
+    requires in_cycle { IsInCycle store.old 0 }
     requires limit { settings.now.limit ≤ 2 ^ 62 }
     ensures served { Served (service_of engine.old (R.choice rule.now) settings.now.batch settings.now.parts) settings.now.trace settings.now.limit result
         (view_of engine.old (S.left input.old) (K.held out.old) (E.held err.old) (C.choices chooser.old) (W.told watch.old))
@@ -69,16 +84,27 @@ pub fn serve<R: CommitRule, S: Source, K: Sink, E: Sink, C: Chooser, W: Watch>(
     ensures runs { RunsProgram engine.new (compiled_of engine.old) (limit_of engine.old) }
     ensures core_fits { CoreFits (tables_of engine.old) (core_of engine.new) }
     ensures sound { IsSoundCore (source_of engine.old) (core_of engine.old) → IsSoundCore (source_of engine.old) (core_of engine.new) }
+    ensures storable { IsStorable (core_of engine.new) (fresh_of engine.new) }
+    ensures kept { KeepsWhere (disk_failed result) store.new (source_of engine.new) (logged_of engine.new)
+        (next_core (R.choice rule.now) (source_of engine.new) (core_of engine.new)) (D.facts disk.new) }
+    ensures in_cycle { IfOk result (λ tally. IsInCycle store.new tally.batches) }
+    ensures settings { settings_of store.new ≡ settings_of store.old }
+    ensures later_disk { D.faults disk.old ≤ D.faults disk.new }
+    ensures disk_cause { disk_failed result ≡ true → Rose (D.faults disk.old) (D.faults disk.new)
+        ⊎ EndsPast (R.choice rule.now) store.new (source_of engine.new) (core_of engine.new) (fresh_of engine.new) (D.facts disk.new) }
+    ensures mounts { D.mounts disk.new ≡ D.mounts disk.old }
 {
     let mut intake = Intake::new(alloc);
     let served = answer_all(
         &mut intake,
         alloc,
         engine,
+        store,
         settings,
         input,
         out,
         err,
+        disk,
         rule,
         chooser,
         watch,
@@ -87,14 +113,16 @@ pub fn serve<R: CommitRule, S: Source, K: Sink, E: Sink, C: Chooser, W: Watch>(
 }
 
 /// Serves the input and then what waits, and doesn't flush at the end.
-fn answer_all<R: CommitRule, S: Source, K: Sink, E: Sink, C: Chooser, W: Watch>(
+fn answer_all<R: CommitRule, S: Source, K: Sink, E: Sink, D: Disk, C: Chooser, W: Watch>(
     intake: &mut Intake,
     alloc: Global,
     engine: &mut Engine,
+    store: &mut Option<Store>,
     settings: &Settings,
     input: &mut S,
     out: &mut K,
     err: &mut E,
+    disk: &mut D,
     rule: &R,
     chooser: &mut C,
     watch: &mut W,
@@ -106,8 +134,11 @@ fn answer_all<R: CommitRule, S: Source, K: Sink, E: Sink, C: Chooser, W: Watch>(
     requires batch { settings.now.batch ≤ 256 }
     requires least { 1 ≤ settings.now.parts }
     requires most { settings.now.parts ≤ 64 }
-    requires few { length (core_of engine.old).pending < settings.now.batch }
+    requires few { length (core_of engine.old).pending < 256 }
     requires fits { CoreFits (tables_of engine.old) (core_of engine.old) }
+    requires storable { IsStorable (core_of engine.old) (fresh_of engine.old) }
+    requires kept { Keeps store.old (source_of engine.old) (logged_of engine.old) (D.facts disk.old) }
+    requires in_cycle { IsInCycle store.old 0 }
     requires limit { settings.now.limit ≤ 2 ^ 62 }
     ensures served { Served (service_of engine.old (R.choice rule.now) settings.now.batch settings.now.parts) settings.now.trace settings.now.limit result
         (view_of engine.old (S.left input.old) (K.held out.old) (E.held err.old) (C.choices chooser.old) (W.told watch.old))
@@ -120,12 +151,23 @@ fn answer_all<R: CommitRule, S: Source, K: Sink, E: Sink, C: Chooser, W: Watch>(
     ensures runs { RunsProgram engine.new (compiled_of engine.old) (limit_of engine.old) }
     ensures core_fits { CoreFits (tables_of engine.old) (core_of engine.new) }
     ensures sound { IsSoundCore (source_of engine.old) (core_of engine.old) → IsSoundCore (source_of engine.old) (core_of engine.new) }
+    ensures storable { IsStorable (core_of engine.new) (fresh_of engine.new) }
+    ensures kept { KeepsWhere (disk_failed result) store.new (source_of engine.new) (logged_of engine.new)
+        (next_core (R.choice rule.now) (source_of engine.new) (core_of engine.new)) (D.facts disk.new) }
+    ensures in_cycle { IfOk result (λ tally. IsInCycle store.new tally.batches) }
+    ensures settings { settings_of store.new ≡ settings_of store.old }
+    ensures later_disk { D.faults disk.old ≤ D.faults disk.new }
+    ensures disk_cause { disk_failed result ≡ true → Rose (D.faults disk.old) (D.faults disk.new)
+        ⊎ EndsPast (R.choice rule.now) store.new (source_of engine.new) (core_of engine.new) (fresh_of engine.new) (D.facts disk.new) }
+    ensures mounts { D.mounts disk.new ≡ D.mounts disk.old }
 {
     match intake.take_input(
-        alloc, engine, settings, input, out, err, rule, chooser, watch,
+        alloc, engine, store, settings, input, out, err, disk, rule, chooser, watch,
     ) {
         Ok(InputEnd::End) => {
-            let ended = intake.finish(alloc, engine, settings, out, err, rule, chooser, watch);
+            let ended = intake.finish(
+                alloc, engine, store, settings, out, err, disk, rule, chooser, watch,
+            );
             finished(ended, intake.tally)
         }
         Ok(InputEnd::ReadFault) => Err(SessionFault::ReadFault),
@@ -151,14 +193,16 @@ fn fault_of(stop: LineStop) -> SessionFault
     match stop {
         LineStop::HistoryFull => SessionFault::HistoryFull,
         LineStop::NoMemory => SessionFault::NoMemory,
+        LineStop::DiskFault => SessionFault::DiskFault,
         LineStop::WriteFault => SessionFault::WriteFault,
     }
 }
 
-/// Flushes the output, unless something couldn't be written before.
+/// Flushes the output, unless something couldn't be written before. A fault of the disk stays one.
 fn flushed<K: Sink>(out: &mut K, served: Result<Tally, SessionFault>) -> Result<Tally, SessionFault>
-    ensures kept { Keeps (K.held out.old) (K.held out.new) }
+    ensures kept { KeepsBytes (K.held out.old) (K.held out.new) }
     ensures flushed { IsFlushed served result }
+    ensures disk { disk_failed result ≡ disk_failed served }
     ensures later { K.faults out.old ≤ K.faults out.new }
     ensures cause { result ≡ Err SessionFault.WriteFault → (served ≡ Err SessionFault.WriteFault) ⊎ Rose (K.faults out.old) (K.faults out.new) }
 {
@@ -167,6 +211,16 @@ fn flushed<K: Sink>(out: &mut K, served: Result<Tally, SessionFault>) -> Result<
     }
     match out.flush() {
         Ok(()) => served,
-        Err(_) => Err(SessionFault::WriteFault),
+        Err(_) => unflushed(served),
+    }
+}
+
+/// What a session came to that couldn't flush its output at the end.
+fn unflushed(served: Result<Tally, SessionFault>) -> Result<Tally, SessionFault>
+    ensures { result ≡ unflushed served }
+{
+    match served {
+        Err(SessionFault::DiskFault) => Err(SessionFault::DiskFault),
+        _ => Err(SessionFault::WriteFault),
     }
 }

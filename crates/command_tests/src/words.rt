@@ -45,6 +45,9 @@ fn done(answer: &Answer) -> &'static str {
     if printed == b"{\"bad\":\"not a request\",\"line\":1}\n".as_slice() {
         return "served";
     }
+    if printed.starts_with(b"requests ") && printed.ends_with(b"\n") {
+        return "summed up";
+    }
     "another text"
 }
 
@@ -124,14 +127,67 @@ fn words_of_no_command_are_told_the_usage(rt: HostRuntime) -> Result<(), Fail> {
     Ok(())
 }
 
-const NOT_SERVED: &str = "
-    a store                  | run a.py --batch 1 --store s     | usage
-    generated work           | gen --number 7 --size 3          | usage
+const WORKS: &str = "
+    apart                    | gen --number 7 --size 3          | summed up
+    joined                   | gen --number=7 --size=3          | summed up
+    the other order          | gen --size 3 --number=7          | summed up
+    a batch                  | gen --number 7 --size 3 --batch 2 | summed up
+    a batch, joined          | gen --batch=2 --number 7 --size 3 | summed up
+    partitions               | gen --number 7 --partitions 2 --size 3 | summed up
+    partitions, joined       | gen --number 7 --size 3 --partitions=2 | summed up
+    all that is usual        | gen --partitions=4 --size 3 --batch=64 --number 7 | summed up
+    zeros in front           | gen --number 007 --size 0003     | summed up
+    number 0                 | gen --number 0 --size 1          | summed up
+    number 2^64-1            | gen --number=18446744073709551615 --size 1 | summed up
+    number 2^64              | gen --number 18446744073709551616 --size 1 | usage
+    size 0                   | gen --number 7 --size 0          | usage
+    size 100001              | gen --number 7 --size=100001     | usage
+    batch 0                  | gen --number 7 --size 3 --batch=0 | usage
+    batch 1                  | gen --number 7 --size 3 --batch 1 | summed up
+    batch 256                | gen --number 7 --size 3 --batch=256 | summed up
+    batch 257                | gen --number 7 --size 3 --batch 257 | usage
+    partitions 0             | gen --number 7 --size 3 --partitions 0 | usage
+    partitions 1             | gen --number 7 --size 3 --partitions=1 | summed up
+    partitions 64            | gen --number 7 --size 3 --partitions 64 | summed up
+    partitions 65            | gen --number 7 --size 3 --partitions=65 | usage
 ";
 
 #[test]
-fn what_is_not_served_is_told_the_usage(rt: HostRuntime) -> Result<(), Fail> {
-    let other = other(rt.alloc(), NOT_SERVED, 2)?;
+fn words_of_generated_work(rt: HostRuntime) -> Result<(), Fail> {
+    let other = other(rt.alloc(), WORKS, 22)?;
+    assert_eq!(rt; other.as_str(), "");
+    Ok(())
+}
+
+const OTHER_WORKS: &str = "
+    nothing given            | gen                              | usage
+    no size                  | gen --number 7                   | usage
+    no number                | gen --size 3 --batch 2           | usage
+    no value of the size     | gen --number 7 --size            | usage
+    an empty number          | gen --number= --size 3           | usage
+    an empty size            | gen --number 7 --size ''         | usage
+    a number twice           | gen --number 7 --size 3 --number 7 | usage
+    a size in both forms     | gen --size=3 --number 7 --size 3 | usage
+    a batch twice            | gen --number 7 --batch 2 --size 3 --batch=3 | usage
+    partitions twice         | gen --partitions 2 --number 7 --size 3 --partitions 2 | usage
+    a negative number        | gen --number -7 --size 3         | usage
+    a negative one, joined   | gen --number=-7 --size 3         | usage
+    a negative size          | gen --number 7 --size -3         | usage
+    a negative batch         | gen --number 7 --size 3 --batch=-2 | usage
+    an option as partitions  | gen --partitions --number 7 --size 3 | usage
+    a hyphen as the number   | gen --number - --size 3          | usage
+    two hyphens as the size  | gen --number 7 --size --         | usage
+    a file                   | gen a.py --number 7 --size 3     | usage
+    a schedule               | gen --number 7 --size 3 --schedule 1 | usage
+    a history                | gen --number 7 --size 3 --history 9 | usage
+    a trace                  | gen --number 7 --size 3 --trace  | usage
+    a store                  | gen --number 7 --size 3 --store s | usage
+    checkpoints              | gen --number 7 --size 3 --every 1 | usage
+";
+
+#[test]
+fn words_of_no_generated_work_are_told_the_usage(rt: HostRuntime) -> Result<(), Fail> {
+    let other = other(rt.alloc(), OTHER_WORKS, 23)?;
     assert_eq!(rt; other.as_str(), "");
     Ok(())
 }

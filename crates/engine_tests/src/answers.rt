@@ -1,57 +1,18 @@
 //! What lines are answered, and when: rows of a line and what it is answered, with what each batch came to
 //! behind `batch`: how many requests waited, how many of them were committed, and how many events were handled.
 
-ghost use Rattle.engine_tests.specs.ReadyEngines.{IsReady};
-
-use crate::driver::{Driver, Options};
 use crate::places::{IN_EACH_PLACE, PLACES};
-use crate::request_lines::line_of;
-use operator_graph::{NoWatch, Watch};
+use line_driver::{Driver, Options, other_answer};
+use operator_graph::NoWatch;
 use std::alloc::Global;
 use std::test::Fail;
-use test_support::{NUM, PING, SHOP, rows};
-
-/// What the line of a row is answered; at `end` batches run until nothing waits.
-fn told<W: Watch>(
-    alloc: Global,
-    driver: &mut Driver,
-    watch: &mut W,
-    text: &str,
-) -> Result<String, Fail>
-    requires { IsReady driver.old.engine }
-    ensures { IsReady driver.new.engine }
-{
-    if text == "end" {
-        return driver.end(alloc, watch);
-    }
-    let line = line_of(alloc, text)?;
-    driver.answer(alloc, watch, line.as_str())
-}
-
-/// The first row that is answered otherwise, or nothing.
-pub fn other<W: Watch>(
-    alloc: Global,
-    driver: &mut Driver,
-    watch: &mut W,
-    table: &str,
-) -> Result<String, Fail>
-    requires { IsReady driver.old.engine }
-{
-    let rows = rows(alloc, table)?;
-    for row in &rows {
-        let told = told(alloc, driver, watch, row.text.as_str())?;
-        if told.as_str() != row.wanted {
-            return Ok(format!(in alloc; "{}: {told}", row.label)?);
-        }
-    }
-    Ok(String::new(alloc))
-}
+use test_support::{NUM, PING, SHOP};
 
 /// The same of a new engine that runs the program of a text.
 fn other_of(alloc: Global, text: &str, options: Options<'_>, table: &str) -> Result<String, Fail> {
     let mut driver = Driver::new(alloc, text, options)?;
     let mut watch = NoWatch;
-    let other = other(alloc, &mut driver, &mut watch, table);
+    let other = other_answer(alloc, &mut driver, &mut watch, table);
     drop(driver);
     let NoWatch = watch;
     other

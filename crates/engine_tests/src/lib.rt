@@ -5,10 +5,6 @@
 #[cfg(test)]
 mod answers;
 #[cfg(test)]
-mod driver;
-#[cfg(test)]
 mod places;
-#[cfg(test)]
-mod request_lines;
 #[cfg(test)]
 mod turns;

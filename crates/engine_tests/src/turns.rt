@@ -1,8 +1,8 @@
 //! What a watch in memory is told of the events of batches, in order: the operator that is to handle each, and
 //! the place of its request in the batch.
 
-use crate::answers::{ASKED_OR_NOT, CALLED_BACK, other};
-use crate::driver::{Driver, Options};
+use crate::answers::{ASKED_OR_NOT, CALLED_BACK};
+use line_driver::{Driver, Options, other_answer};
 use operator_graph::{MemWatch, Note, Notes};
 use std::alloc::{AllocError, Global};
 use std::test::Fail;
@@ -35,7 +35,7 @@ fn watch_told(alloc: Global, watch: &MemWatch) -> Result<String, AllocError> {
 fn told(alloc: Global, options: Options<'_>, table: &str) -> Result<String, Fail> {
     let mut driver = Driver::new(alloc, PING, options)?;
     let mut watch = MemWatch::new(alloc);
-    let other = other(alloc, &mut driver, &mut watch, table);
+    let other = other_answer(alloc, &mut driver, &mut watch, table);
     drop(driver);
     let told = watch_told(alloc, &watch);
     drop(watch);

@@ -1,5 +1,5 @@
 -- What a session on generated work came to, from what a session in batches promises.
-use Rattle.std.proofs.Common.{◌≡◌, ℕ, arith, ◌≤◌, inl, inr, false, Option, None, Some, Ok, Err, List, [], ◌∷◌, ◌++◌, length, refl, sym, ap, ◌∙◌, subst}
+use Rattle.std.proofs.Common.{◌≡◌, ℕ, arith, ◌≤◌, inl, inr, false, true≢false, Option, None, Some, Ok, Err, List, [], ◌∷◌, ◌++◌, length, refl, sym, ap, ◌∙◌, subst}
 use Rattle.std.proofs.Common.{append_assoc, append-nil}
 use Rattle.std.specs.declared.result.Result.{Result}
 use Rattle.std.specs.Io.KnownBytes.{Consumes, IsAtEnd}
@@ -22,6 +22,7 @@ use Rattle.session_steps.specs.StepLaws.{StepsPrint, ComesBegin}
 use Rattle.session_steps.proofs.StepFacts.{ran-append}
 use Rattle.batch_session.specs.declared.serving.SessionFault.{SessionFault}
 use Rattle.batch_session.specs.declared.serving.SessionFault.TheVariants as session
+use Rattle.batch_session.specs.Faults.{disk_failed}
 use Rattle.batch_session.specs.Served.{View, first_point, point_at, ServedWhole, ServedAll, ServedOver, ServedEnd, StopsServing, Served}
 use Rattle.generated_run.specs.Generated.{IsNoFault, tally_of, ServesAll, ServesSome, Serves}
 use Rattle.generated_run.proofs.WorkLaws.{line_ends}
@@ -138,6 +139,7 @@ module _ (v : Service) (input : List ℕ) (old new : View) (rest : List ℕ) (em
   serves prints begins (Ok tally) s none sound = serves_all prints tally s.0 s.1 sound
   serves prints begins (Err session.ReadFault) s none sound = absurd none
   serves prints begins (Err session.WriteFault) s none sound = absurd none
+  serves prints begins (Err session.DiskFault) s none sound = absurd none
   serves prints begins (Err session.InputTooLong) s none sound = absurd none
   serves prints begins (Err session.HistoryFull) s none sound = absurd none
   serves prints begins (Err session.NoMemory) s none sound = serves_some begins s
@@ -194,14 +196,16 @@ module _ (v : Service) (input : List ℕ) (old new : View) (rest : List ℕ) (em
     -- so nothing but want of memory stops it
 
     pub no_fault : (r : Result Tally SessionFault) → Served v false (length input) r old new → (r ≡ Err session.ReadFault → ⊥)
-        → (r ≡ Err session.WriteFault → ⊥) → IsNoFault r
-    no_fault (Ok tally) s unread unwritten = tt
-    no_fault (Err session.ReadFault) s unread unwritten = unread refl
-    no_fault (Err session.WriteFault) s unread unwritten = unwritten refl
-    no_fault (Err session.InputTooLong) s unread unwritten = never_over s
-    no_fault (Err session.HistoryFull) s unread unwritten = never_full s
-    no_fault (Err session.NoMemory) s unread unwritten = tt
+        → (r ≡ Err session.WriteFault → ⊥) → disk_failed r ≡ false → IsNoFault r
+    no_fault (Ok tally) s unread unwritten undisked = tt
+    no_fault (Err session.ReadFault) s unread unwritten undisked = unread refl
+    no_fault (Err session.WriteFault) s unread unwritten undisked = unwritten refl
+    no_fault (Err session.DiskFault) s unread unwritten undisked = true≢false undisked
+    no_fault (Err session.InputTooLong) s unread unwritten undisked = never_over s
+    no_fault (Err session.HistoryFull) s unread unwritten undisked = never_full s
+    no_fault (Err session.NoMemory) s unread unwritten undisked = tt
 
     pub serves_work : StepsPrint → ComesBegin → (r : Result Tally SessionFault) → Served v false (length input) r old new → (r ≡ Err session.ReadFault → ⊥)
-        → (r ≡ Err session.WriteFault → ⊥) → IsSoundCore (program_of v) new.core → Serves v input (tally_of r) new.core old.outside new.outside
-    serves_work prints begins r s unread unwritten sound = serves prints begins r s (no_fault r s unread unwritten) sound
+        → (r ≡ Err session.WriteFault → ⊥) → disk_failed r ≡ false → IsSoundCore (program_of v) new.core
+        → Serves v input (tally_of r) new.core old.outside new.outside
+    serves_work prints begins r s unread unwritten undisked sound = serves prints begins r s (no_fault r s unread unwritten undisked) sound

@@ -41,6 +41,7 @@ abbrev pub IsNoFault : Result Tally SessionFault → Type 0
 IsNoFault (Ok tally) = Unit {0}
 IsNoFault (Err session.ReadFault) = ⊥
 IsNoFault (Err session.WriteFault) = ⊥
+IsNoFault (Err session.DiskFault) = ⊥
 IsNoFault (Err session.InputTooLong) = ⊥
 IsNoFault (Err session.HistoryFull) = ⊥
 IsNoFault (Err session.NoMemory) = Unit {0}

@@ -7,7 +7,8 @@ ghost use Rattle.block_code.specs.GraphViews.{graph_tables, graph_blocks};
 ghost use Rattle.block_step.specs.CompiledViews.{IsWhole};
 ghost use Rattle.operator_graph.specs.Telling.{AlsoTold, GraphTold};
 ghost use Rattle.engine.specs.Cores.{CoreFits, IsSoundCore, empty_core};
-ghost use Rattle.engine.specs.EngineViews.{core_of, source_of, tables_of, compiled_of, limit_of};
+ghost use Rattle.engine.specs.EngineViews.{core_of, source_of, tables_of, compiled_of, limit_of, fresh_of};
+ghost use Rattle.storable_cores.specs.Storable.{IsStorable};
 ghost use Rattle.generated_run.specs.Generated.{IsNoFault, tally_of, history_limit, service_by, Serves, Comes, Gives};
 
 use crate::devices::{DroppingSink, GivenInput};
@@ -19,6 +20,7 @@ use entity_compiler::{Compiled, ProgramError, ProgramFault, compile};
 use operator_graph::Watch;
 use reservations::Rule1;
 use session_steps::{Tally, comes_begin, steps_print};
+use session_store::NoDisk;
 use sf_outside::Chooser;
 use std::alloc::{AllocError, Global};
 use work_gen::generate;
@@ -72,8 +74,8 @@ impl From<ProgramError> for GenStop {
     }
 }
 
-/// Serves the requests of the work on an engine to which nothing has come yet. Its devices never fail, and
-/// neither they nor the history can be too small for it.
+/// Serves the requests of the work on an engine to which nothing has come yet, without a store. Its devices never
+/// fail, and neither they nor the history can be too small for it.
 fn serve_work<C: Chooser, W: Watch>(
     alloc: Global,
     engine: &mut Engine,
@@ -93,6 +95,7 @@ fn serve_work<C: Chooser, W: Watch>(
     requires whole { IsWhole (compiled_of engine.old) }
     requires fits { CoreFits (tables_of engine.old) (core_of engine.old) }
     requires sound { IsSoundCore (source_of engine.old) (core_of engine.old) }
+    requires storable { IsStorable (core_of engine.old) (fresh_of engine.old) }
     ensures { Serves (service_by settings.now (compiled_of engine.old)) input.now result (core_of engine.new)
         (record { choices = C.choices chooser.old; told = W.told watch.old }) (record { choices = C.choices chooser.new; told = W.told watch.new }) }
 {
@@ -105,17 +108,22 @@ fn serve_work<C: Chooser, W: Watch>(
     let mut source = GivenInput { left: input };
     let mut out = DroppingSink;
     let mut err = DroppingSink;
+    let mut store = None;
+    let mut disk = NoDisk;
     let served = serve(
         alloc,
         engine,
+        &mut store,
         &session,
         &mut source,
         &mut out,
         &mut err,
+        &mut disk,
         &Rule1,
         chooser,
         watch,
     );
+    drop(store);
     steps_print();
     comes_begin();
     tally_of(served)

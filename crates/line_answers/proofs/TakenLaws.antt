@@ -30,7 +30,7 @@ use Rattle.batch_replies.specs.declared.answering.BatchStop.{BatchStop}
 use Rattle.batch_replies.specs.declared.answering.BatchStop.TheVariants as batch
 use Rattle.batch_replies.specs.BatchAnswers.{core_behind, Answers, TellsBatch}
 use Rattle.line_answers.specs.declared.answering.LineStop.{LineStop}
-use Rattle.line_answers.specs.declared.answering.LineStop.TheVariants.{HistoryFull, NoMemory, WriteFault}
+use Rattle.line_answers.specs.declared.answering.LineStop.TheVariants.{HistoryFull, NoMemory, DiskFault, WriteFault}
 use Rattle.line_answers.specs.Services.{Service, program_of, limits_of, service_of}
 use Rattle.line_answers.specs.LineAnswers.{before, Moment, Move, move_at, Moves, AnswersLine, batch_on, line_result}
 
@@ -79,6 +79,14 @@ module _ (v : Service) where
     wrote = subst (λ h. Appends old.held h (joined m.answer)) (sym a.2) first;
     begun = told;
   }
+  batch_moved (Err batch.DiskFault) m old new between due first a told = record {
+    due = due;
+    place = a.0;
+    core = a.1;
+    wrote = subst (λ h. Appends old.held h (joined m.answer)) (sym a.2) first;
+    events = told.0;
+    told = told.1;
+  }
   batch_moved (Err batch.WriteFault) m old new between due first a told =
       inr (record {
         due = due;
@@ -109,6 +117,7 @@ module _ (v : Service) where
   line_moved (Ok (Some counts)) s line core next held outside new m = record { due = m.due; place = m.place; ran = record { counted = m.ran.counted; told = m.ran.told }; core = m.core; wrote = m.wrote }
   line_moved (Err HistoryFull) s line core next held outside new m = record { due = m.due; full = m.full; core = m.core; wrote = m.wrote; untold = m.untold }
   line_moved (Err NoMemory) s line core next held outside new m = inr (record { due = m.due; place = m.place; core = m.core; wrote = m.wrote; begun = m.begun })
+  line_moved (Err DiskFault) s line core next held outside new m = record { due = m.due; place = m.place; core = m.core; wrote = m.wrote; events = m.events; told = m.told }
   line_moved (Err WriteFault) s line core next held outside new (inl m) = inl (record { core = m.core; part = m.part; untold = m.untold })
   line_moved (Err WriteFault) s line core next held outside new (inr m) =
       inr (record { due = m.due; place = m.place; events = m.events; told = m.told; core = m.core; part = m.part })
@@ -126,19 +135,20 @@ module _ (v : Service) where
   takes_one core (Refuse cause) = omega arith
   takes_one core (Ask r) = joins_one core r (arrival_of core r)
 
-  joined_few : (core : Core) (r : Request) (a : Arrival) → length core.pending < v.limits.batch → fills (program_of v) v.rule v.limits core a ≡ false → length (joins core r a).pending < v.limits.batch
-  joined_few core r arrival.New few undue =
-      let below : length core.pending + 1 < v.limits.batch = leb-false v.limits.batch (length core.pending + 1) undue in
-      let count = length-append core.pending (r ∷ []) in
-      omega arith
-  joined_few core r (arrival.Again place) few undue = few
-  joined_few core r arrival.Waiting few undue = few
-  joined_few core r arrival.Reused few undue = few
+  module _ (most : v.limits.batch ≤ 256) where
+    joined_few : (core : Core) (r : Request) (a : Arrival) → length core.pending < 256 → fills (program_of v) v.rule v.limits core a ≡ false → length (joins core r a).pending < 256
+    joined_few core r arrival.New few undue =
+        let below : length core.pending + 1 < v.limits.batch = leb-false v.limits.batch (length core.pending + 1) undue in
+        let count = length-append core.pending (r ∷ []) in
+        omega arith
+    joined_few core r (arrival.Again place) few undue = few
+    joined_few core r arrival.Waiting few undue = few
+    joined_few core r arrival.Reused few undue = few
 
-  undue_few : (core : Core) (action : Action) → length core.pending < v.limits.batch → is_due (program_of v) v.rule v.limits core action ≡ false → length (taken core action).pending < v.limits.batch
-  undue_few core Skip few undue = few
-  undue_few core (Refuse cause) few undue = few
-  undue_few core (Ask r) few undue = joined_few core r (arrival_of core r) few undue
+    undue_few : (core : Core) (action : Action) → length core.pending < 256 → is_due (program_of v) v.rule v.limits core action ≡ false → length (taken core action).pending < 256
+    undue_few core Skip few undue = few
+    undue_few core (Refuse cause) few undue = few
+    undue_few core (Ask r) few undue = joined_few core r (arrival_of core r) few undue
 
   filled_waits : (core : Core) (r : Request) (a : Arrival) → fills (program_of v) v.rule v.limits core a ≡ true → 0 < length (joins core r a).pending
   filled_waits core r arrival.New due = let count = length-append core.pending (r ∷ []) in omega arith
@@ -151,23 +161,27 @@ module _ (v : Service) where
   due_waits core (Refuse cause) due = absurd (true≢false (sym due))
   due_waits core (Ask r) due = filled_waits core r (arrival_of core r) due
 
-  below : (n m k l b : ℕ) → n ≡ m → m < k → k ≤ l + 1 → l < b → n < b
-  below n m k l b same fewer more few = omega arith
+  -- so it is behind what was taken
+  pub taken_waits : (core next : Core) (action : Action) (due : Bool) → next ≡ taken core action → due ≡ is_due (program_of v) v.rule v.limits core action → due ≡ true → 0 < length next.pending
+  taken_waits core next action due next_is due_is is = subst (λ (c : Core). 0 < length c.pending) (sym next_is) (due_waits core action (sym due_is ∙ is))
 
-  in_range : (k l b : ℕ) → k ≤ l + 1 → l < b → b ≤ 256 → k < 2 ^ 32
-  in_range k l b more few most = omega arith
+  below : (n m k l : ℕ) → n ≡ m → m < k → k ≤ l + 1 → l < 256 → n < 256
+  below n m k l same fewer more few = omega arith
 
-  -- fewer wait behind a line than make a batch
-  pub few_behind : IsLawfulRule v.rule → v.limits.batch ≤ 256 → (core : Core) (number : ℕ) (line : Line) → length core.pending < v.limits.batch → (result : Result (Option BatchCounts) LineStop) (old new : Moment)
-      → Moves v result (move_at v (before core number) line) old new → OnOk result (length new.core.pending < v.limits.batch)
+  in_range : (k l : ℕ) → k ≤ l + 1 → l < 256 → k < 2 ^ 32
+  in_range k l more few = omega arith
+
+  -- fewer than 256 wait behind a line
+  pub few_behind : IsLawfulRule v.rule → v.limits.batch ≤ 256 → (core : Core) (number : ℕ) (line : Line) → length core.pending < 256 → (result : Result (Option BatchCounts) LineStop) (old new : Moment)
+      → Moves v result (move_at v (before core number) line) old new → OnOk result (length new.core.pending < 256)
   few_behind lawful most core number line few (Ok None) old new m =
-      subst (λ (c : Core). length c.pending < v.limits.batch) (sym m.core) (undue_few core (action_of (program_of v) line) few m.undue)
+      subst (λ (c : Core). length c.pending < 256) (sym m.core) (undue_few most core (action_of (program_of v) line) few m.undue)
   few_behind lawful most core number line few (Ok (Some counts)) old new m =
       let next = taken core (action_of (program_of v) line) in
       let more = takes_one core (action_of (program_of v) line) in
       let some = due_waits core (action_of (program_of v) line) m.due in
-      let fewer = fewer_wait (program_of v) v.rule v.limits lawful next (in_range (length next.pending) (length core.pending) v.limits.batch more few most) some in
-      below (length new.core.pending) (length (core_behind (program_of v) v.rule v.limits next).pending) (length next.pending) (length core.pending) v.limits.batch (ap (λ (c : Core). length c.pending) m.core) fewer more few
+      let fewer = fewer_wait (program_of v) v.rule v.limits lawful next (in_range (length next.pending) (length core.pending) more few) some in
+      below (length new.core.pending) (length (core_behind (program_of v) v.rule v.limits next).pending) (length next.pending) (length core.pending) (ap (λ (c : Core). length c.pending) m.core) fewer more few
   few_behind lawful most core number line few (Err stop) old new m = tt
 
 -- so it is for what an engine took

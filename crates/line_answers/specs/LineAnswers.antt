@@ -22,7 +22,7 @@ use Rattle.batch_replies.specs.declared.answering.BatchStop.{BatchStop}
 use Rattle.batch_replies.specs.declared.answering.BatchStop.TheVariants as batch
 use Rattle.batch_replies.specs.BatchAnswers.{HasPlace, IsFull, core_behind, AreCounts}
 use Rattle.line_answers.specs.declared.answering.LineStop.{LineStop}
-use Rattle.line_answers.specs.declared.answering.LineStop.TheVariants.{HistoryFull, NoMemory, WriteFault}
+use Rattle.line_answers.specs.declared.answering.LineStop.TheVariants.{HistoryFull, NoMemory, DiskFault, WriteFault}
 use Rattle.line_answers.specs.Services.{Service, program_of}
 
 -- before the line with this number, counted from 1
@@ -108,6 +108,15 @@ module _ (v : Service) where
     pub wrote : Appends old.held new.held (joined m.answer)
     pub begun : IsToldAlong (batch_on v.compiled m.core) v.parts None old.outside new.outside
 
+  -- the disk failed before the batch that is due was committed, and behind all its events
+  pub record IsUnlogged (m : Move) (old new : Moment) : Type 0 where
+    pub due : m.is_due ≡ true
+    pub place : HasPlace (program_of v) v.rule v.limits m.core
+    pub core : new.core ≡ m.core
+    pub wrote : Appends old.held new.held (joined m.answer)
+    pub events : ℕ
+    pub told : IsToldAlong (batch_on v.compiled m.core) v.parts (Some events) old.outside new.outside
+
   -- what is written at once was written in part
   pub record IsUnanswered (m : Move) (old new : Moment) : Type 0 where
     pub core : new.core ≡ m.core
@@ -129,6 +138,7 @@ module _ (v : Service) where
   Moves (Ok (Some counts)) m old new = IsCommitted m counts old new
   Moves (Err HistoryFull) m old new = FindsFull m old new
   Moves (Err NoMemory) m old new = IsUnplanned m old new
+  Moves (Err DiskFault) m old new = IsUnlogged m old new
   Moves (Err WriteFault) m old new = IsUnanswered m old new ⊎ IsUnreplied m old new
 
   -- a line was answered, or as far as it went
@@ -136,6 +146,7 @@ module _ (v : Service) where
   AnswersLine (Ok counts) s line old new = Moves (Ok counts) (move_at s line) old new
   AnswersLine (Err HistoryFull) s line old new = FindsFull (move_at s line) old new
   AnswersLine (Err NoMemory) s line old new = IsUntaken s (move_at s line) old new ⊎ IsUnplanned (move_at s line) old new
+  AnswersLine (Err DiskFault) s line old new = IsUnlogged (move_at s line) old new
   AnswersLine (Err WriteFault) s line old new = IsUnanswered (move_at s line) old new ⊎ IsUnreplied (move_at s line) old new
 
 -- where a batch was due and came to this
@@ -143,4 +154,16 @@ abbrev pub line_result : Result BatchCounts BatchStop → Result (Option BatchCo
 line_result (Ok counts) = Ok (Some counts)
 line_result (Err batch.HistoryFull) = Err HistoryFull
 line_result (Err batch.NoMemory) = Err NoMemory
+line_result (Err batch.DiskFault) = Err DiskFault
 line_result (Err batch.WriteFault) = Err WriteFault
+
+-- the disk failed, so the batch that was due isn't committed
+abbrev pub is_disk_fault : LineStop → Bool
+is_disk_fault HistoryFull = false
+is_disk_fault NoMemory = false
+is_disk_fault DiskFault = true
+is_disk_fault WriteFault = false
+
+abbrev pub disk_failed : {T : Type 0} → Result T LineStop → Bool
+disk_failed (Ok value) = false
+disk_failed (Err stop) = is_disk_fault stop

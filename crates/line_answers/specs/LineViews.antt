@@ -4,6 +4,8 @@ use Rattle.py_tree.specs.ClassRules.{PlainTable}
 use Rattle.request_history.specs.SoundHistory.{RequestFits}
 use Rattle.request_json.specs.Actions as actions
 use Rattle.request_json.specs.Actions.{Line, Ended, Left}
+use Rattle.request_json.specs.LineSpellings.{HasSpelling}
+use Rattle.storable_cores.specs.Storable.{most_bytes}
 use Rattle.line_answers.specs.declared.reading.InputLine.{InputLine}
 use Rattle.line_answers.specs.declared.reading.Action.{Action}
 use Rattle.line_answers.specs.declared.reading.Action.TheVariants.{Skip, Refuse, Ask}
@@ -31,3 +33,9 @@ abbrev pub ActionFits : List PlainTable → actions.Action → Type 0
 ActionFits tables actions.Skip = ⊤
 ActionFits tables (actions.Refuse cause) = ⊤
 ActionFits tables (actions.Ask request) = RequestFits tables request
+
+-- and has a spelling in a store
+abbrev pub ActionIsSpelt : actions.Action → Type 0
+ActionIsSpelt actions.Skip = ⊤
+ActionIsSpelt (actions.Refuse cause) = ⊤
+ActionIsSpelt (actions.Ask request) = HasSpelling most_bytes request

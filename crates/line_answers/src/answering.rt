@@ -1,7 +1,7 @@
 //! A line from its bytes to its answer: what it is answered at once is written first, and then a batch runs
 //! where one is due.
 
-ghost use Rattle.std.specs.Prelude.{◌≡◌, ◌≤◌, ◌<◌, ℕ, [], length, OnOk, OnErr, Err};
+ghost use Rattle.std.specs.Prelude.{◌≡◌, ◌≤◌, ◌<◌, ◌⊎◌, ℕ, true, [], length, IfOk, OnOk, OnErr, IsSome, Err};
 ghost use Rattle.std.specs.List.{cons_option};
 ghost use Rattle.std.specs.Io.KnownBytes.{Appends};
 ghost use Rattle.sf_outside.specs.Bytes.{AppendsPrefix};
@@ -9,10 +9,15 @@ ghost use Rattle.sf_outside.specs.Causes.{Rose, HasCause};
 ghost use Rattle.sf_outside.specs.Gains.{joined};
 ghost use Rattle.block_step.specs.CompiledViews.{IsWhole};
 ghost use Rattle.engine.specs.Cores.{CoreFits, IsSoundCore};
-ghost use Rattle.engine.specs.EngineViews.{core_of, source_of, tables_of, compiled_of, limit_of, RunsProgram};
+ghost use Rattle.engine.specs.EngineViews.{core_of, source_of, tables_of, compiled_of, limit_of, fresh_of, RunsProgram};
+ghost use Rattle.store_meaning.specs.Engines.{logged_of};
+ghost use Rattle.storable_cores.specs.Storable.{IsStorable};
+ghost use Rattle.session_store.specs.Cycles.{cycle_of};
+ghost use Rattle.session_store.specs.Endings.{KeepsWhere, next_core};
+ghost use Rattle.session_store.specs.Stores.{Keeps, EndsPast};
 ghost use Rattle.line_answers.specs.LineViews.{line_of};
 ghost use Rattle.line_answers.specs.Services.{service_of};
-ghost use Rattle.line_answers.specs.LineAnswers.{before, moment_of, Moves, AnswersLine, line_result};
+ghost use Rattle.line_answers.specs.LineAnswers.{before, moment_of, Moves, AnswersLine, disk_failed, line_result};
 
 use crate::reading::InputLine;
 use crate::taking::{Taken, take_line};
@@ -20,7 +25,8 @@ use batch_replies::{BatchCounts, BatchStop, answer_batch};
 use engine::Engine;
 use operator_graph::Watch;
 use reservations::CommitRule;
-use sf_outside::{Chooser, Failed, Sink, write_line};
+use session_store::Store;
+use sf_outside::{Chooser, Disk, Failed, Sink, write_line};
 use sf_value::Bytes;
 use std::alloc::Global;
 
@@ -41,17 +47,21 @@ pub enum LineStop {
     HistoryFull,
     /// Nothing is committed.
     NoMemory,
+    /// Nothing is committed. The store has the batch that was due or not.
+    DiskFault,
     WriteFault,
 }
 
 /// Takes a line. What it is answered at once is written, and not flushed. Where a batch is due then, it
-/// is run, committed and answered. The counts are those of the batch.
-pub fn answer_line<R: CommitRule, K: Sink, C: Chooser, W: Watch>(
+/// is run, logged where there is a store, committed and answered. The counts are those of the batch.
+pub fn answer_line<R: CommitRule, K: Sink, D: Disk, C: Chooser, W: Watch>(
     alloc: Global,
     engine: &mut Engine,
+    store: &mut Option<Store>,
     batching: &Batching,
     line: InputLine<'_>,
     out: &mut K,
+    disk: &mut D,
     rule: &R,
     chooser: &mut C,
     watch: &mut W,
@@ -61,26 +71,39 @@ pub fn answer_line<R: CommitRule, K: Sink, C: Chooser, W: Watch>(
     requires least { 1 ≤ batching.now.parts }
     requires most { batching.now.parts ≤ 64 }
     requires first { 1 ≤ line.number }
-    requires few { length (core_of engine.old).pending < batching.now.batch }
+    requires few { length (core_of engine.old).pending < 256 }
     requires fits { CoreFits (tables_of engine.old) (core_of engine.old) }
+    requires storable { IsStorable (core_of engine.old) (fresh_of engine.old) }
+    requires kept { Keeps store.old (source_of engine.old) (logged_of engine.old) (D.facts disk.old) }
     ensures answers { AnswersLine (service_of engine.old (R.choice rule.now) batching.now.batch batching.now.parts) result
         (before (core_of engine.old) line.entry.number) (line_of line.entry)
         (moment_of engine.old (K.held out.old) (C.choices chooser.old) (W.told watch.old))
         (moment_of engine.new (K.held out.new) (C.choices chooser.new) (W.told watch.new)) }
     ensures later { K.faults out.old ≤ K.faults out.new }
     ensures cause { result ≡ Err LineStop.WriteFault → Rose (K.faults out.old) (K.faults out.new) }
-    ensures few { OnOk result (length (core_of engine.new).pending < batching.now.batch) }
+    ensures few { OnOk result (length (core_of engine.new).pending < 256) }
+    ensures settled { IfOk result (λ ran. IsSome ran → fresh_of engine.new ≡ 0) }
     ensures runs { RunsProgram engine.new (compiled_of engine.old) (limit_of engine.old) }
     ensures core_fits { CoreFits (tables_of engine.old) (core_of engine.new) }
     ensures sound { IsSoundCore (source_of engine.old) (core_of engine.old) → IsSoundCore (source_of engine.old) (core_of engine.new) }
+    ensures storable { IsStorable (core_of engine.new) (fresh_of engine.new) }
+    ensures kept { KeepsWhere (disk_failed result) store.new (source_of engine.new) (logged_of engine.new)
+        (next_core (R.choice rule.now) (source_of engine.new) (core_of engine.new)) (D.facts disk.new) }
+    ensures cycle { cycle_of store.new ≡ cycle_of store.old }
+    ensures later_disk { D.faults disk.old ≤ D.faults disk.new }
+    ensures disk_cause { disk_failed result ≡ true → Rose (D.faults disk.old) (D.faults disk.new)
+        ⊎ EndsPast (R.choice rule.now) store.new (source_of engine.new) (core_of engine.new) (fresh_of engine.new) (D.facts disk.new) }
+    ensures mounts { D.mounts disk.new ≡ D.mounts disk.old }
 {
     match take_line(alloc, engine, batching.batch, line) {
         Ok(taken) => answer_taken(
             alloc,
             engine,
+            store,
             batching.parts,
             taken,
             out,
+            disk,
             rule,
             chooser,
             watch,
@@ -90,12 +113,14 @@ pub fn answer_line<R: CommitRule, K: Sink, C: Chooser, W: Watch>(
 }
 
 /// Answers a line that was taken.
-fn answer_taken<R: CommitRule, K: Sink, C: Chooser, W: Watch>(
+fn answer_taken<R: CommitRule, K: Sink, D: Disk, C: Chooser, W: Watch>(
     alloc: Global,
     engine: &mut Engine,
+    store: &mut Option<Store>,
     parts: u32,
     taken: Taken,
     out: &mut K,
+    disk: &mut D,
     rule: &R,
     chooser: &mut C,
     watch: &mut W,
@@ -103,16 +128,28 @@ fn answer_taken<R: CommitRule, K: Sink, C: Chooser, W: Watch>(
     requires whole { IsWhole (compiled_of engine.old) }
     requires least { 1 ≤ parts }
     requires most { parts ≤ 64 }
+    requires waits { taken.is_due ≡ true → 0 < length (core_of engine.old).pending }
     requires fits { CoreFits (tables_of engine.old) (core_of engine.old) }
+    requires storable { IsStorable (core_of engine.old) (fresh_of engine.old) }
+    requires kept { Keeps store.old (source_of engine.old) (logged_of engine.old) (D.facts disk.old) }
     ensures answers { (size : ℕ) → Moves (service_of engine.old (R.choice rule.now) size parts) result
         (record { answer = cons_option taken.answer []; core = core_of engine.old; is_due = taken.is_due })
         (moment_of engine.old (K.held out.old) (C.choices chooser.old) (W.told watch.old))
         (moment_of engine.new (K.held out.new) (C.choices chooser.new) (W.told watch.new)) }
     ensures later { K.faults out.old ≤ K.faults out.new }
     ensures cause { result ≡ Err LineStop.WriteFault → Rose (K.faults out.old) (K.faults out.new) }
+    ensures settled { IfOk result (λ ran. IsSome ran → fresh_of engine.new ≡ 0) }
     ensures runs { RunsProgram engine.new (compiled_of engine.old) (limit_of engine.old) }
     ensures core_fits { CoreFits (tables_of engine.old) (core_of engine.new) }
     ensures sound { IsSoundCore (source_of engine.old) (core_of engine.old) → IsSoundCore (source_of engine.old) (core_of engine.new) }
+    ensures storable { IsStorable (core_of engine.new) (fresh_of engine.new) }
+    ensures kept { KeepsWhere (disk_failed result) store.new (source_of engine.new) (logged_of engine.new)
+        (next_core (R.choice rule.now) (source_of engine.new) (core_of engine.new)) (D.facts disk.new) }
+    ensures cycle { cycle_of store.new ≡ cycle_of store.old }
+    ensures later_disk { D.faults disk.old ≤ D.faults disk.new }
+    ensures disk_cause { disk_failed result ≡ true → Rose (D.faults disk.old) (D.faults disk.new)
+        ⊎ EndsPast (R.choice rule.now) store.new (source_of engine.new) (core_of engine.new) (fresh_of engine.new) (D.facts disk.new) }
+    ensures mounts { D.mounts disk.new ≡ D.mounts disk.old }
 {
     let Taken { answer, is_due } = taken;
     if write_answer(out, answer).is_err() {
@@ -121,7 +158,7 @@ fn answer_taken<R: CommitRule, K: Sink, C: Chooser, W: Watch>(
     if !is_due {
         return Ok(None);
     }
-    line_result(answer_batch(alloc, engine, parts, rule, out, chooser, watch))
+    line_result(answer_batch(alloc, engine, store, parts, rule, out, disk, chooser, watch))
 }
 
 /// Writes what a line is answered at once.
@@ -154,6 +191,7 @@ fn line_result(ran: Result<BatchCounts, BatchStop>) -> Result<Option<BatchCounts
         Ok(counts) => Ok(Some(counts)),
         Err(BatchStop::HistoryFull) => Err(LineStop::HistoryFull),
         Err(BatchStop::NoMemory) => Err(LineStop::NoMemory),
+        Err(BatchStop::DiskFault) => Err(LineStop::DiskFault),
         Err(BatchStop::WriteFault) => Err(LineStop::WriteFault),
     }
 }

@@ -7,10 +7,13 @@ ghost use Rattle.reservations.specs.CommitRules.{Chosen};
 ghost use Rattle.request_history.specs.Repeats.{kept_in};
 ghost use Rattle.request_history.specs.SoundHistory.{RequestFits};
 ghost use Rattle.request_json.specs.Actions.{Ask, action_of};
+ghost use Rattle.request_json.specs.LineSpellings.{HasSpelling};
 ghost use Rattle.engine.specs.Cores.{CoreFits, IsSoundCore};
-ghost use Rattle.engine.specs.EngineViews.{core_of, source_of, tables_of, compiled_of, limit_of, RunsProgram};
+ghost use Rattle.engine.specs.EngineViews.{core_of, source_of, tables_of, compiled_of, limit_of, fresh_of, RunsProgram};
+ghost use Rattle.store_meaning.specs.Engines.{logged_of};
+ghost use Rattle.storable_cores.specs.Storable.{most_bytes, IsStorable};
 ghost use Rattle.batch_output.specs.BatchOutput.{kept_line, answer_on, answer, taken, is_due};
-ghost use Rattle.line_answers.specs.LineViews.{line_of, asked, ActionFits};
+ghost use Rattle.line_answers.specs.LineViews.{line_of, asked, ActionFits, ActionIsSpelt};
 ghost use Rattle.line_answers.specs.Services.{limits_of};
 ghost use Rattle.line_answers.specs.LineAnswers.{fills_behind};
 
@@ -75,6 +78,7 @@ fn ask(
 ) -> Result<Taken, AllocError>
     requires few { length (core_of engine.old).pending < 256 }
     requires fits { RequestFits (tables_of engine.old) request }
+    requires spelt { HasSpelling most_bytes request }
     ensures core { OnOk result (core_of engine.new ≡ taken (core_of engine.old) (Ask request)) }
     ensures err { OnErr result ((core_of engine.new ≡ core_of engine.old) ⊎ (core_of engine.new ≡ taken (core_of engine.old) (Ask request))) }
     ensures answer { IfOk result (λ t. cons_option t.answer [] ≡ answer (core_of engine.old) number (Ask request)) }
@@ -83,6 +87,8 @@ fn ask(
     ensures runs { RunsProgram engine.new (compiled_of engine.old) (limit_of engine.old) }
     ensures core_fits { CoreFits (tables_of engine.old) (core_of engine.old) → CoreFits (tables_of engine.old) (core_of engine.new) }
     ensures sound { IsSoundCore (source_of engine.old) (core_of engine.old) → IsSoundCore (source_of engine.old) (core_of engine.new) }
+    ensures logged { logged_of engine.new ≡ logged_of engine.old }
+    ensures storable { IsStorable (core_of engine.old) (fresh_of engine.old) → IsStorable (core_of engine.new) (fresh_of engine.new) }
 {
     let arrival = engine.arrive(alloc, request)?;
     let answer = answer_to(alloc, engine, arrival, number)?;
@@ -100,6 +106,7 @@ fn take_action(
 ) -> Result<Taken, AllocError>
     requires few { length (core_of engine.old).pending < 256 }
     requires fits { ActionFits (tables_of engine.old) (asked action) }
+    requires spelt { ActionIsSpelt (asked action) }
     ensures core { OnOk result (core_of engine.new ≡ taken (core_of engine.old) (asked action)) }
     ensures err { OnErr result ((core_of engine.new ≡ core_of engine.old) ⊎ (core_of engine.new ≡ taken (core_of engine.old) (asked action))) }
     ensures answer { IfOk result (λ t. cons_option t.answer [] ≡ answer (core_of engine.old) number (asked action)) }
@@ -108,6 +115,8 @@ fn take_action(
     ensures runs { RunsProgram engine.new (compiled_of engine.old) (limit_of engine.old) }
     ensures core_fits { CoreFits (tables_of engine.old) (core_of engine.old) → CoreFits (tables_of engine.old) (core_of engine.new) }
     ensures sound { IsSoundCore (source_of engine.old) (core_of engine.old) → IsSoundCore (source_of engine.old) (core_of engine.new) }
+    ensures logged { logged_of engine.new ≡ logged_of engine.old }
+    ensures storable { IsStorable (core_of engine.old) (fresh_of engine.old) → IsStorable (core_of engine.new) (fresh_of engine.new) }
 {
     match action {
         Action::Skip => Ok(Taken {
@@ -141,6 +150,8 @@ pub(crate) fn take_line(
     ensures runs { RunsProgram engine.new (compiled_of engine.old) (limit_of engine.old) }
     ensures core_fits { CoreFits (tables_of engine.old) (core_of engine.old) → CoreFits (tables_of engine.old) (core_of engine.new) }
     ensures sound { IsSoundCore (source_of engine.old) (core_of engine.old) → IsSoundCore (source_of engine.old) (core_of engine.new) }
+    ensures logged { logged_of engine.new ≡ logged_of engine.old }
+    ensures storable { IsStorable (core_of engine.old) (fresh_of engine.old) → IsStorable (core_of engine.new) (fresh_of engine.new) }
 {
     let action = read_action(alloc, engine.compiled().program(), line)?;
     take_action(alloc, engine, batch, action, line.number)

@@ -2,7 +2,7 @@
 #![tactic(auto)]
 
 use operator_graph::MemWatch;
-use sf_outside::{Chooser, ListChooser, MemFiles, MemSink, MemSource, Source};
+use sf_outside::{Chooser, ListChooser, MemDisk, MemFiles, MemSink, MemSource, Source};
 use stateflow_cli::stateflow;
 use std::alloc::{AllocError, Global};
 
@@ -40,12 +40,13 @@ pub fn words_of(alloc: Global, words: &[&str]) -> Result<Vec<String>, AllocError
     Ok(owned)
 }
 
-/// Makes a call with these words, where a file has this text, on an input of any kind, with whoever chooses the order of events.
-pub fn call_along<S: Source, C: Chooser>(
+/// Makes a call with these words, where a file has this text, on an input of any kind and a disk, with whoever chooses the order of events.
+fn call_with<S: Source, C: Chooser>(
     alloc: Global,
     words: &[&str],
     file: (&str, &[u8]),
     input: &mut S,
+    disk: &mut MemDisk,
     chooser: &mut C,
     faults: Faults<'_>,
 ) -> Result<Answer, AllocError> {
@@ -61,6 +62,7 @@ pub fn call_along<S: Source, C: Chooser>(
         input,
         &mut out,
         &mut err,
+        disk,
         chooser,
         &mut watch,
     );
@@ -70,6 +72,32 @@ pub fn call_along<S: Source, C: Chooser>(
         err,
         watch,
     })
+}
+
+/// Makes a call with these words, where a file has this text, on an input of any kind, with whoever chooses the order of events.
+pub fn call_along<S: Source, C: Chooser>(
+    alloc: Global,
+    words: &[&str],
+    file: (&str, &[u8]),
+    input: &mut S,
+    chooser: &mut C,
+    faults: Faults<'_>,
+) -> Result<Answer, AllocError> {
+    let mut disk = MemDisk::new(alloc, 0, 0, &[])?;
+    call_with(alloc, words, file, input, &mut disk, chooser, faults)
+}
+
+/// Makes a call with these words, where a file has this text, on an input of any kind and this disk.
+pub fn call_on<S: Source>(
+    alloc: Global,
+    words: &[&str],
+    file: (&str, &[u8]),
+    input: &mut S,
+    disk: &mut MemDisk,
+    faults: Faults<'_>,
+) -> Result<Answer, AllocError> {
+    let mut chooser = ListChooser::new(alloc, &[])?;
+    call_with(alloc, words, file, input, disk, &mut chooser, faults)
 }
 
 /// Makes a call with these words, where a file has this text, on an input of any kind.

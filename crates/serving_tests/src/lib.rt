@@ -4,8 +4,6 @@
 #[cfg(test)]
 mod arguments;
 #[cfg(test)]
-mod batches;
-#[cfg(test)]
 mod bounds;
 #[cfg(test)]
 mod counter;
@@ -26,10 +24,6 @@ mod repeats;
 #[cfg(test)]
 mod request_lines;
 #[cfg(test)]
-mod schedules;
-#[cfg(test)]
 mod shop;
 #[cfg(test)]
 mod system_files;
-#[cfg(test)]
-mod told_runs;

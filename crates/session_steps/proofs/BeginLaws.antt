@@ -14,9 +14,9 @@ use Rattle.batch_output.specs.BatchOutput.{Standing, batch_lines, lines_if}
 use Rattle.batch_replies.specs.declared.counting.BatchCounts.{BatchCounts}
 use Rattle.batch_replies.specs.BatchAnswers.{HasPlace}
 use Rattle.line_answers.specs.declared.answering.LineStop.{LineStop}
-use Rattle.line_answers.specs.declared.answering.LineStop.TheVariants.{HistoryFull, NoMemory, WriteFault}
+use Rattle.line_answers.specs.declared.answering.LineStop.TheVariants.{HistoryFull, NoMemory, DiskFault, WriteFault}
 use Rattle.line_answers.specs.Services.{Service, program_of}
-use Rattle.line_answers.specs.LineAnswers.{Move, IsUntaken, FindsFull, IsUnplanned, IsUnanswered, IsUnreplied, batch_on, whole_text}
+use Rattle.line_answers.specs.LineAnswers.{Move, IsUntaken, FindsFull, IsUnplanned, IsUnlogged, IsUnanswered, IsUnreplied, batch_on, whole_text}
 use Rattle.session_steps.specs.Steps.{Step, move_of, behind, standing_after, printed, ran_on}
 use Rattle.session_steps.specs.Traces.{trace_text}
 use Rattle.session_steps.specs.Doings.{Point, going, moment, IsUncounted, RunBatches, BeginBatches, Does, IsUntraced, StopsAt, StopsWithin, Comes}
@@ -34,6 +34,7 @@ wrote_after : (r : Result (Unit {0}) LineStop) (a b c : Option (List ℕ)) (xs y
 wrote_after (Ok value) a b c xs ys first rest = Appends-trans a b c xs ys first rest
 wrote_after (Err HistoryFull) a b c xs ys first rest = Appends-trans a b c xs ys first rest
 wrote_after (Err NoMemory) a b c xs ys first rest = prefix_after a b c xs ys first rest
+wrote_after (Err DiskFault) a b c xs ys first rest = prefix_after a b c xs ys first rest
 wrote_after (Err WriteFault) a b c xs ys first rest = prefix_after a b c xs ys first rest
 
 -- and whole lines behind whole ones
@@ -42,6 +43,7 @@ whole_after : (r : Result (Unit {0}) LineStop) (a b c : Option (List ℕ)) (xs y
 whole_after (Ok value) a b c xs ys first rest = tt
 whole_after (Err HistoryFull) a b c xs ys first rest = tt
 whole_after (Err NoMemory) a b c xs ys first rest = Wrote-after {T = Unit {0}} {U = Unit {0}} tt (Err write.NoMemory) a b c xs ys first rest
+whole_after (Err DiskFault) a b c xs ys first rest = Wrote-after {T = Unit {0}} {U = Unit {0}} tt (Err write.NoMemory) a b c xs ys first rest
 whole_after (Err WriteFault) a b c xs ys first rest = tt
 
 -- what was told of batches behind others that were run, and what was traced of them
@@ -50,12 +52,14 @@ told_after : (v : Service) (r : Result (Unit {0}) LineStop) (xs ys : List Core) 
 told_after v (Ok value) xs ys cs ds a b c first rest = Ran-then v xs ys cs ds a b c first rest
 told_after v (Err HistoryFull) xs ys cs ds a b c first rest = Ran-then v xs ys cs ds a b c first rest
 told_after v (Err NoMemory) xs ys cs ds a b c first rest = Begin-then v xs ys cs ds a b c first rest
+told_after v (Err DiskFault) xs ys cs ds a b c first rest = Begin-then v xs ys cs ds a b c first rest
 told_after v (Err WriteFault) xs ys cs ds a b c first rest = Begin-then v xs ys cs ds a b c first rest
 
 traced_after : (r : Result (Unit {0}) LineStop) (a b c : Option (List ℕ)) (xs ys : List ℕ) → Appends a b xs → TracedAs r b c ys → TracedAs r a c (xs ++ ys)
 traced_after (Ok value) a b c xs ys first rest = Appends-trans a b c xs ys first rest
 traced_after (Err HistoryFull) a b c xs ys first rest = Appends-trans a b c xs ys first rest
 traced_after (Err NoMemory) a b c xs ys first rest = Appends-trans a b c xs ys first rest
+traced_after (Err DiskFault) a b c xs ys first rest = Appends-trans a b c xs ys first rest
 traced_after (Err WriteFault) a b c xs ys first rest = prefix_after a b c xs ys first rest
 
 -- a part of the first lines is one of them all
@@ -106,6 +110,10 @@ module _ (v : Service) (traces : Bool) where
   none_traced : (p q : Point) → q.traced ≡ p.traced → Appends p.traced q.traced (trace_text traces p.tally [])
   none_traced p q same = subst (Appends p.traced q.traced) (sym (trace-nil traces p.tally))
       (subst (λ c. Appends p.traced c []) (sym same) (Appends-nil p.traced))
+
+  -- where the disk failed as much was begun as for want of memory
+  as_disk : (steps : List Step) (p q : Point) → Begun (Err NoMemory) steps p q → Begun (Err DiskFault) steps p q
+  as_disk steps p q h = record { stands = tt; wrote = h.wrote; whole = h.whole; counts = h.counts; told = h.told; traced = h.traced }
 
   -- nothing was begun
   begun_none : (steps : List Step) (p : Point) → Begun (Err NoMemory) steps p p
@@ -214,6 +222,12 @@ module _ (v : Service) (traces : Bool) where
       traced = untraced u;
     }
 
+    -- all events of its batch are some first ones
+    at_unlogged : IsUnlogged v move (moment p) (moment q) → IsUncounted p q → Begun (Err DiskFault) (step ∷ rest) p q
+    at_unlogged a u =
+        let begun = run_begins (batch_on v.compiled move.core) v.parts a.events p.outside q.outside a.told in
+        as_disk (step ∷ rest) p q (at_unplanned (record { due = a.due; place = a.place; core = a.core; wrote = a.wrote; begun = begun }) u)
+
     at_unanswered : IsUnanswered v move (moment p) (moment q) → IsUncounted p q → Begun (Err WriteFault) (step ∷ rest) p q
     at_unanswered a u = record {
       stands = tt;
@@ -255,6 +269,7 @@ module _ (v : Service) (traces : Bool) where
         by : IsUntaken (going p) move (moment p) (moment q) ⊎ IsUnplanned v move (moment p) (moment q) → Begun (Err NoMemory) (step ∷ rest) p q
         by (inl a) = at_untaken a s.1
         by (inr a) = at_unplanned a s.1
+    at_stop DiskFault s = at_unlogged s.0 s.1
     at_stop WriteFault (inl s) = by s.0
       where
         by : IsUnanswered v move (moment p) (moment q) ⊎ IsUnreplied v move (moment p) (moment q) → Begun (Err WriteFault) (step ∷ rest) p q
@@ -273,6 +288,9 @@ module _ (v : Service) (traces : Bool) where
   begins (Err NoMemory) steps p q (inl s) = within NoMemory steps p q s
   begins (Err NoMemory) steps p q (inr s) = subst (λ l. Begun (Err NoMemory) l p q) (sym s.split)
       (begun_after (Err NoMemory) s.first s.rest p q q s.did (begun_none s.rest q))
+  begins (Err DiskFault) steps p q (inl s) = within DiskFault steps p q s
+  begins (Err DiskFault) steps p q (inr s) = subst (λ l. Begun (Err DiskFault) l p q) (sym s.split)
+      (begun_after (Err DiskFault) s.first s.rest p q q s.did (as_disk s.rest q q (begun_none s.rest q)))
   begins (Err WriteFault) steps p q s = within WriteFault steps p q s
 
 pub comes_begin : ComesBegin

@@ -1,5 +1,5 @@
 -- How a session goes on from what it has come to.
-use Rattle.std.proofs.Common.{◌≡◌, inl, inr, Bool, true, false, List, [], ◌∷◌, ◌++◌, Ok, Err, IsErr, refl, sym, ap, ◌∙◌, subst, append_assoc}
+use Rattle.std.proofs.Common.{◌≡◌, inl, inr, Bool, true, false, List, [], ◌∷◌, ◌++◌, Ok, Err, IsErr, refl, sym, ap, ◌∙◌, subst, append_assoc, append-nil}
 use Rattle.std.specs.declared.result.Result.{Result}
 use Rattle.std.specs.Io.KnownBytes.{Appends}
 use Rattle.std.proofs.KnownBytes.{Appends-nil, Appends-trans}
@@ -9,7 +9,7 @@ use Rattle.operator_graph.specs.Turns.{Outside}
 use Rattle.engine.specs.Cores.{Core}
 use Rattle.batch_replies.specs.declared.counting.BatchCounts.{BatchCounts}
 use Rattle.line_answers.specs.declared.answering.LineStop.{LineStop}
-use Rattle.line_answers.specs.declared.answering.LineStop.TheVariants.{HistoryFull, NoMemory, WriteFault}
+use Rattle.line_answers.specs.declared.answering.LineStop.TheVariants.{HistoryFull, NoMemory, DiskFault, WriteFault}
 use Rattle.line_answers.specs.Services.{Service}
 use Rattle.session_steps.specs.declared.tally.Tally.{Tally}
 use Rattle.session_steps.specs.Steps.{Step, standing_after, printed, ran_on}
@@ -133,6 +133,8 @@ module _ (v : Service) (traces : Bool) where
   Comes-then (Err HistoryFull) xs ys p q z d c = Within-after HistoryFull xs ys p q z d c
   Comes-then (Err NoMemory) xs ys p q z d (inl c) = inl (Within-after NoMemory xs ys p q z d c)
   Comes-then (Err NoMemory) xs ys p q z d (inr c) = inr (Between-after xs ys p q z d c)
+  Comes-then (Err DiskFault) xs ys p q z d (inl c) = inl (Within-after DiskFault xs ys p q z d c)
+  Comes-then (Err DiskFault) xs ys p q z d (inr c) = inr (Between-after xs ys p q z d c)
   Comes-then (Err WriteFault) xs ys p q z d c = Within-after WriteFault xs ys p q z d c
 
   Within-more : (stop : LineStop) (xs ys : List Step) (p q : Point) → StopsWithin v traces stop xs p q → StopsWithin v traces stop (xs ++ ys) p q
@@ -160,6 +162,8 @@ module _ (v : Service) (traces : Bool) where
   Comes-cut (Err HistoryFull) xs ys p q stopped c = Within-more HistoryFull xs ys p q c
   Comes-cut (Err NoMemory) xs ys p q stopped (inl c) = inl (Within-more NoMemory xs ys p q c)
   Comes-cut (Err NoMemory) xs ys p q stopped (inr c) = inr (Between-more xs ys p q c)
+  Comes-cut (Err DiskFault) xs ys p q stopped (inl c) = inl (Within-more DiskFault xs ys p q c)
+  Comes-cut (Err DiskFault) xs ys p q stopped (inr c) = inr (Between-more xs ys p q c)
   Comes-cut (Err WriteFault) xs ys p q stopped c = Within-more WriteFault xs ys p q c
 
   -- a result that hands the stop of another on
@@ -167,6 +171,7 @@ module _ (v : Service) (traces : Bool) where
       → r ≡ Err stop → Comes v traces {T = V} (Err stop) steps p q → Comes v traces r steps p q
   Comes-passed V HistoryFull r steps p q is c = rw is c
   Comes-passed V NoMemory r steps p q is c = rw is c
+  Comes-passed V DiskFault r steps p q is c = rw is c
   Comes-passed V WriteFault r steps p q is c = rw is c
 
   -- a stop at a step, behind others
@@ -178,11 +183,16 @@ module _ (v : Service) (traces : Bool) where
       → Does v traces first p q → StopsAt v traces stop step q z → Comes v traces r (first ++ step ∷ rest) p z
   Comes-at r HistoryFull first rest step p q z is d s = rw is (Within-at HistoryFull first rest step p q z d s)
   Comes-at r NoMemory first rest step p q z is d s = rw is (inl (Within-at NoMemory first rest step p q z d s))
+  Comes-at r DiskFault first rest step p q z is d s = rw is (inl (Within-at DiskFault first rest step p q z d s))
   Comes-at r WriteFault first rest step p q z is d s = rw is (Within-at WriteFault first rest step p q z d s)
 
   -- before the first step memory was wanted
   pub Comes-between : {T : Type 0} (r : Result T LineStop) (steps : List Step) (p q : Point) → r ≡ Err NoMemory → q ≡ p → Comes v traces r steps p q
   Comes-between r steps p q is same = rw is (inr (record { first = []; rest = steps; split = refl; did = subst (Does v traces [] p) (sym same) (Does-none p) }))
+
+  -- behind these steps memory was wanted, or the disk failed
+  pub Between-behind : (steps : List Step) (p q : Point) → Does v traces steps p q → StopsBetween v traces steps p q
+  Between-behind steps p q d = record { first = steps; rest = []; split = sym (append-nil steps); did = d }
 
 -- the same service does the same
 pub Comes-same : {T : Type 0} (v v' : Service) (traces : Bool) (r : Result T LineStop) (steps : List Step) (p q : Point) → v' ≡ v

@@ -15,9 +15,9 @@ use Rattle.batch_replies.specs.declared.answering.BatchStop.{BatchStop}
 use Rattle.batch_replies.specs.declared.answering.BatchStop.TheVariants as batch
 use Rattle.batch_replies.specs.BatchAnswers.{Answers, TellsBatch, core_behind}
 use Rattle.line_answers.specs.declared.answering.LineStop.{LineStop}
-use Rattle.line_answers.specs.declared.answering.LineStop.TheVariants.{HistoryFull, NoMemory, WriteFault}
+use Rattle.line_answers.specs.declared.answering.LineStop.TheVariants.{HistoryFull, NoMemory, DiskFault, WriteFault}
 use Rattle.line_answers.specs.Services.{Service, program_of}
-use Rattle.line_answers.specs.LineAnswers.{before, Move, Moment, Moves, IsUntaken, FindsFull, IsUnplanned, AnswersLine, batch_on, line_result}
+use Rattle.line_answers.specs.LineAnswers.{before, Move, Moment, Moves, IsUntaken, FindsFull, IsUnplanned, IsUnlogged, AnswersLine, batch_on, line_result}
 use Rattle.line_answers.proofs.TakenLaws.{batch_moved}
 use Rattle.session_steps.specs.declared.tally.Tally.{Tally}
 use Rattle.session_steps.specs.Steps.{Step, Answer, RunWaiting, move_of}
@@ -38,33 +38,18 @@ abbrev pub Counts : Bool → Option BatchCounts → Point → Point → Type 0
 Counts traces None old new = IsUncounted old new
 Counts traces (Some counts) old new = IsCounted traces counts old new
 
--- the trace of one batch, where batches are traced and where they aren't
+-- the trace of one batch, where batches are traced
 pub trace_on : (traces : Bool) (t : Tally) (counts : BatchCounts) → traces ≡ true
     → trace_text traces t (counts ∷ []) ≡ trace_line (with_batch t counts).batches counts
 unfolding trace_lines
 trace_on true t counts on = joined_one (trace_line (with_batch t counts).batches counts)
 trace_on false t counts on = cc
 
-pub trace_off : (traces : Bool) (t : Tally) (more : List BatchCounts) → traces ≡ false → trace_text traces t more ≡ []
-trace_off true t more off = cc
-trace_off false t more off = refl
-
--- its line was written, or a part of it; or none was to be written
-pub Traced-whole : (traces : Bool) (t : Tally) (counts : BatchCounts) (a b : Option (List ℕ)) → traces ≡ true
-    → Appends a b (trace_line (with_batch t counts).batches counts) → Appends a b (trace_text traces t (counts ∷ []))
-Traced-whole traces t counts a b on whole = subst (Appends a b) (sym (trace_on traces t counts on)) whole
-
-pub Traced-part : (traces : Bool) (t : Tally) (counts : BatchCounts) (a b : Option (List ℕ)) → traces ≡ true
-    → AppendsPrefix a b (trace_line (with_batch t counts).batches counts) → AppendsPrefix a b (trace_text traces t (counts ∷ []))
-Traced-part traces t counts a b on part = subst (AppendsPrefix a b) (sym (trace_on traces t counts on)) part
-
-pub Traced-none : (traces : Bool) (t : Tally) (more : List BatchCounts) (a : Option (List ℕ)) → traces ≡ false → Appends a a (trace_text traces t more)
-Traced-none traces t more a off = subst (Appends a a) (sym (trace_off traces t more off)) (Appends-nil a)
-
 -- why a session stops where a batch did
 abbrev pub stop_of : BatchStop → LineStop
 stop_of batch.HistoryFull = HistoryFull
 stop_of batch.NoMemory = NoMemory
+stop_of batch.DiskFault = DiskFault
 stop_of batch.WriteFault = WriteFault
 
 module _ (v : Service) (traces : Bool) where
@@ -115,6 +100,7 @@ module _ (v : Service) (traces : Bool) where
       → IsUncounted old new → StopsAt v traces stop step old new
   Stops-step HistoryFull step old new a u = (a, u)
   Stops-step NoMemory step old new a u = (inr a, u)
+  Stops-step DiskFault step old new a u = (a, u)
   Stops-step WriteFault step old new a u = inl (a, u)
 
   -- its batch was committed, and the line of its trace was written in part
@@ -148,6 +134,7 @@ module _ (v : Service) (traces : Bool) where
   stops_line HistoryFull line old new a u = (a, u)
   stops_line NoMemory line old new (inl a) u = (inl a, u)
   stops_line NoMemory line old new (inr a) u = (inr a, u)
+  stops_line DiskFault line old new a u = (a, u)
   stops_line WriteFault line old new a u = inl (a, u)
 
   pub Stops-line : (stop : LineStop) (line : Line) (old new : Point)
@@ -191,6 +178,7 @@ module _ (v : Service) (traces : Bool) where
       → IsUncounted old new → StopsAt v traces (stop_of stop) RunWaiting old new
   stops_batch batch.HistoryFull old new a u = (a, u)
   stops_batch batch.NoMemory old new a u = (inr a, u)
+  stops_batch batch.DiskFault old new a u = (a, u)
   stops_batch batch.WriteFault old new a u = inl (a, u)
 
   pub Stops-batch : (stop : BatchStop) (old new : Point) → 0 < length old.core.pending
@@ -230,4 +218,5 @@ module _ (v : Service) where
   Line-as (Err HistoryFull) s line line' old new same a = subst (λ m. FindsFull v m old new) (move_as s line line' same) a
   Line-as (Err NoMemory) s line line' old new same (inl a) = inl (subst (λ m. IsUntaken s m old new) (move_as s line line' same) a)
   Line-as (Err NoMemory) s line line' old new same (inr a) = inr (subst (λ m. IsUnplanned v m old new) (move_as s line line' same) a)
+  Line-as (Err DiskFault) s line line' old new same a = subst (λ m. IsUnlogged v m old new) (move_as s line line' same) a
   Line-as (Err WriteFault) s line line' old new same a = subst (λ m. Moves v (Err WriteFault) m old new) (move_as s line line' same) a

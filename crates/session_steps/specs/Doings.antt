@@ -11,9 +11,9 @@ use Rattle.engine.specs.Cores.{Core}
 use Rattle.batch_output.specs.BatchOutput.{Standing}
 use Rattle.batch_replies.specs.declared.counting.BatchCounts.{BatchCounts}
 use Rattle.line_answers.specs.declared.answering.LineStop.{LineStop}
-use Rattle.line_answers.specs.declared.answering.LineStop.TheVariants.{HistoryFull, NoMemory, WriteFault}
+use Rattle.line_answers.specs.declared.answering.LineStop.TheVariants.{HistoryFull, NoMemory, DiskFault, WriteFault}
 use Rattle.line_answers.specs.Services.{Service}
-use Rattle.line_answers.specs.LineAnswers.{Moment, RunsBatch, Moves, IsUntaken, FindsFull, IsUnplanned, IsCommitted, batch_on}
+use Rattle.line_answers.specs.LineAnswers.{Moment, RunsBatch, Moves, IsUntaken, FindsFull, IsUnplanned, IsUnlogged, IsCommitted, batch_on}
 use Rattle.session_steps.specs.declared.tally.Tally.{Tally}
 use Rattle.session_steps.specs.Steps.{Step, move_of, standing_after, printed, ran_on}
 use Rattle.session_steps.specs.Traces.{with_batch, tally_after, trace_text}
@@ -79,6 +79,7 @@ module _ (v : Service) (traces : Bool) where
   StopsAt NoMemory step old new =
       (IsUntaken (going old) (move_of v (going old) step) (moment old) (moment new) ⊎ IsUnplanned v (move_of v (going old) step) (moment old) (moment new))
       × IsUncounted old new
+  StopsAt DiskFault step old new = IsUnlogged v (move_of v (going old) step) (moment old) (moment new) × IsUncounted old new
   StopsAt WriteFault step old new =
       (Moves v (Err WriteFault) (move_of v (going old) step) (moment old) (moment new) × IsUncounted old new) ⊎ IsUntraced step old new
 
@@ -99,9 +100,11 @@ module _ (v : Service) (traces : Bool) where
     pub split : steps ≡ first ++ rest
     pub did : Does first old new
 
-  -- What it came to. Memory may be wanted between two steps too: for more of a line of the input.
+  -- What it came to. Memory may be wanted between two steps too: for more of a line of the input, or behind a batch for a checkpoint, where the disk
+  -- may fail as well.
   abbrev pub Comes : {T : Type 0} → Result T LineStop → List Step → Point → Point → Type 0
   Comes (Ok value) steps old new = Does steps old new
   Comes (Err HistoryFull) steps old new = StopsWithin HistoryFull steps old new
   Comes (Err NoMemory) steps old new = StopsWithin NoMemory steps old new ⊎ StopsBetween steps old new
+  Comes (Err DiskFault) steps old new = StopsWithin DiskFault steps old new ⊎ StopsBetween steps old new
   Comes (Err WriteFault) steps old new = StopsWithin WriteFault steps old new

@@ -11,7 +11,7 @@ use Rattle.engine.specs.Cores.{Core}
 use Rattle.batch_output.specs.BatchOutput.{Standing, begun, after, replies, at_end, all_replies}
 use Rattle.batch_replies.specs.declared.counting.BatchCounts.{BatchCounts}
 use Rattle.line_answers.specs.declared.answering.LineStop.{LineStop}
-use Rattle.line_answers.specs.declared.answering.LineStop.TheVariants.{HistoryFull, NoMemory, WriteFault}
+use Rattle.line_answers.specs.declared.answering.LineStop.TheVariants.{HistoryFull, NoMemory, DiskFault, WriteFault}
 use Rattle.line_answers.specs.Services.{Service, program_of}
 use Rattle.session_steps.specs.Steps.{Step, answers, all_steps, standing_after, printed, ran_on}
 use Rattle.session_steps.specs.Traces.{trace_text}
@@ -35,25 +35,28 @@ StepsPrint = (v : Service) → ((s : Standing) (lines : List Line) → AnswersPr
 
 -- What a session has come to
 
--- the text of what they print was written; where it stopped for want of memory or at a write fault, a prefix of it
+-- the text of what they print was written; where it stopped for want of memory or at a fault, a prefix of it
 abbrev pub WroteAs : {T : Type 0} → Result T LineStop → Option (List ℕ) → Option (List ℕ) → List ℕ → Type 0
 WroteAs (Ok value) old new text = Appends old new text
 WroteAs (Err HistoryFull) old new text = Appends old new text
 WroteAs (Err NoMemory) old new text = AppendsPrefix old new text
+WroteAs (Err DiskFault) old new text = AppendsPrefix old new text
 WroteAs (Err WriteFault) old new text = AppendsPrefix old new text
 
--- where memory was wanted whole lines stand on its output
+-- where memory was wanted or the disk failed whole lines stand on its output
 abbrev pub WholeAs : {T : Type 0} → Result T LineStop → Option (List ℕ) → Option (List ℕ) → List (List ℕ) → Type 0
 WholeAs (Ok value) old new lines = ⊤
 WholeAs (Err HistoryFull) old new lines = ⊤
 WholeAs (Err NoMemory) old new lines = (k : ℕ) × Appends old new (joined (take k lines))
+WholeAs (Err DiskFault) old new lines = (k : ℕ) × Appends old new (joined (take k lines))
 WholeAs (Err WriteFault) old new lines = ⊤
 
--- their batches were told; where it stopped for want of memory or at a write fault, some first ones, and perhaps some events of the next
+-- their batches were told; where it stopped for want of memory or at a fault, some first ones, and perhaps some events of the next
 abbrev pub ToldAs : {T : Type 0} → Service → Result T LineStop → List Core → List BatchCounts → Outside → Outside → Type 0
 ToldAs v (Ok value) cores counts old new = RunBatches v cores counts old new
 ToldAs v (Err HistoryFull) cores counts old new = RunBatches v cores counts old new
 ToldAs v (Err NoMemory) cores counts old new = BeginBatches v cores counts old new
+ToldAs v (Err DiskFault) cores counts old new = BeginBatches v cores counts old new
 ToldAs v (Err WriteFault) cores counts old new = BeginBatches v cores counts old new
 
 -- the lines of those that were counted were traced; at a write fault perhaps a part of them
@@ -61,6 +64,7 @@ abbrev pub TracedAs : {T : Type 0} → Result T LineStop → Option (List ℕ) �
 TracedAs (Ok value) old new text = Appends old new text
 TracedAs (Err HistoryFull) old new text = Appends old new text
 TracedAs (Err NoMemory) old new text = Appends old new text
+TracedAs (Err DiskFault) old new text = Appends old new text
 TracedAs (Err WriteFault) old new text = AppendsPrefix old new text
 
 -- where it stands is where they lead; or the history is full there
@@ -68,6 +72,7 @@ abbrev pub StandsAs : {T : Type 0} → Result T LineStop → Standing → Standi
 StandsAs (Ok value) stands new = stands ≡ new
 StandsAs (Err HistoryFull) stands new = stands.is_full ≡ true
 StandsAs (Err NoMemory) stands new = ⊤
+StandsAs (Err DiskFault) stands new = ⊤
 StandsAs (Err WriteFault) stands new = ⊤
 
 -- a first part of what the steps print was printed, and of their batches some first ones were run, told, counted and traced; all of it where the

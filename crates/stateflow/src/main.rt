@@ -4,9 +4,11 @@
 use operator_graph::NoWatch;
 use stateflow_cli::{Generator, NamedFiles, Reading, Writing, stateflow};
 use std::env;
+use std::io::BufWriter;
 use std::process::ExitCode;
+use store_folder::Folder;
 
-/// The status where memory runs out before the words are read.
+/// The status where memory runs out before the words are asked for.
 const NO_MEMORY: u8 = 8;
 
 fn main(rt: HostRuntime) -> ExitCode {
@@ -18,10 +20,14 @@ fn main(rt: HostRuntime) -> ExitCode {
     let Ok(words) = words.collect::<Vec<String>>(alloc) else {
         return ExitCode::from(NO_MEMORY);
     };
+    let Ok(replies) = BufWriter::new(alloc, rt.stdout()) else {
+        return ExitCode::from(NO_MEMORY);
+    };
     let mut files = NamedFiles::new(&rt);
     let mut input = Reading::new(rt.stdin());
-    let mut out = Writing::new(rt.stdout());
+    let mut out = Writing::new(replies);
     let mut err = Writing::new(rt.stderr());
+    let mut disk = Folder::new(rt.alloc(), &rt);
     let mut chooser = Generator::new();
     let mut watch = NoWatch;
     let status = stateflow(
@@ -31,6 +37,7 @@ fn main(rt: HostRuntime) -> ExitCode {
         &mut input,
         &mut out,
         &mut err,
+        &mut disk,
         &mut chooser,
         &mut watch,
     );

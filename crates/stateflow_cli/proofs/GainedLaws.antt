@@ -1,5 +1,5 @@
 -- What the error stream gained by a line that could not be written.
-use Rattle.std.proofs.Common.{◌≡◌, ℕ, ◌≤◌, false, ◌==◌, List, [], Ok, Err, OnOk, OnErr, refl, sym, subst, arith}
+use Rattle.std.proofs.Common.{◌≡◌, ℕ, ◌≤◌, false, ◌==◌, List, Ok, Err, OnOk, OnErr, refl, subst, arith}
 use Rattle.std.proofs.KnownBytes.{Appends-kept}
 use Rattle.std.specs.declared.option.Option.{Option}
 use Rattle.std.specs.declared.result.Result.{Result}
@@ -8,7 +8,7 @@ use Rattle.sf_outside.specs.Bytes.{AppendsPrefix}
 use Rattle.sf_outside.specs.Causes.{Rose}
 use Rattle.session_steps.proofs.PieceLaws.{prefix_whole}
 use Rattle.stateflow_cli.specs.StatusLines.{write_fault_line}
-use Rattle.stateflow_cli.specs.Telling.{second_line, Told, Whole, Part}
+use Rattle.stateflow_cli.specs.Telling.{Told, Whole, Part}
 
 -- what is kept after a line was written whole is a prefix of it
 pub prefix_kept : (a b c : Option (List ℕ)) (xs : List ℕ) → Appends a b xs → Keeps b c → AppendsPrefix a c xs

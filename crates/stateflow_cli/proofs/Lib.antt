@@ -9,4 +9,7 @@ pub mod GraphTexts
 pub mod ReportEndings
 pub mod LocalEndings
 pub mod RunEndings
+pub mod StoreEndings
+pub mod ServedRuns
+pub mod GenEndings
 pub mod AnswerLaws

@@ -21,10 +21,11 @@ use Rattle.program_text.specs.Readings.{Reads, IsOf, IsAcceptedText, HasFault, h
 use Rattle.block_step.specs.CompiledViews.{compiled_program, compiled_names}
 use Rattle.block_step.specs.declared.compiled.Compiled.{Compiled}
 use Rattle.entity_compiler.specs.Compiling.{IsCompiledOf, Compiles}
+use Rattle.stateflow_cli.specs.declared.loading.CompiledText.{CompiledText}
 use Rattle.stateflow_cli.specs.declared.loading.LoadStop.{LoadStop}
 use Rattle.stateflow_cli.specs.declared.loading.LoadStop.TheVariants as stop
 use Rattle.stateflow_cli.specs.declared.printing.Counts.{Counts}
-use Rattle.stateflow_cli.specs.Loading.{MayBegin, ReadsAs, Gives, IsCounted, IsChecked, load_stop}
+use Rattle.stateflow_cli.specs.Loading.{MayBegin, ReadsAs, Gives, IsCounted, IsChecked, IsCompiledWith, load_stop}
 use Rattle.stateflow_cli.proofs.CountLaws.{classes_counted, methods_counted}
 
 pub MayBegin-none : (content : Option (List ℕ)) → MayBegin content 0 []
@@ -86,6 +87,9 @@ gives_program = gives IsChecked (λ text x is. accepted_short text (checked_prog
 
 pub gives_compiled : (content : Option (List ℕ)) (text : List ℕ) (r : Result Compiled LoadStop) → MayBegin content 1048577 text → ReadsAs IsCompiledOf text r → Gives IsCompiledOf content r
 gives_compiled = gives IsCompiledOf (λ text x is. accepted_short text (compiled_program x) (compiled_names x) is.is_accepted)
+
+pub gives_with_text : (content : Option (List ℕ)) (text : List ℕ) (r : Result CompiledText LoadStop) → MayBegin content 1048577 text → ReadsAs IsCompiledWith text r → Gives IsCompiledWith content r
+gives_with_text = gives IsCompiledWith (λ text x is. accepted_short text (compiled_program x.compiled) (compiled_names x.compiled) is.is.is_accepted)
 
 -- a file that could not be read says nothing of its text
 pub gives_none : {X : Type 0} (Is : List ℕ → X → Type 0) (content : Option (List ℕ)) (e : LoadStop) → ((f : ProgramFault) → e ≡ stop.Refused f → ⊥) → Gives Is content (Err e)

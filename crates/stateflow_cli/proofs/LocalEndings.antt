@@ -1,5 +1,5 @@
 -- How a session of the direct interpreter ends, by its status.
-use Rattle.std.proofs.Common.{◌≡◌, ℕ, ◌+◌, ◌≤◌, ◌<◌, ◌⊎◌, inl, inr, Bool, true, false, List, [], ◌∷◌, ◌++◌, length, Some, None, Ok, Err, refl, sym, ap, ◌∙◌, subst, arith}
+use Rattle.std.proofs.Common.{◌≡◌, ℕ, ◌≤◌, ◌<◌, ◌⊎◌, inl, inr, Bool, true, false, List, [], ◌∷◌, ◌++◌, length, Some, Ok, Err, refl, sym, ap, ◌∙◌, subst, arith}
 use Rattle.std.specs.Prelude.{IfSome}
 use Rattle.std.proofs.KnownBytes.{Consumes-trans}
 use Rattle.std.specs.declared.option.Option.{Option}
@@ -28,18 +28,19 @@ use Rattle.stateflow_cli.proofs.ReportEndings.{still_idle}
 use Rattle.stateflow_cli.specs.Words.{Local}
 use Rattle.stateflow_cli.specs.Devices.{Devices, Output, with_err, IsIdle}
 use Rattle.program_text.specs.Readings.{IsAcceptedText, HasFault}
-use Rattle.stateflow_cli.specs.Loading.{Holds, source_in}
+use Rattle.stateflow_cli.specs.Loading.{source_in}
 use Rattle.stateflow_cli.specs.Endings.{LocalEnds, Interprets, local_history, local_ending}
 use Rattle.stateflow_cli.specs.RunClauses.{OfProgram}
 use Rattle.stateflow_cli.specs.StatusLines.{status_of}
-use Rattle.stateflow_cli.specs.Answers.{WritesText, IsRefused, ServedRose, fills_local, InputFits, InputExceeds, InputFills, IsUndisturbed, RunsWhole}
+use Rattle.stateflow_cli.specs.Answers.{WritesText, IsRefused, ServedRose, fills_local, IsWithin, IsLonger, IsFilled, IsUndisturbed, RunsWhole}
 use Rattle.program_text.specs.declared.fault.ProgramFault.{ProgramFault}
 use Rattle.stateflow_cli.specs.declared.ending.Ending.{Ending}
-use Rattle.stateflow_cli.specs.declared.ending.Ending.TheVariants.{Misused, Refused, FileFault, NoMemory, Printed, Unprinted, Served, Stopped}
+use Rattle.stateflow_cli.specs.declared.ending.Ending.TheVariants.{Misused, Refused, FileFault, NoMemory, Printed, Unprinted, Served, Stopped, Unopened}
 
 -- no stop has a status below
 pub no_stop : (stopped : SessionFault) (n : ℕ) → n < 3 → status_of (Stopped stopped) ≡ n → ⊥
 no_stop stop.ReadFault n small s = omega (arith, small, s)
+no_stop stop.DiskFault n small s = omega (arith, small, s)
 no_stop stop.WriteFault n small s = omega (arith, small, s)
 no_stop stop.InputTooLong n small s = omega (arith, small, s)
 no_stop stop.HistoryFull n small s = omega (arith, small, s)
@@ -108,9 +109,10 @@ module _ (limit : ℕ) (before after : Devices) (behind : Output) (file : List �
   local_completes Served ends s = ends
   local_completes Printed ends s = absurd ends
   local_completes (Stopped stopped) ends s = absurd (no_stop stopped 0 (omega arith) s)
+  local_completes (Unopened stopped) ends s = absurd ends
   local_completes e ends s = absurd (omega (arith, s))
 
-  pub local_done : Interprets limit file before mid (Ok input.End) → InputFits limit (Local file) before
+  pub local_done : Interprets limit file before mid (Ok input.End) → IsWithin limit (Some (Local file)) before
   local_done i = record { holds = i.holds; is = local_fits (source_in (before.content file) i.holds) limit before.input.left after.input.left before.out.held after.out.held i.served.0 i.served.1 }
 
   pub local_writes : Interprets limit file before mid (Ok input.End) → WritesText file before after
@@ -119,46 +121,67 @@ module _ (limit : ℕ) (before after : Devices) (behind : Output) (file : List �
   pub local_refused : (e : Ending) → LocalEnds limit file before mid e → status_of e ≡ 1 → IsRefused (Some (Local file)) before × IsIdle before after
   local_refused (Refused f) ends s = ((f, ends.refused), still_idle before after behind ends.still)
   local_refused (Stopped stopped) ends s = absurd (no_stop stopped 1 (omega arith) s)
+  local_refused (Unopened stopped) ends s = absurd ends
   local_refused e ends s = absurd (omega (arith, s))
 
   pub local_misused : {P : Type 0} (e : Ending) → LocalEnds limit file before mid e → status_of e ≡ 2 → P
   local_misused Misused ends s = absurd ends
   local_misused (Stopped stopped) ends s = absurd (no_stop stopped 2 (omega arith) s)
+  local_misused (Unopened stopped) ends s = absurd ends
   local_misused e ends s = absurd (omega (arith, s))
 
   pub local_unread : (e : Ending) → LocalEnds limit file before mid e → status_of e ≡ 3 → ServedRose file before after
   local_unread FileFault ends s = inl ends.file_cause
   local_unread (Stopped stop.ReadFault) ends s = inr (ends.input_cause refl)
+  local_unread (Stopped stop.DiskFault) ends s = absurd ends
   local_unread (Stopped stop.WriteFault) ends s = absurd (omega (arith, s))
   local_unread (Stopped stop.InputTooLong) ends s = absurd (omega (arith, s))
   local_unread (Stopped stop.HistoryFull) ends s = absurd (omega (arith, s))
   local_unread (Stopped stop.NoMemory) ends s = absurd (omega (arith, s))
+  local_unread (Unopened stopped) ends s = absurd ends
   local_unread e ends s = absurd (omega (arith, s))
 
   pub local_unwritten : (e : Ending) → LocalEnds limit file before mid e → status_of e ≡ 4 → Rose before.out.faults after.out.faults
   local_unwritten Unprinted ends s = absurd ends
+  local_unwritten (Stopped stop.DiskFault) ends s = absurd ends
   local_unwritten (Stopped stop.WriteFault) ends s = ends.out_cause refl
   local_unwritten (Stopped stop.ReadFault) ends s = absurd (omega (arith, s))
   local_unwritten (Stopped stop.InputTooLong) ends s = absurd (omega (arith, s))
   local_unwritten (Stopped stop.HistoryFull) ends s = absurd (omega (arith, s))
   local_unwritten (Stopped stop.NoMemory) ends s = absurd (omega (arith, s))
+  local_unwritten (Unopened stopped) ends s = absurd ends
   local_unwritten e ends s = absurd (omega (arith, s))
 
-  pub local_long : (e : Ending) → LocalEnds limit file before mid e → status_of e ≡ 9 → InputExceeds limit (Local file) before
+  pub local_long : (e : Ending) → LocalEnds limit file before mid e → status_of e ≡ 9 → IsLonger limit (Some (Local file)) before
   local_long (Stopped stop.InputTooLong) ends s = record { holds = ends.holds; is = local_exceeds (source_in (before.content file) ends.holds) limit before.input.left after.input.left before.out.held after.out.held ends.served }
   local_long (Stopped stop.ReadFault) ends s = absurd (omega (arith, s))
+  local_long (Stopped stop.DiskFault) ends s = absurd ends
   local_long (Stopped stop.WriteFault) ends s = absurd (omega (arith, s))
   local_long (Stopped stop.HistoryFull) ends s = absurd (omega (arith, s))
   local_long (Stopped stop.NoMemory) ends s = absurd (omega (arith, s))
+  local_long (Unopened stopped) ends s = absurd ends
   local_long e ends s = absurd (omega (arith, s))
 
-  pub local_full : (e : Ending) → LocalEnds limit file before mid e → status_of e ≡ 10 → InputFills limit (Local file) before
+  pub local_full : (e : Ending) → LocalEnds limit file before mid e → status_of e ≡ 10 → IsFilled limit (Some (Local file)) before
   local_full (Stopped stop.HistoryFull) ends s = record { holds = ends.holds; is = local_fills (source_in (before.content file) ends.holds) limit before.input.left after.input.left before.out.held after.out.held ends.served }
   local_full (Stopped stop.ReadFault) ends s = absurd (omega (arith, s))
+  local_full (Stopped stop.DiskFault) ends s = absurd ends
   local_full (Stopped stop.WriteFault) ends s = absurd (omega (arith, s))
   local_full (Stopped stop.InputTooLong) ends s = absurd (omega (arith, s))
   local_full (Stopped stop.NoMemory) ends s = absurd (omega (arith, s))
+  local_full (Unopened stopped) ends s = absurd ends
   local_full e ends s = absurd (omega (arith, s))
+
+  -- it has none of the statuses of a store
+  pub local_unstored : {P : Type 0} (n : ℕ) (e : Ending) → LocalEnds limit file before mid e → status_of e ≡ n → 4 < n → n < 8 → P
+  local_unstored n (Stopped stop.ReadFault) ends s low high = absurd (omega (arith, s, low, high))
+  local_unstored n (Stopped stop.WriteFault) ends s low high = absurd (omega (arith, s, low, high))
+  local_unstored n (Stopped stop.InputTooLong) ends s low high = absurd (omega (arith, s, low, high))
+  local_unstored n (Stopped stop.HistoryFull) ends s low high = absurd (omega (arith, s, low, high))
+  local_unstored n (Stopped stop.NoMemory) ends s low high = absurd (omega (arith, s, low, high))
+  local_unstored n (Stopped stop.DiskFault) ends s low high = absurd ends
+  local_unstored n (Unopened stopped) ends s low high = absurd ends
+  local_unstored n e ends s low high = absurd (omega (arith, s, low, high))
 
   -- Whatever the ending
 
@@ -175,7 +198,9 @@ module _ (limit : ℕ) (before after : Devices) (behind : Output) (file : List �
   local_came idle served (Stopped stop.InputTooLong) ends = served (Ok input.TooLong) ends
   local_came idle served (Stopped stop.HistoryFull) ends = served (Err local.HistoryFull) ends
   local_came idle served (Stopped stop.NoMemory) ends = served (Err local.NoMemory) ends
+  local_came idle served (Stopped stop.DiskFault) ends = absurd ends
   local_came idle served (Stopped stop.WriteFault) ends = served (Err local.WriteFault) ends
+  local_came idle served (Unopened stopped) ends = absurd ends
 
   pub local_prints : (e : Ending) → LocalEnds limit file before mid e
       → Keeps before.out.held after.out.held ⊎ OfProgram file before (λ src. SerialRun src before.out.held after.out.held)
@@ -206,10 +231,12 @@ module _ (limit : ℕ) (before after : Devices) (behind : Output) (file : List �
   local_err Unprinted ends = absurd ends
   local_err Served ends = ends.err
   local_err (Stopped stop.ReadFault) ends = ends.err
+  local_err (Stopped stop.DiskFault) ends = absurd ends
   local_err (Stopped stop.WriteFault) ends = ends.err
   local_err (Stopped stop.InputTooLong) ends = ends.err
   local_err (Stopped stop.HistoryFull) ends = ends.err
   local_err (Stopped stop.NoMemory) ends = ends.err
+  local_err (Unopened stopped) ends = absurd ends
 
   pub local_untold : (e : Ending) → LocalEnds limit file before mid e → after.outside ≡ before.outside
   local_untold (Refused f) ends = ends.still.outside
@@ -220,10 +247,12 @@ module _ (limit : ℕ) (before after : Devices) (behind : Output) (file : List �
   local_untold Unprinted ends = absurd ends
   local_untold Served ends = ends.outside
   local_untold (Stopped stop.ReadFault) ends = ends.outside
+  local_untold (Stopped stop.DiskFault) ends = absurd ends
   local_untold (Stopped stop.WriteFault) ends = ends.outside
   local_untold (Stopped stop.InputTooLong) ends = ends.outside
   local_untold (Stopped stop.HistoryFull) ends = ends.outside
   local_untold (Stopped stop.NoMemory) ends = ends.outside
+  local_untold (Unopened stopped) ends = absurd ends
 
 -- what an undisturbed session ends with
 module _ (limit : ℕ) (before after : Devices) (behind : Output) (file text : List ℕ) (status : ℕ) (u : IsUndisturbed file text before after) where
@@ -237,10 +266,12 @@ module _ (limit : ℕ) (before after : Devices) (behind : Output) (file text : L
   local_accepted program names is Unprinted ends s = absurd ends
   local_accepted program names is Served ends s = inl s
   local_accepted program names is (Stopped stop.ReadFault) ends s = absurd (u.input_still (ends.input_cause refl))
+  local_accepted program names is (Stopped stop.DiskFault) ends s = absurd ends
   local_accepted program names is (Stopped stop.WriteFault) ends s = absurd (u.out_still (ends.out_cause refl))
   local_accepted program names is (Stopped stop.NoMemory) ends s = inr (inl s)
   local_accepted program names is (Stopped stop.InputTooLong) ends s = inr (inr (inl s))
   local_accepted program names is (Stopped stop.HistoryFull) ends s = inr (inr (inr s))
+  local_accepted program names is (Unopened stopped) ends s = absurd ends
 
   local_faulty : (fault : ProgramFault) → HasFault text fault
       → (e : Ending) → LocalEnds limit file before (with_err behind after) e → status ≡ status_of e → (status ≡ 1) ⊎ (status ≡ 8)
@@ -252,10 +283,12 @@ module _ (limit : ℕ) (before after : Devices) (behind : Output) (file text : L
   local_faulty fault has Unprinted ends s = absurd ends
   local_faulty fault has Served ends s = never_held (before.content file) text u.holds fault has ends.holds
   local_faulty fault has (Stopped stop.ReadFault) ends s = never_held (before.content file) text u.holds fault has ends.holds
+  local_faulty fault has (Stopped stop.DiskFault) ends s = absurd ends
   local_faulty fault has (Stopped stop.WriteFault) ends s = never_held (before.content file) text u.holds fault has ends.holds
   local_faulty fault has (Stopped stop.NoMemory) ends s = never_held (before.content file) text u.holds fault has ends.holds
   local_faulty fault has (Stopped stop.InputTooLong) ends s = never_held (before.content file) text u.holds fault has ends.holds
   local_faulty fault has (Stopped stop.HistoryFull) ends s = never_held (before.content file) text u.holds fault has ends.holds
+  local_faulty fault has (Unopened stopped) ends s = absurd ends
 
   pub locals_whole : (e : Ending) → LocalEnds limit file before (with_err behind after) e → status ≡ status_of e → RunsWhole text status
   locals_whole e ends s = record { accepted = λ program names is. local_accepted program names is e ends s; refused = λ fault has. local_faulty fault has e ends s }

@@ -16,7 +16,7 @@ use Rattle.entity_compiler.specs.Compiling.{IsCompiledOf}
 use Rattle.stateflow_cli.specs.declared.printing.Counts.{Counts}
 use Rattle.stateflow_cli.specs.CheckLine.{counts_line, IsCheckLine}
 use Rattle.stateflow_cli.specs.CompiledText.{IsCompiledText, compiled_text}
-use Rattle.stateflow_cli.specs.Devices.{Input, Output, devices, outside}
+use Rattle.stateflow_cli.specs.Devices.{Input, Output, StoreDisk, devices, outside}
 use Rattle.stateflow_cli.specs.Loading.{HoldsOne, IsCounted, Holds}
 use Rattle.stateflow_cli.specs.Endings.{Report, ReportEnds}
 use Rattle.stateflow_cli.specs.declared.ending.Ending.TheVariants.{Printed, Unprinted}
@@ -25,14 +25,14 @@ use Rattle.stateflow_cli.proofs.GraphTexts.{same_bytes}
 
 -- a report on the program that a file holds, and what was chosen and told for it
 module _ (Is : Report) (content : List ℕ → Option (List ℕ)) (file : List ℕ) (holds : Holds (content file)) (text : List ℕ) (old new : Outside) (is : Is holds.names holds.program old new text) where
-  module _ (content' : List ℕ → Option (List ℕ)) (faults faults' : List ℕ → ℕ) (input : Input) (out out' err : Output) where
+  module _ (content' : List ℕ → Option (List ℕ)) (faults faults' : List ℕ → ℕ) (input : Input) (out out' err : Output) (disk : StoreDisk) where
     -- it was written whole
-    pub prints : Appends out.held out'.held text → ReportEnds Is file (devices content faults input out err old) (devices content' faults' input out' err new) Printed
+    pub prints : Appends out.held out'.held text → ReportEnds Is file (devices content faults input out err old disk) (devices content' faults' input out' err new disk) Printed
     prints wrote = (record { holds = holds; text = text; is = is; wrote = wrote; left = Keeps-refl input.left }, refl)
 
     -- a part of it was written
     pub prints_in_part : AppendsPrefix out.held out'.held text → Rose out.faults out'.faults
-        → ReportEnds Is file (devices content faults input out err old) (devices content' faults' input out' err new) Unprinted
+        → ReportEnds Is file (devices content faults input out err old disk) (devices content' faults' input out' err new disk) Unprinted
     prints_in_part wrote rose = (record { holds = holds; text = text; is = is; wrote = wrote; left = Keeps-refl input.left; out_cause = rose }, refl)
 
 -- what was counted

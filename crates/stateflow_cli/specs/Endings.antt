@@ -5,7 +5,11 @@ use Rattle.std.specs.declared.result.Result.{Result}
 use Rattle.std.specs.Io.KnownBytes.{Appends, Keeps}
 use Rattle.sf_outside.specs.Bytes.{AppendsPrefix}
 use Rattle.sf_outside.specs.Causes.{Rose}
+use Rattle.sf_outside.specs.DiskModel.{DiskFacts}
+use Rattle.aria_batch.specs.BatchRun.{source_of}
 use Rattle.block_step.specs.declared.compiled.Compiled.{Compiled}
+use Rattle.engine.specs.Cores.{Core}
+use Rattle.store_opening.specs.declared.stop.OpenStop.{OpenStop}
 use Rattle.entity_compiler.specs.Compiling.{IsCompiledOf}
 use Rattle.session.specs.Served as session
 use Rattle.session.specs.declared.feeding.InputEnd.{InputEnd}
@@ -20,16 +24,25 @@ use Rattle.batch_session.specs.declared.serving.SessionFault.TheVariants as caus
 use Rattle.batch_run.specs.declared.running.RunSettings.{RunSettings}
 use Rattle.batch_run.specs.RunViews.{Shown}
 use Rattle.batch_run.specs.Runs.{Runs}
-use Rattle.stateflow_cli.specs.Words.{Asked, Check, Compile, Local, Run}
+use Rattle.work_gen.specs.Requests as work
+use Rattle.generated_run.specs.declared.running.GenSettings.{GenSettings}
+use Rattle.generated_run.specs.declared.running.GenStop.TheVariants as gen
+use Rattle.generated_run.specs.declared.summing.Summary.{Summary}
+use Rattle.generated_run.specs.Summaries.{summary_line}
+use Rattle.generated_run.specs.Generated.{Gives}
+use Rattle.stateflow_cli.specs.Words.{Asked, Check, Compile, Local, Run, Gen}
 use Rattle.stateflow_cli.specs.CheckLine.{IsCheckLine}
 use Rattle.stateflow_cli.specs.CompiledText.{IsCompiledText}
-use Rattle.stateflow_cli.specs.Devices.{Devices, IsIdle, IsStill}
+use Rattle.stateflow_cli.specs.Devices.{Devices, AreUnread, IsStill}
 use Rattle.stateflow_cli.specs.Loading.{Refuses, Holds, HoldsOne, source_in}
+use Rattle.stateflow_cli.specs.Starts.{IsStart}
+use Rattle.stateflow_cli.specs.StoredRuns.{KeepsIn, FailsToOpen, IsUntouched}
 use Rattle.py_tree.specs.PlainProgram.{PlainProgram}
 use Rattle.operator_graph.specs.Turns.{Outside}
 use Rattle.program_text.specs.declared.fault.ProgramFault.{ProgramFault}
+use Rattle.program_text.specs.Readings.{HasFault}
 use Rattle.stateflow_cli.specs.declared.ending.Ending.{Ending}
-use Rattle.stateflow_cli.specs.declared.ending.Ending.TheVariants.{Misused, Refused, FileFault, NoMemory, Printed, Unprinted, Served, Stopped}
+use Rattle.stateflow_cli.specs.declared.ending.Ending.TheVariants.{Misused, Refused, FileFault, NoMemory, Printed, Unprinted, Served, Stopped, Unopened}
 
 -- the most bytes of input that a call takes in, 2^40, and the most entries of the history that `local` keeps
 abbrev pub longest_input : ℕ
@@ -78,14 +91,49 @@ abbrev pub settings_for : ℕ → words.RunSettings → RunSettings
 settings_for limit s =
     record { batch = s.batch; partitions = s.partitions; schedule = s.schedule; history = s.history; limit = limit; trace = s.trace }
 
--- the file's program was compiled and run on the input
-pub record RunsFile (limit : ℕ) (file : List ℕ) (s : words.RunSettings) (before after : Devices) (result : Result Tally SessionFault) : Type 0 where
+-- the file's program was compiled and run on the input, from the core that the run began with to the last one
+pub record RunsFile (limit : ℕ) (file : List ℕ) (s : words.RunSettings) (before after : Devices) (now : DiskFacts)
+    (result : Result Tally SessionFault) : Type 0 where
   pub compiled : Compiled
   pub holds : HoldsOne (λ text. IsCompiledOf text compiled) (before.content file)
-  pub runs : Runs compiled (settings_for limit s) result (shown_of before) (shown_of after)
+  pub start : Core
+  pub is_start : IsStart s before (source_of compiled) holds.text start
+  pub last : Core
+  pub runs : Runs compiled (settings_for limit s) start last result (shown_of before) (shown_of after)
   pub input_cause : result ≡ Err ReadFault → Rose before.input.faults after.input.faults
   pub write_cause : result ≡ Err WriteFault → Rose before.out.faults after.out.faults ⊎ Rose before.err.faults after.err.faults
   pub err_later : before.err.faults ≤ after.err.faults
+  pub keeps : KeepsIn s.store s (source_of compiled) holds.text start last before.disk after.disk now result
+
+-- the work that words give
+abbrev pub work_for : words.GenSettings → GenSettings
+work_for s = record { number = s.number; size = s.size; batch = s.batch; parts = s.partitions }
+
+-- the work was made, and served by its compiled program to the end, and the line that sums it up was printed
+pub record PrintsSummary (s : words.GenSettings) (before after : Devices) : Type 0 where
+  pub summary : Summary
+  pub gives : Gives (work_for s) (Ok summary) before.outside after.outside
+  pub wrote : Appends before.out.held after.out.held (summary_line summary)
+
+-- that line was printed in part
+pub record PrintsSummaryFront (s : words.GenSettings) (before after : Devices) : Type 0 where
+  pub summary : Summary
+  pub gives : Gives (work_for s) (Ok summary) before.outside after.outside
+  pub front : AppendsPrefix before.out.held after.out.held (summary_line summary)
+
+-- memory was wanted before anything was printed
+pub record IsGivenUp (s : words.GenSettings) (before after : Devices) : Type 0 where
+  pub gives : Gives (work_for s) (Err gen.NoMemory) before.outside after.outside
+  pub out : after.out ≡ before.out
+
+-- the store in the folder that the words name wasn't opened for the file's program
+pub record IsUnopened (file : List ℕ) (s : words.RunSettings) (before after : Devices) (was now : DiskFacts) (stop : OpenStop) : Type 0 where
+  pub dir : List ℕ
+  pub named : s.store ≡ Some dir
+  pub compiled : Compiled
+  pub holds : HoldsOne (λ text. IsCompiledOf text compiled) (before.content file)
+  pub fails : FailsToOpen dir (source_of compiled) holds.text before.disk after.disk was now stop
+  pub still : IsStill before after
 
 -- the file's text has this fault
 pub record IsTurnedDown (file : List ℕ) (before after : Devices) (fault : ProgramFault) : Type 0 where
@@ -107,6 +155,7 @@ ReportEnds Is file before after Printed = Prints Is file before after × (after.
 ReportEnds Is file before after Unprinted = PrintsInPart Is file before after × (after.err ≡ before.err)
 ReportEnds Is file before after Served = ⊥
 ReportEnds Is file before after (Stopped stop) = ⊥
+ReportEnds Is file before after (Unopened stop) = ⊥
 
 -- what serves the input prints nothing of what it found of the program
 abbrev pub LocalEnds : ℕ → List ℕ → Devices → Devices → Ending → Type 0
@@ -122,16 +171,37 @@ LocalEnds limit file before after (Stopped InputTooLong) = Interprets limit file
 LocalEnds limit file before after (Stopped HistoryFull) = Interprets limit file before after (Err local.HistoryFull)
 LocalEnds limit file before after (Stopped cause.NoMemory) = Interprets limit file before after (Err local.NoMemory)
 LocalEnds limit file before after (Stopped WriteFault) = Interprets limit file before after (Err local.WriteFault)
+LocalEnds limit file before after (Stopped cause.DiskFault) = ⊥
+LocalEnds limit file before after (Unopened stop) = ⊥
 
-abbrev pub RunEnds : ℕ → List ℕ → words.RunSettings → Devices → Devices → Ending → Type 0
-RunEnds limit file s before after Misused = ⊥
-RunEnds limit file s before after (Refused fault) = IsTurnedDown file before after fault
-RunEnds limit file s before after FileFault = IsUnread file before after
-RunEnds limit file s before after NoMemory = IsStill before after
-RunEnds limit file s before after Printed = ⊥
-RunEnds limit file s before after Unprinted = ⊥
-RunEnds limit file s before after Served = (tally : Tally) × RunsFile limit file s before after (Ok tally)
-RunEnds limit file s before after (Stopped stop) = RunsFile limit file s before after (Err stop)
+abbrev pub RunEnds : ℕ → List ℕ → words.RunSettings → Devices → Devices → DiskFacts → DiskFacts → Ending → Type 0
+RunEnds limit file s before after was now Misused = ⊥
+RunEnds limit file s before after was now (Refused fault) = IsTurnedDown file before after fault × IsUntouched before.disk after.disk was now
+RunEnds limit file s before after was now FileFault = IsUnread file before after × IsUntouched before.disk after.disk was now
+RunEnds limit file s before after was now NoMemory = IsStill before after × IsUntouched before.disk after.disk was now
+RunEnds limit file s before after was now Printed = ⊥
+RunEnds limit file s before after was now Unprinted = ⊥
+RunEnds limit file s before after was now Served = (tally : Tally) × RunsFile limit file s before after now (Ok tally)
+RunEnds limit file s before after was now (Stopped stop) = RunsFile limit file s before after now (Err stop)
+RunEnds limit file s before after was now (Unopened stop) = IsUnopened file s before after was now stop
+
+-- what serves generated work prints the line that sums it up, or nothing
+abbrev pub SumsUpBy : words.GenSettings → Devices → Devices → Ending → Type 0
+SumsUpBy s before after Misused = ⊥
+SumsUpBy s before after (Refused fault) = HasFault work.program fault × IsStill before after
+SumsUpBy s before after FileFault = ⊥
+SumsUpBy s before after NoMemory = IsGivenUp s before after
+SumsUpBy s before after Printed = PrintsSummary s before after
+SumsUpBy s before after Unprinted = PrintsSummaryFront s before after × Rose before.out.faults after.out.faults
+SumsUpBy s before after Served = ⊥
+SumsUpBy s before after (Stopped stop) = ⊥
+SumsUpBy s before after (Unopened stop) = ⊥
+
+-- it reads no file and no input, and says nothing
+pub record GenEnds (s : words.GenSettings) (before after : Devices) (ending : Ending) : Type 0 where
+  pub unread : AreUnread before after
+  pub err : after.err ≡ before.err
+  pub sums : SumsUpBy s before after ending
 
 -- how a session ends the call
 abbrev pub local_ending : Result InputEnd SessionStop → Ending
@@ -146,14 +216,15 @@ abbrev pub run_ending : Result Tally SessionFault → Ending
 run_ending (Ok tally) = Served
 run_ending (Err fault) = Stopped fault
 
--- `check` and `compile` report on the program; `local` and `run` serve the input
-abbrev pub EndsOn : ℕ → Asked → Devices → Devices → Ending → Type 0
-EndsOn limit (Check file) before after ending = ReportEnds IsCheckLine file before after ending
-EndsOn limit (Compile file) before after ending = ReportEnds IsCompiledText file before after ending
-EndsOn limit (Local file) before after ending = LocalEnds limit file before after ending
-EndsOn limit (Run file settings) before after ending = RunEnds limit file settings before after ending
+-- `check` and `compile` report on the program; `local` and `run` serve the input; `gen` serves its own
+abbrev pub EndsOn : ℕ → Asked → Devices → Devices → DiskFacts → DiskFacts → Ending → Type 0
+EndsOn limit (Check file) before after was now ending = ReportEnds IsCheckLine file before after ending
+EndsOn limit (Compile file) before after was now ending = ReportEnds IsCompiledText file before after ending
+EndsOn limit (Local file) before after was now ending = LocalEnds limit file before after ending
+EndsOn limit (Run file settings) before after was now ending = RunEnds limit file settings before after was now ending
+EndsOn limit (Gen settings) before after was now ending = GenEnds settings before after ending
 
 -- where no command is asked for the words are misused, unless memory ran out as they were read; else it is done
-abbrev pub Ends : ℕ → Option Asked → Devices → Devices → Ending → Type 0
-Ends limit None before after ending = ((ending ≡ Misused) ⊎ (ending ≡ NoMemory)) × IsStill before after
-Ends limit (Some asked) before after ending = EndsOn limit asked before after ending
+abbrev pub Ends : ℕ → Option Asked → Devices → Devices → DiskFacts → DiskFacts → Ending → Type 0
+Ends limit None before after was now ending = ((ending ≡ Misused) ⊎ (ending ≡ NoMemory)) × IsStill before after
+Ends limit (Some asked) before after was now ending = EndsOn limit asked before after was now ending

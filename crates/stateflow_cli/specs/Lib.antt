@@ -4,7 +4,11 @@ pub mod CompiledText
 pub mod StatusLines
 pub mod Devices
 pub mod Loading
+pub mod Starts
+pub mod StoredRuns
 pub mod Endings
 pub mod Telling
 pub mod RunClauses
+pub mod GenClauses
+pub mod StoreClauses
 pub mod Answers

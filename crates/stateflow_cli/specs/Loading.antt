@@ -1,5 +1,6 @@
 -- From a file to its program, or to its fault.
 use Rattle.std.specs.Prelude.{ℕ, ◌≡◌, List, length, take, None, Some, Result, Ok, Err, ⊤}
+use Rattle.std.specs.Str.{chars}
 use Rattle.std.specs.declared.option.Option.{Option}
 use Rattle.py_tree.specs.declared.checked.Checked.{Checked}
 use Rattle.py_tree.specs.CheckedViews.{checked_program, checked_names}
@@ -8,6 +9,8 @@ use Rattle.program_text.specs.declared.fault.ProgramFault.{ProgramFault}
 use Rattle.program_text.specs.declared.fault.ProgramError.{ProgramError}
 use Rattle.program_text.specs.declared.fault.ProgramError.TheVariants as error
 use Rattle.program_text.specs.Readings.{IsAcceptedText, HasFault}
+use Rattle.entity_compiler.specs.Compiling.{IsCompiledOf}
+use Rattle.stateflow_cli.specs.declared.loading.CompiledText.{CompiledText}
 use Rattle.stateflow_cli.specs.declared.loading.LoadStop.{LoadStop}
 use Rattle.stateflow_cli.specs.declared.loading.LoadStop.TheVariants.{Refused, FileFault, NoMemory}
 use Rattle.stateflow_cli.specs.declared.printing.Counts.{Counts}
@@ -32,6 +35,11 @@ pub record IsCounted (text : List ℕ) (counts : Counts) : Type 0 where
 -- the program of an accepted text
 abbrev pub IsChecked : List ℕ → Checked → Type 0
 IsChecked text program = IsAcceptedText text (checked_program program) (checked_names program)
+
+-- the compiled program of an accepted text, with the text's characters
+pub record IsCompiledWith (text : List ℕ) (made : CompiledText) : Type 0 where
+  pub is : IsCompiledOf text made.compiled
+  pub characters : made.text ≡ chars text
 
 -- a text that the file may hold: its content, where that is told
 abbrev pub MayHold : Option (List ℕ) → List ℕ → Type 0

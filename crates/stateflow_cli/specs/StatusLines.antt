@@ -9,11 +9,15 @@ use Rattle.py_lexer.specs.declared.fault.LexKind.{LexKind}
 use Rattle.py_lexer.specs.declared.fault.LexKind.TheVariants as lex
 use Rattle.batch_session.specs.declared.serving.SessionFault.{SessionFault}
 use Rattle.batch_session.specs.declared.serving.SessionFault.TheVariants as stop
+use Rattle.sf_outside.specs.declared.store_disk.StoreFile.{StoreFile}
+use Rattle.sf_outside.specs.declared.store_disk.StoreFile.TheVariants.{Log0, Log1, Snap0, Snap1}
+use Rattle.store_opening.specs.declared.stop.OpenStop.{OpenStop}
+use Rattle.store_opening.specs.declared.stop.OpenStop.TheVariants as of_store
 use Rattle.program_text.specs.declared.fault.ProgramFault.{ProgramFault}
 use Rattle.program_text.specs.declared.fault.ProgramFault.TheVariants as program
 use Rattle.program_text.specs.Readings.{place_of}
 use Rattle.stateflow_cli.specs.declared.ending.Ending.{Ending}
-use Rattle.stateflow_cli.specs.declared.ending.Ending.TheVariants.{Misused, Refused, FileFault, NoMemory, Printed, Unprinted, Served, Stopped}
+use Rattle.stateflow_cli.specs.declared.ending.Ending.TheVariants.{Misused, Refused, FileFault, NoMemory, Printed, Unprinted, Served, Stopped, Unopened}
 
 abbrev pub status_of : Ending → ℕ
 status_of Misused = 2
@@ -28,6 +32,11 @@ status_of (Stopped stop.WriteFault) = 4
 status_of (Stopped stop.NoMemory) = 8
 status_of (Stopped stop.InputTooLong) = 9
 status_of (Stopped stop.HistoryFull) = 10
+status_of (Stopped stop.DiskFault) = 5
+status_of (Unopened of_store.DiskFault) = 5
+status_of (Unopened (of_store.Bad file at)) = 6
+status_of (Unopened of_store.OtherProgram) = 7
+status_of (Unopened of_store.NoMemory) = 8
 
 abbrev pub usage_line : List ℕ
 usage_line = codes "usage: stateflow check FILE | compile FILE | local FILE | run FILE [options] | gen [options]\n"
@@ -101,12 +110,35 @@ too_long_line = codes "stateflow: input too long\n"
 abbrev pub history_full_line : List ℕ
 history_full_line = codes "stateflow: history full\n"
 
+abbrev pub disk_fault_line : List ℕ
+disk_fault_line = codes "stateflow: disk fault\n"
+
+abbrev pub other_program_line : List ℕ
+other_program_line = codes "stateflow: the store holds another program\n"
+
+abbrev pub file_name : StoreFile → List ℕ
+file_name Log0 = codes "log0"
+file_name Log1 = codes "log1"
+file_name Snap0 = codes "snap0"
+file_name Snap1 = codes "snap1"
+
+-- `stateflow: bad store: NAME at PLACE`
+abbrev pub bad_store_line : List ℕ → List ℕ → List ℕ
+bad_store_line name place = concat (codes "stateflow: bad store: " ∷ name ∷ codes " at " ∷ place ∷ codes "\n" ∷ [])
+
+abbrev pub open_line : OpenStop → List ℕ
+open_line of_store.DiskFault = disk_fault_line
+open_line (of_store.Bad file at) = bad_store_line (file_name file) (decimal at)
+open_line of_store.OtherProgram = other_program_line
+open_line of_store.NoMemory = no_memory_line
+
 abbrev pub stop_line : SessionFault → List ℕ
 stop_line stop.ReadFault = read_fault_line
 stop_line stop.WriteFault = write_fault_line
 stop_line stop.NoMemory = no_memory_line
 stop_line stop.InputTooLong = too_long_line
 stop_line stop.HistoryFull = history_full_line
+stop_line stop.DiskFault = disk_fault_line
 
 -- what is said of a call on this file; nothing where it did what was asked
 abbrev pub line_of : List ℕ → Ending → List ℕ
@@ -118,3 +150,4 @@ line_of file Printed = []
 line_of file Unprinted = write_fault_line
 line_of file Served = []
 line_of file (Stopped fault) = stop_line fault
+line_of file (Unopened stop) = open_line stop

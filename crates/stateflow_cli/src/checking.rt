@@ -2,7 +2,7 @@
 
 ghost use Rattle.operator_graph.specs.Turns.{Outside};
 ghost use Rattle.stateflow_cli.specs.CheckLine.{IsCheckLine};
-ghost use Rattle.stateflow_cli.specs.Devices.{Input, Output, devices, sink};
+ghost use Rattle.stateflow_cli.specs.Devices.{StoreDisk, Input, Output, devices, sink};
 ghost use Rattle.stateflow_cli.specs.Endings.{ReportEnds};
 
 use crate::ending::Ending;
@@ -19,9 +19,9 @@ pub(crate) fn check_file<F: Files, K: Sink>(
     files: &mut F,
     out: &mut K,
 ) -> Ending
-    ensures { (input : Input) (err : Output) (outside : Outside) → ReportEnds IsCheckLine file.now
-        (devices (F.content files.old) (F.faults files.old) input (sink (K.held out.old) (K.faults out.old)) err outside)
-        (devices (F.content files.new) (F.faults files.new) input (sink (K.held out.new) (K.faults out.new)) err outside)
+    ensures { (input : Input) (err : Output) (outside : Outside) (disk : StoreDisk) → ReportEnds IsCheckLine file.now
+        (devices (F.content files.old) (F.faults files.old) input (sink (K.held out.old) (K.faults out.old)) err outside disk)
+        (devices (F.content files.new) (F.faults files.new) input (sink (K.held out.new) (K.faults out.new)) err outside disk)
         result }
 {
     let counts = match count(alloc, files, file) {

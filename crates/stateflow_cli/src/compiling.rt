@@ -1,17 +1,20 @@
 //! Compiling a file's program.
 
-ghost use Rattle.std.specs.Prelude.{◌≡◌, IfOk, OnOk, OnErr, Option};
+ghost use Rattle.std.specs.Prelude.{◌≡◌, IfOk, OnOk, OnErr, Option, [], ◌∷◌};
 ghost use Rattle.std.specs.Io.KnownBytes.{Appends};
 ghost use Rattle.std.specs.Str.{chars};
 ghost use Rattle.sf_outside.specs.Bytes.{AppendsPrefix};
 ghost use Rattle.sf_outside.specs.Causes.{HasCause};
+ghost use Rattle.block_code.specs.GraphViews.{graph_tables, graph_blocks};
+ghost use Rattle.operator_graph.specs.Telling.{AlsoTold, GraphTold};
 ghost use Rattle.stateflow_cli.specs.CompiledText.{IsCompiledText, compiled_text};
 ghost use Rattle.sf_outside.specs.Choices.{Choices};
-ghost use Rattle.stateflow_cli.specs.Devices.{Input, Output, devices, sink, outside};
+ghost use Rattle.stateflow_cli.specs.Devices.{StoreDisk, Input, Output, devices, sink, outside};
 ghost use Rattle.stateflow_cli.specs.Endings.{ReportEnds};
 
 use crate::ending::Ending;
 use crate::loading::{LoadStop, load_compiled};
+use block_code::Graph;
 use entity_compiler::Compiled;
 use operator_graph::Watch;
 use sf_outside::{Failed, Files, Sink};
@@ -23,6 +26,13 @@ fn text_of(alloc: Global, compiled: &Compiled) -> Result<Text, AllocError>
     ensures { IfOk result (λ text. text ≡ chars (compiled_text compiled.now)) }
 {
     compiled.graph().text(alloc, compiled.program().names())
+}
+
+/// Tells a graph to the watch.
+fn tell_graph<W: Watch>(watch: &mut W, graph: &Graph)
+    ensures { AlsoTold (W.told watch.old) (W.told watch.new) (GraphTold (graph_tables graph.now) (graph_blocks graph.now) ∷ []) }
+{
+    watch.graph(graph);
 }
 
 /// Writes a text, and flushes it.
@@ -44,9 +54,9 @@ pub(crate) fn compile_file<F: Files, K: Sink, W: Watch>(
     out: &mut K,
     watch: &mut W,
 ) -> Ending
-    ensures { (input : Input) (err : Output) (choices : Option Choices) → ReportEnds IsCompiledText file.now
-        (devices (F.content files.old) (F.faults files.old) input (sink (K.held out.old) (K.faults out.old)) err (outside choices (W.told watch.old)))
-        (devices (F.content files.new) (F.faults files.new) input (sink (K.held out.new) (K.faults out.new)) err (outside choices (W.told watch.new)))
+    ensures { (input : Input) (err : Output) (choices : Option Choices) (disk : StoreDisk) → ReportEnds IsCompiledText file.now
+        (devices (F.content files.old) (F.faults files.old) input (sink (K.held out.old) (K.faults out.old)) err (outside choices (W.told watch.old)) disk)
+        (devices (F.content files.new) (F.faults files.new) input (sink (K.held out.new) (K.faults out.new)) err (outside choices (W.told watch.new)) disk)
         result }
 {
     let compiled = match load_compiled(alloc, files, file) {
@@ -58,7 +68,7 @@ pub(crate) fn compile_file<F: Files, K: Sink, W: Watch>(
     let Ok(text) = text_of(alloc, &compiled) else {
         return Ending::NoMemory;
     };
-    watch.graph(compiled.graph());
+    tell_graph(watch, compiled.graph());
     drop(compiled);
     match print_text(out, text.as_str().as_bytes()) {
         Ok(()) => Ending::Printed,

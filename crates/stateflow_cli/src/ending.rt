@@ -5,6 +5,7 @@ ghost use Rattle.stateflow_cli.specs.StatusLines.{status_of};
 
 use batch_run::SessionFault;
 use program_text::ProgramFault;
+use store_opening::OpenStop;
 
 #[derive(Clone, Copy, PartialEq, Eq, Debug)]
 pub enum Ending {
@@ -24,6 +25,8 @@ pub enum Ending {
     Served,
     /// The program served the input until this stop.
     Stopped(SessionFault),
+    /// The store that is named wasn't opened.
+    Unopened(OpenStop),
 }
 
 impl Ending {
@@ -36,7 +39,12 @@ impl Ending {
             Ending::Misused => 2,
             Ending::FileFault | Ending::Stopped(SessionFault::ReadFault) => 3,
             Ending::Unprinted | Ending::Stopped(SessionFault::WriteFault) => 4,
-            Ending::NoMemory | Ending::Stopped(SessionFault::NoMemory) => 8,
+            Ending::Stopped(SessionFault::DiskFault) | Ending::Unopened(OpenStop::DiskFault) => 5,
+            Ending::Unopened(OpenStop::Bad { .. }) => 6,
+            Ending::Unopened(OpenStop::OtherProgram) => 7,
+            Ending::NoMemory
+            | Ending::Stopped(SessionFault::NoMemory)
+            | Ending::Unopened(OpenStop::NoMemory) => 8,
             Ending::Stopped(SessionFault::InputTooLong) => 9,
             Ending::Stopped(SessionFault::HistoryFull) => 10,
         }

@@ -5,6 +5,7 @@ mod checking;
 mod compiling;
 mod ending;
 mod fault;
+mod generating;
 mod generator;
 mod loading;
 mod printing;

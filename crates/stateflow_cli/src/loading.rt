@@ -1,9 +1,10 @@
 //! From a file to its program, or to its fault.
 
-ghost use Rattle.std.specs.Prelude.{◌≡◌, ◌≤◌, ◌<◌, min, IfOk, Err};
+ghost use Rattle.std.specs.Prelude.{◌≡◌, ◌≤◌, ◌<◌, min, IfOk, Err, IsUtf8};
+ghost use Rattle.std.specs.Str.{chars};
 ghost use Rattle.sf_outside.specs.Causes.{Rose};
 ghost use Rattle.entity_compiler.specs.Compiling.{IsCompiledOf};
-ghost use Rattle.stateflow_cli.specs.Loading.{MayBegin, ReadsAs, Gives, IsCounted, IsChecked};
+ghost use Rattle.stateflow_cli.specs.Loading.{MayBegin, ReadsAs, Gives, IsCounted, IsChecked, IsCompiledWith};
 ghost use Rattle.program_text.specs.declared.fault.ProgramFault.{ProgramFault as AFault};
 
 use crate::printing::Counts;
@@ -11,6 +12,7 @@ use entity_compiler::{Compiled, compile};
 use program_text::{ProgramError, ProgramFault, accept};
 use py_tree::Checked;
 use sf_outside::{Failed, Files};
+use sf_value::Text;
 use std::alloc::{AllocError, Global};
 
 /// How many bytes of a file one read may take.
@@ -121,6 +123,35 @@ fn read_compiled(alloc: Global, text: &[u8]) -> Result<Compiled, LoadStop>
     Ok(compiled)
 }
 
+/// A program that was compiled, with its text.
+#[derive(Drop)]
+pub(crate) struct CompiledText {
+    pub(crate) compiled: Compiled,
+    pub(crate) text: Text,
+}
+
+/// A text's characters.
+fn copy_text(alloc: Global, text: &[u8]) -> Result<Text, AllocError>
+    requires { IsUtf8 text.now }
+    ensures { IfOk result (λ made. made ≡ chars text.now) }
+{
+    Text::of(alloc, std::str::from_utf8(text).unwrap())
+}
+
+/// The compiled program of a text that is accepted, with the text.
+fn read_with_text(alloc: Global, text: &[u8]) -> Result<CompiledText, LoadStop>
+    ensures { ReadsAs IsCompiledWith text.now result }
+{
+    let compiled = read_compiled(alloc, text)?;
+    match copy_text(alloc, text) {
+        Ok(text) => Ok(CompiledText { compiled, text }),
+        Err(_) => {
+            drop(compiled);
+            Err(LoadStop::NoMemory)
+        }
+    }
+}
+
 /// Reads what there is to count in a file's program.
 pub(crate) fn count<F: Files>(alloc: Global, files: &mut F, name: &str) -> Result<Counts, LoadStop>
     ensures gives { Gives IsCounted (F.content files.old name.now) result }
@@ -150,4 +181,17 @@ pub(crate) fn load_compiled<F: Files>(
 {
     let text = read_first(alloc, LONGEST_READ, files, name)?;
     read_compiled(alloc, text.as_slice())
+}
+
+/// Reads a file's program, and compiles it. Its text comes with it.
+pub(crate) fn load_with_text<F: Files>(
+    alloc: Global,
+    files: &mut F,
+    name: &str,
+) -> Result<CompiledText, LoadStop>
+    ensures gives { Gives IsCompiledWith (F.content files.old name.now) result }
+    ensures cause { result ≡ Err LoadStop.FileFault → Rose (F.faults files.old name.now) (F.faults files.new name.now) }
+{
+    let text = read_first(alloc, LONGEST_READ, files, name)?;
+    read_with_text(alloc, text.as_slice())
 }

@@ -2,7 +2,7 @@
 
 ghost use Rattle.std.specs.Prelude.{◌≡◌};
 ghost use Rattle.operator_graph.specs.Turns.{Outside};
-ghost use Rattle.stateflow_cli.specs.Devices.{Output, devices, source, sink};
+ghost use Rattle.stateflow_cli.specs.Devices.{StoreDisk, Output, devices, source, sink};
 ghost use Rattle.stateflow_cli.specs.Endings.{LocalEnds, longest_input, local_ending};
 
 use crate::ending::Ending;
@@ -41,9 +41,11 @@ pub(crate) fn interpret_file<F: Files, S: Source, K: Sink>(
     input: &mut S,
     out: &mut K,
 ) -> Ending
-    ensures { (err : Output) (outside : Outside) → LocalEnds longest_input file.now
-        (devices (F.content files.old) (F.faults files.old) (source (S.left input.old) (S.faults input.old)) (sink (K.held out.old) (K.faults out.old)) err outside)
-        (devices (F.content files.new) (F.faults files.new) (source (S.left input.new) (S.faults input.new)) (sink (K.held out.new) (K.faults out.new)) err outside)
+    ensures { (err : Output) (outside : Outside) (disk : StoreDisk) → LocalEnds longest_input file.now
+        (devices (F.content files.old) (F.faults files.old) (source (S.left input.old) (S.faults input.old)) (sink (K.held out.old) (K.faults out.old)) err outside
+        disk)
+        (devices (F.content files.new) (F.faults files.new) (source (S.left input.new) (S.faults input.new)) (sink (K.held out.new) (K.faults out.new)) err outside
+        disk)
         result }
 {
     let program = match load(alloc, files, file) {

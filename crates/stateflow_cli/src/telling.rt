@@ -1,10 +1,10 @@
 //! Telling an ending: its line, written without memory, and its status.
 
-ghost use Rattle.std.specs.Prelude.{◌≡◌, ◌≤◌, OnOk, OnErr};
+ghost use Rattle.std.specs.Prelude.{◌≡◌, ◌≤◌, OnOk, OnErr, decimal};
 ghost use Rattle.std.specs.Io.KnownBytes.{Appends};
 ghost use Rattle.sf_outside.specs.Bytes.{AppendsPrefix};
 ghost use Rattle.sf_outside.specs.Causes.{HasCause};
-ghost use Rattle.stateflow_cli.specs.StatusLines.{status_of, line_of, stop_line, placed_line, fault_line};
+ghost use Rattle.stateflow_cli.specs.StatusLines.{status_of, line_of, stop_line, placed_line, fault_line, file_name, bad_store_line, open_line};
 ghost use Rattle.stateflow_cli.specs.Telling.{Told};
 
 use crate::ending::Ending;
@@ -13,7 +13,8 @@ use batch_run::SessionFault;
 use itoa::Buffer;
 use program_text::ProgramFault;
 use session_steps::write_pieces;
-use sf_outside::{Failed, Sink};
+use sf_outside::{Failed, Sink, StoreFile};
+use store_opening::OpenStop;
 
 /// The status where an output can't be written.
 const WRITE_FAULT: u8 = 4;
@@ -30,6 +31,10 @@ const NO_MEMORY_LINE: &[u8] = b"stateflow: out of memory\n";
 const TOO_LONG_LINE: &[u8] = b"stateflow: input too long\n";
 
 const HISTORY_FULL_LINE: &[u8] = b"stateflow: history full\n";
+
+const DISK_FAULT_LINE: &[u8] = b"stateflow: disk fault\n";
+
+const OTHER_PROGRAM_LINE: &[u8] = b"stateflow: the store holds another program\n";
 
 /// Says what a file's fault is, where the digits of its line and column are given.
 fn say_placed<E: Sink>(
@@ -87,6 +92,53 @@ fn say_stop<E: Sink>(err: &mut E, stop: SessionFault) -> Result<(), Failed>
         SessionFault::InputTooLong => err.write(TOO_LONG_LINE),
         SessionFault::HistoryFull => err.write(HISTORY_FULL_LINE),
         SessionFault::NoMemory => err.write(NO_MEMORY_LINE),
+        SessionFault::DiskFault => err.write(DISK_FAULT_LINE),
+    }
+}
+
+/// The name of a file of a store.
+fn name_of_file(file: StoreFile) -> &'static [u8]
+    ensures { result.now ≡ file_name file }
+{
+    match file {
+        StoreFile::Log0 => b"log0",
+        StoreFile::Log1 => b"log1",
+        StoreFile::Snap0 => b"snap0",
+        StoreFile::Snap1 => b"snap1",
+    }
+}
+
+/// Says where a store is bad, where the digits of the place are given.
+fn say_bad_file<E: Sink>(err: &mut E, file: &[u8], place: &[u8]) -> Result<(), Failed>
+    ensures whole { OnOk result (Appends (E.held err.old) (E.held err.new) (bad_store_line file.now place.now)) }
+    ensures part { OnErr result (AppendsPrefix (E.held err.old) (E.held err.new) (bad_store_line file.now place.now)) }
+    ensures cause { HasCause (E.faults err.old) (E.faults err.new) result }
+{
+    write_pieces(
+        err,
+        &[b"stateflow: bad store: ", file, b" at ", place, b"\n"],
+    )
+}
+
+fn say_bad_store<E: Sink>(err: &mut E, file: StoreFile, at: u64) -> Result<(), Failed>
+    ensures whole { OnOk result (Appends (E.held err.old) (E.held err.new) (bad_store_line (file_name file) (decimal at))) }
+    ensures part { OnErr result (AppendsPrefix (E.held err.old) (E.held err.new) (bad_store_line (file_name file) (decimal at))) }
+    ensures cause { HasCause (E.faults err.old) (E.faults err.new) result }
+{
+    let mut place = Buffer::new();
+    say_bad_file(err, name_of_file(file), place.format(at).as_bytes())
+}
+
+fn say_unopened<E: Sink>(err: &mut E, stop: OpenStop) -> Result<(), Failed>
+    ensures whole { OnOk result (Appends (E.held err.old) (E.held err.new) (open_line stop)) }
+    ensures part { OnErr result (AppendsPrefix (E.held err.old) (E.held err.new) (open_line stop)) }
+    ensures cause { HasCause (E.faults err.old) (E.faults err.new) result }
+{
+    match stop {
+        OpenStop::DiskFault => err.write(DISK_FAULT_LINE),
+        OpenStop::Bad { file, at } => say_bad_store(err, file, at),
+        OpenStop::OtherProgram => err.write(OTHER_PROGRAM_LINE),
+        OpenStop::NoMemory => err.write(NO_MEMORY_LINE),
     }
 }
 
@@ -104,6 +156,7 @@ fn say<E: Sink>(err: &mut E, file: &str, ending: Ending) -> Result<(), Failed>
         Ending::Unprinted => err.write(WRITE_FAULT_LINE),
         Ending::Served => Ok(()),
         Ending::Stopped(stop) => say_stop(err, stop),
+        Ending::Unopened(stop) => say_unopened(err, stop),
     }
 }
 

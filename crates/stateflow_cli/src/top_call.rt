@@ -1,8 +1,10 @@
 //! The top call.
 
-ghost use Rattle.std.specs.Prelude.{◌≡◌, map, string_bytes};
-ghost use Rattle.stateflow_cli.specs.Words.{asked, asked_by, IsInRange};
-ghost use Rattle.stateflow_cli.specs.Devices.{devices, source, sink, outside};
+ghost use Rattle.std.specs.Prelude.{◌≡◌, None, Some, map, string_bytes};
+ghost use Rattle.command_words.specs.CommandReading.{asked};
+ghost use Rattle.command_words.specs.Commands.{asked_by};
+ghost use Rattle.stateflow_cli.specs.Words.{IsInRange};
+ghost use Rattle.stateflow_cli.specs.Devices.{devices, source, sink, outside, store_disk};
 ghost use Rattle.stateflow_cli.specs.Endings.{EndsOn, longest_input};
 ghost use Rattle.stateflow_cli.specs.Answers.{
   Answers,
@@ -11,6 +13,7 @@ ghost use Rattle.stateflow_cli.specs.Answers.{
   CompilesText,
   GivesText,
   RunsText,
+  SumsText,
   PrintsSerially,
   TakesInput,
   TellsEvents,
@@ -18,69 +21,81 @@ ghost use Rattle.stateflow_cli.specs.Answers.{
   HasCauses,
   IsComplete,
 };
+ghost use Rattle.stateflow_cli.specs.StoreClauses.{StoreEnds, store_in};
 
 use crate::checking::check_file;
 use crate::compiling::compile_file;
 use crate::ending::Ending;
+use crate::generating::serve_generated;
 use crate::running::interpret_file;
 use crate::serving::run_file;
 use crate::telling::tell;
-use crate::words::{Command, command_of};
-use command_words::WordsError;
+use crate::words::{command_of, program_name};
+use command_words::{Command, WordsError};
 use operator_graph::Watch;
-use sf_outside::{Chooser, Files, Sink, Source};
+use sf_outside::{Chooser, Disk, Files, Sink, Source};
 use std::alloc::Global;
 
 /// Does what is asked.
-fn perform<F: Files, S: Source, K: Sink, E: Sink, C: Chooser, W: Watch>(
+fn perform<F: Files, S: Source, K: Sink, E: Sink, D: Disk, C: Chooser, W: Watch>(
     alloc: Global,
     command: Command<'_>,
     files: &mut F,
     input: &mut S,
     out: &mut K,
     err: &mut E,
+    disk: &mut D,
     chooser: &mut C,
     watch: &mut W,
 ) -> Ending
-    requires { IsInRange (asked_by command) }
-    ensures { EndsOn longest_input (asked_by command.entry)
+    requires in_range { IsInRange (asked_by command) }
+    ensures ends { EndsOn longest_input (asked_by command.entry)
         (devices (F.content files.old) (F.faults files.old) (source (S.left input.old) (S.faults input.old)) (sink (K.held out.old) (K.faults out.old))
-        (sink (E.held err.old) (E.faults err.old)) (outside (C.choices chooser.old) (W.told watch.old)))
+        (sink (E.held err.old) (E.faults err.old)) (outside (C.choices chooser.old) (W.told watch.old))
+        (store_disk (D.found disk.old) (D.faults disk.old) (D.mounts disk.old)))
         (devices (F.content files.new) (F.faults files.new) (source (S.left input.new) (S.faults input.new)) (sink (K.held out.new) (K.faults out.new))
-        (sink (E.held err.new) (E.faults err.new)) (outside (C.choices chooser.new) (W.told watch.new)))
-        result }
+        (sink (E.held err.new) (E.faults err.new)) (outside (C.choices chooser.new) (W.told watch.new))
+        (store_disk (D.found disk.new) (D.faults disk.new) (D.mounts disk.new)))
+        (D.facts disk.old) (D.facts disk.new) result }
+    ensures untouched { store_in (Some (asked_by command.entry)) ≡ None → disk.new ≡ disk.old }
 {
     match command {
-        Command::Check(file) => check_file(alloc, file, files, out),
-        Command::Compile(file) => compile_file(alloc, file, files, out, watch),
-        Command::Local(file) => interpret_file(alloc, file, files, input, out),
-        Command::Run(file, words) => run_file(
-            alloc, file, words, files, input, out, err, chooser, watch,
+        Command::Check { file } => check_file(alloc, file, files, out),
+        Command::Compile { file } => compile_file(alloc, file, files, out, watch),
+        Command::Local { file } => interpret_file(alloc, file, files, input, out),
+        Command::Run { file, settings } => run_file(
+            alloc, file, settings, files, input, out, err, disk, chooser, watch,
         ),
+        Command::Gen(words) => serve_generated(alloc, words, out, chooser, watch),
     }
 }
 
 /// Does what the words ask for, and tells how it ended.
-fn run_words<F: Files, S: Source, K: Sink, E: Sink, C: Chooser, W: Watch>(
+fn run_words<F: Files, S: Source, K: Sink, E: Sink, D: Disk, C: Chooser, W: Watch>(
     alloc: Global,
     words: &[String],
     files: &mut F,
     input: &mut S,
     out: &mut K,
     err: &mut E,
+    disk: &mut D,
     chooser: &mut C,
     watch: &mut W,
 ) -> u8
     ensures answers { Answers longest_input (asked (map string_bytes words.now))
         (devices (F.content files.old) (F.faults files.old) (source (S.left input.old) (S.faults input.old)) (sink (K.held out.old) (K.faults out.old))
-        (sink (E.held err.old) (E.faults err.old)) (outside (C.choices chooser.old) (W.told watch.old)))
+        (sink (E.held err.old) (E.faults err.old)) (outside (C.choices chooser.old) (W.told watch.old))
+        (store_disk (D.found disk.old) (D.faults disk.old) (D.mounts disk.old)))
         (devices (F.content files.new) (F.faults files.new) (source (S.left input.new) (S.faults input.new)) (sink (K.held out.new) (K.faults out.new))
-        (sink (E.held err.new) (E.faults err.new)) (outside (C.choices chooser.new) (W.told watch.new))) result }
+        (sink (E.held err.new) (E.faults err.new)) (outside (C.choices chooser.new) (W.told watch.new))
+        (store_disk (D.found disk.new) (D.faults disk.new) (D.mounts disk.new)))
+        (D.facts disk.old) (D.facts disk.new) result }
+    ensures untouched { store_in (asked (map string_bytes words.now)) ≡ None → disk.new ≡ disk.old }
 {
     match command_of(alloc, words) {
         Ok(command) => {
-            let ending = perform(alloc, command, files, input, out, err, chooser, watch);
-            tell(err, command.file(), ending)
+            let ending = perform(alloc, command, files, input, out, err, disk, chooser, watch);
+            tell(err, program_name(&command), ending)
         }
         Err(WordsError::Usage) => tell(err, "", Ending::Misused),
         Err(WordsError::NoMemory) => tell(err, "", Ending::NoMemory),
@@ -89,77 +104,121 @@ fn run_words<F: Files, S: Source, K: Sink, E: Sink, C: Chooser, W: Watch>(
 
 /// StateFlow: `check FILE` checks the program in FILE; `compile FILE` prints its graph, and tells it to the watch; `local FILE` runs
 /// the request lines of `input` on it, each request at once; `run FILE` runs them in batches, along what is chosen, and tells the watch
-/// the graph and its events.
-pub fn stateflow<F: Files, S: Source, K: Sink, E: Sink, C: Chooser, W: Watch>(
+/// the graph and its events: without a store from nothing committed on, and else from the core of the store in the folder that is named,
+/// which keeps what is committed; `gen` does so with a program and requests that it makes, and prints one line that sums up what came of it.
+pub fn stateflow<F: Files, S: Source, K: Sink, E: Sink, D: Disk, C: Chooser, W: Watch>(
     alloc: Global,
     words: &[String],
     files: &mut F,
     input: &mut S,
     out: &mut K,
     err: &mut E,
+    disk: &mut D,
     chooser: &mut C,
     watch: &mut W,
 ) -> u8
     ensures answers { Answers longest_input (asked (map string_bytes words.now))
         (devices (F.content files.old) (F.faults files.old) (source (S.left input.old) (S.faults input.old)) (sink (K.held out.old) (K.faults out.old))
-        (sink (E.held err.old) (E.faults err.old)) (outside (C.choices chooser.old) (W.told watch.old)))
+        (sink (E.held err.old) (E.faults err.old)) (outside (C.choices chooser.old) (W.told watch.old))
+        (store_disk (D.found disk.old) (D.faults disk.old) (D.mounts disk.old)))
         (devices (F.content files.new) (F.faults files.new) (source (S.left input.new) (S.faults input.new)) (sink (K.held out.new) (K.faults out.new))
-        (sink (E.held err.new) (E.faults err.new)) (outside (C.choices chooser.new) (W.told watch.new))) result }
+        (sink (E.held err.new) (E.faults err.new)) (outside (C.choices chooser.new) (W.told watch.new))
+        (store_disk (D.found disk.new) (D.faults disk.new) (D.mounts disk.new)))
+        (D.facts disk.old) (D.facts disk.new) result }
     ensures text { result ≡ 0 → Completes longest_input (asked (map string_bytes words.now))
         (devices (F.content files.old) (F.faults files.old) (source (S.left input.old) (S.faults input.old)) (sink (K.held out.old) (K.faults out.old))
-        (sink (E.held err.old) (E.faults err.old)) (outside (C.choices chooser.old) (W.told watch.old)))
+        (sink (E.held err.old) (E.faults err.old)) (outside (C.choices chooser.old) (W.told watch.old))
+        (store_disk (D.found disk.old) (D.faults disk.old) (D.mounts disk.old)))
         (devices (F.content files.new) (F.faults files.new) (source (S.left input.new) (S.faults input.new)) (sink (K.held out.new) (K.faults out.new))
-        (sink (E.held err.new) (E.faults err.new)) (outside (C.choices chooser.new) (W.told watch.new))) }
+        (sink (E.held err.new) (E.faults err.new)) (outside (C.choices chooser.new) (W.told watch.new))
+        (store_disk (D.found disk.new) (D.faults disk.new) (D.mounts disk.new))) }
     ensures check_text { ChecksText (asked (map string_bytes words.now))
         (devices (F.content files.old) (F.faults files.old) (source (S.left input.old) (S.faults input.old)) (sink (K.held out.old) (K.faults out.old))
-        (sink (E.held err.old) (E.faults err.old)) (outside (C.choices chooser.old) (W.told watch.old)))
+        (sink (E.held err.old) (E.faults err.old)) (outside (C.choices chooser.old) (W.told watch.old))
+        (store_disk (D.found disk.old) (D.faults disk.old) (D.mounts disk.old)))
         (devices (F.content files.new) (F.faults files.new) (source (S.left input.new) (S.faults input.new)) (sink (K.held out.new) (K.faults out.new))
-        (sink (E.held err.new) (E.faults err.new)) (outside (C.choices chooser.new) (W.told watch.new))) result }
+        (sink (E.held err.new) (E.faults err.new)) (outside (C.choices chooser.new) (W.told watch.new))
+        (store_disk (D.found disk.new) (D.faults disk.new) (D.mounts disk.new))) result }
     ensures compile_text { CompilesText (asked (map string_bytes words.now))
         (devices (F.content files.old) (F.faults files.old) (source (S.left input.old) (S.faults input.old)) (sink (K.held out.old) (K.faults out.old))
-        (sink (E.held err.old) (E.faults err.old)) (outside (C.choices chooser.old) (W.told watch.old)))
+        (sink (E.held err.old) (E.faults err.old)) (outside (C.choices chooser.old) (W.told watch.old))
+        (store_disk (D.found disk.old) (D.faults disk.old) (D.mounts disk.old)))
         (devices (F.content files.new) (F.faults files.new) (source (S.left input.new) (S.faults input.new)) (sink (K.held out.new) (K.faults out.new))
-        (sink (E.held err.new) (E.faults err.new)) (outside (C.choices chooser.new) (W.told watch.new))) result }
+        (sink (E.held err.new) (E.faults err.new)) (outside (C.choices chooser.new) (W.told watch.new))
+        (store_disk (D.found disk.new) (D.faults disk.new) (D.mounts disk.new))) result }
     ensures local_text { result ≡ 0 → GivesText (asked (map string_bytes words.now))
         (devices (F.content files.old) (F.faults files.old) (source (S.left input.old) (S.faults input.old)) (sink (K.held out.old) (K.faults out.old))
-        (sink (E.held err.old) (E.faults err.old)) (outside (C.choices chooser.old) (W.told watch.old)))
+        (sink (E.held err.old) (E.faults err.old)) (outside (C.choices chooser.old) (W.told watch.old))
+        (store_disk (D.found disk.old) (D.faults disk.old) (D.mounts disk.old)))
         (devices (F.content files.new) (F.faults files.new) (source (S.left input.new) (S.faults input.new)) (sink (K.held out.new) (K.faults out.new))
-        (sink (E.held err.new) (E.faults err.new)) (outside (C.choices chooser.new) (W.told watch.new))) }
+        (sink (E.held err.new) (E.faults err.new)) (outside (C.choices chooser.new) (W.told watch.new))
+        (store_disk (D.found disk.new) (D.faults disk.new) (D.mounts disk.new))) }
     ensures run_text { RunsText longest_input (asked (map string_bytes words.now))
         (devices (F.content files.old) (F.faults files.old) (source (S.left input.old) (S.faults input.old)) (sink (K.held out.old) (K.faults out.old))
-        (sink (E.held err.old) (E.faults err.old)) (outside (C.choices chooser.old) (W.told watch.old)))
+        (sink (E.held err.old) (E.faults err.old)) (outside (C.choices chooser.old) (W.told watch.old))
+        (store_disk (D.found disk.old) (D.faults disk.old) (D.mounts disk.old)))
         (devices (F.content files.new) (F.faults files.new) (source (S.left input.new) (S.faults input.new)) (sink (K.held out.new) (K.faults out.new))
-        (sink (E.held err.new) (E.faults err.new)) (outside (C.choices chooser.new) (W.told watch.new))) result }
+        (sink (E.held err.new) (E.faults err.new)) (outside (C.choices chooser.new) (W.told watch.new))
+        (store_disk (D.found disk.new) (D.faults disk.new) (D.mounts disk.new))) result }
+    ensures gen_text { SumsText (asked (map string_bytes words.now))
+        (devices (F.content files.old) (F.faults files.old) (source (S.left input.old) (S.faults input.old)) (sink (K.held out.old) (K.faults out.old))
+        (sink (E.held err.old) (E.faults err.old)) (outside (C.choices chooser.old) (W.told watch.old))
+        (store_disk (D.found disk.old) (D.faults disk.old) (D.mounts disk.old)))
+        (devices (F.content files.new) (F.faults files.new) (source (S.left input.new) (S.faults input.new)) (sink (K.held out.new) (K.faults out.new))
+        (sink (E.held err.new) (E.faults err.new)) (outside (C.choices chooser.new) (W.told watch.new))
+        (store_disk (D.found disk.new) (D.faults disk.new) (D.mounts disk.new))) result }
     ensures serial { PrintsSerially (asked (map string_bytes words.now))
         (devices (F.content files.old) (F.faults files.old) (source (S.left input.old) (S.faults input.old)) (sink (K.held out.old) (K.faults out.old))
-        (sink (E.held err.old) (E.faults err.old)) (outside (C.choices chooser.old) (W.told watch.old)))
+        (sink (E.held err.old) (E.faults err.old)) (outside (C.choices chooser.old) (W.told watch.old))
+        (store_disk (D.found disk.old) (D.faults disk.old) (D.mounts disk.old)))
         (devices (F.content files.new) (F.faults files.new) (source (S.left input.new) (S.faults input.new)) (sink (K.held out.new) (K.faults out.new))
-        (sink (E.held err.new) (E.faults err.new)) (outside (C.choices chooser.new) (W.told watch.new))) }
+        (sink (E.held err.new) (E.faults err.new)) (outside (C.choices chooser.new) (W.told watch.new))
+        (store_disk (D.found disk.new) (D.faults disk.new) (D.mounts disk.new))) }
     ensures taken { TakesInput longest_input (asked (map string_bytes words.now))
         (devices (F.content files.old) (F.faults files.old) (source (S.left input.old) (S.faults input.old)) (sink (K.held out.old) (K.faults out.old))
-        (sink (E.held err.old) (E.faults err.old)) (outside (C.choices chooser.old) (W.told watch.old)))
+        (sink (E.held err.old) (E.faults err.old)) (outside (C.choices chooser.old) (W.told watch.old))
+        (store_disk (D.found disk.old) (D.faults disk.old) (D.mounts disk.old)))
         (devices (F.content files.new) (F.faults files.new) (source (S.left input.new) (S.faults input.new)) (sink (K.held out.new) (K.faults out.new))
-        (sink (E.held err.new) (E.faults err.new)) (outside (C.choices chooser.new) (W.told watch.new))) }
+        (sink (E.held err.new) (E.faults err.new)) (outside (C.choices chooser.new) (W.told watch.new))
+        (store_disk (D.found disk.new) (D.faults disk.new) (D.mounts disk.new))) }
     ensures events { TellsEvents longest_input (asked (map string_bytes words.now))
         (devices (F.content files.old) (F.faults files.old) (source (S.left input.old) (S.faults input.old)) (sink (K.held out.old) (K.faults out.old))
-        (sink (E.held err.old) (E.faults err.old)) (outside (C.choices chooser.old) (W.told watch.old)))
+        (sink (E.held err.old) (E.faults err.old)) (outside (C.choices chooser.old) (W.told watch.old))
+        (store_disk (D.found disk.old) (D.faults disk.old) (D.mounts disk.old)))
         (devices (F.content files.new) (F.faults files.new) (source (S.left input.new) (S.faults input.new)) (sink (K.held out.new) (K.faults out.new))
-        (sink (E.held err.new) (E.faults err.new)) (outside (C.choices chooser.new) (W.told watch.new))) result }
+        (sink (E.held err.new) (E.faults err.new)) (outside (C.choices chooser.new) (W.told watch.new))
+        (store_disk (D.found disk.new) (D.faults disk.new) (D.mounts disk.new))) result }
     ensures trace { TellsLines longest_input (asked (map string_bytes words.now))
         (devices (F.content files.old) (F.faults files.old) (source (S.left input.old) (S.faults input.old)) (sink (K.held out.old) (K.faults out.old))
-        (sink (E.held err.old) (E.faults err.old)) (outside (C.choices chooser.old) (W.told watch.old)))
+        (sink (E.held err.old) (E.faults err.old)) (outside (C.choices chooser.old) (W.told watch.old))
+        (store_disk (D.found disk.old) (D.faults disk.old) (D.mounts disk.old)))
         (devices (F.content files.new) (F.faults files.new) (source (S.left input.new) (S.faults input.new)) (sink (K.held out.new) (K.faults out.new))
-        (sink (E.held err.new) (E.faults err.new)) (outside (C.choices chooser.new) (W.told watch.new))) result }
+        (sink (E.held err.new) (E.faults err.new)) (outside (C.choices chooser.new) (W.told watch.new))
+        (store_disk (D.found disk.new) (D.faults disk.new) (D.mounts disk.new))) result }
     ensures causes { HasCauses longest_input (asked (map string_bytes words.now))
         (devices (F.content files.old) (F.faults files.old) (source (S.left input.old) (S.faults input.old)) (sink (K.held out.old) (K.faults out.old))
-        (sink (E.held err.old) (E.faults err.old)) (outside (C.choices chooser.old) (W.told watch.old)))
+        (sink (E.held err.old) (E.faults err.old)) (outside (C.choices chooser.old) (W.told watch.old))
+        (store_disk (D.found disk.old) (D.faults disk.old) (D.mounts disk.old)))
         (devices (F.content files.new) (F.faults files.new) (source (S.left input.new) (S.faults input.new)) (sink (K.held out.new) (K.faults out.new))
-        (sink (E.held err.new) (E.faults err.new)) (outside (C.choices chooser.new) (W.told watch.new))) result }
+        (sink (E.held err.new) (E.faults err.new)) (outside (C.choices chooser.new) (W.told watch.new))
+        (store_disk (D.found disk.new) (D.faults disk.new) (D.mounts disk.new)))
+        (D.facts disk.new) result }
     ensures complete { IsComplete (asked (map string_bytes words.now))
         (devices (F.content files.old) (F.faults files.old) (source (S.left input.old) (S.faults input.old)) (sink (K.held out.old) (K.faults out.old))
-        (sink (E.held err.old) (E.faults err.old)) (outside (C.choices chooser.old) (W.told watch.old)))
+        (sink (E.held err.old) (E.faults err.old)) (outside (C.choices chooser.old) (W.told watch.old))
+        (store_disk (D.found disk.old) (D.faults disk.old) (D.mounts disk.old)))
         (devices (F.content files.new) (F.faults files.new) (source (S.left input.new) (S.faults input.new)) (sink (K.held out.new) (K.faults out.new))
-        (sink (E.held err.new) (E.faults err.new)) (outside (C.choices chooser.new) (W.told watch.new))) result }
+        (sink (E.held err.new) (E.faults err.new)) (outside (C.choices chooser.new) (W.told watch.new))
+        (store_disk (D.found disk.new) (D.faults disk.new) (D.mounts disk.new))) result }
+    ensures store { StoreEnds longest_input (asked (map string_bytes words.now))
+        (devices (F.content files.old) (F.faults files.old) (source (S.left input.old) (S.faults input.old)) (sink (K.held out.old) (K.faults out.old))
+        (sink (E.held err.old) (E.faults err.old)) (outside (C.choices chooser.old) (W.told watch.old))
+        (store_disk (D.found disk.old) (D.faults disk.old) (D.mounts disk.old)))
+        (devices (F.content files.new) (F.faults files.new) (source (S.left input.new) (S.faults input.new)) (sink (K.held out.new) (K.faults out.new))
+        (sink (E.held err.new) (E.faults err.new)) (outside (C.choices chooser.new) (W.told watch.new))
+        (store_disk (D.found disk.new) (D.faults disk.new) (D.mounts disk.new)))
+        (D.facts disk.old) (D.facts disk.new) result }
+    ensures untouched { store_in (asked (map string_bytes words.now)) ≡ None → disk.new ≡ disk.old }
 {
-    run_words(alloc, words, files, input, out, err, chooser, watch)
+    run_words(alloc, words, files, input, out, err, disk, chooser, watch)
 }

@@ -1,16 +1,14 @@
 //! The bytes of values, requests, outcomes, batches and snapshots.
 
-use crate::hexes::bytes_of;
 use crate::kept::BATCH;
 use sf_bytes::{
     read_batch, read_outcome, read_request, read_snapshot, read_value, write_batch, write_outcome,
     write_request, write_snapshot, write_value,
 };
-use sf_value::{Act, BatchRecord};
 use std::alloc::{AllocError, Global};
 use std::test::Fail;
 use test_support::rows;
-use value_texts::{outcome_told, value_told, values_told};
+use value_texts::{act_told, batch_told, bytes_of, outcome_told, value_told};
 
 /// That bytes are read as this, and whether these are the bytes behind it, and it is written so again.
 fn reading(
@@ -38,25 +36,6 @@ fn value_of(alloc: Global, bytes: &[u8]) -> Result<String, AllocError> {
     reading(alloc, bytes, told?.as_str(), written?.as_slice(), taken)
 }
 
-/// What a request asks for.
-fn act_told(alloc: Global, act: &Act) -> Result<String, AllocError> {
-    match act {
-        Act::Call {
-            class,
-            key,
-            method,
-            args,
-        } => {
-            let args = values_told(alloc, args.as_slice())?;
-            format!(in alloc; "{class}:{}.{method}({args})", key.as_str())
-        }
-        Act::New { class, args } => {
-            let args = values_told(alloc, args.as_slice())?;
-            format!(in alloc; "new {class}({args})")
-        }
-    }
-}
-
 /// The request that bytes begin with.
 fn request_of(alloc: Global, bytes: &[u8]) -> Result<String, AllocError> {
     let Some((item, taken)) = read_request(alloc, bytes)? else {
@@ -77,19 +56,6 @@ fn outcome_of(alloc: Global, bytes: &[u8]) -> Result<String, AllocError> {
     let written = write_outcome(alloc, &item);
     drop(item);
     reading(alloc, bytes, told?.as_str(), written?.as_slice(), taken)
-}
-
-/// The new requests of a batch, and the places that it commits.
-fn batch_told(alloc: Global, batch: &BatchRecord) -> Result<String, AllocError> {
-    let mut told = String::new(alloc);
-    for request in batch.news.as_slice() {
-        let act = act_told(alloc, &request.act)?;
-        told.push_str(request.id.as_str())?;
-        told.push_str(": ")?;
-        told.push_str(act.as_str())?;
-        told.push_str(", ")?;
-    }
-    format!(in alloc; "{told}commits {:?}", batch.committed.as_slice())
 }
 
 /// The batch that bytes begin with.

@@ -3,13 +3,13 @@
 ghost use Rattle.sf_outside.specs.DiskModel.{Image};
 ghost use Rattle.snapshot_store.specs.SlotFile.{IsNew};
 
-use crate::hexes::bytes_of;
 use crate::kept::{NO_PROGRAM, PROGRAM_A, content, keep, keep_first, new_disk, put};
 use sf_outside::{Disk, StoreFile};
 use snapshot_store::{SnapFault, newest};
 use std::alloc::{AllocError, Global};
 use std::test::Fail;
 use test_support::rows;
+use value_texts::bytes_of;
 
 /// The epoch of the newest snapshot, or none where there is none.
 fn newest_epoch<D: Disk>(alloc: Global, disk: &mut D) -> Result<Option<u64>, SnapFault> {

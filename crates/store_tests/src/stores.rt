@@ -1,6 +1,5 @@
 //! A store that is found again, on a disk in memory.
 
-use crate::hexes::bytes_of;
 use crate::kept::{NO_PROGRAM, RECORD, failing_disk, keep_and_add, keep_first, new_disk, put};
 use recovery::{OpenFault, Opened, reopen};
 use sf_outside::{MemDisk, StoreFile};
@@ -8,6 +7,7 @@ use snapshot_store::SnapFault;
 use std::alloc::{AllocError, Global};
 use std::test::Fail;
 use test_support::rows;
+use value_texts::bytes_of;
 
 /// That a store is new, or its epoch, how many batches it has and from where, and where the log ends.
 fn opened_told(alloc: Global, opened: &Opened) -> Result<String, AllocError> {

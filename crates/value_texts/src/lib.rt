@@ -1,7 +1,14 @@
-//! Values, failures and outcomes as short texts, for the crates of tests.
+//! Values, outcomes, requests, batches and snapshots as short texts, and bytes out of texts, for the crates of tests.
 #![tactic(auto)]
 
+mod hexes;
+mod requests;
+mod snapshots;
+
+pub use hexes::bytes_of;
+pub use requests::{act_told, batch_told, request_told};
 use sf_value::{Failure, Outcome, Ref, Text, Value};
+pub use snapshots::{entries_told, outcomes_told, records_told, requests_told, snapshot_told};
 use std::alloc::{AllocError, Global};
 
 /// A text of this many bytes or more is told by their number.

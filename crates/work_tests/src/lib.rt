@@ -4,6 +4,8 @@
 #[cfg(test)]
 mod bank;
 #[cfg(test)]
+mod calls;
+#[cfg(test)]
 mod generated;
 #[cfg(test)]
 mod runs;

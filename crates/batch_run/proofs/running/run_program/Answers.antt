@@ -1,42 +1,37 @@
-use Rattle.std.proofs.Common.{refl, ap, ◌∙◌, subst}
-use Rattle.block_step.specs.declared.compiled.Compiled.{Compiled}
-use Rattle.block_step.specs.CompiledViews.{compiled_tables, compiled_blocks}
-use Rattle.operator_graph.specs.Turns.{Outside}
+use Rattle.std.proofs.Common.{refl}
+use Rattle.sf_outside.specs.DiskModel.{untold}
 use Rattle.reservations.specs.BatchRule.{batch_rule}
-use Rattle.engine.specs.EngineViews.{core_of}
-use Rattle.line_answers.specs.Services.{service_of}
-use Rattle.batch_session.specs.declared.settings.Settings.{Settings}
-use Rattle.batch_session.specs.Served.{View, Served}
-use Rattle.batch_run.specs.RunEvents.{Starts}
-use Rattle.batch_run.proofs.GraphLaws.{graph_told}
-use Rattle.batch_run.proofs.RunLaws.{unbegun, runs_so}
+use Rattle.engine.specs.Cores.{empty_core}
+use Rattle.engine.specs.EngineViews.{core_of, source_of, compiled_of, fresh_of}
+use Rattle.batch_session.specs.Faults.{disk_failed}
+use Rattle.batch_run.specs.RunViews.{shown}
+use Rattle.storable_cores.proofs.Engines.{empty_storable}
+use Rattle.session_store.proofs.NoStore.{never_failed}
+use Rattle.batch_run.proofs.RunLaws.{unbegun, runs_from}
 use Rattle.batch_run.proofs.running.run_program.Goals as goal
 
 pub returns-in_default-clause-runs : goal.returns-in_default-clause-runs
-returns-in_default-clause-runs g c = unbegun c.args.compiled c.args.settings.now c.requires.serves.few _ refl _
+returns-in_default-clause-runs g c = (empty_core, unbegun c.args.compiled c.args.settings.now _ refl empty_core _)
+
+pub run_opened-ended-requires-clause-storable : goal.run_opened-ended-requires-clause-storable
+run_opened-ended-requires-clause-storable g c =
+    let e = c.in-Ok.engine in empty_storable e c.in-Ok.ensures.core c.in-Ok.ensures.fresh
 
 pub returns-clause-runs : goal.returns-clause-runs
 returns-clause-runs g c =
     let e = c.in-Ok.engine in
-    let same = c.compiled.ensures ∙ c.in-Ok.ensures.runs.compiled_is in
-    let left = g.S.Source.left c.args.input.now in
-    let held = g.K.Sink.held c.args.out.now in
-    let said = g.E.Sink.held c.args.err.now in
-    let before : Outside = record { choices = g.C.Chooser.choices c.args.chooser.now; told = g.W.Watch.told c.args.watch.now } in
-    let started : Outside = record { choices = g.C.Chooser.choices c.start.new.self; told = g.W.Watch.told c.graph-2.new.self } in
-    let after : Outside = record { choices = g.C.Chooser.choices c.serve.new.chooser; told = g.W.Watch.told c.serve.new.watch } in
-    let old : View = record { core = core_of e; left = left; held = held; traced = said; outside = started } in
-    let new : View = record {
-      core = core_of c.serve.new.engine;
-      left = g.S.Source.left c.serve.new.input;
-      held = g.K.Sink.held c.serve.new.out;
-      traced = g.E.Sink.held c.serve.new.err;
-      outside = after;
-    } in
-    let starts : Starts c.args.compiled c.args.settings.now before started = record {
-      begins = c.start.ensures;
-      told = graph_told before.told started.told _ _ _ _
-          (c.graph.ensures.tables ∙ ap (λ (k : Compiled). compiled_tables k) same) (c.graph.ensures.blocks ∙ ap (λ (k : Compiled). compiled_blocks k) same) c.graph-2.ensures;
-    } in
-    runs_so c.args.compiled c.args.settings.now c.requires.serves.few c.serve.result e c.in-Ok.ensures.runs c.in-Ok.ensures.core left held said before started new starts
-    (subst (λ (t : Settings). Served (service_of e batch_rule t.batch t.parts) t.trace t.limit c.serve.result old new) c.session.ensures c.serve.ensures.served)
+    let last = core_of c.run_opened-ended.new.engine in (
+      last,
+      runs_from c.args.compiled (compiled_of e) c.args.settings.now empty_core (core_of e) last c.run_opened-ended.result
+          (shown (g.S.Source.left c.args.input.now) (g.K.Sink.held c.args.out.now) (g.E.Sink.held c.args.err.now) (g.C.Chooser.choices c.args.chooser.now)
+          (g.W.Watch.told c.args.watch.now))
+          (shown (g.S.Source.left c.run_opened-ended.new.input) (g.K.Sink.held c.run_opened-ended.new.out) (g.E.Sink.held c.run_opened-ended.new.err)
+          (g.C.Chooser.choices c.run_opened-ended.new.chooser) (g.W.Watch.told c.run_opened-ended.new.watch))
+          c.in-Ok.ensures.runs.compiled_is c.in-Ok.ensures.core c.run_opened-ended.ensures.runs,
+    )
+
+pub returns-clause-no_disk : goal.returns-clause-no_disk
+returns-clause-no_disk g c =
+    let e = c.run_opened-ended.new.engine in
+    never_failed batch_rule c.run_opened-ended.new.store (source_of e) (core_of e) (fresh_of e) untold (disk_failed c.run_opened-ended.result) c.run_opened-ended.ensures.settings
+    c.run_opened-ended.ensures.disk_cause

@@ -8,7 +8,7 @@ use Rattle.session_steps.proofs.Leaves.{Comes-one, Stops-batch}
 use Rattle.session_steps.proofs.Endings.{fewer_behind}
 use Rattle.batch_session.specs.Points.{point_of}
 use Rattle.batch_session.proofs.RunLaws.{same_stop, on_ok}
-use Rattle.batch_session.proofs.ReportLaws.{Batch-reported}
+use Rattle.batch_session.proofs.ReportLaws.{Batch-ended}
 use Rattle.batch_session.proofs.ending.run_batch.Goals as goal
 
 pub returns-in-Ok-clause-runs_one : goal.returns-in-Ok-clause-runs_one
@@ -18,20 +18,13 @@ returns-in-Ok-clause-runs_one g c = λ lines.
     let v : Service = service_of e (g.R.CommitRule.choice c.args.rule.now) size c.args.settings.now.parts in
     let old : Point = point_of e lines c.args.tally.now (g.K.Sink.held c.args.out.now) (g.E.Sink.held c.args.err.now) (g.C.Chooser.choices c.args.chooser.now) (g.W.Watch.told c.args.watch.now) in
     let ran = c.answer_batch.new in
-    let new : Point = point_of ran.engine lines c.report.new.tally (g.K.Sink.held ran.out) (g.E.Sink.held c.report.new.err) (g.C.Chooser.choices ran.chooser) (g.W.Watch.told ran.watch) in
-    let said = c.report.ensures in
-    Batch-reported v c.args.settings.now.trace c.in-Ok.counts c.report.result old new refl c.requires.some (c.in-Ok.ensures.answers size) c.in-Ok.ensures.told
-    (record { tally = said.counted; whole = said.whole; part = said.part; stop = said.stop })
+    let new : Point = point_of ran.engine lines c.end_batch.new.tally (g.K.Sink.held ran.out) (g.E.Sink.held c.end_batch.new.err) (g.C.Chooser.choices ran.chooser) (g.W.Watch.told ran.watch) in
+    let said = c.end_batch.ensures in
+    Batch-ended v c.args.settings.now.trace c.in-Ok.counts c.end_batch.result old new refl c.requires.some (c.in-Ok.ensures.answers size) c.in-Ok.ensures.told
+    (record { tally = said.counted; traced = said.traced; placed = said.placed })
 
 pub returns-in-Ok-clause-fewer : goal.returns-in-Ok-clause-fewer
-returns-in-Ok-clause-fewer g c =
-    let e = c.args.engine.now in
-    let size = c.args.settings.now.batch in
-    let v : Service = service_of e (g.R.CommitRule.choice c.args.rule.now) size c.args.settings.now.parts in
-    let most = e.few in
-    let few : length (core_of e).pending < 2 ^ 32 = omega arith in
-    let done = c.in-Ok.ensures.answers size in
-    on_ok c.report.result _ (fewer_behind v c.args.settings.now.trace (g.met.R.CommitRule.lawful c.args.rule.now) (core_of e) (core_of c.answer_batch.new.engine) c.requires.some few done.2)
+returns-in-Ok-clause-fewer g c = on_ok c.end_batch.result _ c.in-Ok.ensures.fewer
 
 pub returns-in-Err-clause-runs_one : goal.returns-in-Err-clause-runs_one
 returns-in-Err-clause-runs_one g c = λ lines.

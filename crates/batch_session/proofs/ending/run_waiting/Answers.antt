@@ -6,6 +6,7 @@ use Rattle.session_steps.proofs.Composing.{Comes-passed, Comes-same}
 use Rattle.session_steps.proofs.Endings.{Ending-none, Ending-more, Ending-over, Ending-stop}
 use Rattle.batch_session.proofs.SameProgram.{fits_back, sound_on, sound_back, runs_on}
 use Rattle.batch_session.proofs.RunLaws.{some_wait}
+use Rattle.batch_session.proofs.KeepLaws.{kept_passed}
 use Rattle.batch_session.proofs.ending.run_waiting.Goals as goal
 
 pub loop-alloc-init : goal.loop-alloc-init
@@ -13,9 +14,16 @@ loop-alloc-init g c = record {
   ending = λ lines. Ending-none (service_of c.args.engine.now (g.R.CommitRule.choice c.args.rule.now) c.args.settings.now.batch c.args.settings.now.parts) c.args.settings.now.trace _;
   later = omega arith;
   later_err = omega arith;
+  few = c.requires.few;
   runs = record { compiled_is = refl; limit_is = refl };
   fits = c.requires.fits;
   sound = λ s. s;
+  storable = c.requires.storable;
+  kept = c.requires.kept;
+  in_cycle = c.requires.in_cycle;
+  settings = refl;
+  later_disk = omega arith;
+  mounts = refl;
 }
 
 pub loop-alloc-preserved : goal.loop-alloc-preserved
@@ -31,9 +39,16 @@ loop-alloc-preserved g c =
           Ending-more v traces _ _ _ (c.loop-alloc.invariant.ending lines) (Comes-same v here traces (Ok (tt {0})) _ _ _ same (c.in_ok-run_batch.ensures.runs_one lines)) c.in_ok-run_batch.ensures.fewer;
       later = omega (arith, c.loop-alloc.invariant.later, c.run_batch.ensures.later);
       later_err = omega (arith, c.loop-alloc.invariant.later_err, c.run_batch.ensures.later_err);
+      few = omega (arith, c.loop-alloc.invariant.few, c.in_ok-run_batch.ensures.fewer);
       runs = runs_on c.args.engine.now c.loop-alloc.engine runs c.run_batch.new.engine c.run_batch.ensures.runs;
       fits = fits_back c.args.engine.now c.loop-alloc.engine runs _ c.run_batch.ensures.core_fits;
       sound = λ s. sound_back c.args.engine.now c.loop-alloc.engine runs _ (c.run_batch.ensures.sound (sound_on c.args.engine.now c.loop-alloc.engine runs _ (c.loop-alloc.invariant.sound s)));
+      storable = c.run_batch.ensures.storable;
+      kept = c.in_ok-run_batch.ensures.kept;
+      in_cycle = c.in_ok-run_batch.ensures.in_cycle;
+      settings = c.run_batch.ensures.settings ∙ c.loop-alloc.invariant.settings;
+      later_disk = omega (arith, c.loop-alloc.invariant.later_disk, c.run_batch.ensures.later_disk);
+      mounts = c.run_batch.ensures.mounts ∙ c.loop-alloc.invariant.mounts;
     }
 
 pub returns-in_err-run_batch-clause-runs_waiting : goal.returns-in_err-run_batch-clause-runs_waiting
@@ -52,3 +67,8 @@ pub returns-clause-runs_waiting : goal.returns-clause-runs_waiting
 returns-clause-runs_waiting g c = λ lines.
     let v = service_of c.args.engine.now (g.R.CommitRule.choice c.args.rule.now) c.args.settings.now.batch c.args.settings.now.parts in
     Ending-over v c.args.settings.now.trace _ _ (c.loop-alloc.invariant.ending lines) (sym c.pending.ensures ∙ c.is_empty.ensures.0 c.loop-alloc-test.false)
+
+pub returns-in_err-run_batch-clause-kept : goal.returns-in_err-run_batch-clause-kept
+returns-in_err-run_batch-clause-kept g c =
+    let p = err_from_is_err_and c.from_residual.result c.from_residual.ensures.1 in
+    kept_passed c.from_residual.result _ _ _ _ _ _ (p.1 ∙ ap Err p.2) c.in_err-run_batch.ensures.kept

@@ -1,6 +1,10 @@
-use Rattle.std.proofs.Common.{◌≤◌, ℕ, length}
+use Rattle.std.proofs.Common.{◌≡◌, ◌≤◌, ◌<◌, ℕ, length}
 use Rattle.engine.specs.Cores.{CoreFits, IsSoundCore}
-use Rattle.engine.specs.EngineViews.{core_of, source_of, tables_of, compiled_of, limit_of, RunsProgram}
+use Rattle.engine.specs.EngineViews.{core_of, source_of, tables_of, compiled_of, limit_of, fresh_of, RunsProgram}
+use Rattle.store_meaning.specs.Engines.{logged_of}
+use Rattle.storable_cores.specs.Storable.{IsStorable}
+use Rattle.session_store.specs.Cycles.{IsInCycle}
+use Rattle.session_store.specs.Stores.{settings_of, Keeps}
 use Rattle.line_answers.specs.Services.{service_of}
 use Rattle.session_steps.proofs.Endings.{Ending}
 use Rattle.batch_session.specs.Points.{point_of}
@@ -17,7 +21,14 @@ invariant-loop-alloc g l = record {
       (point_of l.engine lines l.tally (g.K.Sink.held l.out) (g.E.Sink.held l.err) (g.C.Chooser.choices l.chooser) (g.W.Watch.told l.watch));
   later : g.K.Sink.faults l.fn.out ≤ g.K.Sink.faults l.out;
   later_err : g.E.Sink.faults l.fn.err ≤ g.E.Sink.faults l.err;
+  few : length (core_of l.engine).pending < 256;
   runs : RunsProgram l.engine (compiled_of l.fn.engine) (limit_of l.fn.engine);
   fits : CoreFits (tables_of l.fn.engine) (core_of l.engine);
   sound : IsSoundCore (source_of l.fn.engine) (core_of l.fn.engine) → IsSoundCore (source_of l.fn.engine) (core_of l.engine);
+  storable : IsStorable (core_of l.engine) (fresh_of l.engine);
+  kept : Keeps l.store (source_of l.engine) (logged_of l.engine) (g.D.Disk.facts l.disk);
+  in_cycle : IsInCycle l.store l.tally.batches;
+  settings : settings_of l.store ≡ settings_of l.fn.store;
+  later_disk : g.D.Disk.faults l.fn.disk ≤ g.D.Disk.faults l.disk;
+  mounts : g.D.Disk.mounts l.disk ≡ g.D.Disk.mounts l.fn.disk;
 }

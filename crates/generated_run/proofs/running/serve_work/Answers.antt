@@ -1,12 +1,15 @@
 use Rattle.std.proofs.Common.{◌≡◌, ℕ, ◌≤◌, arith, List, length, Some, None, inl, inr, refl, sym, ap, subst}
 use Rattle.std.specs.declared.result.Result.{Result}
 use Rattle.std.specs.declared.alloc.AllocError.{AllocError}
+use Rattle.sf_outside.specs.DiskModel.{untold}
 use Rattle.work_gen.specs.Requests as work
 use Rattle.reservations.specs.BatchRule.{batch_rule}
 use Rattle.reservations.specs.BatchRuleLaws.{batch_rule_is_lawful}
-use Rattle.engine.specs.EngineViews.{compiled_of}
+use Rattle.engine.specs.EngineViews.{core_of, source_of, compiled_of, fresh_of}
+use Rattle.session_store.proofs.NoStore.{never_failed}
 use Rattle.line_answers.specs.Services.{Service, service_of, limits_of}
 use Rattle.session_steps.specs.declared.tally.Tally.{Tally}
+use Rattle.batch_session.specs.Faults.{disk_failed}
 use Rattle.batch_session.specs.Served.{View, view_of}
 use Rattle.generated_run.specs.declared.running.GenSettings.{GenSettings}
 use Rattle.generated_run.specs.Generated.{Serves, service_by}
@@ -35,10 +38,14 @@ tally_of-requires g c =
     view_of c.serve-served.new.engine (Some c.serve-served.new.input.left.now) None None (g.C.Chooser.choices c.serve-served.new.chooser)
     (g.W.Watch.told c.serve-served.new.watch) in
     let v : Service = service_of c.args.engine.now batch_rule c.args.settings.now.batch c.args.settings.now.parts in
+    let e = c.serve-served.new.engine in
+    let undisked =
+    never_failed batch_rule c.serve-served.new.store (source_of e) (core_of e) (fresh_of e) untold (disk_failed c.serve-served.result)
+    c.serve-served.ensures.settings c.serve-served.ensures.disk_cause in
     no_fault v c.args.input.now old new c.serve-served.new.input.left.now c.requires.empty refl refl (λ batch short. batch_rule_is_lawful batch)
     c.requires.history (few c.args.settings.now c.args.input.now c.requires.size c.requires.input).lines c.serve-served.result
     c.serve-served.ensures.served (λ is. omega (arith, c.serve-served.ensures.read_cause is))
-    (λ is. elim (c.serve-served.ensures.write_cause is) [ inl rose ↦ omega (arith, rose) | inr rose ↦ omega (arith, rose) ])
+    (λ is. elim (c.serve-served.ensures.write_cause is) [ inl rose ↦ omega (arith, rose) | inr rose ↦ omega (arith, rose) ]) undisked
 
 pub returns : goal.returns
 returns g c =
@@ -48,6 +55,10 @@ returns g c =
     view_of c.serve-served.new.engine (Some c.serve-served.new.input.left.now) None None (g.C.Chooser.choices c.serve-served.new.chooser)
     (g.W.Watch.told c.serve-served.new.watch) in
     let v : Service = service_of c.args.engine.now batch_rule c.args.settings.now.batch c.args.settings.now.parts in
+    let e = c.serve-served.new.engine in
+    let undisked =
+    never_failed batch_rule c.serve-served.new.store (source_of e) (core_of e) (fresh_of e) untold (disk_failed c.serve-served.result)
+    c.serve-served.ensures.settings c.serve-served.ensures.disk_cause in
     let By : ℕ → Service =
     λ history. record {
       compiled = compiled_of c.args.engine.now;
@@ -61,6 +72,6 @@ returns g c =
     serves_work v c.args.input.now old new c.serve-served.new.input.left.now c.requires.empty refl refl (λ batch short. batch_rule_is_lawful batch)
     c.requires.history (few c.args.settings.now c.args.input.now c.requires.size c.requires.input).lines c.steps_print.ensures c.comes_begin.ensures
     c.serve-served.result c.serve-served.ensures.served (λ is. omega (arith, c.serve-served.ensures.read_cause is))
-    (λ is. elim (c.serve-served.ensures.write_cause is) [ inl rose ↦ omega (arith, rose) | inr rose ↦ omega (arith, rose) ])
+    (λ is. elim (c.serve-served.ensures.write_cause is) [ inl rose ↦ omega (arith, rose) | inr rose ↦ omega (arith, rose) ]) undisked
     (c.serve-served.ensures.sound c.requires.sound) in
     subst (λ w. Here w c.tally_of.result) same (subst (λ r. Here v r) (sym c.tally_of.ensures) served)

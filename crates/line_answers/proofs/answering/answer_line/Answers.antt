@@ -1,11 +1,20 @@
 use Rattle.std.proofs.Common.{[]}
 use Rattle.std.specs.List.{cons_option}
-use Rattle.engine.specs.EngineViews.{core_of}
+use Rattle.request_json.specs.Actions.{action_of}
+use Rattle.engine.specs.EngineViews.{core_of, source_of}
 use Rattle.line_answers.specs.LineViews.{line_of}
 use Rattle.line_answers.specs.Services.{service_of}
 use Rattle.line_answers.specs.LineAnswers.{before, Moment, moment_of}
-use Rattle.line_answers.proofs.TakenLaws.{engine_moved, line_moved, few_behind}
+use Rattle.line_answers.proofs.TakenLaws.{engine_moved, line_moved, taken_waits, few_behind}
 use Rattle.line_answers.proofs.answering.answer_line.Goals as goal
+
+-- a batch is due only where a request waits
+pub answer_taken-requires-clause-waits : goal.answer_taken-requires-clause-waits
+answer_taken-requires-clause-waits g c =
+    let e = c.args.engine.now in
+    let rule = g.R.CommitRule.choice c.args.rule.now in
+    let v = service_of e rule c.args.batching.now.batch c.args.batching.now.parts in
+    taken_waits v (core_of e) (core_of c.take_line.new.engine) (action_of (source_of e) (line_of c.args.line)) c.in-Ok.taken.is_due c.in-Ok.ensures.core (c.in-Ok.ensures.due rule e.limit)
 
 pub returns-in-Ok-clause-answers : goal.returns-in-Ok-clause-answers
 returns-in-Ok-clause-answers g c =

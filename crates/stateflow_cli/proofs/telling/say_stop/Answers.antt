@@ -29,3 +29,9 @@ returns-in-NoMemory-clause-whole g c = rw c.in-NoMemory.is c.write-in-NoMemory.e
 
 pub returns-in-NoMemory-clause-part : goal.returns-in-NoMemory-clause-part
 returns-in-NoMemory-clause-part g c = rw c.in-NoMemory.is c.write-in-NoMemory.ensures.part
+
+pub returns-in-DiskFault-clause-whole : goal.returns-in-DiskFault-clause-whole
+returns-in-DiskFault-clause-whole g c = rw c.in-DiskFault.is c.write-in-DiskFault.ensures.whole
+
+pub returns-in-DiskFault-clause-part : goal.returns-in-DiskFault-clause-part
+returns-in-DiskFault-clause-part g c = rw c.in-DiskFault.is c.write-in-DiskFault.ensures.part

@@ -1,30 +1,33 @@
-use Rattle.std.proofs.Common.{subst, map, string_bytes, ℕ, List}
-use Rattle.std.specs.Prelude.{Err}
+use Rattle.std.proofs.Common.{subst, ◌≡◌, map, string_bytes, ℕ, List}
+use Rattle.std.specs.Prelude.{Err, None}
 use Rattle.command_words.specs.Readings.{Reads}
-use Rattle.stateflow_cli.specs.Words.{asked, asked_by}
+use Rattle.command_words.specs.CommandReading.{asked}
+use Rattle.command_words.specs.Commands.{asked_by}
 use Rattle.stateflow_cli.specs.Devices.{sink}
 use Rattle.stateflow_cli.specs.StatusLines.{line_of, status_of}
 use Rattle.stateflow_cli.specs.Telling.{Told}
 use Rattle.stateflow_cli.proofs.AnswerLaws.{answers_misused, answers_unread, answers_on}
+use Rattle.stateflow_cli.specs.StoreClauses.{store_in}
 use Rattle.stateflow_cli.proofs.top_call.run_words.Goals as goal
 
-pub returns-in-Ok : goal.returns-in-Ok
-returns-in-Ok g c =
+pub returns-in-Ok-clause-answers : goal.returns-in-Ok-clause-answers
+returns-in-Ok-clause-answers g c =
     let e = c.perform-ending.result in
     let err = sink (g.E.Sink.held c.perform-ending.new.err) (g.E.Sink.faults c.perform-ending.new.err) in
-    record {
-      answers = answers_on _ _ _ _ err _ (asked_by c.in-Ok.command) e c.in-Ok.ensures.reads c.perform-ending.ensures
-          (subst (λ (file : List ℕ). Told (line_of file e) (status_of e) err.held (g.E.Sink.held c.tell.new.err) err.faults (g.E.Sink.faults c.tell.new.err) c.tell.result) c.file.ensures c.tell.ensures.told)
-          c.tell.ensures.later;
-    }
+    answers_on _ _ _ _ _ err _ _ (asked_by c.in-Ok.command) e c.in-Ok.ensures.reads c.perform-ending.ensures.ends
+    (subst (λ (file : List ℕ). Told (line_of file e) (status_of e) err.held (g.E.Sink.held c.tell.new.err) err.faults (g.E.Sink.faults c.tell.new.err) c.tell.result) c.program_name.ensures c.tell.ensures.told)
+    c.tell.ensures.later
 
-pub returns-in-Err-Usage : goal.returns-in-Err-Usage
-returns-in-Err-Usage g c =
+pub returns-in-Err-Usage-clause-answers : goal.returns-in-Err-Usage-clause-answers
+returns-in-Err-Usage-clause-answers g c =
     let given = map string_bytes c.args.words.now in
     let err = sink (g.E.Sink.held c.tell-in-Err-Usage.new.err) (g.E.Sink.faults c.tell-in-Err-Usage.new.err) in
-    record { answers = answers_misused _ _ err _ c.tell-in-Err-Usage.ensures.later (asked given) (subst (λ e. Reads asked_by (asked given) (Err e)) c.in-Err-Usage.field-0-is c.in-Err-Usage.ensures.reads) c.tell-in-Err-Usage.ensures.told }
+    answers_misused _ _ _ err _ c.tell-in-Err-Usage.ensures.later (asked given) (subst (λ e. Reads asked_by (asked given) (Err e)) c.in-Err-Usage.field-0-is c.in-Err-Usage.ensures.reads) c.tell-in-Err-Usage.ensures.told
 
-pub returns-in-Err-NoMemory : goal.returns-in-Err-NoMemory
-returns-in-Err-NoMemory g c =
+pub returns-in-Err-NoMemory-clause-answers : goal.returns-in-Err-NoMemory-clause-answers
+returns-in-Err-NoMemory-clause-answers g c =
     let err = sink (g.E.Sink.held c.tell-in-Err-NoMemory.new.err) (g.E.Sink.faults c.tell-in-Err-NoMemory.new.err) in
-    record { answers = answers_unread _ _ err _ c.tell-in-Err-NoMemory.ensures.later _ c.tell-in-Err-NoMemory.ensures.told }
+    answers_unread _ _ _ err _ c.tell-in-Err-NoMemory.ensures.later _ c.tell-in-Err-NoMemory.ensures.told
+
+pub returns-in-Ok-clause-untouched : goal.returns-in-Ok-clause-untouched
+returns-in-Ok-clause-untouched g c = λ none. c.perform-ending.ensures.untouched (subst (λ o. store_in o ≡ None) c.in-Ok.ensures.reads none)

@@ -8,7 +8,7 @@ use Rattle.session_steps.specs.Doings.{Point, moment}
 use Rattle.session_steps.proofs.Leaves.{Does-line, Stops-line, Comes-one}
 use Rattle.batch_session.specs.Points.{point_of}
 use Rattle.batch_session.proofs.LineLaws.{start_answered}
-use Rattle.batch_session.proofs.ReportLaws.{Line-reported}
+use Rattle.batch_session.proofs.ReportLaws.{Line-ended}
 use Rattle.batch_session.proofs.feeding.Intake.answer.Goals as goal
 
 pub returns-in-Some-clause-answers : goal.returns-in-Some-clause-answers
@@ -18,11 +18,11 @@ returns-in-Some-clause-answers g c = λ line start.
     let v : Service = service_of e (g.R.CommitRule.choice c.args.rule.now) c.args.settings.now.batch c.args.settings.now.parts in
     let old : Point = point_of e self.lines self.tally (g.K.Sink.held c.args.out.now) (g.E.Sink.held c.args.err.now) (g.C.Chooser.choices c.args.chooser.now) (g.W.Watch.told c.args.watch.now) in
     let ran = c.answer_line.new in
-    let new : Point = point_of ran.engine (self.lines + 1) c.report.new.tally (g.K.Sink.held ran.out) (g.E.Sink.held c.report.new.err) (g.C.Chooser.choices ran.chooser) (g.W.Watch.told ran.watch) in
-    let said = c.report.ensures in
-    Line-reported v c.args.settings.now.trace c.in-Some.counts c.report.result (cut c.args.ended line) old new refl
+    let new : Point = point_of ran.engine (self.lines + 1) c.end_batch.new.tally (g.K.Sink.held ran.out) (g.E.Sink.held c.end_batch.new.err) (g.C.Chooser.choices ran.chooser) (g.W.Watch.told ran.watch) in
+    let said = c.end_batch.ensures in
+    Line-ended v c.args.settings.now.trace c.in-Some.counts c.end_batch.result (cut c.args.ended line) old new refl
     (start_answered v (Ok c.in-Ok.ran) (Ok (Some c.in-Some.counts)) (before (core_of e) (self.lines + 1)) c.args.ended c.as_slice.result.now self.line line (moment old) (moment new) (ap Ok c.in-Some.is) c.as_slice.ensures start c.in-Ok.ensures.answers)
-    (record { tally = said.counted; whole = said.whole; part = said.part; stop = said.stop })
+    (record { tally = said.counted; traced = said.traced; placed = said.placed })
 
 pub returns-in-None-clause-answers : goal.returns-in-None-clause-answers
 returns-in-None-clause-answers g c = λ line start.

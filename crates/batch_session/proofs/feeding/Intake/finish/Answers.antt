@@ -5,6 +5,7 @@ use Rattle.line_answers.specs.Services.{service_of}
 use Rattle.line_answers.proofs.TakenLaws.{same_service}
 use Rattle.session_steps.proofs.Composing.{Comes-passed, Comes-same}
 use Rattle.session_steps.proofs.Endings.{Last-stop, Last-then}
+use Rattle.batch_session.proofs.KeepLaws.{kept_passed}
 use Rattle.batch_session.proofs.feeding.Intake.finish.Goals as goal
 
 pub returns-in_err-take_last-clause-finishes : goal.returns-in_err-take_last-clause-finishes
@@ -22,3 +23,8 @@ returns-clause-finishes g c = λ part h.
     let traces = c.args.settings.now.trace in
     let same = same_service c.args.engine.now c.take_last.new.engine c.take_last.ensures.runs rule c.args.settings.now.batch c.args.settings.now.parts in
     Last-then v traces _ (last_line part) _ _ _ (c.in_ok-take_last.ensures.answers part h) (Comes-same v here traces _ _ _ _ same (c.run_waiting.ensures.runs_waiting c.take_last.new.self.lines))
+
+pub returns-in_err-take_last-clause-kept : goal.returns-in_err-take_last-clause-kept
+returns-in_err-take_last-clause-kept g c =
+    let p = err_from_is_err_and c.from_residual.result c.from_residual.ensures.1 in
+    kept_passed c.from_residual.result _ _ _ _ _ _ (p.1 ∙ ap Err p.2) c.in_err-take_last.ensures.kept

@@ -6,6 +6,7 @@ use Rattle.line_answers.proofs.TakenLaws.{same_service}
 use Rattle.batch_session.proofs.SameProgram.{fits_back, sound_on, sound_back, runs_on}
 use Rattle.batch_session.proofs.FeedLaws.{Feeds-same}
 use Rattle.batch_session.proofs.TakeLaws.{Going-none, Going-step, Went-over, Takes-stopped, front_of_buffer}
+use Rattle.batch_session.proofs.KeepLaws.{kept_passed}
 use Rattle.batch_session.proofs.feeding.Intake.take_input.Goals as goal
 
 pub loop-taken-init : goal.loop-taken-init
@@ -20,6 +21,12 @@ loop-taken-init g c = record {
   runs = record { compiled_is = refl; limit_is = refl };
   fits = c.requires.fits;
   sound = λ s. s;
+  storable = c.requires.storable;
+  kept = c.requires.kept;
+  in_cycle = c.requires.in_cycle;
+  settings = refl;
+  later_disk = omega arith;
+  mounts = refl;
 }
 
 pub returns-in_err-take_piece-in-Ok-clause-takes : goal.returns-in_err-take_piece-in-Ok-clause-takes
@@ -57,6 +64,12 @@ loop-taken-preserved g c =
       runs = runs_on c.args.engine.now c.loop-taken.engine runs c.take_piece.new.engine c.take_piece.ensures.runs;
       fits = fits_back c.args.engine.now c.loop-taken.engine runs _ c.take_piece.ensures.core_fits;
       sound = λ s. sound_back c.args.engine.now c.loop-taken.engine runs _ (c.take_piece.ensures.sound (sound_on c.args.engine.now c.loop-taken.engine runs _ (c.loop-taken.invariant.sound s)));
+      storable = c.take_piece.ensures.storable;
+      kept = c.in_ok-take_piece-in-Ok.ensures.kept;
+      in_cycle = c.in_ok-take_piece-in-Ok.ensures.in_cycle;
+      settings = c.take_piece.ensures.settings ∙ c.loop-taken.invariant.settings;
+      later_disk = omega (arith, c.loop-taken.invariant.later_disk, c.take_piece.ensures.later_disk);
+      mounts = c.take_piece.ensures.mounts ∙ c.loop-taken.invariant.mounts;
     }
 
 pub returns-in-Ok-read-clause-takes : goal.returns-in-Ok-read-clause-takes
@@ -67,3 +80,8 @@ returns-in-Ok-read-clause-takes g c =
     let bound = c.in-Ok-read.ensures.bound in
     Went-over v c.args.settings.now.trace _ _ c.loop-taken.taken _ _ _ _ _ _ (take c.in-Ok-read.field-0 c.read-2.new.buf) w (omega (arith, c.loop-taken.invariant.within))
     (omega (arith, bound.0, bound.1, c.in-Ok-read.field-0-test.1, c.read-2.auto.buf, length-take 1 c.loop-taken.buf)) bytes.0
+
+pub returns-in_err-take_piece-in-Ok-clause-kept : goal.returns-in_err-take_piece-in-Ok-clause-kept
+returns-in_err-take_piece-in-Ok-clause-kept g c =
+    let p = err_from_is_err_and c.from_residual.result c.from_residual.ensures.1 in
+    kept_passed c.from_residual.result _ _ _ _ _ _ (p.1 ∙ ap Err p.2) c.in_err-take_piece-in-Ok.ensures.kept

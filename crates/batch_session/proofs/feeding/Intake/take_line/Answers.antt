@@ -2,6 +2,7 @@ use Rattle.std.proofs.Common.{◌∙◌, ap, refl, Ok, Err, Some}
 use Rattle.std.proofs.lemmas.Result.{err_from_is_err_and}
 use Rattle.line_answers.specs.Services.{service_of}
 use Rattle.batch_session.proofs.FeedLaws.{Feeds-no_memory, Feeds-line, Feeds-none_whole, Feeds-stop, Feeds-told}
+use Rattle.batch_session.proofs.KeepLaws.{kept_passed}
 use Rattle.batch_session.proofs.feeding.Intake.take_line.Goals as goal
 
 pub returns-in_err-answer-in-Ok-Some-clause-feeds : goal.returns-in_err-answer-in-Ok-Some-clause-feeds
@@ -11,14 +12,14 @@ returns-in_err-answer-in-Ok-Some-clause-feeds g c = λ part h.
     let cut = rw c.in-Ok-Some.field-0-is at c.in-Ok-Some.ensures.cut in
     let done = c.in_err-answer-in-Ok-Some.ensures in
     Feeds-told v c.args.settings.now.trace (Unit {0}) _ _ _ part c.args.piece.now _ _ (p.1 ∙ ap Err p.2)
-    (Feeds-stop v c.args.settings.now.trace _ _ _ _ part c.args.piece.now c.in-Ok-Some.count refl (Feeds-line v c.args.settings.now.trace _ c.take_line.new.self _ part _ _ _ (cut part h) done.answers done.kept))
+    (Feeds-stop v c.args.settings.now.trace _ _ _ _ part c.args.piece.now c.in-Ok-Some.count refl (Feeds-line v c.args.settings.now.trace _ c.take_line.new.self _ part _ _ _ (cut part h) done.answers done.cleared))
 
 pub returns-in_ok-answer-in-Ok-Some-clause-feeds : goal.returns-in_ok-answer-in-Ok-Some-clause-feeds
 returns-in_ok-answer-in-Ok-Some-clause-feeds g c = λ part h.
     let v = service_of c.args.engine.now (g.R.CommitRule.choice c.args.rule.now) c.args.settings.now.batch c.args.settings.now.parts in
     let cut = rw c.in-Ok-Some.field-0-is at c.in-Ok-Some.ensures.cut in
     let done = c.in_ok-answer-in-Ok-Some.ensures in
-    Feeds-line v c.args.settings.now.trace (Ok (Some c.in-Ok-Some.count)) c.take_line.new.self _ part _ _ _ (cut part h) done.answers done.kept
+    Feeds-line v c.args.settings.now.trace (Ok (Some c.in-Ok-Some.count)) c.take_line.new.self _ part _ _ _ (cut part h) done.answers done.cleared
 
 pub returns-in-Ok-None-clause-feeds : goal.returns-in-Ok-None-clause-feeds
 returns-in-Ok-None-clause-feeds g c = λ part h.
@@ -30,3 +31,8 @@ pub returns-in-Err-clause-feeds : goal.returns-in-Err-clause-feeds
 returns-in-Err-clause-feeds g c = λ part h.
     let v = service_of c.args.engine.now (g.R.CommitRule.choice c.args.rule.now) c.args.settings.now.batch c.args.settings.now.parts in
     Feeds-no_memory v c.args.settings.now.trace _ _ part _ _ refl
+
+pub returns-in_err-answer-in-Ok-Some-clause-kept : goal.returns-in_err-answer-in-Ok-Some-clause-kept
+returns-in_err-answer-in-Ok-Some-clause-kept g c =
+    let p = err_from_is_err_and c.from_residual.result c.from_residual.ensures.1 in
+    kept_passed c.from_residual.result _ _ _ _ _ _ (p.1 ∙ ap Err p.2) c.in_err-answer-in-Ok-Some.ensures.kept

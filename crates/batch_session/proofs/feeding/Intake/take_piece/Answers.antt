@@ -5,6 +5,7 @@ use Rattle.line_answers.specs.Services.{service_of}
 use Rattle.line_answers.proofs.TakenLaws.{same_service}
 use Rattle.batch_session.proofs.SameProgram.{fits_back, sound_on, sound_back, runs_on}
 use Rattle.batch_session.proofs.FeedLaws.{Feeds-none, Feeds-next, Feeds-from, Feeds-passed, Feeds-other, Feeds-same, from_place}
+use Rattle.batch_session.proofs.KeepLaws.{kept_passed}
 use Rattle.batch_session.proofs.feeding.Intake.take_piece.Goals as goal
 
 pub loop-count-init : goal.loop-count-init
@@ -18,6 +19,12 @@ loop-count-init g c = record {
   runs = record { compiled_is = refl; limit_is = refl };
   fits = c.requires.fits;
   sound = λ s. s;
+  storable = c.requires.storable;
+  kept = c.requires.kept;
+  in_cycle = c.requires.in_cycle;
+  settings = refl;
+  later_disk = omega arith;
+  mounts = refl;
 }
 
 pub returns-in_err-count-clause-feeds : goal.returns-in_err-count-clause-feeds
@@ -56,6 +63,12 @@ loop-count-preserved g c =
       runs = runs_on c.args.engine.now c.loop-count.engine runs c.take_line.new.engine c.take_line.ensures.runs;
       fits = fits_back c.args.engine.now c.loop-count.engine runs _ c.take_line.ensures.core_fits;
       sound = λ s. sound_back c.args.engine.now c.loop-count.engine runs _ (c.take_line.ensures.sound (sound_on c.args.engine.now c.loop-count.engine runs _ (c.loop-count.invariant.sound s)));
+      storable = c.take_line.ensures.storable;
+      kept = c.in_ok-count.ensures.kept;
+      in_cycle = c.in_ok-count.ensures.in_cycle;
+      settings = c.take_line.ensures.settings ∙ c.loop-count.invariant.settings;
+      later_disk = omega (arith, c.loop-count.invariant.later_disk, c.take_line.ensures.later_disk);
+      mounts = c.take_line.ensures.mounts ∙ c.loop-count.invariant.mounts;
     }
 
 pub returns-clause-feeds : goal.returns-clause-feeds
@@ -68,3 +81,8 @@ returns-clause-feeds g c = λ part h.
     let k = rw c.in_default.is at (c.in_ok-count.ensures.feeds _ f.start) in
     Feeds-from v c.args.settings.now.trace (tt {0}) (Ok (tt {0})) _ _ _ _ _ part c.args.piece.now _ c.loop-count.start (from_place c.loop-count.start c.args.piece.now) f
     (Feeds-other v c.args.settings.now.trace _ (tt {0}) _ _ _ _ _ (Feeds-same v here c.args.settings.now.trace _ _ _ _ _ _ same k))
+
+pub returns-in_err-count-clause-kept : goal.returns-in_err-count-clause-kept
+returns-in_err-count-clause-kept g c =
+    let p = err_from_is_err_and c.from_residual.result c.from_residual.ensures.1 in
+    kept_passed c.from_residual.result _ _ _ _ _ _ (p.1 ∙ ap Err p.2) c.in_err-count.ensures.kept

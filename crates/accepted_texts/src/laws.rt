@@ -1,0 +1,11 @@
+//! What an accepted text is.
+
+ghost use Rattle.accepted_texts.specs.AcceptedTexts.{AcceptedAreUtf8, AcceptedAreShort};
+
+/// The bytes of an accepted text are UTF-8, so they are those of its characters, and fewer than a
+/// count of four bytes can say. For a text is accepted only where it is read to its end, in
+/// comments and strings too, and no reading passes a byte that isn't UTF-8.
+pub fn accepted_texts_are_utf8()
+    ensures utf8 { AcceptedAreUtf8 }
+    ensures short { AcceptedAreShort }
+{}

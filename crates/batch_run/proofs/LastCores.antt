@@ -1,0 +1,215 @@
+-- The core that a session in batches leaves, wherever it stopped among its steps.
+use Rattle.std.proofs.Common.{◌≡◌, ℕ, ◌⊎◌, inl, inr, Bool, true, List, [], ◌∷◌, ◌++◌, Ok, Err, refl, sym, ap, ◌∙◌, subst, append_assoc, append-nil}
+use Rattle.std.specs.declared.option.Option.{Option}
+use Rattle.std.specs.declared.result.Result.{Result}
+use Rattle.sf_outside.specs.Bytes.{AppendsPrefix}
+use Rattle.sf_outside.specs.Gains.{joined}
+use Rattle.sf_value.specs.declared.Request.{Request}
+use Rattle.request_json.specs.Actions.{Action, Skip, Refuse, Ask, action_of}
+use Rattle.engine.specs.declared.arrival.Arrival.{Arrival}
+use Rattle.engine.specs.declared.arrival.Arrival.TheVariants as arrival
+use Rattle.engine.specs.Cores.{Core}
+use Rattle.engine.specs.Arrivals as engine
+use Rattle.batch_output.specs.BatchOutput.{Standing, taken}
+use Rattle.batch_replies.specs.BatchAnswers.{HasPlace, core_behind}
+use Rattle.line_answers.specs.declared.answering.LineStop.{LineStop}
+use Rattle.line_answers.specs.declared.answering.LineStop.TheVariants as stop
+use Rattle.line_answers.specs.Services.{Service, program_of}
+use Rattle.line_answers.specs.LineAnswers.{Move, IsUntaken, IsUnplanned, IsUnanswered, IsUnreplied, whole_text}
+use Rattle.session_steps.specs.Steps.{Step, Answer, RunWaiting, move_of, behind, standing_after}
+use Rattle.session_steps.specs.Doings.{Point, going, moment, Does, StopsAt, StopsWithin, StopsBetween, Comes}
+use Rattle.session_steps.proofs.PieceLaws.{prefix_whole, prefix_none}
+use Rattle.session_steps.proofs.StepFacts.{behind_placed, behind_full, standing_over, standing-append, standing-one}
+
+nothing_written : (a b : Option (List ℕ)) (xs : List ℕ) → b ≡ a → AppendsPrefix a b xs
+nothing_written a b xs same = subst (λ c. AppendsPrefix a c xs) (sym same) (prefix_none a xs)
+
+-- What a request that arrives leaves as it was
+
+-- what was committed, and the state behind it, are those of another core
+pub record HasCommitted (core other : Core) : Type 0 where
+  pub history : core.history ≡ other.history
+  pub state : core.state ≡ other.state
+
+joins_committed : (core : Core) (r : Request) (a : Arrival) → HasCommitted (engine.joined core r a) core
+joins_committed core r arrival.New = record { history = refl; state = refl }
+joins_committed core r (arrival.Again place) = record { history = refl; state = refl }
+joins_committed core r arrival.Waiting = record { history = refl; state = refl }
+joins_committed core r arrival.Reused = record { history = refl; state = refl }
+
+taken_committed : (core : Core) (action : Action) → HasCommitted (taken core action) core
+taken_committed core Skip = record { history = refl; state = refl }
+taken_committed core (Refuse cause) = record { history = refl; state = refl }
+taken_committed core (Ask r) = joins_committed core r (engine.arrival_of core r)
+
+module _ (v : Service) (traces : Bool) where
+  -- before its batch a step commits nothing
+  pub move_committed : (s : Standing) (step : Step) → HasCommitted (move_of v s step).core s.core
+  move_committed s (Answer line) = taken_committed s.core (action_of (program_of v) line)
+  move_committed s RunWaiting = record { history = refl; state = refl }
+
+  -- Where it ends
+
+  -- nothing of a step was done; or nothing but a part of what it writes at once; or its batch was committed too, and a part of all was written
+  pub record IsStill (p q : Point) : Type 0 where
+    pub core : q.core ≡ p.core
+    pub held : q.held ≡ p.held
+
+  pub record HasMoved (step : Step) (p q : Point) : Type 0 where
+    pub core : q.core ≡ (move_of v (going p) step).core
+    pub part : AppendsPrefix p.held q.held (joined (move_of v (going p) step).answer)
+
+  pub record HasRun (step : Step) (p q : Point) : Type 0 where
+    pub due : (move_of v (going p) step).is_due ≡ true
+    pub place : HasPlace (program_of v) v.rule v.limits (move_of v (going p) step).core
+    pub core : q.core ≡ core_behind (program_of v) v.rule v.limits (move_of v (going p) step).core
+    pub part : AppendsPrefix p.held q.held (whole_text v (move_of v (going p) step))
+
+  abbrev pub EndsAt : Step → Point → Point → Type 0
+  EndsAt step p q = IsStill p q ⊎ HasMoved step p q ⊎ HasRun step p q
+
+  -- behind some first steps, or at the next one
+  pub record EndsBehind (steps : List Step) (p q : Point) : Type 0 where
+    pub first : List Step
+    pub rest : List Step
+    pub split : steps ≡ first ++ rest
+    pub did : Does v traces first p q
+
+  pub record EndsWithin (steps : List Step) (p q : Point) : Type 0 where
+    pub first : List Step
+    pub step : Step
+    pub rest : List Step
+    pub split : steps ≡ first ++ step ∷ rest
+    pub between : Point
+    pub did : Does v traces first p between
+    pub at : EndsAt step between q
+
+  abbrev pub Ends : List Step → Point → Point → Type 0
+  Ends steps p q = EndsBehind steps p q ⊎ EndsWithin steps p q
+
+  -- at a step
+
+  untaken : (step : Step) (p q : Point) → IsUntaken (going p) (move_of v (going p) step) (moment p) (moment q) → EndsAt step p q
+  untaken step p q u = by u.core
+    where
+      by : (q.core ≡ p.core) ⊎ (q.core ≡ (move_of v (going p) step).core) → EndsAt step p q
+      by (inl core) = inl (record { core = core; held = u.unwritten })
+      by (inr core) = inr (inl (record { core = core; part = nothing_written p.held q.held (joined (move_of v (going p) step).answer) u.unwritten }))
+
+  moved : (step : Step) (p q : Point) → q.core ≡ (move_of v (going p) step).core → AppendsPrefix p.held q.held (joined (move_of v (going p) step).answer)
+      → EndsAt step p q
+  moved step p q core part = inr (inl (record { core = core; part = part }))
+
+  stops : (why : LineStop) (step : Step) (p q : Point) → StopsAt v traces why step p q → EndsAt step p q
+  stops stop.HistoryFull step p q s = moved step p q s.0.core (prefix_whole p.held q.held (joined (move_of v (going p) step).answer) s.0.wrote)
+  stops stop.NoMemory step p q s = by s.0
+    where
+      by : IsUntaken (going p) (move_of v (going p) step) (moment p) (moment q) ⊎ IsUnplanned v (move_of v (going p) step) (moment p) (moment q) → EndsAt step p q
+      by (inl u) = untaken step p q u
+      by (inr u) = moved step p q u.core (prefix_whole p.held q.held (joined (move_of v (going p) step).answer) u.wrote)
+  stops stop.DiskFault step p q s = moved step p q s.0.core (prefix_whole p.held q.held (joined (move_of v (going p) step).answer) s.0.wrote)
+  stops stop.WriteFault step p q (inl s) = by s.0
+    where
+      by : IsUnanswered v (move_of v (going p) step) (moment p) (moment q) ⊎ IsUnreplied v (move_of v (going p) step) (moment p) (moment q) → EndsAt step p q
+      by (inl u) = moved step p q u.core u.part
+      by (inr u) = inr (inr (record { due = u.due; place = u.place; core = u.core; part = u.part }))
+  stops stop.WriteFault step p q (inr s) =
+      let c = s.committed in
+      inr (inr (record { due = c.due; place = c.place; core = c.core; part = prefix_whole p.held q.held (whole_text v (move_of v (going p) step)) c.wrote }))
+
+  within : (why : LineStop) (steps : List Step) (p q : Point) → StopsWithin v traces why steps p q → Ends steps p q
+  within why steps p q s = inr (record {
+    first = s.first;
+    step = s.step;
+    rest = s.rest;
+    split = s.split;
+    between = s.between;
+    did = s.did;
+    at = stops why s.step s.between q s.stopped;
+  })
+
+  between_steps : (steps : List Step) (p q : Point) → StopsBetween v traces steps p q → Ends steps p q
+  between_steps steps p q s = inl (record { first = s.first; rest = s.rest; split = s.split; did = s.did })
+
+  pub ends : (r : Result (Unit {0}) LineStop) (steps : List Step) (p q : Point) → Comes v traces r steps p q → Ends steps p q
+  ends (Ok value) steps p q d = inl (record { first = steps; rest = []; split = sym (append-nil steps); did = d })
+  ends (Err stop.HistoryFull) steps p q s = within stop.HistoryFull steps p q s
+  ends (Err stop.NoMemory) steps p q (inl s) = within stop.NoMemory steps p q s
+  ends (Err stop.NoMemory) steps p q (inr s) = between_steps steps p q s
+  ends (Err stop.DiskFault) steps p q (inl s) = within stop.DiskFault steps p q s
+  ends (Err stop.DiskFault) steps p q (inr s) = between_steps steps p q s
+  ends (Err stop.WriteFault) steps p q s = within stop.WriteFault steps p q s
+
+  -- What was committed
+
+  -- the core behind a step whose batch has a place
+  pub run_core : (step : Step) (p q : Point) → HasRun step p q → q.core ≡ (behind v (going p) step).core
+  run_core step p q h = h.core ∙ sym (ap (λ (t : Standing). t.core) (behind_placed v p.core p.lines step h.due h.place))
+
+  pub record IsCommittedAs (steps : List Step) (p q : Point) : Type 0 where
+    pub first : List Step
+    pub rest : List Step
+    pub split : steps ≡ first ++ rest
+    pub committed : HasCommitted q.core (standing_after v (going p) first).core
+
+  first_committed : (first : List Step) (p between q : Point) → Does v traces first p between → HasCommitted q.core between.core
+      → HasCommitted q.core (standing_after v (going p) first).core
+  first_committed first p between q d h =
+      let core : between.core ≡ (standing_after v (going p) first).core = sym (ap (λ (t : Standing). t.core) d.stands) in
+      record { history = h.history ∙ ap (λ (c : Core). c.history) core; state = h.state ∙ ap (λ (c : Core). c.state) core }
+
+  same_committed : (core other : Core) → core ≡ other → HasCommitted core other
+  same_committed core other same = record { history = ap (λ (c : Core). c.history) same; state = ap (λ (c : Core). c.state) same }
+
+  committed_as : (core middle other : Core) → core ≡ middle → HasCommitted middle other → HasCommitted core other
+  committed_as core middle other same h =
+      record { history = ap (λ (c : Core). c.history) same ∙ h.history; state = ap (λ (c : Core). c.state) same ∙ h.state }
+
+  -- the core behind the first steps and one more
+  one_more : (first : List Step) (step : Step) (p between q : Point) → Does v traces first p between → HasRun step between q
+      → q.core ≡ (standing_after v (going p) (first ++ step ∷ [])).core
+  one_more first step p between q d h =
+      run_core step between q h
+      ∙ sym (ap (λ (t : Standing). t.core)
+      (standing-append v first (step ∷ []) (going p) ∙ ap (λ t. standing_after v t (step ∷ [])) d.stands ∙ standing-one v (going between) step))
+
+  pub commits : (steps : List Step) (p q : Point) → Ends steps p q → IsCommittedAs steps p q
+  commits steps p q (inl e) = record {
+    first = e.first;
+    rest = e.rest;
+    split = e.split;
+    committed = first_committed e.first p q q e.did (record { history = refl; state = refl });
+  }
+  commits steps p q (inr e) = by e.at
+    where
+      stays : HasCommitted q.core e.between.core → IsCommittedAs steps p q
+      stays h = record { first = e.first; rest = e.step ∷ e.rest; split = e.split; committed = first_committed e.first p e.between q e.did h }
+
+      by : EndsAt e.step e.between q → IsCommittedAs steps p q
+      by (inl h) = stays (same_committed q.core e.between.core h.core)
+      by (inr (inl h)) = stays (committed_as q.core (move_of v (going e.between) e.step).core e.between.core h.core (move_committed (going e.between) e.step))
+      by (inr (inr h)) = record {
+        first = e.first ++ e.step ∷ [];
+        rest = e.rest;
+        split = e.split ∙ sym (append_assoc e.first (e.step ∷ []) e.rest);
+        committed = same_committed q.core (standing_after v (going p) (e.first ++ e.step ∷ [])).core (one_more e.first e.step p e.between q e.did h);
+      }
+
+  -- Where the history is full
+
+  stands_behind : (p : Point) (step : Step) (rest : List Step) → standing_after v (going p) (step ∷ rest) ≡ standing_after v (behind v (going p) step) rest
+  unfolding standing_after
+  stands_behind p step rest = refl
+
+  -- the session leaves the core that its steps lead to
+  pub full_core : (steps : List Step) (p q : Point) → StopsWithin v traces stop.HistoryFull steps p q → (standing_after v (going p) steps).core ≡ q.core
+  full_core steps p q s =
+      let b = s.between in
+      let at = s.stopped.0 in
+      let is = behind_full v b.core b.lines s.step at.due at.full in
+      let over : (behind v (going b) s.step).is_full ≡ true = ap (λ (t : Standing). t.is_full) is in
+      ap (λ l. (standing_after v (going p) l).core) s.split
+      ∙ ap (λ (t : Standing). t.core)
+      (standing-append v s.first (s.step ∷ s.rest) (going p) ∙ ap (λ t. standing_after v t (s.step ∷ s.rest)) s.did.stands ∙ stands_behind b s.step s.rest
+      ∙ standing_over v (behind v (going b) s.step) s.rest over ∙ is)
+      ∙ sym at.core

@@ -1,0 +1,17 @@
+use Rattle.engine.specs.EngineViews.{core_of, source_of}
+use Rattle.store_meaning.specs.Engines.{logged_of}
+use Rattle.session_store.specs.Endings.{next_core}
+use Rattle.batch_session.proofs.KeepLaws.{left_logged, cycle_counted}
+use Rattle.batch_session.proofs.reporting.end_batch.Goals as goal
+
+pub returns-in-Ok-batch_ended-clause-in_cycle : goal.returns-in-Ok-batch_ended-clause-in_cycle
+returns-in-Ok-batch_ended-clause-in_cycle g c =
+    let e = c.args.engine.now in
+    cycle_counted c.args.store.now c.batch_ended.new.store (source_of e) (logged_of e) (g.D.Disk.facts c.args.disk.now) c.args.tally.now c.report.new.tally c.args.counts
+    c.report.ensures.counted c.requires.kept c.in-Ok-batch_ended.ensures.cycle c.requires.in_cycle
+
+pub returns-in-Err-DiskFault-clause-kept : goal.returns-in-Err-DiskFault-clause-kept
+returns-in-Err-DiskFault-clause-kept g c = λ rule.
+    let e = c.args.engine.now in
+    left_logged e c.requires.fresh c.batch_ended.new.store (g.D.Disk.facts c.batch_ended.new.disk) (next_core rule (source_of e) (core_of e))
+    (rw c.in-Err-DiskFault.field-0-is at c.in-Err-DiskFault.ensures.kept)

@@ -1,0 +1,5 @@
+pub mod StoreLaws
+pub mod CycleLaws
+pub mod NoStore
+mod LoggingLaws
+mod Snapshots

@@ -1,0 +1,5 @@
+pub mod Stores
+pub mod Cycles
+pub mod Endings
+pub mod Checkpoints
+pub mod NoDisk

@@ -1,0 +1,25 @@
+//! What a session knows of its store.
+
+use sf_value::Text;
+use store_meaning::Position;
+
+/// What stays of a store through a session.
+#[derive(Drop)]
+pub struct StoreSettings {
+    /// The text that the program was compiled from.
+    pub program: Text,
+    /// A checkpoint follows after so many batches, 1 to 65,535.
+    pub every: u32,
+    /// The epoch of the store as the session began.
+    pub opened: u64,
+}
+
+/// The store of a session.
+#[derive(Drop)]
+pub struct Store {
+    pub settings: StoreSettings,
+    /// Where the record of the next batch goes.
+    pub position: Position,
+    /// How many batches came since the last checkpoint was due.
+    pub since: u32,
+}

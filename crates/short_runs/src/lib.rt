@@ -1,0 +1,10 @@
+//! What the runs of a program leave stays short: no text and no list of it has more than a count of
+//! four bytes can say.
+//!
+//! The definitions stand in `specs/`, what they say by themselves at the function of `laws`. Nothing
+//! here runs a program.
+#![tactic(auto)]
+
+mod laws;
+
+pub use laws::runs_are_short;

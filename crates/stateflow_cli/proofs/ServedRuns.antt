@@ -1,0 +1,285 @@
+-- From what was loaded, opened and run to how a run ends the call.
+use Rattle.std.proofs.Common.{◌≡◌, ℕ, ◌≤◌, ◌⊎◌, inl, inr, true, false, true≢false, List, None, Some, Ok, Err, refl, sym, ap, ◌∙◌, subst, Bor}
+use Rattle.std.proofs.KnownBytes.{Keeps-refl}
+use Rattle.std.specs.Prelude.{IfSome, IfOk, IsErrOf, option_map}
+use Rattle.std.specs.Str.{chars}
+use Rattle.std.specs.declared.option.Option.{Option}
+use Rattle.std.specs.declared.result.Result.{Result}
+use Rattle.sf_outside.specs.Causes.{Rose}
+use Rattle.sf_outside.specs.DiskModel.{Image, DiskFacts, untold, mounted}
+use Rattle.program_meaning.specs.ClassTables.{Source}
+use Rattle.reservations.specs.BatchRule.{batch_rule}
+use Rattle.block_step.specs.declared.compiled.Compiled.{Compiled}
+use Rattle.aria_batch.specs.BatchRun.{source_of}
+use Rattle.snapshot_store.specs.SlotFile.{IsNew}
+use Rattle.entity_compiler.specs.Compiling.{IsCompiledOf}
+use Rattle.engine.specs.Cores.{Core, IsSoundCore, empty_core}
+use Rattle.engine.specs.declared.engine.Engine.{Engine}
+use Rattle.engine.specs.Replays.{settled}
+use Rattle.engine.specs.EngineViews.{core_of, compiled_of, fresh_of, RunsProgram}
+use Rattle.engine.specs.EngineViews as engine
+use Rattle.store_meaning.specs.declared.position.Position.{Position}
+use Rattle.store_meaning.specs.Engines.{logged_of}
+use Rattle.store_meaning.specs.StandsFor.{StandsFor}
+use Rattle.session_store.specs.declared.store.Store.{Store}
+use Rattle.session_store.specs.Cycles.{IsInCycle}
+use Rattle.session_store.specs.Endings.{KeepsWhere, next_core}
+use Rattle.session_store.specs.Stores.{settings_of, HasSnapshotPast, EndsPast}
+use Rattle.session_steps.specs.declared.tally.Tally.{Tally}
+use Rattle.batch_session.specs.declared.serving.SessionFault.{SessionFault}
+use Rattle.batch_session.specs.declared.serving.SessionFault.TheVariants.{ReadFault, WriteFault}
+use Rattle.batch_session.specs.Faults.{disk_failed}
+use Rattle.batch_run.specs.declared.running.RunSettings.{RunSettings}
+use Rattle.batch_run.specs.RunViews.{Shown}
+use Rattle.batch_run.specs.Runs.{Runs}
+use Rattle.store_opening.specs.declared.opened_store.OpenSettings.{OpenSettings}
+use Rattle.store_opening.specs.declared.opened_store.OpenedStore.{OpenedStore}
+use Rattle.store_opening.specs.declared.stop.OpenStop.{OpenStop}
+use Rattle.store_opening.specs.declared.stop.OpenStop.TheVariants as of_store
+use Rattle.store_opening.specs.Openings.{AnswersFound, KeepsFound, LeavesFound, MountsFor}
+use Rattle.store_opening.specs.OpenedStores.{program_for, IsReady}
+use Rattle.command_words.specs.Commands as words
+use Rattle.command_words.specs.declared.command.RunWords.{RunWords}
+use Rattle.operator_graph.specs.Turns.{Outside}
+use Rattle.program_text.specs.declared.fault.ProgramFault.{ProgramFault}
+use Rattle.stateflow_cli.specs.Devices.{Devices, Input, Output, StoreDisk, devices, IsStill}
+use Rattle.stateflow_cli.specs.Loading.{HoldsOne, Refuses, IsCompiledWith}
+use Rattle.stateflow_cli.specs.declared.loading.CompiledText.{CompiledText}
+use Rattle.stateflow_cli.specs.Starts.{program_of, BeginsWith}
+use Rattle.stateflow_cli.specs.StoredRuns.{IsUntouched, DiskRose, settings_by, RanOpened, KeepsRun, KeepsIn}
+use Rattle.stateflow_cli.specs.Endings.{RunEnds, RunsFile, shown_of, settings_for}
+use Rattle.stateflow_cli.specs.declared.ending.Ending.{Ending}
+use Rattle.stateflow_cli.specs.declared.ending.Ending.TheVariants.{Misused, Refused, FileFault, NoMemory, Printed, Unprinted, Served, Stopped, Unopened}
+use Rattle.stateflow_cli.proofs.GainedLaws.{Rose-earlier}
+use Rattle.stateflow_cli.proofs.StoreEndings.{untouched}
+
+-- ---- before anything was run
+
+module _ (limit : ℕ) (file : List ℕ) (w : words.RunSettings) (content content' : List ℕ → Option (List ℕ)) (faults faults' : List ℕ → ℕ) (input : Input) (out err : Output)
+    (side : Outside) (disk : StoreDisk) (facts : DiskFacts) where
+  abbrev old : Devices
+  old = devices content faults input out err side disk
+
+  abbrev new : Devices
+  new = devices content' faults' input out err side disk
+
+  nothing_done : IsStill old new
+  nothing_done = record { idle = record { left = Keeps-refl input.left; held = Keeps-refl out.held }; err = refl; outside = refl }
+
+  pub turned_down : (f : ProgramFault) → Refuses (content file) f → RunEnds limit file w old new facts facts (Refused f)
+  turned_down f refused = (record { refused = refused; still = nothing_done }, untouched disk facts)
+
+  pub not_read : Rose (faults file) (faults' file) → RunEnds limit file w old new facts facts FileFault
+  not_read rose = (record { file_cause = rose; still = nothing_done }, untouched disk facts)
+
+  pub no_memory : RunEnds limit file w old new facts facts NoMemory
+  no_memory = (nothing_done, untouched disk facts)
+
+  -- nor on the disk but for a store that isn't opened
+  pub nothing_run : (disk' : StoreDisk) → IsStill old (devices content' faults' input out err side disk')
+  nothing_run disk' = record { idle = record { left = Keeps-refl input.left; held = Keeps-refl out.held }; err = refl; outside = refl }
+
+-- ---- without a store
+
+pub unnamed : (w : RunWords) → w.store ≡ None → (words.settings_by w).store ≡ None
+unnamed w is = ap (λ (store : Option (Bor (List ℕ))). option_map (λ (t : Bor (List ℕ)). t.now) store) is
+
+pub named_so : (w : RunWords) (name : Bor (List ℕ)) → w.store ≡ Some name → (words.settings_by w).store ≡ Some name.now
+named_so w name is = ap (λ (store : Option (Bor (List ℕ))). option_map (λ (t : Bor (List ℕ)). t.now) store) is
+
+-- a run begins with nothing committed
+pub begins_alone : (store : Option (List ℕ)) (src : Source) (text : List ℕ) (found : List ℕ → Option Image) → store ≡ None → BeginsWith store found (program_of src text) empty_core
+begins_alone None src text found alone = refl
+begins_alone (Some dir) src text found alone = absurd (named alone)
+  where
+    named : Some dir ≡ None → ⊥
+    named same = cc
+
+-- and no disk fails
+pub keeps_alone : (store : Option (List ℕ)) (s : words.RunSettings) (src : Source) (text : List ℕ) (start last : Core) (before after : StoreDisk) (now : DiskFacts)
+    (result : Result Tally SessionFault) → store ≡ None → disk_failed result ≡ false → KeepsIn store s src text start last before after now result
+keeps_alone None s src text start last before after now result alone fine = λ failed. true≢false (sym failed ∙ fine)
+keeps_alone (Some dir) s src text start last before after now result alone fine = absurd (named alone)
+  where
+    named : Some dir ≡ None → ⊥
+    named same = cc
+
+-- so it is whatever is told of the disk
+module _ (limit : ℕ) (file : List ℕ) (s : words.RunSettings) (before after : Devices) (facts : DiskFacts) (alone : s.store ≡ None) (same : after.disk ≡ before.disk) where
+  untouched_too : IsUntouched before.disk after.disk facts facts
+  untouched_too = subst (λ disk. IsUntouched before.disk disk facts facts) (sym same) (untouched before.disk facts)
+
+  ran_alone : (result : Result Tally SessionFault) → RunsFile limit file s before after untold result → RunsFile limit file s before after facts result
+  ran_alone result r = record {
+    compiled = r.compiled;
+    holds = r.holds;
+    start = r.start;
+    is_start = r.is_start;
+    last = r.last;
+    runs = r.runs;
+    input_cause = r.input_cause;
+    write_cause = r.write_cause;
+    err_later = r.err_later;
+    keeps = kept s.store alone r.keeps;
+  }
+    where
+      kept : (store : Option (List ℕ)) → store ≡ None → KeepsIn store s (source_of r.compiled) r.holds.text r.start r.last before.disk after.disk untold result
+          → KeepsIn store s (source_of r.compiled) r.holds.text r.start r.last before.disk after.disk facts result
+      kept None none keeps = keeps
+      kept (Some dir) none keeps = absurd (named none)
+        where
+          named : Some dir ≡ None → ⊥
+          named is = cc
+
+  not_named : (dir : List ℕ) → s.store ≡ Some dir → ⊥
+  not_named dir named = wrong (sym alone ∙ named)
+    where
+      wrong : None ≡ Some dir → ⊥
+      wrong is = cc
+
+  pub ends_alone : (e : Ending) → RunEnds limit file s before after untold untold e → RunEnds limit file s before after facts facts e
+  ends_alone Misused ends = ends
+  ends_alone (Refused f) ends = (ends.0, untouched_too)
+  ends_alone FileFault ends = (ends.0, untouched_too)
+  ends_alone NoMemory ends = (ends.0, untouched_too)
+  ends_alone Printed ends = ends
+  ends_alone Unprinted ends = ends
+  ends_alone Served ends = (ends.0, ran_alone (Ok ends.0) ends.1)
+  ends_alone (Stopped stopped) ends = ran_alone (Err stopped) ends
+  ends_alone (Unopened stopped) ends = absurd (not_named ends.dir ends.named)
+
+-- ---- with one
+
+-- the engine of an opened store has run
+module _ (opened : OpenedStore) (now : Engine) (limit : ℕ) (runs : RunsProgram now (compiled_of opened.engine) limit) (result : Result Tally SessionFault) (old new : Shown) (faults faults' : ℕ)
+    (facts : DiskFacts) (s : RunSettings) where
+  same_source : engine.source_of now ≡ engine.source_of opened.engine
+  same_source = ap source_of runs.compiled_is
+
+  pub ran_opened : (store : Option Store) → settings_of store ≡ Some opened.store.settings → Runs (compiled_of opened.engine) s (core_of opened.engine) (core_of now) result old new
+      → (IsSoundCore (engine.source_of opened.engine) (core_of opened.engine) → IsSoundCore (engine.source_of opened.engine) (core_of now))
+      → KeepsWhere (disk_failed result) store (engine.source_of now) (logged_of now) (next_core batch_rule (engine.source_of now) (core_of now)) facts
+      → IfOk result (λ tally. IsInCycle store tally.batches)
+      → (disk_failed result ≡ true → Rose faults faults' ⊎ EndsPast batch_rule store (engine.source_of now) (core_of now) (fresh_of now) facts)
+      → RanOpened opened s result old new faults faults' facts
+  ran_opened None settings ran sound kept in_cycle cause = absurd (none settings)
+    where
+      none : None ≡ Some opened.store.settings → ⊥
+      none same = cc
+  ran_opened (Some store) settings ran sound kept in_cycle cause = record {
+    last = core_of now;
+    runs = ran;
+    sound = sound;
+    store = store;
+    settings = is settings;
+    fresh = fresh_of now;
+    kept = subst (λ src. KeepsWhere (disk_failed result) (Some store) src (logged_of now) (next_core batch_rule src (core_of now)) facts) same_source kept;
+    in_cycle = in_cycle;
+    cause = λ failed. subst (λ src. Rose faults faults' ⊎ EndsPast batch_rule (Some store) src (core_of now) (fresh_of now) facts) same_source (cause failed);
+  }
+    where
+      is : Some store.settings ≡ Some opened.store.settings → store.settings ≡ opened.store.settings
+      is same = cc
+
+module _ (limit : ℕ) (file dir : List ℕ) (w : words.RunSettings) (before after : Devices) (was now : DiskFacts) (named : w.store ≡ Some dir)
+    (made : CompiledText) (holds : HoldsOne (λ text. IsCompiledWith text made) (before.content file)) where
+  abbrev compiled_text : HoldsOne (λ text. IsCompiledOf text made.compiled) (before.content file)
+  compiled_text = record { text = holds.text; told = holds.told; is = holds.is.is }
+
+  -- it wasn't opened
+  pub not_opened : (stopped : OpenStop) → IfSome (before.disk.found dir) (AnswersFound (Err stopped) (program_for made.compiled made.text))
+      → KeepsFound (Err stopped) (before.disk.found dir) now
+      → MountsFor (Err stopped) dir (LeavesFound (program_for made.compiled made.text) (before.disk.found dir)) before.disk.mounts after.disk.mounts was now
+      → (IsErrOf {T = OpenedStore} {E = OpenStop} (Err stopped) of_store.DiskFault → Rose before.disk.faults after.disk.faults
+      ⊎ (Rose (before.disk.mounts.refused dir) (after.disk.mounts.refused dir) ⊎ (IfSome (before.disk.found dir) IsNew × HasSnapshotPast made.text empty_core)))
+      → IsStill before after → RunEnds limit file w before after was now (Unopened stopped)
+  not_opened stopped answer unchanged mounts cause still = record {
+    dir = dir;
+    named = named;
+    compiled = made.compiled;
+    holds = compiled_text;
+    fails = record {
+      answer = subst (λ t. IfSome (before.disk.found dir) (AnswersFound (Err stopped) (program_for made.compiled t))) holds.is.characters answer;
+      unchanged = unchanged;
+      mounts = subst (λ t. MountsFor (Err stopped) dir (LeavesFound (program_for made.compiled t) (before.disk.found dir)) before.disk.mounts after.disk.mounts was now)
+          holds.is.characters mounts;
+      cause = λ is. by (cause (ap Err is));
+    };
+    still = still;
+  }
+    where
+      by : Rose before.disk.faults after.disk.faults
+          ⊎ (Rose (before.disk.mounts.refused dir) (after.disk.mounts.refused dir) ⊎ (IfSome (before.disk.found dir) IsNew × HasSnapshotPast made.text empty_core))
+          → DiskRose dir before.disk after.disk ⊎ HasSnapshotPast (chars holds.text) empty_core
+      by (inl rose) = inl (inl rose)
+      by (inr (inl rose)) = inl (inr rose)
+      by (inr (inr past)) = inr (subst (λ t. HasSnapshotPast t empty_core) holds.is.characters past.1)
+
+  -- it was, and a run on it came to a result
+  module _ (opened : OpenedStore) (settings : OpenSettings) (ready : IsReady made.compiled settings opened) (program : settings.program ≡ made.text) (every : settings.every ≡ w.every)
+      (answer : IfSome (before.disk.found dir) (AnswersFound (Ok opened) (program_for made.compiled made.text))) where
+    abbrev start : Core
+    start = core_of opened.engine
+
+    found_so : IfSome (before.disk.found dir) (AnswersFound (Ok opened) (program_of (source_of made.compiled) holds.text))
+    found_so = subst (λ t. IfSome (before.disk.found dir) (AnswersFound (Ok opened) (program_for made.compiled t))) holds.is.characters answer
+
+    begins_so : BeginsWith (Some dir) before.disk.found (program_of (source_of made.compiled) holds.text) start
+    begins_so = by (before.disk.found dir) found_so
+      where
+        by : (found : Option Image) → IfSome found (AnswersFound (Ok opened) (program_of (source_of made.compiled) holds.text))
+            → IfSome found (λ image. (position : Position) × StandsFor (program_of (source_of made.compiled) holds.text) image start position)
+        by None one = tt
+        by (Some image) one = (one.0, one.2)
+
+    same_settings : opened.store.settings ≡ settings_by w holds.text opened.store.position.epoch
+    same_settings =
+        ready.settings_are
+        ∙ ap (λ t. record { program = t; every = settings.every; opened = opened.store.position.epoch }) (program ∙ holds.is.characters)
+        ∙ ap (λ n. record { program = chars holds.text; every = n; opened = opened.store.position.epoch }) every
+
+    module _ (s : RunSettings) (is : s ≡ settings_for limit w) (result : Result Tally SessionFault) (faults : ℕ) (later : before.disk.faults ≤ faults) (moment : ℕ)
+        (mounts : after.disk.mounts ≡ mounted before.disk.mounts dir moment)
+        (ran : RanOpened opened s result (shown_of before) (shown_of after) faults after.disk.faults now) where
+      source_so : engine.source_of opened.engine ≡ source_of made.compiled
+      source_so = ap source_of ready.runs.compiled_is
+
+      cause_so : disk_failed result ≡ true → DiskRose dir before.disk after.disk ⊎ EndsPast batch_rule (Some ran.store) (source_of made.compiled) ran.last ran.fresh now
+      cause_so failed = by (ran.cause failed)
+        where
+          by : Rose faults after.disk.faults ⊎ EndsPast batch_rule (Some ran.store) (engine.source_of opened.engine) ran.last ran.fresh now
+              → DiskRose dir before.disk after.disk ⊎ EndsPast batch_rule (Some ran.store) (source_of made.compiled) ran.last ran.fresh now
+          by (inl rose) = inl (inl (Rose-earlier before.disk.faults faults after.disk.faults later rose))
+          by (inr past) = inr (subst (λ src. EndsPast batch_rule (Some ran.store) src ran.last ran.fresh now) source_so past)
+
+      keeps_run : KeepsRun dir w (source_of made.compiled) holds.text start ran.last before.disk after.disk now result
+      keeps_run = record {
+        moment = moment;
+        mounts = mounts;
+        opened = opened.store.position;
+        found = found_so;
+        sound = subst (λ src. IsSoundCore src start → IsSoundCore src ran.last) source_so ran.sound;
+        store = ran.store;
+        settings = ran.settings ∙ same_settings;
+        fresh = ran.fresh;
+        kept = subst (λ src. KeepsWhere (disk_failed result) (Some ran.store) src (settled ran.last ran.fresh) (next_core batch_rule src ran.last) now) source_so ran.kept;
+        in_cycle = ran.in_cycle;
+        cause = cause_so;
+      }
+
+      pub ran_stored : (result ≡ Err ReadFault → Rose before.input.faults after.input.faults)
+          → (result ≡ Err WriteFault → Rose before.out.faults after.out.faults ⊎ Rose before.err.faults after.err.faults) → before.err.faults ≤ after.err.faults
+          → RunsFile limit file w before after now result
+      ran_stored input_cause write_cause err_later = record {
+        compiled = made.compiled;
+        holds = compiled_text;
+        start = start;
+        is_start = subst (λ store. BeginsWith store before.disk.found (program_of (source_of made.compiled) holds.text) start) (sym named) begins_so;
+        last = ran.last;
+        runs = subst (λ (x : RunSettings). Runs made.compiled x start ran.last result (shown_of before) (shown_of after)) is
+            (subst (λ (c : Compiled). Runs c s start ran.last result (shown_of before) (shown_of after)) ready.runs.compiled_is ran.runs);
+        input_cause = input_cause;
+        write_cause = write_cause;
+        err_later = err_later;
+        keeps = subst (λ store. KeepsIn store w (source_of made.compiled) holds.text start ran.last before.disk after.disk now result) (sym named) keeps_run;
+      }

@@ -1,0 +1,60 @@
+-- What a call did that was asked to serve generated work, by its status: what it printed, chose and told.
+use Rattle.std.specs.Prelude.{ℕ, ◌≡◌, ◌⊎◌, List, []}
+use Rattle.std.specs.Io.KnownBytes.{Appends, Keeps}
+use Rattle.work_gen.specs.Requests as work
+use Rattle.block_step.specs.declared.compiled.Compiled.{Compiled}
+use Rattle.block_step.specs.CompiledViews.{compiled_program, compiled_names, compiled_tables, compiled_blocks}
+use Rattle.entity_compiler.specs.Compiling.{IsCompiledOf, IsGraphOf}
+use Rattle.operator_graph.specs.Turns.{Outside}
+use Rattle.batch_replies.specs.declared.counting.BatchCounts.{BatchCounts}
+use Rattle.session_steps.specs.Doings.{RunBatches, BeginBatches}
+use Rattle.generated_run.specs.Generated.{Starts, service_by, input_of, batch_cores}
+use Rattle.command_words.specs.Commands as words
+use Rattle.program_text.specs.Readings.{HasFault}
+use Rattle.program_text.specs.declared.fault.ProgramFault.{ProgramFault}
+use Rattle.stateflow_cli.specs.Words.{Gen, file_of}
+use Rattle.stateflow_cli.specs.Devices.{Devices, IsIdle}
+use Rattle.stateflow_cli.specs.Endings.{work_for, PrintsSummary, PrintsSummaryFront}
+use Rattle.stateflow_cli.specs.StatusLines.{fault_line}
+
+-- the batches of the generated requests were run, one after another; or some first ones, and perhaps a part of the next
+abbrev pub RunsWork : words.GenSettings → Compiled → List BatchCounts → Outside → Outside → Type 0
+RunsWork s compiled counts old new =
+    RunBatches (service_by (work_for s) compiled) (batch_cores (service_by (work_for s) compiled) (input_of (work_for s))) counts old new
+
+abbrev pub BeginsWork : words.GenSettings → Compiled → List BatchCounts → Outside → Outside → Type 0
+BeginsWork s compiled counts old new =
+    BeginBatches (service_by (work_for s) compiled) (batch_cores (service_by (work_for s) compiled) (input_of (work_for s))) counts old new
+
+module _ (s : words.GenSettings) (before after : Devices) where
+  -- the generated program's text has a fault, which was told
+  pub record TellsWorkFault : Type 0 where
+    pub fault : ProgramFault
+    pub refused : HasFault work.program fault
+    pub line : Appends before.err.held after.err.held (fault_line (file_of (Gen s)) fault)
+
+  -- The first status says that the line was printed which sums up what the work came to, and nothing else; that of a write fault that a part of it
+  -- was, or nothing; the others that nothing was. That of a refusal comes only where the generated program's text has the fault that is told.
+  pub record SumsUpByStatus (status : ℕ) : Type 0 where
+    pub whole : status ≡ 0 → PrintsSummary s before after × Appends before.err.held after.err.held []
+    pub told : status ≡ 1 → TellsWorkFault
+    pub in_part : status ≡ 4 → Keeps before.out.held after.out.held ⊎ PrintsSummaryFront s before after
+    pub nothing : (status ≡ 0 → ⊥) → (status ≡ 4 → ⊥) → Keeps before.out.held after.out.held
+    pub one_of : (status ≡ 0) ⊎ ((status ≡ 1) ⊎ ((status ≡ 4) ⊎ (status ≡ 8)))
+
+  -- The chooser was started once, with the number of the work, and the watch was told one graph, which is one of the generated program; then the
+  -- batches of the generated requests were told, each along the picks made for it: with the first status all of them, with that of a write fault,
+  -- or of want of memory, some first ones, and perhaps a part of the next.
+  pub record TellsWork (status : ℕ) : Type 0 where
+    pub compiled : Compiled
+    pub is : IsCompiledOf work.program compiled
+    pub graph : IsGraphOf (compiled_names compiled) (compiled_program compiled) (compiled_tables compiled) (compiled_blocks compiled)
+    pub started : Outside
+    pub starts : Starts (work_for s) compiled before.outside started
+    pub counts : List BatchCounts
+    pub begun : BeginsWork s compiled counts started after.outside
+    pub whole : status ≡ 0 → RunsWork s compiled counts started after.outside
+
+  -- or nothing was begun
+  abbrev pub WorkTells : ℕ → Type 0
+  WorkTells status = (IsIdle before after × (after.outside ≡ before.outside)) ⊎ TellsWork status

@@ -1,0 +1,9 @@
+pub mod Lists
+pub mod FlatTypes
+pub mod FittingThings
+pub mod RunLaws
+pub mod CoreLaws
+pub mod HeldRecords
+pub mod KeptLaws
+pub mod Accepted
+pub mod Engines

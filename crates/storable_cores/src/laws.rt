@@ -1,0 +1,18 @@
+//! What holds of every core, as the contracts of calls that do nothing.
+
+ghost use Rattle.storable_cores.specs.StorableLaws.{EmptyIsStorable, ArrivalsAreStorable, BatchesAreStorable, ReplaysAreStorable, SnapshotsAreStorable, RecordsAreSpelt, CoresAreSpelt};
+
+/// A core can be written to a store from the empty one on: behind each request of a line that arrives, behind each batch, and once it was read from a store.
+pub fn cores_stay_storable()
+    ensures empty { EmptyIsStorable }
+    ensures arrived { ArrivalsAreStorable }
+    ensures committed { BatchesAreStorable }
+    ensures replayed { ReplaysAreStorable }
+    ensures restored { SnapshotsAreStorable }
+{}
+
+/// What is written of such a core has a spelling: the record of its next batch, which is no longer than a log's record can be, and its snapshot.
+pub fn storable_cores_are_spelt()
+    ensures records { RecordsAreSpelt }
+    ensures snapshots { CoresAreSpelt }
+{}

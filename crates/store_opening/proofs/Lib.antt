@@ -1,0 +1,3 @@
+mod ReplayLaws
+mod OldStores
+mod Found

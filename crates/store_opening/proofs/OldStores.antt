@@ -1,0 +1,95 @@
+-- What an old store is told to be, from its snapshot and its batches.
+use Rattle.std.proofs.Common.{◌≡◌, ◌≤◌, ℕ, List, length, Ok, Err, IfOk, IfErr, IsErrOf, sym, subst}
+use Rattle.std.specs.declared.result.Result.{Result}
+use Rattle.byte_sizes.specs.Spelt.{IsReadSnapshot}
+use Rattle.sf_outside.specs.DiskModel.{Image}
+use Rattle.sf_outside.specs.declared.store_disk.StoreFile.{StoreFile}
+use Rattle.sf_value.specs.declared.Snapshot.{Snapshot}
+use Rattle.snapshot_store.specs.SlotFile.{log_of}
+use Rattle.block_step.specs.declared.compiled.Compiled.{Compiled}
+use Rattle.block_step.specs.CompiledViews.{compiled_program, compiled_names}
+use Rattle.quiet_methods.specs.MarksKeepWithin.{source}
+use Rattle.recovery.specs.declared.opened.Placed.{Placed}
+use Rattle.recovery.specs.StoreImage.{batches_of, IsOld}
+use Rattle.engine.specs.declared.engine.Engine.{Engine}
+use Rattle.engine.specs.declared.restore_error.RestoreError.{RestoreError}
+use Rattle.engine.specs.declared.restore_error.RestoreError.TheVariants as of_snapshot
+use Rattle.engine.specs.Causes.{IsCause}
+use Rattle.engine.specs.Cores.{Core}
+use Rattle.engine.specs.EngineViews.{core_of, program_tables, compiled_of}
+use Rattle.engine.specs.Kept.{core_of_snapshot, SnapshotFits}
+use Rattle.store_meaning.specs.declared.position.Position.{Position}
+use Rattle.store_meaning.specs.Engines.{program_of}
+use Rattle.store_meaning.specs.Meanings.{IsWrong}
+use Rattle.store_meaning.specs.StandsFor.{Program, Replays, StandsFor}
+use Rattle.store_meaning.proofs.Opening.{of_other, wrong_snapshot, wrong_batch, old_stands}
+use Rattle.storable_cores.specs.Storable.{IsStorable}
+use Rattle.storable_cores.proofs.KeptLaws.{snapshots_are_storable}
+use Rattle.store_opening.specs.declared.opened_store.OpenedStore.{OpenedStore}
+use Rattle.store_opening.specs.declared.stop.OpenStop.{OpenStop}
+use Rattle.store_opening.specs.declared.stop.OpenStop.TheVariants.{DiskFault, Bad, OtherProgram, NoMemory}
+use Rattle.store_opening.specs.Openings.{AnswersOld}
+use Rattle.store_opening.specs.OpenedStores.{program_for}
+use Rattle.store_opening.specs.Replayed.{HasFirstWrong, IsBrokenOff}
+use Rattle.store_opening.specs.Stops.{restore_stop}
+
+-- ---- from a snapshot
+
+module _ (compiled : Compiled) (kept : Snapshot) (fits : SnapshotFits (program_tables compiled) kept) (core : Core) (same : core ≡ core_of_snapshot kept) where
+  pub kept_storable : IsReadSnapshot kept → IsStorable core 0
+  kept_storable read = subst (λ c. IsStorable c 0) (sym same) (snapshots_are_storable (source (compiled_names compiled) (compiled_program compiled)) kept fits read)
+
+  pub kept_few : length core.pending ≤ 255
+  kept_few = subst (λ (c : Core). length c.pending ≤ 255) (sym same) fits.few
+
+-- ---- no fault of a disk
+
+pub no_fault : (epoch : ℕ) (error : RestoreError) → restore_stop epoch error ≡ DiskFault → ⊥
+no_fault epoch of_snapshot.Wrong same = cc
+no_fault epoch of_snapshot.NoMemory same = cc
+
+pub none_broken : (p : Program) (core : Core) (batches : List Placed) (epoch : ℕ) (result : Result OpenedStore OpenStop) → IfErr result (IsBrokenOff p core batches epoch) → IsErrOf result DiskFault → ⊥
+none_broken p core batches epoch (Ok made) stop is = cc
+none_broken p core batches epoch (Err fault) stop is = let same : fault ≡ DiskFault = cc in subst (IsBrokenOff p core batches epoch) same stop
+
+-- ---- what it is
+
+module _ (compiled : Compiled) (text : List ℕ) (position : Position) (kept : Snapshot) (batches : List Placed) (image : Image) (old : IsOld image position.epoch kept batches position.at) where
+  abbrev of_text : Program
+  of_text = program_for compiled text
+
+  pub other_told : (kept.program ≡ text → ⊥) → AnswersOld (Err OtherProgram) of_text image
+  other_told differs = (kept.program, of_other of_text position.epoch kept position.at image batches old differs)
+
+  module _ (same_text : kept.program ≡ text) where
+    pub restore_told : (error : RestoreError) → IsCause (SnapshotFits (program_tables compiled) kept) error → AnswersOld (Err (restore_stop position.epoch error)) of_text image
+    restore_told of_snapshot.Wrong wrong = wrong_snapshot of_text position.epoch kept position.at same_text image batches old wrong
+    restore_told of_snapshot.NoMemory cause = tt
+
+    module _ (fits : SnapshotFits (program_tables compiled) kept) where
+      broken_told : (file : StoreFile) (at : ℕ) → HasFirstWrong of_text (core_of_snapshot kept) batches at → file ≡ log_of position.epoch → IsWrong of_text image file at
+      broken_told file at w is_log =
+          let split = subst (λ bs. IsOld image position.epoch kept bs position.at) w.split old in
+          let here : IsWrong of_text image (log_of position.epoch) w.placed.at =
+          wrong_batch of_text position.epoch kept position.at same_text fits image w.before w.placed w.after w.middle split w.replays w.wrong in
+          subst (λ f. IsWrong of_text image f at) (sym is_log) (subst (λ n. IsWrong of_text image (log_of position.epoch) n) (sym w.place) here)
+
+      pub replays_told : (result : Result OpenedStore OpenStop) → IfOk result (λ made. Replays of_text (core_of_snapshot kept) (batches_of batches) (core_of made.engine))
+          → IfOk result (λ made. made.store.position ≡ position) → IfErr result (IsBrokenOff of_text (core_of_snapshot kept) batches position.epoch) → AnswersOld result of_text image
+      replays_told (Ok made) replays place stop =
+          subst (λ q. StandsFor of_text image (core_of made.engine) q) (sym place)
+          (old_stands of_text position.epoch kept position.at same_text fits image batches (core_of made.engine) old replays)
+      replays_told (Err (Bad file at)) replays place stop = broken_told file at stop.0 stop.1
+      replays_told (Err DiskFault) replays place stop = stop
+      replays_told (Err OtherProgram) replays place stop = absurd stop
+      replays_told (Err NoMemory) replays place stop = tt
+
+      -- the same of an engine that was restored from the snapshot
+      pub batches_told : (e : Engine) → compiled_of e ≡ compiled → core_of e ≡ core_of_snapshot kept → (result : Result OpenedStore OpenStop)
+          → IfOk result (λ made. Replays (program_of e text) (core_of e) (batches_of batches) (core_of made.engine))
+          → IfOk result (λ made. made.store.position ≡ position) → IfErr result (IsBrokenOff (program_of e text) (core_of e) batches position.epoch) → AnswersOld result of_text image
+      batches_told e runs core result replays place stop =
+          let ReplaysOf : Compiled → Core → Type 0 = λ k from. IfOk result (λ made. Replays (program_for k text) from (batches_of batches) (core_of made.engine)) in
+          let BreaksOf : Compiled → Core → Type 0 = λ k from. IfErr result (IsBrokenOff (program_for k text) from batches position.epoch) in
+          replays_told result (subst (ReplaysOf compiled) core (subst (λ k. ReplaysOf k (core_of e)) runs replays)) place
+          (subst (BreaksOf compiled) core (subst (λ k. BreaksOf k (core_of e)) runs stop))

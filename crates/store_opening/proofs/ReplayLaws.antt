@@ -1,0 +1,129 @@
+-- Batches of a log run again one after another.
+use Rattle.std.proofs.Common.{◌≡◌, ℕ, ◌+◌, ◌≤◌, ◌<◌, List, [], ◌∷◌, ◌++◌, length, take, drop, get_or, filter_map, Option, None, Some, refl, sym, ap, ◌∙◌, subst, arith}
+use Rattle.std.specs.List.{AllByRecursion, slice_get, cons_option, range_with_len}
+use Rattle.std.proofs.lemmas.List.{length-append, take_more, take-append-drop, append_assoc}
+use Rattle.std.proofs.lemmas.List.FromFn.{length-range_with_len}
+use Rattle.std.proofs.lemmas.List.Sorted.{length_permutation}
+use Rattle.byte_sizes.specs.Spelt.{IsReadBatch}
+use Rattle.sf_value.specs.declared.BatchRecord.{BatchRecord}
+use Rattle.sf_value.specs.declared.Request.{Request}
+use Rattle.program_meaning.specs.ClassTables.{Source}
+use Rattle.quiet_methods.specs.MarksKeepWithin.{source}
+use Rattle.kept_parts.proofs.SplitLaws.{parted}
+use Rattle.block_step.specs.declared.compiled.Compiled.{Compiled}
+use Rattle.block_step.specs.CompiledViews.{compiled_program, compiled_names, IsWhole}
+use Rattle.recovery.specs.declared.opened.Placed.{Placed}
+use Rattle.recovery.specs.StoreImage.{batches_of}
+use Rattle.engine.specs.declared.engine.Engine.{Engine}
+use Rattle.engine.specs.Batches.{other_places}
+use Rattle.engine.specs.Cores.{Core, CoreFits}
+use Rattle.engine.specs.EngineViews.{core_of, source_of, tables_of, program_tables, compiled_of, limit_of, fresh_of, RunsProgram}
+use Rattle.engine.specs.Replays.{with_news, replayed, BatchFits}
+use Rattle.store_meaning.specs.Engines.{program_of}
+use Rattle.store_meaning.specs.StandsFor.{Program, Replays}
+use Rattle.store_meaning.proofs.Opening.{replays_placed}
+use Rattle.storable_cores.specs.Storable.{IsStorable}
+use Rattle.storable_cores.proofs.Accepted.{engine_accepted}
+use Rattle.storable_cores.proofs.CoreLaws.{replays_are_storable}
+use Rattle.store_opening.specs.declared.replaying.ReplayStop.{ReplayStop}
+use Rattle.store_opening.specs.declared.replaying.ReplayStop.TheVariants.{Wrong, NoMemory}
+use Rattle.store_opening.specs.Replayed.{IsWrongAt, HasFirstWrong, HasWrongAmong, IsBrokenOff}
+use Rattle.store_opening.specs.Stops.{replay_stop}
+
+-- ---- how many wait behind a batch
+
+fewer : (f : ℕ → Option Request) (places : List ℕ) → length (filter_map f places) ≤ length places
+fewer f [] = omega arith
+fewer f (place ∷ places) = by (f place) (fewer f places)
+  where
+    by : (o : Option Request) → length (filter_map f places) ≤ length places → length (cons_option o (filter_map f places)) ≤ length (place ∷ places)
+    by None later = omega (arith, later)
+    by (Some r) later = omega (arith, later)
+
+-- one request more may come
+few_wait : (src : Source) (core : Core) (batch : BatchRecord) (fits : Compiled) → BatchFits (program_tables fits) core batch → length (replayed src core batch).pending ≤ 255
+few_wait src core batch compiled fits =
+    let waiting = (with_news core batch).pending in
+    let others = other_places (length waiting) batch.committed in
+    let all = length_permutation (range_with_len 0 (length waiting)) (batch.committed ++ others) (parted (length waiting) batch.committed fits.list.once) ∙ length-range_with_len 0 (length waiting) in
+    omega (arith, all, length-append batch.committed others, fewer (slice_get waiting) others, fits.list.few, fits.list.some)
+
+-- ---- one of them
+
+module _ (batches : List Placed) (i : ℕ) (placed : Placed) (within : i < length batches) (is : placed ≡ get_or batches i placed) where
+  pub more_taken : take (i + 1) batches ≡ take i batches ++ placed ∷ []
+  more_taken = take_more batches i placed within ∙ ap (λ b. take i batches ++ b ∷ []) (sym is)
+
+  pub split_here : batches ≡ take i batches ++ placed ∷ drop (i + 1) batches
+  split_here = sym (take-append-drop (i + 1) batches) ∙ ap (λ front. front ++ drop (i + 1) batches) more_taken ∙ append_assoc (take i batches) (placed ∷ []) (drop (i + 1) batches)
+
+  pub read_here : AllByRecursion (λ (b : Placed). IsReadBatch b.batch) batches → IsReadBatch placed.batch
+  read_here read = behind (take i batches) (subst (AllByRecursion (λ (b : Placed). IsReadBatch b.batch)) split_here read)
+    where
+      behind : (before : List Placed) → AllByRecursion (λ (b : Placed). IsReadBatch b.batch) (before ++ placed ∷ drop (i + 1) batches) → IsReadBatch placed.batch
+      behind [] all = all.0
+      behind (first ∷ before) all = behind before all.1
+
+-- ---- so far
+
+-- these batches were run again on the first engine
+pub record HasReplayed (first now : Engine) (before : List Placed) : Type 0 where
+  pub replays : (text : List ℕ) → Replays (program_of first text) (core_of first) (batches_of before) (core_of now)
+  pub runs : RunsProgram now (compiled_of first) (limit_of first)
+  pub fits : CoreFits (tables_of now) (core_of now)
+  pub storable : IsStorable (core_of now) 0
+  pub few : length (core_of now).pending ≤ 255
+  pub fresh : fresh_of now ≡ 0
+
+pub none_replayed : (e : Engine) → CoreFits (tables_of e) (core_of e) → IsStorable (core_of e) 0 → length (core_of e).pending ≤ 255 → fresh_of e ≡ 0 → HasReplayed e e []
+none_replayed e fits storable few fresh = record {
+  replays = λ text. refl;
+  runs = record { compiled_is = refl; limit_is = refl };
+  fits = fits;
+  storable = storable;
+  few = few;
+  fresh = fresh;
+}
+
+module _ (first now : Engine) (before : List Placed) (so_far : HasReplayed first now before) where
+  same_source : source_of now ≡ source_of first
+  same_source = ap (λ compiled. source (compiled_names compiled) (compiled_program compiled)) so_far.runs.compiled_is
+
+  pub still_whole : IsWhole (compiled_of first) → IsWhole (compiled_of now)
+  still_whole whole = subst IsWhole (sym so_far.runs.compiled_is) whole
+
+  -- a batch more
+  pub one_more : (next : Engine) (placed : Placed) → core_of next ≡ replayed (source_of now) (core_of now) placed.batch → BatchFits (tables_of now) (core_of now) placed.batch → fresh_of next ≡ 0
+      → RunsProgram next (compiled_of now) (limit_of now) → CoreFits (tables_of now) (core_of next) → IsReadBatch placed.batch → HasReplayed first next (before ++ placed ∷ [])
+  one_more next placed core fits fresh runs core_fits read = record {
+    replays = λ text.
+        let can : BatchFits (tables_of first) (core_of now) placed.batch = subst (λ compiled. BatchFits (program_tables compiled) (core_of now) placed.batch) so_far.runs.compiled_is fits in
+        let there : replayed (source_of first) (core_of now) placed.batch ≡ core_of next = sym (core ∙ ap (λ src. replayed src (core_of now) placed.batch) same_source) in
+        subst (λ c. Replays (program_of first text) (core_of first) (batches_of (before ++ placed ∷ [])) c) there
+        (replays_placed (program_of first text) (core_of first) before (core_of now) placed (so_far.replays text) can);
+    runs = record { compiled_is = runs.compiled_is ∙ so_far.runs.compiled_is; limit_is = runs.limit_is ∙ so_far.runs.limit_is };
+    fits = subst (λ compiled. CoreFits (program_tables compiled) (core_of next)) (sym runs.compiled_is) core_fits;
+    storable = subst (λ c. IsStorable c 0) (sym core) (replays_are_storable (source_of now) (core_of now) placed.batch (engine_accepted now) so_far.fits fits read so_far.storable);
+    few = subst (λ (c : Core). length c.pending ≤ 255) (sym core) (few_wait (source_of now) (core_of now) placed.batch (compiled_of now) fits);
+    fresh = fresh;
+  }
+
+  -- or one that can't follow
+  pub wrong_here : (placed : Placed) (after batches : List Placed) → batches ≡ before ++ placed ∷ after → (stop : ReplayStop) → IsWrongAt (BatchFits (tables_of now) (core_of now) placed.batch) placed.at stop
+      → (text : List ℕ) → HasWrongAmong (program_of first text) (core_of first) batches stop
+  wrong_here placed after batches split NoMemory told text = tt
+  wrong_here placed after batches split (Wrong at) told text = record {
+    before = before;
+    placed = placed;
+    after = after;
+    middle = core_of now;
+    split = split;
+    replays = so_far.replays text;
+    wrong = λ fits. told.0 (subst (λ compiled. BatchFits (program_tables compiled) (core_of now) placed.batch) (sym so_far.runs.compiled_is) fits);
+    place = told.1;
+  }
+
+-- as the stop of an opening
+pub broken_off : (p : Program) (core : Core) (batches slice : List Placed) (epoch : ℕ) (stop : ReplayStop) → slice ≡ batches → HasWrongAmong p core slice stop → IsBrokenOff p core batches epoch (replay_stop epoch stop)
+broken_off p core batches slice epoch (Wrong at) same wrong = (subst (λ bs. HasFirstWrong p core bs at) same wrong, refl)
+broken_off p core batches slice epoch NoMemory same wrong = tt

@@ -1,0 +1,4 @@
+pub mod Stops
+pub mod Replayed
+pub mod OpenedStores
+pub mod Openings

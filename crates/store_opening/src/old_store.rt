@@ -1,0 +1,123 @@
+//! An engine from what an old store has.
+
+ghost use Rattle.std.specs.Prelude.{◌≡◌, ◌≤◌, length, IfOk, IfErr, IsErrOf};
+ghost use Rattle.std.specs.List.{AllByRecursion};
+ghost use Rattle.sf_bytes.specs.Spelt.{IsReadBatch, IsReadSnapshot};
+ghost use Rattle.sf_outside.specs.DiskModel.{Image};
+ghost use Rattle.block_step.specs.CompiledViews.{IsWhole};
+ghost use Rattle.recovery.specs.StoreImage.{batches_of, IsOld};
+ghost use Rattle.engine.specs.Cores.{CoreFits};
+ghost use Rattle.engine.specs.EngineViews.{core_of, tables_of, compiled_of, limit_of, fresh_of, RunsProgram};
+ghost use Rattle.store_meaning.specs.Engines.{program_of};
+ghost use Rattle.store_meaning.specs.StandsFor.{Replays};
+ghost use Rattle.storable_cores.specs.Storable.{IsStorable};
+ghost use Rattle.store_opening.specs.Openings.{AnswersOld};
+ghost use Rattle.store_opening.specs.OpenedStores.{program_for, IsReady};
+ghost use Rattle.store_opening.specs.Replayed.{IsBrokenOff};
+ghost use Rattle.store_opening.specs.Stops.{restore_stop, replay_stop};
+
+use crate::opened_store::{OpenSettings, OpenedStore, store_at};
+use crate::replaying::{ReplayStop, replay_all};
+use crate::stop::OpenStop;
+use block_step::Compiled;
+use engine::{Engine, RestoreError};
+use recovery::Batches;
+use sf_value::Snapshot;
+use snapshot_store::{log_of, slot_file};
+use std::alloc::Global;
+use store_meaning::Position;
+
+/// An engine with the core of a snapshot and of the batches behind it, which stand in a store up to this position.
+pub fn go_on(
+    alloc: Global,
+    compiled: Compiled,
+    settings: OpenSettings,
+    position: Position,
+    kept: Snapshot,
+    batches: Batches,
+) -> Result<OpenedStore, OpenStop>
+    requires whole { IsWhole compiled }
+    requires kept { IsReadSnapshot kept }
+    requires read { AllByRecursion (λ placed. IsReadBatch placed.batch) batches }
+    ensures ready { IfOk result (IsReady compiled settings) }
+    ensures position { IfOk result (λ made. made.store.position ≡ position) }
+    ensures answer { (image : Image) → IsOld image position.epoch kept batches position.at → AnswersOld result (program_for compiled settings.program) image }
+    ensures no_disk { IsErrOf result OpenStop.DiskFault → ⊥ }
+{
+    if !kept.program.same(&settings.program) {
+        drop(kept);
+        drop(batches);
+        drop(compiled);
+        drop(settings);
+        return Err(OpenStop::OtherProgram);
+    }
+    match Engine::restore(alloc, compiled, settings.limit, kept) {
+        Ok(engine) => with_batches(alloc, engine, settings, position, batches),
+        Err(error) => {
+            drop(batches);
+            drop(settings);
+            Err(restore_stop(position.epoch, error))
+        }
+    }
+}
+
+/// The engine behind the batches of a log.
+fn with_batches(
+    alloc: Global,
+    mut engine: Engine,
+    settings: OpenSettings,
+    position: Position,
+    batches: Batches,
+) -> Result<OpenedStore, OpenStop>
+    requires whole { IsWhole (compiled_of engine) }
+    requires fits { CoreFits (tables_of engine) (core_of engine) }
+    requires storable { IsStorable (core_of engine) 0 }
+    requires few { length (core_of engine).pending ≤ 255 }
+    requires fresh { fresh_of engine ≡ 0 }
+    requires limit { limit_of engine ≡ settings.limit }
+    requires read { AllByRecursion (λ placed. IsReadBatch placed.batch) batches }
+    ensures ready { IfOk result (IsReady (compiled_of engine) settings) }
+    ensures position { IfOk result (λ made. made.store.position ≡ position) }
+    ensures replays { IfOk result (λ made. Replays (program_of engine settings.program) (core_of engine) (batches_of batches) (core_of made.engine)) }
+    ensures stop { IfErr result (IsBrokenOff (program_of engine settings.program) (core_of engine) batches position.epoch) }
+{
+    let replayed = replay_all(alloc, &mut engine, batches.as_slice());
+    drop(batches);
+    match replayed {
+        Ok(()) => Ok(OpenedStore {
+            engine,
+            store: store_at(settings, position),
+        }),
+        Err(stop) => {
+            drop(engine);
+            drop(settings);
+            Err(replay_stop(position.epoch, stop))
+        }
+    }
+}
+
+/// A snapshot that the program can't take is bad at the start of its slot.
+fn restore_stop(epoch: u64, error: RestoreError) -> OpenStop
+    ensures { result ≡ restore_stop epoch error }
+{
+    match error {
+        RestoreError::Wrong => OpenStop::Bad {
+            file: slot_file((epoch % 2) as u32),
+            at: 0,
+        },
+        RestoreError::NoMemory => OpenStop::NoMemory,
+    }
+}
+
+/// A batch that can't follow is bad at its place in the log.
+fn replay_stop(epoch: u64, stop: ReplayStop) -> OpenStop
+    ensures { result ≡ replay_stop epoch stop }
+{
+    match stop {
+        ReplayStop::Wrong { at } => OpenStop::Bad {
+            file: log_of(epoch),
+            at,
+        },
+        ReplayStop::NoMemory => OpenStop::NoMemory,
+    }
+}

@@ -1,0 +1,200 @@
+//! A store from its mount to the engine that a session begins with.
+
+ghost use Rattle.std.specs.Prelude.{◌≡◌, ◌≤◌, ◌⊎◌, IfOk, IfSome, IsErrOf, Ok};
+ghost use Rattle.sf_outside.specs.Causes.{Rose};
+ghost use Rattle.sf_outside.specs.DiskModel.{IsClean, LeavesOnly};
+ghost use Rattle.byte_sizes.specs.Spelt.{IsShortText};
+ghost use Rattle.block_step.specs.CompiledViews.{IsWhole};
+ghost use Rattle.snapshot_store.specs.SlotFile.{IsNew};
+ghost use Rattle.recovery.specs.Answers.{Answers, IsPlaced};
+ghost use Rattle.engine.specs.Cores.{CoreFits, empty_core};
+ghost use Rattle.engine.specs.EngineViews.{core_of, tables_of, compiled_of, limit_of, fresh_of};
+ghost use Rattle.session_store.specs.Stores.{HasSnapshotPast};
+ghost use Rattle.store_opening.specs.Openings.{AnswersFound, KeepsFound, LeavesFound, MountsFor};
+ghost use Rattle.store_opening.specs.OpenedStores.{program_for, IsReady, KeepsOpened};
+
+use crate::old_store::go_on;
+use crate::opened_store::{OpenSettings, OpenedStore, store_at};
+use crate::stop::OpenStop;
+use block_step::Compiled;
+use engine::Engine;
+use recovery::{Opened, reopen};
+use session_store::keep_core;
+use sf_outside::Disk;
+use std::alloc::Global;
+use store_meaning::Position;
+
+/// Mounts the folder of this name, and opens the store in it for a program. Nothing is written to a store that is there.
+///
+/// A new store gets its first snapshot.
+pub fn open_store<D: Disk>(
+    alloc: Global,
+    disk: &mut D,
+    name: &str,
+    compiled: Compiled,
+    settings: OpenSettings,
+) -> Result<OpenedStore, OpenStop>
+    requires whole { IsWhole compiled }
+    requires short { IsShortText settings.program }
+    requires every { 1 ≤ settings.every }
+    ensures answer { IfSome (D.found disk.old name.now) (AnswersFound result (program_for compiled settings.program)) }
+    ensures ready { IfOk result (IsReady compiled settings) }
+    ensures kept { IfOk result (KeepsOpened (D.facts disk.new)) }
+    ensures unchanged { KeepsFound result (D.found disk.old name.now) (D.facts disk.new) }
+    ensures mounts { MountsFor result name.now (LeavesFound (program_for compiled settings.program) (D.found disk.old name.now))
+        (D.mounts disk.old) (D.mounts disk.new) (D.facts disk.old) (D.facts disk.new) }
+    ensures later { D.faults disk.old ≤ D.faults disk.new }
+    ensures cause { IsErrOf result OpenStop.DiskFault → Rose (D.faults disk.old) (D.faults disk.new)
+        ⊎ Rose ((D.mounts disk.old).refused name.now) ((D.mounts disk.new).refused name.now)
+        ⊎ (IfSome (D.found disk.old name.now) IsNew × HasSnapshotPast settings.program empty_core) }
+{
+    match disk.mount(alloc, name) {
+        Ok(()) => open_mounted(alloc, disk, compiled, settings),
+        Err(fault) => {
+            drop(compiled);
+            drop(settings);
+            Err(OpenStop::from(fault))
+        }
+    }
+}
+
+/// Opens the store on a disk that is mounted.
+fn open_mounted<D: Disk>(
+    alloc: Global,
+    disk: &mut D,
+    compiled: Compiled,
+    settings: OpenSettings,
+) -> Result<OpenedStore, OpenStop>
+    requires whole { IsWhole compiled }
+    requires short { IsShortText settings.program }
+    requires every { 1 ≤ settings.every }
+    requires clean { IsClean (D.facts disk.old) }
+    ensures answer { IfSome (D.facts disk.old).seen (AnswersFound result (program_for compiled settings.program)) }
+    ensures ready { IfOk result (IsReady compiled settings) }
+    ensures kept { IfOk result (KeepsOpened (D.facts disk.new)) }
+    ensures unchanged { KeepsFound result (D.facts disk.old).seen (D.facts disk.new) }
+    ensures moments { LeavesOnly (D.facts disk.old) (D.facts disk.new) (LeavesFound (program_for compiled settings.program) (D.facts disk.old).seen) }
+    ensures mounts { D.mounts disk.new ≡ D.mounts disk.old }
+    ensures later { D.faults disk.old ≤ D.faults disk.new }
+    ensures cause { IsErrOf result OpenStop.DiskFault → Rose (D.faults disk.old) (D.faults disk.new)
+        ⊎ (IfSome (D.facts disk.old).seen IsNew × HasSnapshotPast settings.program empty_core) }
+{
+    match reopen(alloc, disk) {
+        Ok(opened) => open_found(alloc, disk, compiled, settings, opened),
+        Err(fault) => {
+            drop(compiled);
+            drop(settings);
+            Err(OpenStop::from(fault))
+        }
+    }
+}
+
+/// Opens the store that was found.
+fn open_found<D: Disk>(
+    alloc: Global,
+    disk: &mut D,
+    compiled: Compiled,
+    settings: OpenSettings,
+    opened: Opened,
+) -> Result<OpenedStore, OpenStop>
+    requires whole { IsWhole compiled }
+    requires short { IsShortText settings.program }
+    requires every { 1 ≤ settings.every }
+    requires clean { IsClean (D.facts disk.old) }
+    requires found { IfSome (D.facts disk.old).seen (λ now. Answers now (Ok opened)) }
+    requires placed { IsPlaced (Ok opened) }
+    ensures answer { IfSome (D.facts disk.old).seen (AnswersFound result (program_for compiled settings.program)) }
+    ensures ready { IfOk result (IsReady compiled settings) }
+    ensures kept { IfOk result (KeepsOpened (D.facts disk.new)) }
+    ensures unchanged { KeepsFound result (D.facts disk.old).seen (D.facts disk.new) }
+    ensures moments { LeavesOnly (D.facts disk.old) (D.facts disk.new) (LeavesFound (program_for compiled settings.program) (D.facts disk.old).seen) }
+    ensures mounts { D.mounts disk.new ≡ D.mounts disk.old }
+    ensures later { D.faults disk.old ≤ D.faults disk.new }
+    ensures cause { IsErrOf result OpenStop.DiskFault → Rose (D.faults disk.old) (D.faults disk.new)
+        ⊎ (IfSome (D.facts disk.old).seen IsNew × HasSnapshotPast settings.program empty_core) }
+{
+    match opened {
+        Opened::New => begin(alloc, disk, compiled, settings),
+        Opened::Old {
+            epoch,
+            kept,
+            batches,
+            at,
+        } => go_on(
+            alloc,
+            compiled,
+            settings,
+            Position { epoch, at },
+            kept,
+            batches,
+        ),
+    }
+}
+
+/// Begins a new store.
+fn begin<D: Disk>(
+    alloc: Global,
+    disk: &mut D,
+    compiled: Compiled,
+    settings: OpenSettings,
+) -> Result<OpenedStore, OpenStop>
+    requires short { IsShortText settings.program }
+    requires every { 1 ≤ settings.every }
+    requires clean { IsClean (D.facts disk.old) }
+    requires new { IfSome (D.facts disk.old).seen IsNew }
+    ensures answer { IfSome (D.facts disk.old).seen (AnswersFound result (program_for compiled settings.program)) }
+    ensures ready { IfOk result (IsReady compiled settings) }
+    ensures kept { IfOk result (KeepsOpened (D.facts disk.new)) }
+    ensures unchanged { KeepsFound result (D.facts disk.old).seen (D.facts disk.new) }
+    ensures moments { LeavesOnly (D.facts disk.old) (D.facts disk.new) (LeavesFound (program_for compiled settings.program) (D.facts disk.old).seen) }
+    ensures mounts { D.mounts disk.new ≡ D.mounts disk.old }
+    ensures later { D.faults disk.old ≤ D.faults disk.new }
+    ensures cause { IsErrOf result OpenStop.DiskFault → Rose (D.faults disk.old) (D.faults disk.new) ⊎ HasSnapshotPast settings.program empty_core }
+{
+    match Engine::new(alloc, compiled, settings.limit) {
+        Ok(engine) => keep_first(alloc, disk, engine, settings),
+        Err(_) => {
+            drop(settings);
+            Err(OpenStop::NoMemory)
+        }
+    }
+}
+
+/// Keeps the first snapshot of a store, of an engine to which nothing has come.
+fn keep_first<D: Disk>(
+    alloc: Global,
+    disk: &mut D,
+    engine: Engine,
+    settings: OpenSettings,
+) -> Result<OpenedStore, OpenStop>
+    requires core { core_of engine ≡ empty_core }
+    requires fresh { fresh_of engine ≡ 0 }
+    requires limit { limit_of engine ≡ settings.limit }
+    requires fits { CoreFits (tables_of engine) (core_of engine) }
+    requires short { IsShortText settings.program }
+    requires every { 1 ≤ settings.every }
+    requires clean { IsClean (D.facts disk.old) }
+    requires new { IfSome (D.facts disk.old).seen IsNew }
+    ensures answer { IfSome (D.facts disk.old).seen (AnswersFound result (program_for (compiled_of engine) settings.program)) }
+    ensures ready { IfOk result (IsReady (compiled_of engine) settings) }
+    ensures kept { IfOk result (KeepsOpened (D.facts disk.new)) }
+    ensures unchanged { KeepsFound result (D.facts disk.old).seen (D.facts disk.new) }
+    ensures moments { LeavesOnly (D.facts disk.old) (D.facts disk.new)
+        (LeavesFound (program_for (compiled_of engine) settings.program) (D.facts disk.old).seen) }
+    ensures mounts { D.mounts disk.new ≡ D.mounts disk.old }
+    ensures later { D.faults disk.old ≤ D.faults disk.new }
+    ensures cause { IsErrOf result OpenStop.DiskFault → Rose (D.faults disk.old) (D.faults disk.new) ⊎ HasSnapshotPast settings.program empty_core }
+{
+    let nowhere = Position { epoch: 0, at: 0 };
+    match keep_core(alloc, disk, nowhere, &engine, &settings.program) {
+        Ok(position) => Ok(OpenedStore {
+            engine,
+            store: store_at(settings, position),
+        }),
+        Err(fault) => {
+            drop(engine);
+            drop(settings);
+            Err(OpenStop::from(fault))
+        }
+    }
+}

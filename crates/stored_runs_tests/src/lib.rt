@@ -1,0 +1,11 @@
+//! Tests of `run --store`: what a store holds to the byte, what a run finds in it again, and what it says of one that it can't use.
+#![tactic(auto)]
+
+#[cfg(test)]
+mod bad_stores;
+#[cfg(test)]
+mod faults;
+#[cfg(test)]
+mod keeping;
+#[cfg(test)]
+mod runs;
