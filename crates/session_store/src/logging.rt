@@ -45,13 +45,13 @@ pub fn log_planned<D: Disk>(
     store: &mut Option<Store>,
     engine: &Engine,
     planned: &Planned,
-    record: &Option<Bytes>,
+    bytes: &Option<Bytes>,
 ) -> Result<(), Failed>
     requires plan { IsPlanOf engine.now planned.now }
     requires fits { CoreFits (tables_of engine.now) (core_of engine.now) }
     requires some { 1 ≤ length planned.now.batch.committed }
     requires short { batch_size planned.now.batch < 2 ^ 32 }
-    requires is_record { IsRecordFor store.old planned.now.batch record.now }
+    requires is_record { IsRecordFor store.old planned.now.batch bytes.now }
     requires kept { Keeps store.old (source_of engine.now) (logged_of engine.now) (D.facts disk.old) }
     ensures logged { OnOk result (Keeps store.new (source_of engine.now)
         (after_batch (source_of engine.now) (core_of engine.now) planned.now.batch.committed) (D.facts disk.new)) }
@@ -66,7 +66,7 @@ pub fn log_planned<D: Disk>(
     ensures mounts { D.mounts disk.new ≡ D.mounts disk.old }
 {
     match store {
-        Some(store) => match record {
+        Some(store) => match bytes {
             Some(body) => log_body(disk, store, engine, planned, body),
             None => Ok(()),
         },

@@ -1,6 +1,6 @@
 //! Stores that a run can't use, and what it says of them.
 
-use crate::runs::{disk, held, run_on};
+use crate::runs::{ONE_BY_ONE, disk, held, run_on};
 use memory_calls::Answer;
 use sf_outside::{Disk, Failed, MemDisk, StoreFile};
 use std::alloc::{AllocError, Global};
@@ -17,11 +17,12 @@ fn answer_on(alloc: Global, first: &str, second: &str) -> Result<Answer, Fail> {
     let (first, second) = (bytes_of(alloc, first)?, bytes_of(alloc, second)?);
     put(&mut disk, StoreFile::Snap0, first.as_slice()).map_err(|_| "a slot can't be written")?;
     put(&mut disk, StoreFile::Snap1, second.as_slice()).map_err(|_| "a slot can't be written")?;
-    Ok(run_on(alloc, &mut disk, &["--batch", "1"], SHOP, NEW_ITEM)?)
+    Ok(run_on(alloc, &mut disk, ONE_BY_ONE, SHOP, NEW_ITEM)?)
 }
 
+/// Puts bytes, 2,000 at most, at the begin of a file of a disk.
 fn put(disk: &mut MemDisk, file: StoreFile, bytes: &[u8]) -> Result<(), Failed> {
-    disk.write_at(file, 0, bytes)?;
+    disk.write_at(file, 0, &bytes[..bytes.len().min(2_000)])?;
     disk.sync(file)
 }
 
@@ -66,7 +67,7 @@ fn copy_first(
 fn cut_store(alloc: Global) -> Result<MemDisk, Fail> {
     let mut whole = disk(alloc, &[])?;
     let mut cut = disk(alloc, &[])?;
-    let _answer = run_on(alloc, &mut whole, &["--batch", "1"], SHOP, NEW_ITEM)?;
+    let _answer = run_on(alloc, &mut whole, ONE_BY_ONE, SHOP, NEW_ITEM)?;
     for file in [StoreFile::Log0, StoreFile::Snap0, StoreFile::Snap1] {
         copy_first(alloc, &mut whole, &mut cut, file, 2_000).map_err(|_| "no copy")?;
     }
@@ -77,7 +78,7 @@ fn cut_store(alloc: Global) -> Result<MemDisk, Fail> {
 #[test]
 fn a_log_that_is_cut_is_bad(rt: HostRuntime) -> Result<(), Fail> {
     let mut cut = cut_store(rt.alloc())?;
-    let answer = run_on(rt.alloc(), &mut cut, &["--batch", "1"], SHOP, NEW_ITEM)?;
+    let answer = run_on(rt.alloc(), &mut cut, ONE_BY_ONE, SHOP, NEW_ITEM)?;
     assert_eq!(rt; answer.status, 6);
     assert_eq!(rt; answer.out.bytes(), b"".as_slice());
     assert_eq!(rt;
@@ -91,16 +92,16 @@ fn a_log_that_is_cut_is_bad(rt: HostRuntime) -> Result<(), Fail> {
 fn a_store_of_another_program_is_told(rt: HostRuntime) -> Result<(), Fail> {
     let alloc = rt.alloc();
     let mut disk = disk(alloc, &[])?;
-    let shop = run_on(alloc, &mut disk, &["--batch", "1"], SHOP, NEW_ITEM)?;
+    let shop = run_on(alloc, &mut disk, ONE_BY_ONE, SHOP, NEW_ITEM)?;
     assert_eq!(rt; shop.status, 0);
-    let other = run_on(alloc, &mut disk, &["--batch", "1"], NUM, "")?;
+    let other = run_on(alloc, &mut disk, ONE_BY_ONE, NUM, "")?;
     assert_eq!(rt; other.status, 7);
     assert_eq!(rt; other.out.bytes(), b"".as_slice());
     assert_eq!(rt;
         other.err.bytes(),
         b"stateflow: the store holds another program\n".as_slice()
     );
-    let again = run_on(alloc, &mut disk, &["--batch", "1"], SHOP, NEW_ITEM)?;
+    let again = run_on(alloc, &mut disk, ONE_BY_ONE, SHOP, NEW_ITEM)?;
     assert_eq!(rt; again.status, 0);
     Ok(())
 }

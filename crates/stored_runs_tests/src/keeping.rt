@@ -1,11 +1,13 @@
 //! What a run keeps, and what the next one on the same store finds.
 
-use crate::runs::{disk, held, run_on, run_with};
+use crate::runs::{ONE_BY_ONE, disk, held, run_on, run_with};
 use memory_calls::Faults;
 use sf_outside::StoreFile;
 use std::test::Fail;
 use test_support::{NUM, SHOP};
 use value_texts::bytes_of;
+
+const TWO_BY_TWO: &[&str] = &["run", "a.py", "--store", "s", "--batch", "2"];
 
 const NEW_ITEM: &str = r#"{"id":"a","class":"Item","new":["apple",3]}
 "#;
@@ -21,7 +23,7 @@ const RECORD: &str = "a5 00000035 00000001 00000001 61 01 00000000 00000002 04 0
 fn a_batch_is_in_the_log_to_the_byte(rt: HostRuntime) -> Result<(), Fail> {
     let alloc = rt.alloc();
     let mut disk = disk(alloc, &[])?;
-    let answer = run_on(alloc, &mut disk, &["--batch", "1"], SHOP, NEW_ITEM)?;
+    let answer = run_on(alloc, &mut disk, ONE_BY_ONE, SHOP, NEW_ITEM)?;
     assert_eq!(rt; answer.status, 0);
     assert_eq!(rt; answer.out.bytes(), NEW_ITEM_REPLY);
     let log = held(alloc, &mut disk, StoreFile::Log1).map_err(|_| "the log can't be read")?;
@@ -34,7 +36,7 @@ fn a_batch_is_in_the_log_to_the_byte(rt: HostRuntime) -> Result<(), Fail> {
 fn a_new_store_has_an_empty_log(rt: HostRuntime) -> Result<(), Fail> {
     let alloc = rt.alloc();
     let mut disk = disk(alloc, &[])?;
-    let answer = run_on(alloc, &mut disk, &[], SHOP, "")?;
+    let answer = run_on(alloc, &mut disk, ONE_BY_ONE, SHOP, "")?;
     assert_eq!(rt; answer.status, 0);
     let log = held(alloc, &mut disk, StoreFile::Log1).map_err(|_| "the log can't be read")?;
     assert_eq!(rt; log.as_slice(), [0].as_slice());
@@ -45,12 +47,12 @@ fn a_new_store_has_an_empty_log(rt: HostRuntime) -> Result<(), Fail> {
 fn a_repeated_request_has_its_kept_line_in_the_next_run(rt: HostRuntime) -> Result<(), Fail> {
     let alloc = rt.alloc();
     let mut disk = disk(alloc, &[])?;
-    let first = run_on(alloc, &mut disk, &["--batch", "1"], SHOP, NEW_ITEM)?;
+    let first = run_on(alloc, &mut disk, ONE_BY_ONE, SHOP, NEW_ITEM)?;
     assert_eq!(rt; first.status, 0);
     let more = r#"{"id":"a","class":"Item","new":["apple",3]}
 {"id":"b","class":"Item","key":"apple","method":"price","args":[]}
 "#;
-    let second = run_on(alloc, &mut disk, &["--batch", "1"], SHOP, more)?;
+    let second = run_on(alloc, &mut disk, ONE_BY_ONE, SHOP, more)?;
     assert_eq!(rt; second.status, 0);
     assert_eq!(rt;
         second.out.bytes(),
@@ -73,7 +75,7 @@ fn a_request_that_waited_is_run_by_the_next_run(rt: HostRuntime) -> Result<(), F
         input: &[2],
         ..memory_calls::NO_FAULTS
     };
-    let first = run_with(alloc, &mut disk, &["--batch", "2"], SHOP, input, unread)?;
+    let first = run_with(alloc, &mut disk, TWO_BY_TWO, SHOP, input, unread)?;
     assert_eq!(rt; first.status, 3);
     assert_eq!(rt;
         first.out.bytes(),
@@ -84,7 +86,7 @@ fn a_request_that_waited_is_run_by_the_next_run(rt: HostRuntime) -> Result<(), F
     assert_eq!(rt; first.err.bytes(), b"stateflow: read fault\n".as_slice());
     let again = r#"{"id":"s1","class":"Item","key":"apple","method":"update_stock","args":[1]}
 "#;
-    let second = run_on(alloc, &mut disk, &["--batch", "2"], SHOP, again)?;
+    let second = run_on(alloc, &mut disk, TWO_BY_TWO, SHOP, again)?;
     assert_eq!(rt; second.status, 0);
     assert_eq!(rt;
         second.out.bytes(),
@@ -108,11 +110,13 @@ fn checkpoints_change_nothing_that_is_answered(rt: HostRuntime) -> Result<(), Fa
 "#;
     for every in ["1", "2", "3", "64"] {
         let mut disk = disk(alloc, &[])?;
-        let options = ["--batch", "1", "--every", every];
-        let begun = run_on(alloc, &mut disk, &options, NUM, first)?;
+        let words = [
+            "run", "a.py", "--store", "s", "--batch", "1", "--every", every,
+        ];
+        let begun = run_on(alloc, &mut disk, &words, NUM, first)?;
         assert_eq!(rt; begun.status, 0, "{every}");
         assert_eq!(rt; begun.out.bytes(), replies, "{every}");
-        let again = run_on(alloc, &mut disk, &options, NUM, first)?;
+        let again = run_on(alloc, &mut disk, &words, NUM, first)?;
         assert_eq!(rt; again.status, 0, "{every}");
         assert_eq!(rt; again.out.bytes(), replies, "{every}");
     }

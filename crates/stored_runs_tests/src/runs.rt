@@ -9,34 +9,33 @@ pub fn disk(alloc: Global, fail_at: &[u64]) -> Result<MemDisk, AllocError> {
     MemDisk::new(alloc, 20_000, 2_000, fail_at)
 }
 
-/// Runs a program on the store `s` of a disk, with these options, on this input.
+/// Requests are run one by one on the store `s`.
+pub const ONE_BY_ONE: &[&str] = &["run", "a.py", "--store", "s", "--batch", "1"];
+
+/// Makes a call with these words on a disk, where the file `a.py` has this text, on this input.
 pub fn run_on(
     alloc: Global,
     disk: &mut MemDisk,
-    options: &[&str],
+    words: &[&str],
     program: &str,
     input: &str,
 ) -> Result<Answer, AllocError> {
-    run_with(alloc, disk, options, program, input, NO_FAULTS)
+    run_with(alloc, disk, words, program, input, NO_FAULTS)
 }
 
 /// The same, where calls of other devices fail.
 pub fn run_with(
     alloc: Global,
     disk: &mut MemDisk,
-    options: &[&str],
+    words: &[&str],
     program: &str,
     input: &str,
     faults: Faults<'_>,
 ) -> Result<Answer, AllocError> {
-    let mut words = Vec::from_slice(alloc, &["run", "a.py", "--store", "s"])?;
-    for option in options {
-        words.push(option)?;
-    }
     let mut input = MemSource::new(alloc, input.as_bytes(), faults.input)?;
     call_on(
         alloc,
-        &words,
+        words,
         ("a.py", program.as_bytes()),
         &mut input,
         disk,
