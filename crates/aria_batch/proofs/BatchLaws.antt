@@ -14,7 +14,7 @@ use Rattle.commit_order.specs.CommittedSerial.{AreWorksOf}
 use Rattle.block_step.specs.declared.compiled.Compiled.{Compiled}
 use Rattle.block_step.specs.CompiledViews.{compiled_program, compiled_names, compiled_tables, compiled_blocks, IsWhole}
 use Rattle.interleaving.specs.Turns.{Parts, running, told, after, along}
-use Rattle.transaction_steps.specs.Transactions.{Transaction, firsts}
+use Rattle.batch_events.specs.Vocabulary.{Transaction, firsts}
 use Rattle.operator_graph.specs.Telling.{Told, AlsoTold}
 use Rattle.batch_events.specs.BatchRuns.{AreRuns, ComesToRuns}
 use Rattle.batch_events.proofs.OwnRuns.{batches_come_to_their_runs}

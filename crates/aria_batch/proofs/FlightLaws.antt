@@ -14,7 +14,7 @@ use Rattle.block_code.specs.declared.event.EventKind.TheVariants as kind
 use Rattle.block_code.specs.PlainBlocks.{PlainBlock}
 use Rattle.request_events.specs.RequestEvents.{ended_as}
 use Rattle.interleaving.specs.Turns.{Parts, running}
-use Rattle.transaction_steps.specs.Transactions.{Transaction, is_done}
+use Rattle.batch_events.specs.Vocabulary.{Transaction, is_done}
 use Rattle.operator_graph.specs.Telling.{Told}
 use Rattle.operator_graph.specs.BatchEvents.{transactions}
 use Rattle.operator_graph.specs.BufferedWorks.{EachBuffers}

@@ -1,2 +1,3 @@
 pub mod BatchRun
 pub mod Counts
+pub mod Vocabulary

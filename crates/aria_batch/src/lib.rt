@@ -7,3 +7,4 @@ mod batch;
 mod events;
 
 pub use batch::{BatchResult, run_batch};
+pub use operator_graph::{NoWatch, Watch};

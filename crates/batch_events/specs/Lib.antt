@@ -1,2 +1,3 @@
 pub mod BatchRuns
 pub mod BatchWorks
+pub mod Vocabulary

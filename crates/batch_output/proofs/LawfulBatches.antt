@@ -19,8 +19,7 @@ use Rattle.serial_order.proofs.SerialOrder.{conflict_free_serial}
 use Rattle.reservations.specs.Accesses.{access_at}
 use Rattle.reservations.specs.CommitRules.{Chosen, IsLawful}
 use Rattle.engine.specs.Cores.{Core, IsSoundCore}
-use Rattle.operator_graph.specs.FirstFlights.{acts_of}
-use Rattle.aria_batch.specs.BatchRun.{own_outcomes}
+use Rattle.engine.specs.Vocabulary.{acts_of, own_outcomes}
 use Rattle.engine.specs.Batches.{requests_at, other_places, IsSplit, entry_on, batch_entries, after_batch}
 use Rattle.engine.specs.RanBatches.{accesses_on}
 use Rattle.engine.proofs.PlaceLaws.{count_once}

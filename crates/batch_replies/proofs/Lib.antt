@@ -2,3 +2,4 @@ pub mod ReplyLaws
 pub mod CountLaws
 pub mod WriteLaws
 pub mod AnswerLaws
+pub mod Vocabulary

@@ -13,7 +13,7 @@ use Rattle.program_meaning.specs.Serial.{outcomes_of}
 use Rattle.serial_order.specs.ConflictFree.{Access}
 use Rattle.reservations.specs.CommitRules.{Chosen}
 use Rattle.operator_graph.specs.Turns.{Outside}
-use Rattle.aria_batch.specs.BatchRun.{Batch, IsToldAlong}
+use Rattle.batch_output.specs.Vocabulary.{Batch, IsToldAlong}
 use Rattle.engine.specs.declared.engine.Engine.{Engine}
 use Rattle.engine.specs.Cores.{Core}
 use Rattle.engine.specs.EngineViews.{core_of, source_of, limit_of}

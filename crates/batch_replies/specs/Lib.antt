@@ -1,2 +1,3 @@
 pub mod BatchAnswers
 pub mod LinesInOrder
+pub mod Vocabulary

@@ -9,3 +9,4 @@ mod writing;
 
 pub use answering::{BatchStop, answer_batch};
 pub use counting::BatchCounts;
+pub use session_store::Store;

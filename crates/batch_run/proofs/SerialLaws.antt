@@ -22,7 +22,7 @@ use Rattle.batch_output.specs.SerialBatches.{IsLawfulRule, PrintsSerially}
 use Rattle.batch_output.proofs.LawfulBatches.{stays_sound}
 use Rattle.batch_output.proofs.ReportLaws.{Goes, Goes-none, Goes-then, Goes-batch}
 use Rattle.batch_output.proofs.SessionLaws.{Holds, Steps, answered, stepped, settled_holds}
-use Rattle.session_store.specs.Endings.{next_core}
+use Rattle.batch_session.specs.Vocabulary.{next_core}
 use Rattle.line_answers.specs.declared.answering.LineStop.{LineStop}
 use Rattle.line_answers.specs.LineViews.{ActionFits}
 use Rattle.line_answers.specs.Services.{Service}

@@ -6,22 +6,17 @@ ghost use Rattle.reservations.specs.BatchRule.{batch_rule};
 ghost use Rattle.block_step.specs.CompiledViews.{IsWhole};
 ghost use Rattle.engine.specs.Cores.{Core, CoreFits, IsSoundCore, empty_core};
 ghost use Rattle.engine.specs.EngineViews.{core_of, source_of, tables_of, compiled_of, limit_of, fresh_of, RunsProgram};
-ghost use Rattle.store_meaning.specs.Engines.{logged_of};
-ghost use Rattle.storable_cores.specs.Storable.{IsStorable};
-ghost use Rattle.session_store.specs.Cycles.{IsInCycle};
-ghost use Rattle.session_store.specs.Endings.{KeepsWhere, next_core};
-ghost use Rattle.session_store.specs.Stores.{settings_of, Keeps, EndsPast};
+ghost use Rattle.batch_session.specs.Vocabulary.{logged_of, IsStorable, IsInCycle, KeepsWhere, next_core, settings_of, Keeps, EndsPast};
 ghost use Rattle.batch_session.specs.Faults.{disk_failed};
 ghost use Rattle.batch_run.specs.RunViews.{shown, CanServe};
 ghost use Rattle.batch_run.specs.Runs.{Runs};
 
-use batch_session::{SessionFault, Settings, serve};
+use batch_session::{NoDisk, SessionFault, Settings, Store, serve};
 use block_step::Compiled;
 use engine::Engine;
 use operator_graph::Watch;
 use reservations::Rule1;
 use session_steps::Tally;
-use session_store::{NoDisk, Store};
 use sf_outside::{Chooser, Disk, Sink, Source};
 use std::alloc::Global;
 

@@ -6,7 +6,7 @@ use Rattle.program_meaning.specs.ClassTables.{Source}
 use Rattle.engine.specs.declared.engine.Engine.{Engine}
 use Rattle.engine.specs.Cores.{Core}
 use Rattle.engine.specs.EngineViews.{core_of, source_of, fresh_of}
-use Rattle.store_meaning.specs.Engines.{logged_of}
+use Rattle.session_store.specs.Vocabulary.{logged_of}
 use Rattle.batch_replies.specs.declared.counting.BatchCounts.{BatchCounts}
 use Rattle.session_store.specs.declared.store.Store.{Store}
 use Rattle.session_store.specs.Cycles.{cycle_of, next_cycle, IsInCycle}

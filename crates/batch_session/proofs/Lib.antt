@@ -7,3 +7,4 @@ pub mod FeedLaws
 pub mod TakeLaws
 pub mod FlushLaws
 pub mod ServeLaws
+pub mod Vocabulary

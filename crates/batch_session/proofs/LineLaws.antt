@@ -6,7 +6,7 @@ use Rattle.std.specs.declared.result.Result.{Result}
 use Rattle.program_meaning.specs.ClassTables.{Source}
 use Rattle.request_json.specs.RequestLines.{longest}
 use Rattle.request_json.specs.Actions.{Ended, Left, Action, Refuse, LineTooLong, action_of, used, content_of}
-use Rattle.batch_output.specs.BatchOutput.{Standing}
+use Rattle.line_answers.specs.Vocabulary.{Standing}
 use Rattle.batch_replies.specs.declared.counting.BatchCounts.{BatchCounts}
 use Rattle.input_lines.specs.Cuts.{IsStart}
 use Rattle.line_answers.specs.declared.answering.LineStop.{LineStop}

@@ -3,3 +3,4 @@ pub mod Feeds
 pub mod Takes
 pub mod Faults
 pub mod Served
+pub mod Vocabulary

@@ -10,4 +10,5 @@ mod settings;
 
 pub use serving::{SessionFault, serve};
 pub use session_steps::Tally;
+pub use session_store::{NoDisk, Store};
 pub use settings::Settings;

@@ -16,8 +16,8 @@ use Rattle.commit_order.specs.CommittedSerial.{and_more, asked_at, IsSerial}
 use Rattle.engine.specs.Cores.{Core, PendingFits}
 use Rattle.engine.specs.Batches.{requests_at, IsSplit, entry_on, batch_entries, after_batch}
 use Rattle.engine.specs.Copying.{entry_of, entries_at}
-use Rattle.aria_batch.specs.BatchRun.{own_outcomes}
-use Rattle.operator_graph.specs.FirstFlights as flights
+use Rattle.ordered_runs.specs.Vocabulary.{own_outcomes}
+use Rattle.ordered_runs.specs.Vocabulary as flights
 use Rattle.engine.proofs.BatchLaws.{batch_pending_fits}
 
 module _ (src : Source) (s : State) where

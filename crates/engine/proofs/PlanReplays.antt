@@ -13,7 +13,7 @@ use Rattle.program_meaning.specs.RequestRun.{run}
 use Rattle.program_meaning.specs.Serial.{acts_of, outcomes_of, serial_outcomes, serial_state}
 use Rattle.request_history.specs.SoundHistory.{RequestFits}
 use Rattle.keyed_state.specs.Works.{are_places}
-use Rattle.operator_graph.specs.FirstFlights as flights
+use Rattle.ordered_runs.specs.Vocabulary as flights
 use Rattle.kept_parts.proofs.SplitLaws.{part_places}
 use Rattle.engine.specs.declared.engine.Engine.{Engine}
 use Rattle.engine.specs.declared.planned.Planned.{Planned}

@@ -18,7 +18,7 @@ use Rattle.program_meaning.specs.NothingGoesWrong.{IsKnownAccepted}
 use Rattle.program_meaning.proofs.Soundness.{runs_fit}
 use Rattle.request_history.specs.SoundHistory.{RequestFits, RequestsFit, EntriesFit}
 use Rattle.keyed_state.specs.Works.{are_places}
-use Rattle.operator_graph.specs.FirstFlights as flights
+use Rattle.ordered_runs.specs.Vocabulary as flights
 use Rattle.kept_parts.specs.Ids.{entry_ids, request_ids}
 use Rattle.kept_parts.proofs.SplitLaws.{parted}
 use Rattle.engine.specs.Cores.{Core, PendingFits, CoreFits, IsSoundCore}

@@ -18,9 +18,7 @@ use Rattle.reservations.specs.CommitRules.{Chosen, IsLawful}
 use Rattle.reservations.proofs.Lawful.{committed_places}
 use Rattle.commit_order.specs.CommittedSerial.{IsWorkOf, AreWorksOf, IsSerial}
 use Rattle.request_history.specs.SoundHistory.{RequestFits}
-use Rattle.aria_batch.specs.declared.batch.BatchResult.{BatchResult}
-use Rattle.operator_graph.specs.FirstFlights.{acts_of}
-use Rattle.aria_batch.specs.BatchRun.{own_outcomes}
+use Rattle.ordered_runs.specs.Vocabulary.{BatchResult, acts_of, own_outcomes}
 use Rattle.engine.specs.Cores.{Core}
 use Rattle.engine.specs.Batches.{other_places}
 use Rattle.engine.specs.RanBatches.{IsRun}

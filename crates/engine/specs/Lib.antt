@@ -10,3 +10,4 @@ pub mod Replays
 pub mod RanReplays
 pub mod PlanReplays
 pub mod Causes
+pub mod Vocabulary

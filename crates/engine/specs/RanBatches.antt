@@ -5,10 +5,7 @@ use Rattle.program_meaning.specs.ClassTables.{Source}
 use Rattle.serial_order.specs.ConflictFree.{Access, access_of, runs_on}
 use Rattle.keyed_state.specs.Works.{are_places}
 use Rattle.commit_order.specs.CommittedSerial.{IsSerial}
-use Rattle.aria_batch.specs.declared.batch.BatchResult.{BatchResult}
-use Rattle.operator_graph.specs.FirstFlights.{acts_of}
-use Rattle.operator_graph.specs.Turns.{Outside}
-use Rattle.aria_batch.specs.BatchRun.{Batch, own_outcomes, IsToldAlong}
+use Rattle.ordered_runs.specs.Vocabulary.{BatchResult, acts_of, Outside, Batch, own_outcomes, IsToldAlong}
 use Rattle.engine.specs.declared.planned.Planned.{Planned}
 use Rattle.engine.specs.declared.planned.PlanFault.{PlanFault}
 use Rattle.engine.specs.declared.planned.PlanFault.TheVariants.{HistoryFull, NoMemory}

@@ -19,7 +19,7 @@ use Rattle.request_json.specs.RequestLines.{longest, reading_of}
 use Rattle.request_json.specs.Actions.{Line, Ended, Left, Refuse, LineTooLong, asking, used, without_cr, content_of, bytes_of, action_of}
 use Rattle.request_json.proofs.RequestFits.{reading_fits}
 use Rattle.request_json.proofs.RequestSpellings.{reading_spelt}
-use Rattle.storable_cores.proofs.Engines.{line_is_short}
+use Rattle.batch_replies.proofs.Vocabulary.{line_is_short}
 use Rattle.line_answers.specs.LineViews.{ActionFits, ActionIsSpelt}
 
 module _ (src : Source) where

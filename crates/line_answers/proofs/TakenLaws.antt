@@ -22,9 +22,8 @@ use Rattle.engine.specs.declared.engine.Engine.{Engine}
 use Rattle.engine.specs.Cores.{Core}
 use Rattle.engine.specs.EngineViews.{core_of, source_of, compiled_of, limit_of, RunsProgram}
 use Rattle.engine.specs.Arrivals.{joined as joins, arrival_of}
-use Rattle.batch_output.specs.BatchOutput.{Standing, answer, taken, fills, is_due, batch_lines}
-use Rattle.batch_output.specs.SerialBatches.{IsLawfulRule}
-use Rattle.batch_output.proofs.LawfulBatches.{fewer_wait}
+use Rattle.batch_replies.specs.Vocabulary.{Standing, answer, taken, fills, is_due, batch_lines, IsLawfulRule}
+use Rattle.batch_replies.proofs.Vocabulary.{fewer_wait}
 use Rattle.batch_replies.specs.declared.counting.BatchCounts.{BatchCounts}
 use Rattle.batch_replies.specs.declared.answering.BatchStop.{BatchStop}
 use Rattle.batch_replies.specs.declared.answering.BatchStop.TheVariants as batch

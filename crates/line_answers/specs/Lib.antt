@@ -1,3 +1,4 @@
 pub mod LineViews
 pub mod Services
 pub mod LineAnswers
+pub mod Vocabulary

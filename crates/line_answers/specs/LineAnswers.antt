@@ -16,7 +16,7 @@ use Rattle.engine.specs.declared.arrival.Arrival.TheVariants as arrival
 use Rattle.engine.specs.declared.engine.Engine.{Engine}
 use Rattle.engine.specs.Cores.{Core}
 use Rattle.engine.specs.EngineViews.{core_of}
-use Rattle.batch_output.specs.BatchOutput.{Standing, answer, taken, is_due, batch_lines}
+use Rattle.batch_replies.specs.Vocabulary.{Standing, answer, taken, is_due, batch_lines}
 use Rattle.batch_replies.specs.declared.counting.BatchCounts.{BatchCounts}
 use Rattle.batch_replies.specs.declared.answering.BatchStop.{BatchStop}
 use Rattle.batch_replies.specs.declared.answering.BatchStop.TheVariants as batch

@@ -5,7 +5,7 @@ use Rattle.request_history.specs.SoundHistory.{RequestFits}
 use Rattle.request_json.specs.Actions as actions
 use Rattle.request_json.specs.Actions.{Line, Ended, Left}
 use Rattle.request_json.specs.LineSpellings.{HasSpelling}
-use Rattle.storable_cores.specs.Storable.{most_bytes}
+use Rattle.batch_replies.specs.Vocabulary.{most_bytes}
 use Rattle.line_answers.specs.declared.reading.InputLine.{InputLine}
 use Rattle.line_answers.specs.declared.reading.Action.{Action}
 use Rattle.line_answers.specs.declared.reading.Action.TheVariants.{Skip, Refuse, Ask}

@@ -7,7 +7,7 @@ use Rattle.block_step.specs.declared.compiled.Compiled.{Compiled}
 use Rattle.aria_batch.specs.BatchRun.{source_of}
 use Rattle.engine.specs.declared.engine.Engine.{Engine}
 use Rattle.engine.specs.EngineViews.{compiled_of, limit_of}
-use Rattle.batch_output.specs.BatchOutput.{Limits}
+use Rattle.batch_replies.specs.Vocabulary.{Limits}
 
 -- a compiled program on so many partitions, with a rule on commits and limits
 pub record Service : Type 0 where

@@ -4,6 +4,7 @@
 use operator_graph::MemWatch;
 use sf_outside::{Chooser, ListChooser, MemDisk, MemFiles, MemSink, MemSource, Source};
 use stateflow_cli::stateflow;
+pub use stateflow_cli::{Generator, NamedFiles, Reading, Writing, stateflow};
 use std::alloc::{AllocError, Global};
 
 /// The numbers of the calls that are to fail, of each device.

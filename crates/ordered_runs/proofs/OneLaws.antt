@@ -15,7 +15,7 @@ use Rattle.program_meaning.specs.NothingGoesWrong.{IsKnownAccepted}
 use Rattle.program_meaning.proofs.Soundness.{runs_fit}
 use Rattle.keyed_state.specs.Works.{with_records, written_records, after_writes}
 use Rattle.quiet_methods.specs.MarksKeepWithin.{source}
-use Rattle.operator_graph.specs.FirstFlights.{acts_of}
+use Rattle.aria_batch.specs.Vocabulary.{acts_of}
 use Rattle.ordered_runs.specs.declared.ordered.Ordered.{Ordered}
 use Rattle.ordered_runs.specs.InOrder.{IsInOrder, HasJoined}
 use Rattle.ordered_runs.proofs.PlaceLaws.{one_place_more, one_work_more}

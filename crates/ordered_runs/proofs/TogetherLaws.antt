@@ -21,7 +21,7 @@ use Rattle.reservations.specs.CommitRules.{IsLawful}
 use Rattle.reservations.specs.BatchRule.{batch_rule}
 use Rattle.reservations.specs.BatchRuleLaws.{batch_rule_is_lawful}
 use Rattle.commit_order.specs.CommittedSerial.{asked_at, AreWorksOf, IsSerial}
-use Rattle.operator_graph.specs.FirstFlights.{acts_of}
+use Rattle.aria_batch.specs.Vocabulary.{acts_of}
 use Rattle.aria_batch.specs.declared.batch.BatchResult.{BatchResult}
 use Rattle.aria_batch.specs.BatchRun.{own_outcomes}
 use Rattle.ordered_runs.specs.InOrder.{IsTogether, IsInOrder}

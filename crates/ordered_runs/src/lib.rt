@@ -9,4 +9,5 @@ mod one_by_one;
 mod ordered;
 mod together;
 
+pub use aria_batch::{BatchResult, Watch, run_batch};
 pub use ordered::{Ordered, run_in_order};

@@ -5,7 +5,7 @@ ghost use Rattle.std.specs.List.{AllByRecursion};
 ghost use Rattle.program_meaning.specs.Fits.{StateFits, ActFits};
 ghost use Rattle.program_meaning.specs.RequestRun.{run};
 ghost use Rattle.block_step.specs.CompiledViews.{compiled_tables, IsWhole};
-ghost use Rattle.operator_graph.specs.FirstFlights.{acts_of};
+ghost use Rattle.aria_batch.specs.Vocabulary.{acts_of};
 ghost use Rattle.aria_batch.specs.BatchRun.{source_of};
 ghost use Rattle.ordered_runs.specs.InOrder.{IsInOrder, HasJoined};
 

@@ -4,14 +4,13 @@ ghost use Rattle.std.specs.Prelude.{◌≡◌, ◌↔◌, ◌<◌, ◌^◌, IsTr
 ghost use Rattle.std.specs.List.{AllByRecursion, range_with_len};
 ghost use Rattle.program_meaning.specs.Fits.{StateFits, ActFits};
 ghost use Rattle.block_step.specs.CompiledViews.{compiled_tables, IsWhole};
-ghost use Rattle.operator_graph.specs.FirstFlights.{acts_of};
+ghost use Rattle.aria_batch.specs.Vocabulary.{acts_of};
 ghost use Rattle.aria_batch.specs.BatchRun.{source_of};
 ghost use Rattle.ordered_runs.specs.InOrder.{IsTogether};
 
-use aria_batch::{BatchResult, run_batch};
+use aria_batch::{BatchResult, NoWatch, run_batch};
 use block_step::Compiled;
 use keyed_state::Keyed;
-use operator_graph::NoWatch;
 use reservations::Rule1;
 use sf_outside::ListChooser;
 use sf_value::{Places, Requests};

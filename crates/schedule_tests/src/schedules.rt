@@ -3,9 +3,8 @@
 ghost use Rattle.std.specs.Prelude.{None};
 
 use crate::batches::{CARRIED, CARRIED_REPLIES, CARRIED_TRACE};
-use memory_calls::{Answer, NO_FAULTS, call_along};
+use memory_calls::{Answer, Generator, NO_FAULTS, call_along};
 use sf_outside::{Chooser, Failed, ListChooser, MemSource, Source};
-use stateflow_cli::Generator;
 use std::alloc::{AllocError, Global};
 use std::test::Fail;
 use test_support::SHOP;

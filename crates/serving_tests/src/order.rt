@@ -3,10 +3,9 @@
 ghost use Rattle.std.specs.Prelude.{None};
 
 use crate::counter::REQUESTS;
-use memory_calls::words_of;
+use memory_calls::{stateflow, words_of};
 use operator_graph::NoWatch;
 use sf_outside::{Failed, ListChooser, MemFiles, MemSink, MemSource, Sink, Source};
-use stateflow_cli::stateflow;
 use std::alloc::{AllocError, Global};
 use std::cell::Cell;
 use std::test::Fail;

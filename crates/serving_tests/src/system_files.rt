@@ -1,9 +1,8 @@
 //! The devices of the system, one at a time: the program's file, the input or the output is a file of the system.
 
-use memory_calls::words_of;
+use memory_calls::{Generator, NamedFiles, Reading, Writing, stateflow, words_of};
 use operator_graph::NoWatch;
 use sf_outside::{Files, MemFiles, MemSink, MemSource, Sink, Source};
-use stateflow_cli::{Generator, NamedFiles, Reading, Writing, stateflow};
 use std::alloc::{AllocError, Global};
 use std::fs;
 use std::test::Fail;

@@ -8,8 +8,7 @@ use Rattle.sf_outside.specs.Gains.{joined}
 use Rattle.sf_outside.specs.declared.gains.WriteStop.TheVariants as write
 use Rattle.sf_outside.proofs.GainLaws.{joined-nil, joined-append, Wrote-more, Wrote-after, Wrote-no_memory}
 use Rattle.operator_graph.specs.Turns.{Outside}
-use Rattle.aria_batch.specs.BatchRun.{Batch, IsToldAlong}
-use Rattle.engine.specs.Cores.{Core}
+use Rattle.line_answers.specs.Vocabulary.{Batch, IsToldAlong, Core}
 use Rattle.batch_output.specs.BatchOutput.{Standing, batch_lines, lines_if}
 use Rattle.batch_replies.specs.declared.counting.BatchCounts.{BatchCounts}
 use Rattle.batch_replies.specs.BatchAnswers.{HasPlace}

@@ -3,7 +3,7 @@ use Rattle.std.proofs.Common.{◌≡◌, ℕ, zero, suc, ◌+◌, ◌-◌, ◌<�
 use Rattle.std.proofs.lemmas.List.{map-append, replicate-append-replicate}
 use Rattle.std.specs.declared.result.Result.{Result}
 use Rattle.request_json.specs.Actions.{Line, whole_lines, all_lines, last_line, rest_from}
-use Rattle.engine.specs.Cores.{Core}
+use Rattle.line_answers.specs.Vocabulary.{Core}
 use Rattle.batch_output.specs.SerialBatches.{IsLawfulRule}
 use Rattle.batch_output.proofs.LawfulBatches.{fewer_wait}
 use Rattle.batch_replies.specs.declared.counting.BatchCounts.{BatchCounts}

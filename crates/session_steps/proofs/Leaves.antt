@@ -8,7 +8,7 @@ use Rattle.sf_outside.specs.Bytes.{AppendsPrefix}
 use Rattle.sf_outside.specs.Gains.{joined}
 use Rattle.sf_outside.proofs.GainLaws.{joined-nil, joined_one}
 use Rattle.request_json.specs.Actions.{Line, Action, action_of}
-use Rattle.engine.specs.Cores.{Core}
+use Rattle.line_answers.specs.Vocabulary.{Core}
 use Rattle.batch_output.specs.BatchOutput.{Standing, waits, answer, taken, is_due}
 use Rattle.batch_replies.specs.declared.counting.BatchCounts.{BatchCounts}
 use Rattle.batch_replies.specs.declared.answering.BatchStop.{BatchStop}

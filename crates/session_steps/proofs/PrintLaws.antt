@@ -1,7 +1,7 @@
 -- What steps print is what a session in batches prints.
 use Rattle.std.proofs.Common.{◌≡◌, ℕ, zero, suc, Bool, true, false, List, [], ◌∷◌, ◌++◌, length, if◌then◌else◌, refl, sym, ap, ◌∙◌}
 use Rattle.request_json.specs.Actions.{Line, all_lines}
-use Rattle.engine.specs.Cores.{Core}
+use Rattle.line_answers.specs.Vocabulary.{Core}
 use Rattle.batch_output.specs.BatchOutput as output
 use Rattle.batch_output.specs.BatchOutput.{Standing, begun, settled, batch_lines, is_over, after, replies, at_end, end_replies}
 use Rattle.line_answers.specs.Services.{Service, program_of}

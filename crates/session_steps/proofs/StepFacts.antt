@@ -1,8 +1,7 @@
 -- What one step does, by whether a batch is due and has a place; and what steps do, one after another.
 use Rattle.std.proofs.Common.{◌≡◌, ℕ, ◌+◌, Bool, true, false, not, ◌||◌, List, [], ◌∷◌, ◌++◌, length, if◌then◌else◌, refl, sym, ap, ◌∙◌, append_assoc, append-nil}
 use Rattle.request_json.specs.Actions.{action_of}
-use Rattle.engine.specs.Cores.{Core}
-use Rattle.engine.specs.Batches.{batch_entries}
+use Rattle.line_answers.specs.Vocabulary.{Core, batch_entries}
 use Rattle.batch_output.specs.BatchOutput.{Standing, waits, answer, taken, is_due, with_line, committed, settled, batch_lines, entry_lines, settled_if, lines_if}
 use Rattle.batch_replies.specs.BatchAnswers.{HasPlace, IsFull, core_behind}
 use Rattle.line_answers.specs.Services.{Service, program_of}

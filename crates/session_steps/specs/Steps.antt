@@ -1,7 +1,7 @@
 -- A session in batches as steps: each answers a line of the input, or, at its end, runs a batch of what waits.
 use Rattle.std.specs.Prelude.{ℕ, Bool, List, [], ◌∷◌, ◌++◌, length, map, replicate, if◌then◌else◌}
 use Rattle.request_json.specs.Actions.{Line, whole_lines, all_lines}
-use Rattle.engine.specs.Cores.{Core}
+use Rattle.line_answers.specs.Vocabulary.{Core}
 use Rattle.batch_output.specs.BatchOutput as output
 use Rattle.batch_output.specs.BatchOutput.{Standing, begun, waits, is_over, settled, batch_lines, has_no_place}
 use Rattle.line_answers.specs.Services.{Service, program_of}

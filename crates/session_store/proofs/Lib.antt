@@ -3,3 +3,4 @@ pub mod CycleLaws
 pub mod NoStore
 mod LoggingLaws
 mod Snapshots
+pub mod Vocabulary

@@ -3,3 +3,4 @@ pub mod Cycles
 pub mod Endings
 pub mod Checkpoints
 pub mod NoDisk
+pub mod Vocabulary

@@ -6,7 +6,7 @@ ghost use Rattle.sf_outside.specs.DiskModel.{untold};
 ghost use Rattle.block_step.specs.CompiledViews.{IsWhole};
 ghost use Rattle.engine.specs.Cores.{CoreFits};
 ghost use Rattle.engine.specs.EngineViews.{core_of, tables_of, compiled_of, limit_of, fresh_of};
-ghost use Rattle.storable_cores.specs.Storable.{IsStorable};
+ghost use Rattle.session_store.specs.Vocabulary.{IsStorable};
 ghost use Rattle.store_opening.specs.OpenedStores.{KeepsOpened};
 ghost use Rattle.batch_run.specs.RunViews.{CanServe, shown};
 ghost use Rattle.command_words.specs.Commands.{settings_by};

@@ -9,7 +9,7 @@ use Rattle.program_meaning.specs.ClassTables.{Source}
 use Rattle.program_meaning.specs.RequestRun.{run}
 use Rattle.serial_order.specs.ConflictFree.{access_of, runs_on}
 use Rattle.reservations.specs.CommitRules.{Chosen, IsLawful}
-use Rattle.operator_graph.specs.FirstFlights.{acts_of}
+use Rattle.engine.specs.Vocabulary.{acts_of}
 use Rattle.quiet_methods.specs.MarksKeepWithin.{source}
 use Rattle.request_log.specs.LogFile.{IsBatch}
 use Rattle.block_step.specs.declared.compiled.Compiled.{Compiled}

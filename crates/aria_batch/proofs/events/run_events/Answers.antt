@@ -1,6 +1,5 @@
 use Rattle.std.proofs.Common.{◌≡◌, ◌≤◌, ◌*◌, ap, sym, ◌∙◌, arith, subst, length, Ok}
-use Rattle.transaction_steps.specs.Transactions.{firsts}
-use Rattle.transaction_steps.specs.GoingOn.{most_weight}
+use Rattle.batch_events.specs.Vocabulary.{firsts, most_weight}
 use Rattle.operator_graph.specs.FirstFlights.{acts_of}
 use Rattle.aria_batch.specs.BatchRun.{source_of}
 use Rattle.operator_graph.specs.Flights.{EachTransaction, no_works}

@@ -1,4 +1,4 @@
-use Rattle.storable_cores.proofs.Engines.{plan_is_spelt}
+use Rattle.session_store.proofs.Vocabulary.{plan_is_spelt}
 use Rattle.batch_replies.proofs.answering.answer_planned.Goals as goal
 
 pub draft_of-requires : goal.draft_of-requires

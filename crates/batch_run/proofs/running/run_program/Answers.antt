@@ -5,8 +5,7 @@ use Rattle.engine.specs.Cores.{empty_core}
 use Rattle.engine.specs.EngineViews.{core_of, source_of, compiled_of, fresh_of}
 use Rattle.batch_session.specs.Faults.{disk_failed}
 use Rattle.batch_run.specs.RunViews.{shown}
-use Rattle.storable_cores.proofs.Engines.{empty_storable}
-use Rattle.session_store.proofs.NoStore.{never_failed}
+use Rattle.batch_session.proofs.Vocabulary.{empty_storable, never_failed}
 use Rattle.batch_run.proofs.RunLaws.{unbegun, runs_from}
 use Rattle.batch_run.proofs.running.run_program.Goals as goal
 

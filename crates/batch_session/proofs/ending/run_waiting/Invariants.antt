@@ -1,8 +1,7 @@
 use Rattle.std.proofs.Common.{◌≡◌, ◌≤◌, ◌<◌, ℕ, length}
 use Rattle.engine.specs.Cores.{CoreFits, IsSoundCore}
 use Rattle.engine.specs.EngineViews.{core_of, source_of, tables_of, compiled_of, limit_of, fresh_of, RunsProgram}
-use Rattle.store_meaning.specs.Engines.{logged_of}
-use Rattle.storable_cores.specs.Storable.{IsStorable}
+use Rattle.session_store.specs.Vocabulary.{logged_of, IsStorable}
 use Rattle.session_store.specs.Cycles.{IsInCycle}
 use Rattle.session_store.specs.Stores.{settings_of, Keeps}
 use Rattle.line_answers.specs.Services.{service_of}

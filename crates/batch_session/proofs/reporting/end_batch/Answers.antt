@@ -1,5 +1,5 @@
 use Rattle.engine.specs.EngineViews.{core_of, source_of}
-use Rattle.store_meaning.specs.Engines.{logged_of}
+use Rattle.session_store.specs.Vocabulary.{logged_of}
 use Rattle.session_store.specs.Endings.{next_core}
 use Rattle.batch_session.proofs.KeepLaws.{left_logged, cycle_counted}
 use Rattle.batch_session.proofs.reporting.end_batch.Goals as goal

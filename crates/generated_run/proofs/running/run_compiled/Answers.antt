@@ -2,7 +2,7 @@ use Rattle.std.proofs.Common.{ap, ◌∙◌}
 use Rattle.std.proofs.lemmas.Result.{err_from_is_err_and}
 use Rattle.block_step.specs.CompiledViews.{compiled_tables, compiled_blocks}
 use Rattle.operator_graph.specs.Turns.{Outside}
-use Rattle.storable_cores.proofs.Engines.{empty_storable}
+use Rattle.batch_session.proofs.Vocabulary.{empty_storable}
 use Rattle.generated_run.specs.Generated.{Starts}
 use Rattle.generated_run.proofs.RunLaws.{told_as, came_short, came}
 use Rattle.generated_run.proofs.running.run_compiled.Goals as goal

@@ -1,4 +1,4 @@
-use Rattle.storable_cores.proofs.Engines.{arrival_storable}
+use Rattle.batch_replies.proofs.Vocabulary.{arrival_storable}
 use Rattle.line_answers.proofs.taking.ask.Goals as goal
 
 pub returns-in_err-answer-clause-storable : goal.returns-in_err-answer-clause-storable

@@ -1,6 +1,6 @@
 use Rattle.std.proofs.Common.{◌≡◌, IfOk, sym, subst}
 use Rattle.engine.specs.EngineViews.{core_of, source_of}
-use Rattle.batch_output.specs.BatchOutput.{is_due}
+use Rattle.batch_replies.specs.Vocabulary.{is_due}
 use Rattle.line_answers.specs.LineViews.{asked}
 use Rattle.line_answers.specs.Services.{limits_of}
 use Rattle.line_answers.proofs.taking.take_action.Goals as goal

@@ -1,7 +1,7 @@
 use Rattle.std.proofs.Common.{◌∙◌, ap, sym, subst}
 use Rattle.engine.specs.EngineViews.{source_of, tables_of}
 use Rattle.request_json.specs.Actions.{action_of}
-use Rattle.storable_cores.proofs.Accepted.{engine_accepted}
+use Rattle.batch_replies.proofs.Vocabulary.{engine_accepted}
 use Rattle.line_answers.specs.LineViews.{line_of, ActionFits, ActionIsSpelt}
 use Rattle.line_answers.proofs.LineLaws.{line_fits, line_spelt, same_source}
 use Rattle.line_answers.proofs.taking.take_line.Goals as goal

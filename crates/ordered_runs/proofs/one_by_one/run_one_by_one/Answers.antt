@@ -1,7 +1,7 @@
 use Rattle.std.proofs.Common.{◌≡◌, ◌<◌, length, take, get_or, sym, subst}
 use Rattle.program_meaning.proofs.Soundness.{checked_are_known}
 use Rattle.block_step.specs.CompiledViews.{compiled_program, compiled_names, compiled_tables}
-use Rattle.operator_graph.specs.FirstFlights.{acts_of}
+use Rattle.aria_batch.specs.Vocabulary.{acts_of}
 use Rattle.aria_batch.specs.BatchRun.{source_of}
 use Rattle.ordered_runs.proofs.OneLaws.{HasRun, none_has_run, one_has_run, acts_more, act_fits_at}
 use Rattle.ordered_runs.proofs.one_by_one.run_one_by_one.Goals as goal

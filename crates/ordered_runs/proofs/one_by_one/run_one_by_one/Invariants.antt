@@ -1,6 +1,6 @@
 use Rattle.std.proofs.Common.{take}
 use Rattle.block_step.specs.CompiledViews.{compiled_tables}
-use Rattle.operator_graph.specs.FirstFlights.{acts_of}
+use Rattle.aria_batch.specs.Vocabulary.{acts_of}
 use Rattle.aria_batch.specs.BatchRun.{source_of}
 use Rattle.ordered_runs.proofs.OneLaws.{HasRun}
 use Rattle.ordered_runs.proofs.one_by_one.run_one_by_one.Given as goal

@@ -2,7 +2,7 @@ use Rattle.std.proofs.Common.{ap, sym, ◌∙◌}
 use Rattle.std.specs.List.{range_with_len}
 use Rattle.std.proofs.lemmas.List.{length-map}
 use Rattle.sf_value.specs.declared.Request.{Request}
-use Rattle.operator_graph.specs.FirstFlights.{acts_of}
+use Rattle.aria_batch.specs.Vocabulary.{acts_of}
 use Rattle.aria_batch.specs.BatchRun.{source_of}
 use Rattle.ordered_runs.proofs.TogetherLaws.{in_order}
 use Rattle.ordered_runs.proofs.ordered.run_in_order.Goals as goal

@@ -1,4 +1,4 @@
-use Rattle.operator_graph.specs.FirstFlights.{acts_of}
+use Rattle.aria_batch.specs.Vocabulary.{acts_of}
 use Rattle.aria_batch.specs.BatchRun.{source_of}
 use Rattle.ordered_runs.proofs.TogetherLaws.{ran_together}
 use Rattle.ordered_runs.proofs.together.run_together.Goals as goal

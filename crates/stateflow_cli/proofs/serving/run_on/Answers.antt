@@ -1,5 +1,5 @@
 use Rattle.std.proofs.Common.{subst, sym, refl, arith, Some}
-use Rattle.storable_cores.specs.Storable.{IsStorable}
+use Rattle.session_store.specs.Vocabulary.{IsStorable}
 use Rattle.engine.specs.EngineViews.{core_of, source_of}
 use Rattle.store_meaning.specs.Engines.{logged_of}
 use Rattle.session_store.proofs.StoreLaws.{keeps_same, all_logged}

@@ -4,7 +4,7 @@ use Rattle.std.proofs.lemmas.List.{length-map}
 use Rattle.program_meaning.specs.Fits.{ActFits}
 use Rattle.reservations.specs.Accesses.{accesses_of, access_of_work}
 use Rattle.engine.specs.EngineViews.{core_of, source_of, tables_of}
-use Rattle.operator_graph.specs.FirstFlights.{acts_of}
+use Rattle.ordered_runs.specs.Vocabulary.{acts_of}
 use Rattle.engine.proofs.RunLaws.{asked_fit, works_accesses, is_run, some_committed}
 use Rattle.engine.proofs.engine.Engine.plan.Goals as goal
 

@@ -6,7 +6,7 @@ use Rattle.program_meaning.specs.Fits.{StateFits, ActFits}
 use Rattle.program_meaning.specs.Serial.{serial_state}
 use Rattle.request_history.specs.SoundHistory.{RequestFits}
 use Rattle.keyed_state.specs.Works.{are_places}
-use Rattle.operator_graph.specs.FirstFlights.{acts_of}
+use Rattle.ordered_runs.specs.Vocabulary.{acts_of}
 use Rattle.ordered_runs.proofs.PlaceLaws.{all_places}
 use Rattle.engine.specs.EngineViews.{core_of, source_of, tables_of}
 use Rattle.engine.specs.Batches.{requests_at, other_places}
