@@ -4,7 +4,6 @@
 use operator_graph::NoWatch;
 use stateflow_cli::{Generator, NamedFiles, Reading, Writing, stateflow};
 use std::env;
-use std::io::BufWriter;
 use std::process::ExitCode;
 use store_folder::Folder;
 
@@ -20,12 +19,9 @@ fn main(rt: HostRuntime) -> ExitCode {
     let Ok(words) = words.collect::<Vec<String>>(alloc) else {
         return ExitCode::from(NO_MEMORY);
     };
-    let Ok(replies) = BufWriter::new(alloc, rt.stdout()) else {
-        return ExitCode::from(NO_MEMORY);
-    };
     let mut files = NamedFiles::new(&rt);
     let mut input = Reading::new(rt.stdin());
-    let mut out = Writing::new(replies);
+    let mut out = Writing::new(rt.stdout());
     let mut err = Writing::new(rt.stderr());
     let mut disk = Folder::new(rt.alloc(), &rt);
     let mut chooser = Generator::new();
