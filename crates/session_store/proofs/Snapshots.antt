@@ -62,4 +62,4 @@ module _ (p : Program) (core : Core) (position : Position) (old new : DiskFacts)
   pub snapshot_past : 2 ^ 62 < 17 + length body → HasSnapshotPast p.text core
   snapshot_past past =
       let size : length body ≡ snapshot_size has.0 = ap length (sym has.1.spells.1) ∙ snapshot-sizes has.0 in
-      record { kept = has.0; program = has.1.text; holds = has.1.holds; past = omega (arith, size, past) }
+      record { kept = has.0; program = has.1.text; holds = has.1.holds; once = has.1.fits.entities; past = omega (arith, size, past) }

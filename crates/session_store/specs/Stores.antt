@@ -1,5 +1,5 @@
 -- The store of a session, where it has one, and what a disk keeps in it.
-use Rattle.std.specs.Prelude.{◌≡◌, ◌⊎◌, ℕ, ◌+◌, ◌≤◌, ◌<◌, ◌^◌, ⊤, List, Some, None}
+use Rattle.std.specs.Prelude.{◌≡◌, ◌⊎◌, ℕ, ◌+◌, ◌≤◌, ◌<◌, ◌^◌, ⊤, List, Some, None, true}
 use Rattle.std.specs.declared.option.Option.{Option}
 use Rattle.sf_outside.specs.DiskModel.{Image, DiskFacts}
 use Rattle.sf_value.specs.declared.BatchRecord.{BatchRecord}
@@ -7,6 +7,7 @@ use Rattle.sf_value.specs.declared.Snapshot.{Snapshot}
 use Rattle.byte_sizes.specs.Sizes.{batch_size, snapshot_size}
 use Rattle.byte_sizes.specs.Spelt.{IsShortText}
 use Rattle.program_meaning.specs.ClassTables.{Source}
+use Rattle.keyed_state.specs.Works.{entities_differ}
 use Rattle.request_log.specs.LogFile.{IsBatch}
 use Rattle.snapshot_store.specs.SlotFile.{IsEpoch}
 use Rattle.serial_order.specs.ConflictFree.{Access}
@@ -70,7 +71,7 @@ IsRecordFor (Some store) batch (Some body) = IsBatch body batch
 abbrev pub next_record : (List Access → Chosen) → Source → Core → ℕ → BatchRecord
 next_record rule src core fresh = record { news = news_of core fresh; committed = (rule (accesses_on src core)).committed }
 
--- a record, or a snapshot of this core, would end past place 2^62 of its file
+-- a record, or a snapshot of this core that has each entity once, would end past place 2^62 of its file
 abbrev pub RecordEndsPast : Option Store → BatchRecord → Type 0
 RecordEndsPast None batch = ⊥
 RecordEndsPast (Some store) batch = 2 ^ 62 < store.position.at + 6 + batch_size batch
@@ -79,6 +80,7 @@ pub record HasSnapshotPast (text : List ℕ) (core : Core) : Type 0 where
   pub kept : Snapshot
   pub program : kept.program ≡ text
   pub holds : core_of_snapshot kept ≡ core
+  pub once : entities_differ kept.records ≡ true
   pub past : 2 ^ 62 < 17 + snapshot_size kept
 
 abbrev pub SnapshotEndsPast : Option Store → Core → Type 0
