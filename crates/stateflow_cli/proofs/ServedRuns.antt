@@ -25,6 +25,7 @@ use Rattle.session_store.specs.declared.store.Store.{Store}
 use Rattle.session_store.specs.Cycles.{IsInCycle}
 use Rattle.session_store.specs.Endings.{KeepsWhere, next_core}
 use Rattle.session_store.specs.Stores.{settings_of, HasSnapshotPast, EndsPast}
+use Rattle.session_store.specs.Vocabulary.{IsStorable}
 use Rattle.session_steps.specs.declared.tally.Tally.{Tally}
 use Rattle.batch_session.specs.declared.serving.SessionFault.{SessionFault}
 use Rattle.batch_session.specs.declared.serving.SessionFault.TheVariants.{ReadFault, WriteFault}
@@ -161,18 +162,20 @@ module _ (opened : OpenedStore) (now : Engine) (limit : ℕ) (runs : RunsProgram
       → KeepsWhere (disk_failed result) store (engine.source_of now) (logged_of now) (next_core batch_rule (engine.source_of now) (core_of now)) facts
       → IfOk result (λ tally. IsInCycle store tally.batches)
       → (disk_failed result ≡ true → Rose faults faults' ⊎ EndsPast batch_rule store (engine.source_of now) (core_of now) (fresh_of now) facts)
+      → IsStorable (core_of now) (fresh_of now)
       → RanOpened opened s result old new faults faults' facts
-  ran_opened None settings ran sound kept in_cycle cause = absurd (none settings)
+  ran_opened None settings ran sound kept in_cycle cause storable = absurd (none settings)
     where
       none : None ≡ Some opened.store.settings → ⊥
       none same = cc
-  ran_opened (Some store) settings ran sound kept in_cycle cause = record {
+  ran_opened (Some store) settings ran sound kept in_cycle cause storable = record {
     last = core_of now;
     runs = ran;
     sound = sound;
     store = store;
     settings = is settings;
     fresh = fresh_of now;
+    storable = storable;
     kept = subst (λ src. KeepsWhere (disk_failed result) (Some store) src (logged_of now) (next_core batch_rule src (core_of now)) facts) same_source kept;
     in_cycle = in_cycle;
     cause = λ failed. subst (λ src. Rose faults faults' ⊎ EndsPast batch_rule (Some store) src (core_of now) (fresh_of now) facts) same_source (cause failed);
@@ -262,6 +265,7 @@ module _ (limit : ℕ) (file dir : List ℕ) (w : words.RunSettings) (before aft
         store = ran.store;
         settings = ran.settings ∙ same_settings;
         fresh = ran.fresh;
+        storable = ran.storable;
         kept = subst (λ src. KeepsWhere (disk_failed result) (Some ran.store) src (settled ran.last ran.fresh) (next_core batch_rule src ran.last) now) source_so ran.kept;
         in_cycle = ran.in_cycle;
         cause = cause_so;

@@ -41,7 +41,7 @@ use Rattle.stateflow_cli.specs.Starts.{program_of}
 use Rattle.stateflow_cli.specs.StoredRuns.{IsUntouched, DiskRose, KeepsRun, KeepsIn}
 use Rattle.stateflow_cli.specs.Endings.{RunEnds, RunsFile, IsUnopened, shown_of, settings_for, run_ending}
 use Rattle.stateflow_cli.specs.StatusLines.{status_of, line_of, file_name, bad_store_line}
-use Rattle.stateflow_cli.specs.StoreClauses.{OfStored, IsBadAt, BadIn, HasBadStore, OtherIn, HasOtherStore, FailsIn, DiskFails, MayBeUnmounted, LeavesFinal, LeavesOpened, LeavesIn, StoreEnds}
+use Rattle.stateflow_cli.specs.StoreClauses.{OfStored, IsBadAt, BadIn, HasBadStore, OtherIn, HasOtherStore, FailsIn, DiskFails, MayBeUnmounted, MayBeDiskFault, LeavesFinal, LeavesOpened, LeavesIn, StoreEnds}
 use Rattle.stateflow_cli.specs.declared.ending.Ending.{Ending}
 use Rattle.stateflow_cli.specs.declared.ending.Ending.TheVariants.{Misused, Refused, FileFault, NoMemory, Printed, Unprinted, Served, Stopped, Unopened}
 use Rattle.stateflow_cli.proofs.PrintLaws.{holds_compiled}
@@ -60,15 +60,23 @@ untouched disk facts = record {
   };
 }
 
+unfailed : false ≡ true → ⊥
+unfailed same = cc
+
+with_reason : {A B R : Type 0} → R → A ⊎ B → A ⊎ (R × B)
+with_reason r (inl a) = inl a
+with_reason r (inr b) = inr (r, b)
+
 -- of what a disk keeps behind a run, each image that a crash may leave stands for its core, or where the disk failed perhaps for the next one
 kept_each : (store : Store) (src : Source) (text : List ℕ) → store.settings.program ≡ chars text → (core next : Core) (now : DiskFacts) (failed : Bool)
-    → KeepsWhere failed (Some store) src core next now → (image : Image) → now.may_leave image
-    → StandsSomewhere (program_of src text) image core ⊎ StandsSomewhere (program_of src text) image next
-kept_each store src text same core next now false keeps image leaves =
+    → (R : Type 0) → (failed ≡ true → R) → KeepsWhere failed (Some store) src core next now → (image : Image) → now.may_leave image
+    → StandsSomewhere (program_of src text) image core ⊎ (R × StandsSomewhere (program_of src text) image next)
+kept_each store src text same core next now false R reason keeps image leaves =
     inl (store.position, subst (λ t. StandsFor (record { source = src; text = t }) image core store.position) same (keeps.keeps.each image leaves))
-kept_each store src text same core next now true keeps image leaves =
-    subst (λ t. StandsSomewhere (record { source = src; text = t }) image core ⊎ StandsSomewhere (record { source = src; text = t }) image next) same
-    (keeps.each image leaves)
+kept_each store src text same core next now true R reason keeps image leaves =
+    with_reason (reason refl)
+    (subst (λ t. StandsSomewhere (record { source = src; text = t }) image core ⊎ StandsSomewhere (record { source = src; text = t }) image next) same
+    (keeps.each image leaves))
 
 -- where nothing waits all of a core is logged
 all_settled : (core : Core) (fresh : ℕ) → core.pending ≡ [] → settled core fresh ≡ core
@@ -120,6 +128,7 @@ module _ (limit : ℕ) (before after : Devices) (was now : DiskFacts) (behind : 
             store = keeps.store;
             program = ap (λ (x : StoreSettings). x.program) keeps.settings;
             fresh = keeps.fresh;
+            storable = keeps.storable;
             past = past;
           }))
 
@@ -288,7 +297,7 @@ module _ (limit : ℕ) (before after : Devices) (was now : DiskFacts) (behind : 
     unopened_leaves of_store.NoMemory u one = wanting_leaves u one
 
     -- a session was served on it
-    module _ (e : Ending) (own : (status ≡ 4 → ⊥) → status ≡ status_of e) (dir : List ℕ) where
+    module _ (e : Ending) (own : (status ≡ 4 → ⊥) → status ≡ status_of e) (one : IsOneOf status (status_of e)) (dir : List ℕ) where
       abbrev Kept : (result : Result Tally SessionFault) → Came result → Type 0
       Kept result r = KeepsRun dir s (source_of r.compiled) r.holds.text r.start r.last before.disk after.disk now result
 
@@ -332,6 +341,16 @@ module _ (limit : ℕ) (before after : Devices) (was now : DiskFacts) (behind : 
       final (Ok tally) r k is n = final_served tally r is k
       final (Err stopped) r k is n = absurd (no_stop stopped 0 (omega arith) (sym is ∙ (sym (own (λ m. omega (arith, n, m))) ∙ n)))
 
+      -- where the disk failed the status says so, or that the error stream can't be written
+      failed_status : (result : Result Tally SessionFault) → status_of e ≡ status_of (run_ending result) → disk_failed result ≡ true → MayBeDiskFault status
+      failed_status (Err stop.DiskFault) is failed = subst (IsOneOf status) is one
+      failed_status (Err stop.ReadFault) is failed = absurd (unfailed failed)
+      failed_status (Err stop.WriteFault) is failed = absurd (unfailed failed)
+      failed_status (Err stop.InputTooLong) is failed = absurd (unfailed failed)
+      failed_status (Err stop.HistoryFull) is failed = absurd (unfailed failed)
+      failed_status (Err stop.NoMemory) is failed = absurd (unfailed failed)
+      failed_status (Ok tally) is failed = absurd (unfailed failed)
+
       opened_leaves : (result : Result Tally SessionFault) (r : Came result) → Kept result r → status_of e ≡ status_of (run_ending result)
           → LeavesOpened limit file dir s before after now status
       opened_leaves result r k is = record {
@@ -342,19 +361,20 @@ module _ (limit : ℕ) (before after : Devices) (was now : DiskFacts) (behind : 
         is_start = k.found;
         last = r.last;
         fresh = k.fresh;
+        storable = k.storable;
         sound = k.sound;
         prints = λ sound. (r.runs.serial sound).prints;
         replies = λ sound. (r.runs.serial sound).replies;
         each = kept_each k.store (source_of r.compiled) r.holds.text (ap (λ (x : StoreSettings). x.program) k.settings) (settled r.last k.fresh)
-            (next_core batch_rule (source_of r.compiled) r.last) now (disk_failed result) k.kept;
+            (next_core batch_rule (source_of r.compiled) r.last) now (disk_failed result) (MayBeDiskFault status) (failed_status result is) k.kept;
         final = final result r k is;
       }
 
-    module _ (e : Ending) (own : (status ≡ 4 → ⊥) → status ≡ status_of e) where
+    module _ (e : Ending) (own : (status ≡ 4 → ⊥) → status ≡ status_of e) (one : IsOneOf status (status_of e)) where
       came_leaves : (result : Result Tally SessionFault) (r : Came result) → status_of e ≡ status_of (run_ending result) → (store : Option (List ℕ))
           → KeepsIn store s (source_of r.compiled) r.holds.text r.start r.last before.disk after.disk now result → Leaves store
       came_leaves result r is None keeps = tt
-      came_leaves result r is (Some dir) keeps = inr (inr (opened_leaves e own dir result r keeps is))
+      came_leaves result r is (Some dir) keeps = inr (inr (opened_leaves e own one dir result r keeps is))
 
     pub run_leaves : (e : Ending) → ((status ≡ 4 → ⊥) → status ≡ status_of e) → IsOneOf status (status_of e) → RunEnded e
         → StoreEnds limit (Some (Run file s)) before after was now status
@@ -376,6 +396,6 @@ module _ (limit : ℕ) (before after : Devices) (was now : DiskFacts) (behind : 
         by (inr n) = inr (inr (inl n))
     run_leaves Printed own one ends = absurd ends
     run_leaves Unprinted own one ends = absurd ends
-    run_leaves Served own one ends = came_leaves Served own (Ok ends.0) ends.1 refl s.store ends.1.keeps
-    run_leaves (Stopped stopped) own one ends = came_leaves (Stopped stopped) own (Err stopped) ends refl s.store ends.keeps
+    run_leaves Served own one ends = came_leaves Served own one (Ok ends.0) ends.1 refl s.store ends.1.keeps
+    run_leaves (Stopped stopped) own one ends = came_leaves (Stopped stopped) own one (Err stopped) ends refl s.store ends.keeps
     run_leaves (Unopened stopped) own one ends = subst Leaves (sym ends.named) (unopened_leaves stopped ends one)

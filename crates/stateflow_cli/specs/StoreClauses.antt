@@ -20,6 +20,7 @@ use Rattle.store_meaning.specs.StandsFor.{Program, StandsFor}
 use Rattle.session_store.specs.declared.store.Store.{Store}
 use Rattle.session_store.specs.Endings.{next_core}
 use Rattle.session_store.specs.Stores.{HasSnapshotPast, StandsSomewhere, EndsPast}
+use Rattle.session_store.specs.Vocabulary.{IsStorable}
 use Rattle.store_opening.specs.Openings.{WasAt}
 use Rattle.session_steps.specs.Traces.{no_batch, tally_after}
 use Rattle.batch_session.specs.declared.serving.SessionFault.TheVariants.{DiskFault}
@@ -102,6 +103,7 @@ pub record RunEndsPast (limit : ℕ) (file : List ℕ) (s : words.RunSettings) (
   pub store : Store
   pub program : store.settings.program ≡ chars holds.text
   pub fresh : ℕ
+  pub storable : IsStorable last fresh
   pub past : EndsPast batch_rule (Some store) (source_of compiled) last fresh now
 
 -- a fault of the disk or of a mount of the folder was counted; or a run would write past the last place; or so would the first snapshot of a new
@@ -145,6 +147,10 @@ pub record LeavesUnopened (dir : List ℕ) (before after : Devices) (now : DiskF
   pub unchanged : (status ≡ 6) ⊎ (status ≡ 7) → IsClean now × (now.seen ≡ before.disk.found dir)
   pub why : (status ≡ 4) ⊎ ((status ≡ 5) ⊎ ((status ≡ 6) ⊎ ((status ≡ 7) ⊎ (status ≡ 8))))
 
+-- the status of a fault of the disk, or that of an error stream that can't be written
+abbrev pub MayBeDiskFault : ℕ → Type 0
+MayBeDiskFault status = (status ≡ 5) ⊎ (status ≡ 4)
+
 -- each image that a crash now may leave stands for this core, where a session that was opened at one epoch has come to after so many batches
 pub record KeepsLast (p : Program) (last : Core) (now : DiskFacts) (opened every batches : ℕ) : Type 0 where
   pub position : Position
@@ -159,7 +165,7 @@ module _ (limit : ℕ) (file dir : List ℕ) (s : words.RunSettings) (before aft
     pub keeps : KeepsLast (program_of src text) last now opened s.every (tally_after no_batch tells.counts).batches
 
   -- A session was served on the store, from the core that was found to another. Each image that a crash now may leave stands for what was logged of
-  -- the last core, or for the core behind the batch that is next there, of which no reply line was begun.
+  -- the last core; or, where the disk failed, perhaps for the core behind the batch that is next there, of which no reply line was begun.
   pub record LeavesOpened : Type 0 where
     pub mounted_once : MountsOnce dir before after
     pub holds : Holds (before.content file)
@@ -169,6 +175,7 @@ module _ (limit : ℕ) (file dir : List ℕ) (s : words.RunSettings) (before aft
         (λ image. (place : Position) × WasAt place opened × StandsFor (program_of (source_in (before.content file) holds) holds.holds.text) image start place)
     pub last : Core
     pub fresh : ℕ
+    pub storable : IsStorable last fresh
     pub sound : IsSoundCore (source_in (before.content file) holds) start → IsSoundCore (source_in (before.content file) holds) last
     pub prints : IsSoundCore (source_in (before.content file) holds) start
         → PrintsOneRun (source_in (before.content file) holds) start last before.out.held after.out.held
@@ -176,8 +183,8 @@ module _ (limit : ℕ) (file dir : List ℕ) (s : words.RunSettings) (before aft
         → RepliesAllButOne (source_in (before.content file) holds) start last before.out.held after.out.held
     pub each : (image : Image) → now.may_leave image
         → StandsSomewhere (program_of (source_in (before.content file) holds) holds.holds.text) image (settled last fresh)
-        ⊎ StandsSomewhere (program_of (source_in (before.content file) holds) holds.holds.text) image
-        (next_core batch_rule (source_in (before.content file) holds) last)
+        ⊎ (MayBeDiskFault status × StandsSomewhere (program_of (source_in (before.content file) holds) holds.holds.text) image
+        (next_core batch_rule (source_in (before.content file) holds) last))
     pub final : status ≡ 0 → LeavesFinal (source_in (before.content file) holds) holds.holds.text opened.epoch start last
 
 abbrev pub LeavesIn : ℕ → Option (List ℕ) → List ℕ → words.RunSettings → Devices → Devices → DiskFacts → DiskFacts → ℕ → Type 0

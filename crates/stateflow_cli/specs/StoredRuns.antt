@@ -17,6 +17,7 @@ use Rattle.session_store.specs.declared.store.StoreSettings.{StoreSettings}
 use Rattle.session_store.specs.Cycles.{IsInCycle}
 use Rattle.session_store.specs.Endings.{KeepsWhere, next_core}
 use Rattle.session_store.specs.Stores.{HasSnapshotPast, EndsPast}
+use Rattle.session_store.specs.Vocabulary.{IsStorable}
 use Rattle.session_steps.specs.declared.tally.Tally.{Tally}
 use Rattle.batch_session.specs.declared.serving.SessionFault.{SessionFault}
 use Rattle.batch_session.specs.Faults.{disk_failed}
@@ -57,6 +58,7 @@ pub record KeepsRun (dir : List ℕ) (s : words.RunSettings) (src : Source) (tex
   pub store : Store
   pub settings : store.settings ≡ settings_by s text opened.epoch
   pub fresh : ℕ
+  pub storable : IsStorable last fresh
   pub kept : KeepsWhere (disk_failed result) (Some store) src (settled last fresh) (next_core batch_rule src last) now
   pub in_cycle : IfOk result (λ tally. IsInCycle (Some store) tally.batches)
   pub cause : disk_failed result ≡ true → DiskRose dir before after ⊎ EndsPast batch_rule (Some store) src last fresh now
@@ -69,6 +71,7 @@ pub record RanOpened (opened : OpenedStore) (s : RunSettings) (result : Result T
   pub store : Store
   pub settings : store.settings ≡ opened.store.settings
   pub fresh : ℕ
+  pub storable : IsStorable last fresh
   pub kept : KeepsWhere (disk_failed result) (Some store) (source_of opened.engine) (settled last fresh)
       (next_core batch_rule (source_of opened.engine) last) now
   pub in_cycle : IfOk result (λ tally. IsInCycle (Some store) tally.batches)
