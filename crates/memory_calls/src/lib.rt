@@ -3,7 +3,6 @@
 
 use operator_graph::MemWatch;
 use sf_outside::{Chooser, ListChooser, MemDisk, MemFiles, MemSink, MemSource, Source};
-use stateflow_cli::stateflow;
 pub use stateflow_cli::{Generator, NamedFiles, Reading, Writing, stateflow};
 use std::alloc::{AllocError, Global};
 
