@@ -5,7 +5,7 @@ ghost use Rattle.std.specs.Prelude.{None};
 use crate::counter::REQUESTS;
 use memory_calls::{stateflow, words_of};
 use operator_graph::NoWatch;
-use sf_outside::{Failed, ListChooser, MemFiles, MemSink, MemSource, Sink, Source};
+use sf_outside::{Failed, ListChooser, MemDisk, MemFiles, MemSink, MemSource, Sink, Source};
 use std::alloc::{AllocError, Global};
 use std::cell::Cell;
 use std::test::Fail;
@@ -81,6 +81,7 @@ fn written_before_second(alloc: Global, size: &str) -> Result<u64, AllocError> {
         &mut input,
         &mut out,
         &mut err,
+        &mut MemDisk::new(alloc, 0, 0, &[])?,
         &mut ListChooser::new(alloc, &[])?,
         &mut NoWatch,
     );

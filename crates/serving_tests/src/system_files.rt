@@ -2,7 +2,7 @@
 
 use memory_calls::{Generator, NamedFiles, Reading, Writing, stateflow, words_of};
 use operator_graph::NoWatch;
-use sf_outside::{Files, MemFiles, MemSink, MemSource, Sink, Source};
+use sf_outside::{Files, MemDisk, MemFiles, MemSink, MemSource, Sink, Source};
 use std::alloc::{AllocError, Global};
 use std::fs;
 use std::test::Fail;
@@ -32,6 +32,7 @@ fn call_on<F: Files, S: Source, K: Sink>(
         input,
         out,
         &mut err,
+        &mut MemDisk::new(alloc, 0, 0, &[])?,
         &mut Generator::new(),
         &mut NoWatch,
     );
