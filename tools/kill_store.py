@@ -48,19 +48,24 @@ def run(program, folder, given, seconds=None):
     """The output of a run, its status, and how long it took; it is killed after some seconds, where they are given."""
     words = [program, "run", BANK, "--batch", "8", "--every", "4", "--store", folder]
     begun = time.monotonic()
-    with open(given, "rb") as source:
-        process = subprocess.Popen(words, stdin=source, stdout=subprocess.PIPE, stderr=subprocess.PIPE)
+    # (to a file, since a pipe that nobody reads would stop the run once it is full)
+    with open(given, "rb") as source, tempfile.TemporaryFile() as replies:
+        process = subprocess.Popen(words, stdin=source, stdout=replies, stderr=subprocess.PIPE)
         if seconds is not None:
             time.sleep(seconds)
             process.kill()
-        output, said = process.communicate()
+        said = process.communicate()[1]
+        took = time.monotonic() - begun
+        replies.seek(0)
+        output = replies.read()
     if process.returncode not in (0, -9):
         sys.exit(f"kill_store: status {process.returncode}: {said.decode().strip()}")
-    return output, process.returncode, time.monotonic() - begun
+    return output, process.returncode, took
 
 
-def a_round(program, given, whole, draw, room):
+def a_round(program, given, draw, room):
     """Kills a run on a folder of its own, lets it end, and answers how often it was killed, how many lines were seen before, and which are lost."""
+    whole = run(program, tempfile.mkdtemp(dir=room), given)[2]
     folder = tempfile.mkdtemp(dir=room)
     seen, killed = {}, 0
     for _ in range(KILLS_A_ROUND):
@@ -85,10 +90,9 @@ def main():
         given = os.path.join(room, "requests")
         with open(given, "wb") as it:
             it.write(request_lines(asked.requests, draw))
-        whole = run(program, tempfile.mkdtemp(dir=room), given)[2]
         kills, lines, lost, number = 0, 0, 0, 0
         while kills < asked.kills:
-            killed, seen, missing = a_round(program, given, whole, draw, room)
+            killed, seen, missing = a_round(program, given, draw, room)
             kills, lines, lost, number = kills + killed, lines + seen, lost + len(missing), number + 1
             print(f"round {number}: {killed} kills, {seen} lines had come out, {len(missing)} lost", flush=True)
             for line in missing[:3]:

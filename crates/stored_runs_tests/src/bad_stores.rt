@@ -1,107 +1,134 @@
 //! Stores that a run can't use, and what it says of them.
 
-use crate::runs::{ONE_BY_ONE, disk, held, run_on};
-use memory_calls::Answer;
+use crate::runs::{ONE_BY_ONE, Run, disk, each_runs, runs_on};
 use sf_outside::{Disk, Failed, MemDisk, StoreFile};
-use std::alloc::{AllocError, Global};
+use std::alloc::Global;
 use std::test::Fail;
 use test_support::{NUM, SHOP};
 use value_texts::bytes_of;
 
-const NEW_ITEM: &str = r#"{"id":"a","class":"Item","new":["apple",3]}
-"#;
+const CREATION: Run = Run {
+    label: "an item is made",
+    words: ONE_BY_ONE,
+    program: SHOP,
+    input: r#"{"id":"a","class":"Item","new":["apple",3]}
+"#,
+    unread: &[],
+    status: 0,
+    out: r#"{"id":"a","ok":"apple","seq":1}
+"#,
+    err: "",
+};
 
-/// What the shop answers on a disk whose slots begin with these bytes.
-fn answer_on(alloc: Global, first: &str, second: &str) -> Result<Answer, Fail> {
-    let mut disk = disk(alloc, &[])?;
-    let (first, second) = (bytes_of(alloc, first)?, bytes_of(alloc, second)?);
-    put(&mut disk, StoreFile::Snap0, first.as_slice()).map_err(|_| "a slot can't be written")?;
-    put(&mut disk, StoreFile::Snap1, second.as_slice()).map_err(|_| "a slot can't be written")?;
-    Ok(run_on(alloc, &mut disk, ONE_BY_ONE, SHOP, NEW_ITEM)?)
-}
-
-/// Puts bytes, 2,000 at most, at the begin of a file of a disk.
+/// Puts bytes, 2,000 at most, at the start of a file of a disk.
 fn put(disk: &mut MemDisk, file: StoreFile, bytes: &[u8]) -> Result<(), Failed> {
     disk.write_at(file, 0, &bytes[..bytes.len().min(2_000)])?;
     disk.sync(file)
 }
 
+fn put_digits(
+    alloc: Global,
+    disk: &mut MemDisk,
+    file: StoreFile,
+    digits: &str,
+) -> Result<(), Fail> {
+    let bytes = bytes_of(alloc, digits)?;
+    let done = put(disk, file, bytes.as_slice());
+    drop(bytes);
+    match done {
+        Ok(()) => Ok(()),
+        Err(_) => Err(Fail::from("a file can't be written")),
+    }
+}
+
+/// Whether a run says what it has to where the slots begin with these bytes.
+fn runs_behind(alloc: Global, first: &str, second: &str, run: &Run) -> Result<bool, Fail> {
+    let mut disk = disk(alloc, &[])?;
+    let done = put_digits(alloc, &mut disk, StoreFile::Snap0, first);
+    let next = put_digits(alloc, &mut disk, StoreFile::Snap1, second);
+    let ran = runs_on(alloc, &mut disk, run);
+    drop(disk);
+    done?;
+    next?;
+    Ok(ran?)
+}
+
 #[test]
 fn two_gates_alone_are_a_new_store(rt: HostRuntime) -> Result<(), Fail> {
-    let answer = answer_on(rt.alloc(), "a5", "a5")?;
-    assert_eq!(rt; answer.status, 0);
-    assert_eq!(rt;
-        answer.out.bytes(),
-        br#"{"id":"a","ok":"apple","seq":1}
-"#
-            .as_slice()
-    );
+    assert!(rt; runs_behind(rt.alloc(), "a5", "a5", &CREATION)?);
     Ok(())
 }
 
 #[test]
 fn an_open_slot_of_zeros_is_bad(rt: HostRuntime) -> Result<(), Fail> {
-    let answer = answer_on(rt.alloc(), "", "a5 0000000000")?;
-    assert_eq!(rt; answer.status, 6);
-    assert_eq!(rt; answer.out.bytes(), b"".as_slice());
-    assert_eq!(rt;
-        answer.err.bytes(),
-        b"stateflow: bad store: snap1 at 0\n".as_slice()
-    );
+    let refused = Run {
+        status: 6,
+        out: "",
+        err: "stateflow: bad store: snap1 at 0\n",
+        ..CREATION
+    };
+    assert!(rt; runs_behind(rt.alloc(), "", "a5 0000000000", &refused)?);
     Ok(())
 }
 
 /// Puts the first bytes of a file of a disk on another.
 fn copy_first(
-    alloc: Global,
     from: &mut MemDisk,
     to: &mut MemDisk,
     file: StoreFile,
-    count: usize,
+    most: usize,
 ) -> Result<(), Failed> {
-    let bytes = held(alloc, from, file)?;
-    put(to, file, &bytes[..count.min(bytes.len())])
+    let mut bytes = [0; 2_000];
+    let count = from.read_at(file, 0, &mut bytes)?;
+    put(to, file, &bytes[..count.min(most)])
 }
 
-/// A disk with the shop's first item, whose log is cut.
-fn cut_store(alloc: Global) -> Result<MemDisk, Fail> {
-    let mut whole = disk(alloc, &[])?;
-    let mut cut = disk(alloc, &[])?;
-    let _answer = run_on(alloc, &mut whole, ONE_BY_ONE, SHOP, NEW_ITEM)?;
+/// Puts a store on another disk, but of the log its first 30 bytes alone.
+fn cut(whole: &mut MemDisk, part: &mut MemDisk) -> Result<(), Failed> {
     for file in [StoreFile::Log0, StoreFile::Snap0, StoreFile::Snap1] {
-        copy_first(alloc, &mut whole, &mut cut, file, 2_000).map_err(|_| "no copy")?;
+        copy_first(whole, part, file, 2_000)?;
     }
-    copy_first(alloc, &mut whole, &mut cut, StoreFile::Log1, 30).map_err(|_| "no copy")?;
-    Ok(cut)
+    copy_first(whole, part, StoreFile::Log1, 30)
+}
+
+/// Whether an item is made on a disk, and a run says what it has to where the log is cut.
+fn runs_on_cut(alloc: Global, whole: &mut MemDisk, run: &Run) -> Result<bool, Fail> {
+    let made = runs_on(alloc, whole, &CREATION)?;
+    let mut part = disk(alloc, &[])?;
+    let copied = cut(whole, &mut part);
+    let ran = runs_on(alloc, &mut part, run);
+    drop(part);
+    match copied {
+        Ok(()) => Ok(made && ran?),
+        Err(_) => Err(Fail::from("a file can't be copied")),
+    }
 }
 
 #[test]
 fn a_log_that_is_cut_is_bad(rt: HostRuntime) -> Result<(), Fail> {
-    let mut cut = cut_store(rt.alloc())?;
-    let answer = run_on(rt.alloc(), &mut cut, ONE_BY_ONE, SHOP, NEW_ITEM)?;
-    assert_eq!(rt; answer.status, 6);
-    assert_eq!(rt; answer.out.bytes(), b"".as_slice());
-    assert_eq!(rt;
-        answer.err.bytes(),
-        b"stateflow: bad store: log1 at 0\n".as_slice()
-    );
+    let refused = Run {
+        status: 6,
+        out: "",
+        err: "stateflow: bad store: log1 at 0\n",
+        ..CREATION
+    };
+    let mut whole = disk(rt.alloc(), &[])?;
+    let ran = runs_on_cut(rt.alloc(), &mut whole, &refused);
+    drop(whole);
+    assert!(rt; ran?);
     Ok(())
 }
 
 #[test]
 fn a_store_of_another_program_is_told(rt: HostRuntime) -> Result<(), Fail> {
-    let alloc = rt.alloc();
-    let mut disk = disk(alloc, &[])?;
-    let shop = run_on(alloc, &mut disk, ONE_BY_ONE, SHOP, NEW_ITEM)?;
-    assert_eq!(rt; shop.status, 0);
-    let other = run_on(alloc, &mut disk, ONE_BY_ONE, NUM, "")?;
-    assert_eq!(rt; other.status, 7);
-    assert_eq!(rt; other.out.bytes(), b"".as_slice());
-    assert_eq!(rt;
-        other.err.bytes(),
-        b"stateflow: the store holds another program\n".as_slice()
-    );
-    let again = run_on(alloc, &mut disk, ONE_BY_ONE, SHOP, NEW_ITEM)?;
-    assert_eq!(rt; again.status, 0);
-    Ok(())
+    let other = Run {
+        label: "another program",
+        program: NUM,
+        input: "",
+        status: 7,
+        out: "",
+        err: "stateflow: the store holds another program\n",
+        ..CREATION
+    };
+    each_runs(rt.alloc(), &[CREATION, other, CREATION])
 }

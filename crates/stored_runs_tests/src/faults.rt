@@ -1,42 +1,77 @@
 //! A disk that fails: each call in turn, over a session of three batches and two checkpoints, and what the next run on it says.
 
-use crate::runs::{disk, run_on};
-use std::alloc::Global;
+use crate::runs::{Run, answer_on, disk, runs_on};
+use memory_calls::Answer;
+use sf_outside::MemDisk;
+use std::alloc::{AllocError, Global};
 use std::test::Fail;
 use test_support::NUM;
 
-const LINES: &str = r#"{"id":"a","class":"Num","new":["p",1]}
-{"id":"b","class":"Num","key":"p","method":"get","args":[]}
-{"id":"c","class":"Num","key":"p","method":"get","args":[]}
-"#;
-
-const REPLIES: &[u8] = br#"{"id":"a","ok":"p","seq":1}
+const REPLIES: &str = r#"{"id":"a","ok":"p","seq":1}
 {"id":"b","ok":1,"seq":2}
 {"id":"c","ok":1,"seq":3}
 "#;
 
-const WORDS: &[&str] = &[
-    "run", "a.py", "--store", "s", "--batch", "1", "--every", "2",
-];
+const THREE: Run = Run {
+    label: "three requests",
+    words: &[
+        "run", "a.py", "--store", "s", "--batch", "1", "--every", "2",
+    ],
+    program: NUM,
+    input: r#"{"id":"a","class":"Num","new":["p",1]}
+{"id":"b","class":"Num","key":"p","method":"get","args":[]}
+{"id":"c","class":"Num","key":"p","method":"get","args":[]}
+"#,
+    unread: &[],
+    status: 0,
+    out: REPLIES,
+    err: "",
+};
 
-/// Whether the session met the fault of a call with this number, and what it had printed is printed again by the next.
+/// What a session says of the fault of a call.
+#[derive(Clone, Copy)]
+enum Told {
+    /// It ended before that call.
+    Nothing,
+    /// The fault, behind some first replies.
+    Fault,
+    Other,
+}
+
+fn told_by(answer: &Answer) -> Told {
+    if answer.status == 0 {
+        return Told::Nothing;
+    }
+    let is_told = answer.status == 5 && answer.err.bytes() == b"stateflow: disk fault\n".as_slice();
+    if is_told && REPLIES.as_bytes().starts_with(answer.out.bytes()) {
+        return Told::Fault;
+    }
+    Told::Other
+}
+
+fn told_on(alloc: Global, disk: &mut MemDisk) -> Result<Told, AllocError> {
+    match answer_on(alloc, disk, &THREE) {
+        Ok(answer) => {
+            let told = told_by(&answer);
+            drop(answer);
+            Ok(told)
+        }
+        Err(error) => Err(error),
+    }
+}
+
+/// Whether the session met the fault of a call with this number, and the next run prints all replies.
 fn survives(alloc: Global, number: u64) -> Result<bool, Fail> {
     let mut disk = disk(alloc, &[number])?;
-    let failed = run_on(alloc, &mut disk, WORDS, NUM, LINES)?;
-    let again = run_on(alloc, &mut disk, WORDS, NUM, LINES)?;
-    if failed.status == 0 {
-        return Ok(false);
+    let told = told_on(alloc, &mut disk);
+    let again = runs_on(alloc, &mut disk, &THREE);
+    drop(disk);
+    match told? {
+        Told::Nothing => Ok(false),
+        Told::Other => Err(Fail::from("another end than that of a disk fault")),
+        Told::Fault if again? => Ok(true),
+        Told::Fault => Err(Fail::from("the next run says something else")),
     }
-    if failed.status != 5 || failed.err.bytes() != b"stateflow: disk fault\n".as_slice() {
-        return Err(Fail::from("another status than that of a disk fault"));
-    }
-    if !REPLIES.starts_with(failed.out.bytes()) {
-        return Err(Fail::from("other lines came out before the fault"));
-    }
-    if again.status != 0 || again.out.bytes() != REPLIES {
-        return Err(Fail::from("the next run says something else"));
-    }
-    Ok(true)
 }
 
 #[test]
@@ -52,13 +87,22 @@ fn each_disk_call_fails_in_turn(rt: HostRuntime) -> Result<(), Fail> {
     Ok(())
 }
 
+/// Whether nothing is printed where this call fails.
+fn prints_nothing(alloc: Global, number: u64) -> Result<bool, AllocError> {
+    let failed = Run {
+        status: 5,
+        out: "",
+        err: "stateflow: disk fault\n",
+        ..THREE
+    };
+    let mut disk = disk(alloc, &[number])?;
+    let ran = runs_on(alloc, &mut disk, &failed);
+    drop(disk);
+    ran
+}
+
 #[test]
 fn nothing_is_printed_where_the_first_sync_fails(rt: HostRuntime) -> Result<(), Fail> {
-    let alloc = rt.alloc();
-    let mut disk = disk(alloc, &[2])?;
-    let answer = run_on(alloc, &mut disk, WORDS, NUM, LINES)?;
-    assert_eq!(rt; answer.status, 5);
-    assert_eq!(rt; answer.out.bytes(), b"".as_slice());
-    assert_eq!(rt; answer.err.bytes(), b"stateflow: disk fault\n".as_slice());
+    assert!(rt; prints_nothing(rt.alloc(), 2)?);
     Ok(())
 }
