@@ -3,8 +3,8 @@
 
 usage: kill_store.py PROGRAM [--kills N] [--requests N] [--seed N]
 
-PROGRAM is the built program (./stateflow builds it). A round works on one folder: the run is killed by SIGKILL some times, at moments drawn
-from the time that it took, and then runs to its end. Each whole reply line that any of these runs wrote has to be written again, to the letter,
+PROGRAM is the built program (./stateflow builds it). A round works on one folder: the run is killed by SIGKILL up to five times, at moments drawn
+from the first half of the time that it takes, and then runs to its end. Each whole reply line that any of these runs wrote has to be written again, to the letter,
 by the last one. Prints one line a round, and the sums at the end. The status is 0 where nothing was lost."""
 import argparse
 import json
@@ -69,9 +69,11 @@ def a_round(program, given, draw, room):
     folder = tempfile.mkdtemp(dir=room)
     seen, killed = {}, 0
     for _ in range(KILLS_A_ROUND):
-        output, status, _ = run(program, folder, given, draw.uniform(0, whole))
-        killed += status == -9
+        output, status, _ = run(program, folder, given, draw.uniform(0, whole / 2))
         seen.update(replies_in(output))
+        if status != -9:
+            break
+        killed += 1
     output, _, _ = run(program, folder, given)
     last = replies_in(output)
     return killed, len(seen), [line for id, line in seen.items() if last.get(id) != line]

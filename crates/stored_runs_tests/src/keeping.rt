@@ -36,7 +36,7 @@ fn log_holds(alloc: Global, disk: &mut MemDisk, digits: &str) -> Result<bool, Fa
     let wanted = bytes_of(alloc, digits)?;
     let mut bytes = [0; 2_000];
     let same = match disk.read_at(StoreFile::Log1, 0, &mut bytes) {
-        Ok(count) => bytes[..count] == *wanted.as_slice(),
+        Ok(count) => &bytes[..count] == wanted.as_slice(),
         Err(_) => false,
     };
     drop(wanted);
