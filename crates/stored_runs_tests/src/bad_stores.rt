@@ -41,16 +41,25 @@ fn put_digits(
     }
 }
 
-/// Whether a run says what it has to where the slots begin with these bytes.
+/// Whether a run on a disk says what it has to, once the slots begin with these bytes.
+fn runs_behind_on(
+    alloc: Global,
+    disk: &mut MemDisk,
+    first: &str,
+    second: &str,
+    run: &Run,
+) -> Result<bool, Fail> {
+    put_digits(alloc, disk, StoreFile::Snap0, first)?;
+    put_digits(alloc, disk, StoreFile::Snap1, second)?;
+    Ok(runs_on(alloc, disk, run)?)
+}
+
+/// The same on a disk of its own.
 fn runs_behind(alloc: Global, first: &str, second: &str, run: &Run) -> Result<bool, Fail> {
     let mut disk = disk(alloc, &[])?;
-    let done = put_digits(alloc, &mut disk, StoreFile::Snap0, first);
-    let next = put_digits(alloc, &mut disk, StoreFile::Snap1, second);
-    let ran = runs_on(alloc, &mut disk, run);
+    let ran = runs_behind_on(alloc, &mut disk, first, second, run);
     drop(disk);
-    done?;
-    next?;
-    Ok(ran?)
+    ran
 }
 
 #[test]

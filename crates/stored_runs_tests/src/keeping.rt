@@ -44,12 +44,16 @@ fn log_holds(alloc: Global, disk: &mut MemDisk, digits: &str) -> Result<bool, Fa
 }
 
 /// Whether the log holds these bytes behind a run.
+fn logs_on(alloc: Global, disk: &mut MemDisk, run: &Run, digits: &str) -> Result<bool, Fail> {
+    each_runs_on(alloc, disk, &[*run])?;
+    log_holds(alloc, disk, digits)
+}
+
+/// The same on a disk of its own.
 fn logs(alloc: Global, run: &Run, digits: &str) -> Result<bool, Fail> {
     let mut disk = disk(alloc, &[])?;
-    let ran = each_runs_on(alloc, &mut disk, &[*run]);
-    let held = log_holds(alloc, &mut disk, digits);
+    let held = logs_on(alloc, &mut disk, run, digits);
     drop(disk);
-    ran?;
     held
 }
 
