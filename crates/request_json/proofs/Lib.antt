@@ -10,4 +10,5 @@ pub mod BoundedParts
 pub mod ArgumentSpellings
 pub mod RequestSpellings
 pub mod FittingSpellings
+mod MemberLaws
 mod LineExamples

@@ -1,10 +1,8 @@
 //! Requests, read from lines.
 
-ghost use Rattle.std.specs.Prelude.{◌≡◌, is_some, IfOk};
+ghost use Rattle.std.specs.Prelude.{◌≡◌, IfOk};
 ghost use Rattle.std.specs.Option.{option_map};
-ghost use Rattle.std.specs.List.{list_all};
 ghost use Rattle.std.specs.Str.{chars};
-ghost use Rattle.serde_json.specs.Find.{get};
 ghost use Rattle.serde_json.specs.View.{view, items_view};
 ghost use Rattle.program_meaning.specs.Sources.{source_of};
 ghost use Rattle.request_json.specs.RequestLines as spec;
@@ -21,6 +19,12 @@ use std::str;
 
 /// An id has at most this many bytes.
 const LONGEST_ID: usize = 64;
+
+/// A call has an id, a class, a key, a method and arguments.
+const CALL_MEMBERS: usize = 5;
+
+/// A creation has an id, a class and arguments.
+const CREATION_MEMBERS: usize = 3;
 
 /// The data of a line, where it is JSON in UTF-8.
 fn parse(alloc: Global, line: &[u8]) -> Result<Option<Json>, AllocError>
@@ -61,29 +65,6 @@ fn has_size(value: &Json, count: usize) -> bool
         Some(members) => members.len() == count,
         None => false,
     }
-}
-
-fn has_each(value: &Json, keys: &[&str]) -> bool
-    ensures { result ≡ list_all (λ key. is_some (get key.now (view value.now))) keys.now }
-{
-    for key in keys {
-        if value.get(*key).is_none() {
-            return false;
-        }
-    }
-    true
-}
-
-fn is_call(value: &Json) -> bool
-    ensures { result ≡ spec.has_keys spec.call_keys (view value.now) }
-{
-    has_size(value, 5) && has_each(value, &["id", "class", "key", "method", "args"])
-}
-
-fn is_creation(value: &Json) -> bool
-    ensures { result ≡ spec.has_keys spec.creation_keys (view value.now) }
-{
-    has_size(value, 3) && has_each(value, &["id", "class", "new"])
 }
 
 /// Whether a text is an id, which has 1 to 64 bytes.
@@ -160,13 +141,15 @@ fn creation_of(alloc: Global, program: &Checked, value: &Json) -> Result<Request
     })
 }
 
+/// An object with as many members as a call has is read as one, which refuses it where a key is missing. So no
+/// key is looked for twice.
 fn request_of(alloc: Global, program: &Checked, value: &Json) -> Result<Request, LineError>
     ensures { Gives (spec.of_data (source_of program.now) (view value.now)) result }
 {
-    if is_call(value) {
+    if has_size(value, CALL_MEMBERS) {
         return call_of(alloc, program, value);
     }
-    if is_creation(value) {
+    if has_size(value, CREATION_MEMBERS) {
         return creation_of(alloc, program, value);
     }
     Err(LineError::Fault(LineFault::NotRequest))

@@ -20,20 +20,19 @@ use Rattle.program_meaning.specs.World.{World, Gives, Got, Fell, Ends, Goes, Ret
 use Rattle.program_meaning.specs.Evaluation.{eval}
 use Rattle.program_meaning.specs.Execution.{act_all}
 use Rattle.program_meaning.specs.Calls.{Held, on_record}
-use Rattle.program_meaning.specs.Serial.{no_state}
 use Rattle.source_meaning.specs.Agrees.{AgreesIn, EndsIn, GivesRecord}
 use Rattle.program_meaning.specs.Here.{at_end, GivesHere}
 use Rattle.source_meaning.specs.HereAnswers.{EndsHere, EndedAs, ComesTo, MakesHere, MadeAs}
 use Rattle.program_meaning.proofs.ViewLaws.{viewed, viewed_end}
-use Rattle.program_meaning.proofs.HereLaws.{world_in, end_world, held_in, alone, within, alone_record, eval_held, acts_held, eval_keeps, acts_keep}
+use Rattle.program_meaning.proofs.HereLaws.{world_in, end_world, held_in, alone, within, eval_held, acts_held, eval_keeps, acts_keep}
 
 -- the record that was written, or else the one that there was
-taken_back : (me : Key) (before : Bool) (fields left : List Value) (w : World) (written : Option (List Value))
+taken_back : (me : Key) (before : Bool) (fields : List Value) (w : World) (written : Option (List Value))
     → is_some written ≡ set.contains w.writes me → IfSome written (λ new. map.get w.state me ≡ Some new)
     → (set.contains w.writes me ≡ false → record_at w me ≡ fields)
-    → held_in me before w ≡ record { fields = unwrap_or written (unwrap_or (map.get (map.insert no_state me fields) me) left); wrote = before || is_some written }
-taken_back me before fields left w (Some new) among is kept = λ i. record { fields = unwrap_or (is i) []; wrote = before || sym among i }
-taken_back me before fields left w None among is kept = λ i. record { fields = (kept (sym among) ∙ sym (ap (λ o. unwrap_or o left) (alone_record me fields))) i; wrote = before || sym among i }
+    → held_in me before w ≡ record { fields = unwrap_or written fields; wrote = before || is_some written }
+taken_back me before fields w (Some new) among is kept = λ i. record { fields = unwrap_or (is i) []; wrote = before || sym among i }
+taken_back me before fields w None among is kept = λ i. record { fields = kept (sym among) i; wrote = before || sym among i }
 
 pub mapped_ok : {A E : Type 0} (r : Result A E) (P Q : A → Type 0) → ((x : A) → P x → Q x) → IfOk r P → IfOk r Q
 mapped_ok (Ok x) P Q f h = f x h
@@ -57,21 +56,21 @@ made_by (Ok fields) x n g so gives = subst (λ y. MakesHere y n g) (sym so) give
 made_by (Err stop.NoMemory) x n g so gives = absurd so
 made_by (Err (stop.Failed f)) x n g so gives = subst (λ y. MakesHere y n g) (sym so) gives
 
-module _ (src : Source) (me : Key) (d k : ℕ) (room : k ≡ d) (before : Bool) (fields left : List Value) (start w : World) (written : Option (List Value)) (h : Held)
+module _ (src : Source) (me : Key) (d k : ℕ) (room : k ≡ d) (before : Bool) (fields : List Value) (start w : World) (written : Option (List Value)) (h : Held)
     (began : start ≡ alone me fields)
     (among : is_some written ≡ set.contains w.writes me)
     (is : IfSome written (λ new. map.get w.state me ≡ Some new))
-    (back : h ≡ record { fields = unwrap_or written (unwrap_or (map.get (map.insert no_state me fields) me) left); wrote = before || is_some written }) where
+    (back : h ≡ record { fields = unwrap_or written fields; wrote = before || is_some written }) where
   pub acts_here : (xs : PlainStmts) (vars after : List Var) (n m : ℕ) (r : Result Flow Stop) → EndsIn r after w m (act_all (within src me k) xs vars start n) → (x : Ended) → EndedAs r x → EndsHere x after h m (act_all (on_record src me d) xs vars (record { fields = fields; wrote = before }) n)
   acts_here xs vars after n m r ends x so =
       subst (EndsHere x after h m) (sym (acts_held src me d before fields xs vars n))
       (ends_by r x after w m (act_all (within src me d) xs vars (alone me fields) n) (held_in me before) h so
       (subst (λ s. EndsIn r after w m (act_all (within src me d) xs vars s n)) began (subst (λ y. EndsIn r after w m (act_all (within src me y) xs vars start n)) room ends))
-      (λ last. taken_back me before fields left w written among is (acts_keep src me d fields xs vars n w last) ∙ sym back))
+      (λ last. taken_back me before fields w written among is (acts_keep src me d fields xs vars n w last) ∙ sym back))
 
   pub gives_here : (e : PlainExpr) (vars : List Var) (n m : ℕ) (r : Result Value Stop) → AgreesIn r w m (eval (within src me k) e vars start n) → (x : Outcome) → ComesTo r x → GivesHere x h m (eval (on_record src me d) e vars (record { fields = fields; wrote = before }) n)
   gives_here e vars n m r gives x so =
       subst (GivesHere x h m) (sym (eval_held src me d before fields e vars n))
       (gives_by r x w m (eval (within src me d) e vars (alone me fields) n) (held_in me before) h so
       (subst (λ s. AgreesIn r w m (eval (within src me d) e vars s n)) began (subst (λ y. AgreesIn r w m (eval (within src me y) e vars start n)) room gives))
-      (λ last. taken_back me before fields left w written among is (eval_keeps src me d fields e vars n w last) ∙ sym back))
+      (λ last. taken_back me before fields w written among is (eval_keeps src me d fields e vars n w last) ∙ sym back))

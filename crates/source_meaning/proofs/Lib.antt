@@ -12,3 +12,4 @@ pub mod Measures
 pub mod RangeLaws
 pub mod CommitLaws
 pub mod HereAnswers
+mod RecordLaws

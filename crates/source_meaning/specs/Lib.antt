@@ -1,4 +1,5 @@
 pub mod StateView
+pub mod Holders
 pub mod Sites
 pub mod Agrees
 pub mod TrailerViews

@@ -3,7 +3,6 @@
 //! Calls reach methods of that entity alone, and nothing is created.
 
 ghost use Rattle.std.specs.Prelude.{◌≡◌, ◌-◌, ◌||◌, IfOk, is_some, unwrap_or};
-ghost use Rattle.std.specs.FinMap as finite;
 ghost use Rattle.py_tree.specs.PlainExpressions.{plain_expr};
 ghost use Rattle.py_tree.specs.PlainStatements.{plain_stmts, stmts_of};
 ghost use Rattle.sf_value.specs.Keys.{key_of};
@@ -11,23 +10,21 @@ ghost use Rattle.program_meaning.specs.Evaluation.{eval};
 ghost use Rattle.program_meaning.specs.Execution.{act_all};
 ghost use Rattle.program_meaning.specs.Calls.{on_record, made_record};
 ghost use Rattle.program_meaning.specs.RequestRun.{depth_limit};
-ghost use Rattle.program_meaning.specs.Serial.{no_state};
 ghost use Rattle.program_meaning.specs.Sources.{source_of};
 ghost use Rattle.program_meaning.specs.Here.{held as the_held, GivesHere};
 ghost use Rattle.source_meaning.specs.HereAnswers.{EndsHere, EndedAs, ComesTo, MakesHere, MadeAs};
 
 use crate::Stop;
 use crate::local::Local;
+use crate::records::Records;
 use crate::run::Run;
 use crate::site::{DEPTH_LIMIT, Room, Site};
 use crate::transaction::begin;
 use crate::walk::{Flow, evaluate, execute_all, make_record};
 use program_meaning::Vars;
 use py_tree::{Checked, Expr, Stmts};
-use sf_list::{Sequence, TryClone};
 use sf_value::{Failure, Outcome, Record, Ref, Value, Values};
 use std::alloc::{AllocError, Global};
-use std::mem;
 
 /// How code that doesn't suspend ends.
 #[derive(Drop)]
@@ -45,8 +42,8 @@ pub enum Ended {
 /// A call runs a method of this entity, and a creation fails with `RecursionError`. `wrote` becomes
 /// true where a field is assigned, also where its value stays equal or the code fails later, and is
 /// kept elsewhere. A failure leaves the locals, the record and the steps of that moment; after a
-/// value is returned the locals are of no meaning. It is an error where memory runs out: the record,
-/// the locals and the steps are given up then, and what they hold is of no meaning.
+/// value is returned the locals are of no meaning. It is an error where memory runs out: what the record,
+/// the locals and the steps hold is of no meaning then.
 pub fn run_here(
     alloc: Global,
     program: &Checked,
@@ -62,11 +59,11 @@ pub fn run_here(
         (act_all (on_record (source_of program.now) (key_of me.now) (depth_limit - depth)) (stmts_of (plain_stmts code.now)) vars.old
         (the_held held.old wrote.old) steps.old)) }
 {
-    let state = take_out(alloc, held, me)?;
+    let own = Records::own(me, &held.fields);
     let site = Site {
         alloc,
         program,
-        state: &state,
+        state: &own,
         me,
         fields: program.fields(me.class),
         room: Room::Within(DEPTH_LIMIT.saturating_sub(depth)),
@@ -79,7 +76,7 @@ pub fn run_here(
     let ended = execute_all(&site, code.as_slice(), vars, &mut run);
     *steps = run.steps;
     let written = run.tx.into_written(me);
-    put_back(held, wrote, me, written, state);
+    put_back(held, wrote, written);
     ended_here(ended)
 }
 
@@ -106,11 +103,11 @@ pub fn eval_here(
         (eval (on_record (source_of program.now) (key_of me.now) (depth_limit - depth)) (plain_expr expr.now) vars.now
         (the_held held.old wrote.old) steps.old)) }
 {
-    let state = take_out(alloc, held, me)?;
+    let own = Records::own(me, &held.fields);
     let site = Site {
         alloc,
         program,
-        state: &state,
+        state: &own,
         me,
         fields: program.fields(me.class),
         room: Room::Within(DEPTH_LIMIT.saturating_sub(depth)),
@@ -123,7 +120,7 @@ pub fn eval_here(
     let given = evaluate(&site, expr, vars, &mut run);
     *steps = run.steps;
     let written = run.tx.into_written(me);
-    put_back(held, wrote, me, written, state);
+    put_back(held, wrote, written);
     outcome_here(given)
 }
 
@@ -150,10 +147,11 @@ pub fn make_here(
     ensures { IfOk result (λ made. MakesHere made steps.new (made_record (source_of program.now) (key_of at.now) args.now steps.old)) }
 {
     let empty = Local::new(alloc);
+    let none = Records::all(&empty);
     let site = Site {
         alloc,
         program,
-        state: &empty,
+        state: &none,
         me: at,
         fields: program.fields(at.class),
         room: Room::Closed,
@@ -170,30 +168,14 @@ pub fn make_here(
     made_here(made)
 }
 
-/// Moves a record into a state that holds its entity alone, and leaves an empty one.
-fn take_out(alloc: Global, held: &mut Record, me: &Ref) -> Result<Local, AllocError>
-    ensures { IfOk result (λ state. state ≡ finite.insert no_state (key_of me.now) held.old.fields) }
-{
-    let at = me.try_clone(alloc)?;
-    let fields = mem::replace(&mut held.fields, Sequence::new(alloc));
-    Local::of(alloc, at, fields)
-}
-
-/// Moves a record back, the one that was written, or else the one in the state.
-fn put_back(held: &mut Record, wrote: &mut bool, me: &Ref, written: Option<Values>, state: Local)
-    ensures fields { held.new.fields ≡ unwrap_or written (unwrap_or (finite.get state (key_of me.now)) held.old.fields) }
+/// Puts a record in place of the one that there was, where it was written.
+fn put_back(held: &mut Record, wrote: &mut bool, written: Option<Values>)
+    ensures fields { held.new.fields ≡ unwrap_or written held.old.fields }
     ensures flag { wrote.new ≡ (wrote.old || is_some written) }
 {
-    match written {
-        Some(fields) => {
-            held.fields = fields;
-            *wrote = true;
-        }
-        None => {
-            if let Some(fields) = state.into_record(me) {
-                held.fields = fields;
-            }
-        }
+    if let Some(fields) = written {
+        held.fields = fields;
+        *wrote = true;
     }
 }
 

@@ -9,6 +9,7 @@ mod in_place;
 mod local;
 mod operations;
 mod purity;
+mod records;
 mod run;
 mod site;
 mod tables;

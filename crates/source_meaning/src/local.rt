@@ -16,6 +16,7 @@ ghost use Rattle.source_meaning.specs.Walks.{seen, program_of};
 
 use crate::Stop;
 use crate::failures::{SIZE_LIMIT, empty_text};
+use crate::records::Records;
 use crate::run::Run;
 use crate::site::{DEPTH_LIMIT, Room, Site};
 use crate::transaction::begin;
@@ -83,22 +84,6 @@ impl Local {
         self.records.get(at)
     }
 
-    /// The state of one entity alone.
-    pub(crate) fn of(alloc: Global, at: Ref, fields: Values) -> Result<Local, AllocError>
-        ensures { IfOk result (λ local. local ≡ finite.insert no_state (key_of at) fields) }
-    {
-        let mut records = IndexMap::new(alloc);
-        records.insert(at, fields)?;
-        Ok(Local { records })
-    }
-
-    /// The record of an entity, where there is one. The rest of the state is dropped.
-    pub(crate) fn into_record(mut self, at: &Ref) -> Option<Values>
-        ensures { result ≡ finite.get self (key_of at.now) }
-    {
-        self.records.swap_remove(at)
-    }
-
     /// Runs one request on the state as it is, and commits nothing.
     pub fn attempt(
         &self,
@@ -151,10 +136,11 @@ impl Local {
             class: OUTSIDE,
             key: empty_text(alloc)?,
         };
+        let records = Records::all(self);
         let site = Site {
             alloc,
             program,
-            state: self,
+            state: &records,
             me: &outside,
             fields: program.fields(OUTSIDE),
             room: Room::Open(DEPTH_LIMIT),

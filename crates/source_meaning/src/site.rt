@@ -4,7 +4,7 @@ ghost use Rattle.std.specs.Prelude.{◌≡◌, map};
 ghost use Rattle.program_meaning.specs.ClassTables.{fields_of};
 ghost use Rattle.program_meaning.specs.Sources.{source_of};
 
-use crate::local::Local;
+use crate::records::Records;
 use py_tree::{Checked, Name};
 use sf_value::Ref;
 use std::alloc::Global;
@@ -23,12 +23,12 @@ pub(crate) enum Room {
     Open(u32),
 }
 
-/// A program, the state that the request began with, the entity whose code runs, the names of its fields, and what calls may do there.
+/// A program, the records that the code began with, the entity whose code runs, the names of its fields, and what calls may do there.
 #[derive(Drop)]
 pub(crate) struct Site<'a> {
     pub(crate) alloc: Global,
     pub(crate) program: &'a Checked,
-    pub(crate) state: &'a Local,
+    pub(crate) state: &'a Records<'a>,
     pub(crate) me: &'a Ref,
     pub(crate) fields: &'a [Name],
     pub(crate) room: Room,

@@ -10,7 +10,7 @@ ghost use Rattle.program_meaning.specs.World.{State, record_at, reading, writing
 ghost use Rattle.program_meaning.specs.RequestRun.{at_first};
 ghost use Rattle.source_meaning.specs.Transactions.{world_of};
 
-use crate::local::Local;
+use crate::records::Records;
 use crate::site::Site;
 use crate::vars::set_field;
 use indexmap::{IndexMap, IndexSet};
@@ -41,7 +41,7 @@ pub(crate) fn begin(alloc: Global) -> Transaction
 impl Transaction {
     /// The record of an entity, where there is one.
     #[tactic(auto, using(crate::proofs::TransactionLaws::record_laws))]
-    pub(crate) fn record<'a>(&'a self, state: &'a Local, at: &Ref) -> Option<&'a Values>
+    pub(crate) fn record<'a>(&'a self, state: &'a Records<'_>, at: &Ref) -> Option<&'a Values>
         ensures { option_copied result ≡ finite.get (world_of state.now self.now).state (key_of at.now) }
     {
         match self.changed.get(at) {
@@ -51,7 +51,7 @@ impl Transaction {
     }
 
     /// Whether there is such an entity.
-    pub(crate) fn contains(&self, state: &Local, at: &Ref) -> bool
+    pub(crate) fn contains(&self, state: &Records<'_>, at: &Ref) -> bool
         ensures { result ≡ is_some (finite.get (world_of state.now self.now).state (key_of at.now)) }
     {
         self.record(state, at).is_some()
@@ -77,7 +77,7 @@ impl Transaction {
     pub(crate) fn copied_fields(
         &self,
         alloc: Global,
-        state: &Local,
+        state: &Records<'_>,
         at: &Ref,
     ) -> Result<Values, AllocError>
         ensures { IfOk result (λ fields. fields ≡ record_at (world_of state.now self.now) (key_of at.now)) }

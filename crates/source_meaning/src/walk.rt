@@ -40,6 +40,7 @@ use crate::operations::{
     take_element, take_nil, take_number, take_text, take_truth, weigh,
 };
 use crate::purity::is_pure;
+use crate::records::Records;
 use crate::run::{NESTING_LIMIT, Run};
 use crate::site::{Room, Site};
 use crate::tables::{body, class_number, init, method_at, method_number, new_entity, params};
@@ -683,6 +684,7 @@ fn init_record(
     ensures kept { run.new.tx ≡ run.old.tx }
 {
     let empty = Local::new(site.alloc);
+    let none = Records::all(&empty);
     let mut apart = Run {
         tx: begin(site.alloc),
         steps: run.steps,
@@ -691,7 +693,7 @@ fn init_record(
     let inside = Site {
         alloc: site.alloc,
         program: site.program,
-        state: &empty,
+        state: &none,
         me: at,
         fields: site.program.fields(at.class),
         room: Room::Closed,

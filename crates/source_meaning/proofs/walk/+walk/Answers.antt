@@ -349,7 +349,7 @@ make_record-returns-clause-record t c = let P : Gives (List Value) Value → Typ
 
 pub init_record-returns-clause-record : goal.init_record-returns-clause-record
 init_record-returns-clause-record t c = let P : Gives (List Value) Value → Type 0 = GivesRecord c.declared_record-made.result c.declared_record-made.new.run.steps in
-    subst P (λ i. declare_all (program_of c.args.site.now) (key_of c.args.at.now) (c.body.ensures i) c.args.vars.now (no_record (world_of c.new-empty.result c.begin.result) (key_of c.args.at.now) (c.begin.ensures c.new-empty.result ∙ ap at_first c.new-empty.ensures) i) c.args.run.now.steps) c.declared_record-made.ensures
+    subst P (λ i. declare_all (program_of c.args.site.now) (key_of c.args.at.now) (c.body.ensures i) c.args.vars.now (no_record (world_of c.all-none.result c.begin.result) (key_of c.args.at.now) (c.begin.ensures c.all-none.result ∙ ap at_first (c.all-none.ensures ∙ c.new-empty.ensures)) i) c.args.run.now.steps) c.declared_record-made.ensures
 
 pub declared_record-returns-in_err-declare_all : goal.declared_record-returns-in_err-declare_all
 declared_record-returns-in_err-declare_all t c = let h = record_stops c.in_err-declare_all.field-0.0 (record_seen c.args.site.now c.declare_all.new.run) c.declare_all.new.run.steps _ _ refl c.in_err-declare_all.ensures in grind (arith, h)
