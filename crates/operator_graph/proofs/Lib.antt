@@ -7,4 +7,5 @@ mod WorkLaws
 mod FlightLaws
 mod PickedFlights
 mod TurnsTaken
+mod PlacesKept
 mod StartLaws

@@ -15,6 +15,11 @@ unfoldable pub going : List Flight → ℕ
 going [] = zero
 going (f ∷ fs) = if is_done f.next.kind then going fs else suc (going fs)
 
+-- the places of those that go on, where the first flight has this place
+unfoldable pub places_going : ℕ → List Flight → List ℕ
+places_going i [] = []
+places_going i (f ∷ fs) = if is_done f.next.kind then places_going (suc i) fs else i ∷ places_going (suc i) fs
+
 -- here, or at a later place
 abbrev pub here_or : ℕ → (ℕ → ℕ) → ℕ
 here_or zero later = zero

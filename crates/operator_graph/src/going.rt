@@ -1,38 +1,37 @@
-//! Which flights go on.
+//! Which flights go on: a batch keeps their places, so that a turn looks at no other flight.
 
-ghost use Rattle.std.specs.Prelude.{◌≡◌, ◌<◌, ◌^◌, length};
-ghost use Rattle.operator_graph.specs.Going.{going, place_going};
+ghost use Rattle.std.specs.Prelude.{◌≡◌, ◌<◌, ◌^◌, length, slice_get, Some, IfOk};
+ghost use Rattle.operator_graph.specs.Going.{places_going};
 
 use crate::flight::{Flight, is_over};
+use sf_list::Sequence;
+use std::alloc::{AllocError, Global};
 
-/// How many of these flights go on.
-pub(crate) fn count_going(flights: &[Flight]) -> u32
+/// The places of the flights that go on, in their order.
+pub(crate) type Places = Sequence<u32>;
+
+/// The places of those of these flights that go on.
+pub(crate) fn places_of(alloc: Global, flights: &[Flight]) -> Result<Places, AllocError>
     requires { length flights.now < 2 ^ 32 }
-    ensures { result ≡ going flights.now }
+    ensures { IfOk result (λ places. places ≡ places_going 0 flights.now) }
 {
-    let mut count = 0;
-    for flight in flights {
-        if !is_over(&flight.next) {
-            count += 1;
-        }
-    }
-    count
-}
-
-/// The place of one of those that go on, by its number among them.
-pub(crate) fn place_of(flights: &[Flight], number: u32) -> usize
-    requires { number < going flights.now }
-    ensures { result ≡ place_going number flights.now }
-{
-    let mut left = number;
+    let mut places = Sequence::new(alloc);
     for (place, flight) in flights.iter().enumerate() {
         if !is_over(&flight.next) {
-            if left == 0 {
-                return place;
-            }
-            left -= 1;
+            places.push(alloc, place as u32)?;
         }
     }
-    // there are more than that
-    unreachable!()
+    Ok(places)
+}
+
+/// The place of this number.
+pub(crate) fn place_at(places: &Places, number: u32) -> usize
+    requires { number < length places.now }
+    ensures { slice_get places.now number ≡ Some result }
+{
+    let Some(place) = places.get(number as usize) else {
+        // there are more than that
+        unreachable!()
+    };
+    *place as usize
 }

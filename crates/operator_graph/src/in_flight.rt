@@ -1,9 +1,11 @@
 //! A batch in flight: of its transactions one at a time is picked, and handles its next event.
 
-ghost use Rattle.std.specs.Prelude.{◌≡◌, ◌<◌, ◌^◌, length};
+ghost use Rattle.std.specs.Prelude.{◌≡◌, ◌<◌, ◌^◌, length, IfOk};
+ghost use Rattle.operator_graph.specs.Going.{places_going};
 
 use crate::first_flights::first_flights;
 use crate::flight::{Dataflow, Flights};
+use crate::going::{Places, places_of};
 use crate::landing::{blank_outcomes, take_outcomes};
 use crate::taking_turns::take_turn;
 use crate::watch::Watch;
@@ -18,6 +20,8 @@ use std::alloc::{AllocError, Global};
 #[derive(Drop)]
 pub struct InFlight {
     pub(crate) flights: Flights,
+    /// The places of those that aren't over.
+    pub(crate) places: Places,
     /// One for each transaction, so that its outcome finds room where there is no memory.
     pub(crate) outcomes: Outcomes,
     ghost as_many: { length outcomes ≡ length flights },
@@ -56,7 +60,7 @@ impl InFlight {
     {
         let outcomes = blank_outcomes(alloc, requests.len())?;
         match first_flights(alloc, compiled.program(), requests.as_slice()) {
-            Ok(flights) => Ok(InFlight { flights, outcomes }),
+            Ok(flights) => begun(alloc, flights, outcomes),
             Err(error) => {
                 drop(outcomes);
                 Err(error)
@@ -98,7 +102,14 @@ impl InFlight {
             state,
             parts,
         };
-        take_turn(&on, &mut self.flights, works, chooser, watch)
+        take_turn(
+            &on,
+            &mut self.flights,
+            &mut self.places,
+            works,
+            chooser,
+            watch,
+        )
     }
 
     /// What the requests have come to, in their order. It takes no memory.
@@ -106,7 +117,32 @@ impl InFlight {
         requires { count_in_flight self ≡ 0 }
         ensures { result ≡ outcomes_in self }
     {
-        let InFlight { flights, outcomes } = self;
+        let InFlight {
+            flights,
+            places,
+            outcomes,
+        } = self;
+        drop(places);
         take_outcomes(flights, outcomes)
+    }
+}
+
+/// The batch of these flights.
+fn begun(alloc: Global, flights: Flights, outcomes: Outcomes) -> Result<InFlight, AllocError>
+    requires as_many { length outcomes ≡ length flights }
+    requires few { length flights < 2 ^ 32 }
+    ensures { IfOk result (λ f. (f.flights ≡ flights) × (f.places ≡ places_going 0 flights)) }
+{
+    match places_of(alloc, flights.as_slice()) {
+        Ok(places) => Ok(InFlight {
+            flights,
+            places,
+            outcomes,
+        }),
+        Err(error) => {
+            drop(flights);
+            drop(outcomes);
+            Err(error)
+        }
     }
 }
