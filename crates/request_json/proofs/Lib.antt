@@ -10,5 +10,4 @@ pub mod BoundedParts
 pub mod ArgumentSpellings
 pub mod RequestSpellings
 pub mod FittingSpellings
-mod MemberLaws
 mod LineExamples

@@ -86,8 +86,7 @@ pub fn run_here(
 /// A call runs a method of this entity, and a creation fails with `RecursionError`. `wrote` becomes
 /// true where a field is assigned, also where its value stays equal or the expression fails later,
 /// and is kept elsewhere. A failure leaves the record and the steps of that moment. It is an error
-/// where memory runs out: the record and the steps are given up then, and what they hold is of no
-/// meaning.
+/// where memory runs out: what the record and the steps hold then is of no meaning.
 pub fn eval_here(
     alloc: Global,
     program: &Checked,
