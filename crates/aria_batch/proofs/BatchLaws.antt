@@ -14,18 +14,12 @@ use Rattle.commit_order.specs.CommittedSerial.{AreWorksOf}
 use Rattle.block_step.specs.declared.compiled.Compiled.{Compiled}
 use Rattle.block_step.specs.CompiledViews.{compiled_program, compiled_names, compiled_tables, compiled_blocks, IsWhole}
 use Rattle.interleaving.specs.Turns.{Parts, running, told, after, along}
-use Rattle.batch_events.specs.Vocabulary.{Transaction, firsts}
-use Rattle.operator_graph.specs.Telling.{Told, AlsoTold}
+use Rattle.batch_events.specs.Vocabulary.{Transaction, firsts, Told, AlsoTold, Flight, all_come_to, EachTransaction, turns_of, Outside, PicksOne, Turns, acts_of}
 use Rattle.batch_events.specs.BatchRuns.{AreRuns, ComesToRuns}
 use Rattle.batch_events.proofs.OwnRuns.{batches_come_to_their_runs}
 use Rattle.batch_events.proofs.BatchWorks.{works_are}
-use Rattle.operator_graph.specs.declared.flight.Flight.{Flight}
-use Rattle.operator_graph.specs.Going.{all_come_to}
-use Rattle.operator_graph.specs.Flights.{EachTransaction, turns_of}
-use Rattle.operator_graph.specs.Turns.{Outside, PicksOne, Turns}
 use Rattle.aria_batch.specs.declared.events.Ended.{Ended}
 use Rattle.aria_batch.specs.Counts.{counted_in_run}
-use Rattle.operator_graph.specs.FirstFlights.{acts_of}
 use Rattle.aria_batch.specs.BatchRun.{source_of, own_outcomes, Batch, batch_of, AlsoPicked, IsToldAlong}
 use Rattle.aria_batch.proofs.PickLaws.{none_picked, one_picked, none_told, more_told, nothing_picked, after_one_more, along_one_more, one_more_note}
 use Rattle.aria_batch.proofs.FlightLaws.{each_buffers, outcomes_are}

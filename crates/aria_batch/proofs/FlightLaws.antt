@@ -14,14 +14,8 @@ use Rattle.block_code.specs.declared.event.EventKind.TheVariants as kind
 use Rattle.block_code.specs.PlainBlocks.{PlainBlock}
 use Rattle.request_events.specs.RequestEvents.{ended_as}
 use Rattle.interleaving.specs.Turns.{Parts, running}
-use Rattle.batch_events.specs.Vocabulary.{Transaction, is_done}
-use Rattle.operator_graph.specs.Telling.{Told}
-use Rattle.operator_graph.specs.BatchEvents.{transactions}
-use Rattle.operator_graph.specs.BufferedWorks.{EachBuffers}
+use Rattle.batch_events.specs.Vocabulary.{Transaction, is_done, Told, transactions, EachBuffers, Flight, come_to, all_come_to, EachTransaction}
 use Rattle.batch_events.specs.BatchRuns.{come_to as ended_so, AreRuns}
-use Rattle.operator_graph.specs.declared.flight.Flight.{Flight}
-use Rattle.operator_graph.specs.Going.{come_to, all_come_to}
-use Rattle.operator_graph.specs.Flights.{EachTransaction}
 use Rattle.aria_batch.specs.BatchRun.{own_outcomes}
 
 -- Where they are over

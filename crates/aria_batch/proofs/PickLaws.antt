@@ -5,7 +5,7 @@ use Rattle.std.proofs.Math.Nat.{mod-lt}
 use Rattle.std.proofs.lemmas.List.{append-nil}
 use Rattle.sf_outside.specs.Choices.{Choices, Picks}
 use Rattle.interleaving.specs.Turns.{Parts, running, here_or, noted, turned, told, after, along}
-use Rattle.operator_graph.specs.Telling.{Told, AlsoTold}
+use Rattle.batch_events.specs.Vocabulary.{Told, AlsoTold}
 use Rattle.aria_batch.specs.BatchRun.{AlsoPicked}
 
 -- What is told besides

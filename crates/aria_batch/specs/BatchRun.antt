@@ -13,10 +13,7 @@ use Rattle.block_code.specs.PlainBlocks.{PlainBlock}
 use Rattle.quiet_methods.specs.MarksKeepWithin.{source}
 use Rattle.block_step.specs.CompiledViews.{compiled_program, compiled_names, compiled_tables, compiled_blocks}
 use Rattle.block_step.specs.declared.compiled.Compiled.{Compiled}
-use Rattle.operator_graph.specs.FirstFlights.{acts_of}
-use Rattle.operator_graph.specs.Telling.{Told, AlsoTold}
-use Rattle.operator_graph.specs.BatchEvents.{batch_told, batch_running}
-use Rattle.operator_graph.specs.Turns.{Outside}
+use Rattle.batch_events.specs.Vocabulary.{acts_of, Told, AlsoTold, batch_told, batch_running, Outside}
 
 abbrev pub source_of : Compiled → Source
 source_of compiled = source (compiled_names compiled) (compiled_program compiled)

@@ -1,3 +1,2 @@
 -- The definitions of lower crates that the crates above this one name from here.
-pub use Rattle.operator_graph.specs.FirstFlights.{acts_of}
-pub use Rattle.operator_graph.specs.Turns.{Outside}
+pub use Rattle.batch_events.specs.Vocabulary.{acts_of, Outside}

@@ -6,15 +6,14 @@ ghost use Rattle.program_meaning.specs.Fits.{StateFits, ActFits};
 ghost use Rattle.reservations.specs.Accesses.{accesses_of};
 ghost use Rattle.commit_order.specs.CommittedSerial.{AreWorksOf, IsSerial};
 ghost use Rattle.block_step.specs.CompiledViews.{compiled_tables, IsWhole};
-ghost use Rattle.operator_graph.specs.FirstFlights.{acts_of};
-ghost use Rattle.operator_graph.specs.Turns.{Outside};
+ghost use Rattle.batch_events.specs.Vocabulary.{acts_of, Outside};
 ghost use Rattle.aria_batch.specs.BatchRun.{source_of, own_outcomes, batch_of, IsToldAlong};
 ghost use Rattle.aria_batch.specs.Counts.{counted_in_batch};
 
 use crate::events::run_events;
 use block_step::Compiled;
 use keyed_state::{Keyed, Works};
-use operator_graph::Watch;
+use batch_events::Watch;
 use reservations::CommitRule;
 use sf_outside::Chooser;
 use sf_value::{Outcomes, Places, Requests};

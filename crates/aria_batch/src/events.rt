@@ -5,15 +5,13 @@ ghost use Rattle.std.specs.List.{AllByRecursion};
 ghost use Rattle.program_meaning.specs.Fits.{StateFits, ActFits};
 ghost use Rattle.commit_order.specs.CommittedSerial.{AreWorksOf};
 ghost use Rattle.block_step.specs.CompiledViews.{compiled_tables, IsWhole};
-ghost use Rattle.operator_graph.specs.FirstFlights.{acts_of};
-ghost use Rattle.operator_graph.specs.Flights.{no_works};
-ghost use Rattle.operator_graph.specs.Turns.{Outside};
+ghost use Rattle.batch_events.specs.Vocabulary.{acts_of, no_works, Outside};
 ghost use Rattle.aria_batch.specs.BatchRun.{source_of, own_outcomes, batch_of, IsToldAlong};
 ghost use Rattle.aria_batch.specs.Counts.{counted_in_run};
 
 use block_step::Compiled;
 use keyed_state::{Keyed, Work, Works};
-use operator_graph::{InFlight, Watch};
+use batch_events::{InFlight, Watch};
 use sf_list::Sequence;
 use sf_outside::Chooser;
 use sf_value::{Outcomes, Requests};

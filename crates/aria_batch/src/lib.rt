@@ -7,4 +7,4 @@ mod batch;
 mod events;
 
 pub use batch::{BatchResult, run_batch};
-pub use operator_graph::{NoWatch, Watch};
+pub use batch_events::{NoWatch, Watch};

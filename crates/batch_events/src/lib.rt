@@ -4,3 +4,4 @@
 mod laws;
 
 pub use laws::{batches_come_to_their_runs, committed_along_picks};
+pub use operator_graph::{InFlight, NoWatch, Watch};

@@ -3,3 +3,4 @@ pub mod ReportLaws
 pub mod SessionLaws
 pub mod KeptLaws
 pub mod OutputExamples
+pub mod Vocabulary

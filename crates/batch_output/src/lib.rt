@@ -5,4 +5,5 @@
 
 mod laws;
 
+pub use engine::{Engine, PlanFault, Planned};
 pub use laws::{batches_are_serial, batches_end, requests_kept};

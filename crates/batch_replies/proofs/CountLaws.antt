@@ -5,13 +5,8 @@ use Rattle.std.proofs.lemmas.List.{length-append}
 use Rattle.std.proofs.lemmas.List.FromFn.{length-range_with_len}
 use Rattle.std.proofs.lemmas.List.Sorted.{length_permutation}
 use Rattle.sf_value.specs.declared.Request.{Request}
-use Rattle.engine.specs.declared.engine.Engine.{Engine}
-use Rattle.engine.specs.declared.planned.Planned.{Planned}
-use Rattle.engine.specs.Cores.{Core}
-use Rattle.engine.specs.EngineViews.{core_of, source_of}
-use Rattle.engine.specs.Batches.{requests_at, other_places, IsSplit, after_batch}
-use Rattle.engine.specs.Plans.{IsPlanOf}
-use Rattle.engine.proofs.PlanLaws.{places_count}
+use Rattle.batch_output.specs.Vocabulary.{Engine, Planned, Core, core_of, source_of, requests_at, other_places, IsSplit, after_batch, IsPlanOf}
+use Rattle.batch_output.proofs.Vocabulary.{places_count}
 use Rattle.batch_replies.proofs.ReplyLaws.{length-replies_from}
 
 -- each request that waits is committed or waits on

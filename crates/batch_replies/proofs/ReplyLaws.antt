@@ -10,7 +10,7 @@ use Rattle.sf_value.specs.declared.Request.{Request}
 use Rattle.program_meaning.specs.ClassTables.{Source}
 use Rattle.program_meaning.specs.World.{State}
 use Rattle.program_meaning.specs.Serial.{outcomes_of}
-use Rattle.engine.specs.Batches.{entry_on, replies_from}
+use Rattle.batch_output.specs.Vocabulary.{entry_on, replies_from}
 use Rattle.batch_output.specs.BatchOutput.{entry_lines}
 use Rattle.batch_replies.specs.LinesInOrder.{line_for, line_of, reply_lines}
 use Rattle.batch_replies.specs.BatchAnswers.{failure_count}

@@ -10,7 +10,7 @@ use Rattle.sf_outside.specs.declared.gains.WriteStop.{WriteStop}
 use Rattle.sf_outside.specs.declared.gains.WriteStop.TheVariants.{WriteFault}
 use Rattle.sf_outside.specs.Gains.{joined, Wrote}
 use Rattle.sf_outside.proofs.GainLaws.{Wrote-line, Wrote-part, Wrote-after, Wrote-more}
-use Rattle.engine.proofs.CopyLaws.{copied_more}
+use Rattle.batch_output.proofs.Vocabulary.{copied_more}
 
 module _ (start between end : Option (List ℕ)) (lines : List (List ℕ)) (i : ℕ) (line : List ℕ) (within : i < length lines) (is : line ≡ get_or lines i line) (so_far : Appends start between (joined (take i lines))) where
   -- the next line is written whole

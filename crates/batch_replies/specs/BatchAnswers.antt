@@ -13,12 +13,7 @@ use Rattle.program_meaning.specs.Serial.{outcomes_of}
 use Rattle.serial_order.specs.ConflictFree.{Access}
 use Rattle.reservations.specs.CommitRules.{Chosen}
 use Rattle.operator_graph.specs.Turns.{Outside}
-use Rattle.batch_output.specs.Vocabulary.{Batch, IsToldAlong}
-use Rattle.engine.specs.declared.engine.Engine.{Engine}
-use Rattle.engine.specs.Cores.{Core}
-use Rattle.engine.specs.EngineViews.{core_of, source_of, limit_of}
-use Rattle.engine.specs.Batches.{batch_entries, after_batch}
-use Rattle.engine.specs.RanBatches.{accesses_on}
+use Rattle.batch_output.specs.Vocabulary.{Batch, IsToldAlong, Engine, Core, core_of, source_of, limit_of, batch_entries, after_batch, accesses_on}
 use Rattle.batch_output.specs.BatchOutput.{Limits, committed, has_no_place, batch_lines}
 use Rattle.batch_replies.specs.declared.counting.BatchCounts.{BatchCounts}
 use Rattle.batch_replies.specs.declared.answering.BatchStop.{BatchStop}

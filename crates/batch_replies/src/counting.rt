@@ -2,11 +2,10 @@
 
 ghost use Rattle.std.specs.Prelude.{◌≡◌, ◌<◌, ◌≤◌, ◌^◌, [], ◌∷◌, length, map as over};
 ghost use Rattle.sf_value.specs.declared.Reply.{Reply};
-ghost use Rattle.engine.specs.EngineViews.{core_of};
-ghost use Rattle.engine.specs.Plans.{IsPlanOf};
+ghost use Rattle.batch_output.specs.Vocabulary.{core_of, IsPlanOf};
 ghost use Rattle.batch_replies.specs.BatchAnswers.{failure_count};
 
-use engine::{Engine, Planned};
+use batch_output::{Engine, Planned};
 use sf_value::{Outcome, Reply};
 
 /// What a batch came to, for its trace line and the tally.

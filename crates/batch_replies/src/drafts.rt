@@ -2,13 +2,12 @@
 
 ghost use Rattle.std.specs.Prelude.{◌≡◌, IfOk};
 ghost use Rattle.byte_sizes.specs.Spelt.{IsSpeltBatch};
-ghost use Rattle.engine.specs.Batches.{requests_at};
-ghost use Rattle.engine.specs.EngineViews.{core_of};
+ghost use Rattle.batch_output.specs.Vocabulary.{requests_at, core_of};
 ghost use Rattle.session_store.specs.Stores.{IsRecordFor};
 ghost use Rattle.batch_replies.specs.LinesInOrder.{reply_lines};
 
 use crate::lines::{Lines, reply_lines};
-use engine::{Engine, Planned};
+use batch_output::{Engine, Planned};
 use session_store::{Store, record_bytes};
 use sf_value::Bytes;
 use std::alloc::{AllocError, Global};

@@ -3,10 +3,10 @@
 ghost use Rattle.std.specs.Prelude.{◌≡◌, [], ◌++◌, IfOk, OnOk};
 ghost use Rattle.std.specs.List.{cons_option};
 ghost use Rattle.std.specs.Option.{option_copied};
-ghost use Rattle.engine.specs.Batches.{requests_at};
+ghost use Rattle.batch_output.specs.Vocabulary.{requests_at};
 ghost use Rattle.batch_replies.specs.LinesInOrder.{line_of, reply_lines};
 
-use engine::Planned;
+use batch_output::Planned;
 use request_json::write_entry;
 use sf_list::Sequence;
 use sf_value::{Bytes, Reply, Request, Requests};

@@ -6,22 +6,15 @@ use Rattle.sf_outside.specs.Bytes.{AppendsPrefix}
 use Rattle.block_step.specs.declared.compiled.Compiled.{Compiled}
 use Rattle.operator_graph.specs.Turns.{Outside}
 use Rattle.engine.specs.Cores.{Core}
-use Rattle.batch_replies.specs.declared.counting.BatchCounts.{BatchCounts}
-use Rattle.line_answers.specs.declared.answering.LineStop.{LineStop}
-use Rattle.line_answers.specs.declared.answering.LineStop.TheVariants as stop
-use Rattle.line_answers.specs.Services.{Service}
-use Rattle.session_steps.specs.declared.tally.Tally.{Tally}
-use Rattle.session_steps.specs.Steps.{Step, all_steps}
-use Rattle.session_steps.specs.Traces.{no_batch, trace_text}
-use Rattle.session_steps.specs.Doings.{RunBatches, BeginBatches, Comes}
+use Rattle.batch_session.specs.Vocabulary.{Tally, Step, all_steps, no_batch, trace_text, RunBatches, BeginBatches, Comes, ToldAs, TracedAs, LineStop, Service, BatchCounts}
+use Rattle.batch_session.specs.LineStopVariants as stop
 use Rattle.batch_session.specs.declared.serving.SessionFault.{SessionFault}
 use Rattle.batch_session.specs.declared.serving.SessionFault.TheVariants.{ReadFault, WriteFault, DiskFault, InputTooLong, HistoryFull, NoMemory}
 use Rattle.batch_session.specs.Served.{View, first_point, point_at, ServedEnd, StopsServing, Served}
 use Rattle.batch_run.specs.RunViews.{Shown, run_service}
 use Rattle.batch_run.specs.RunEvents.{Starts, CommitsFirst, TellsBatches, TracesBatches, TellsRun, batches_of}
 use Rattle.batch_run.specs.declared.running.RunSettings.{RunSettings}
-use Rattle.session_steps.specs.StepLaws.{ToldAs, TracedAs}
-use Rattle.session_steps.proofs.BeginLaws.{comes_begin}
+use Rattle.batch_session.proofs.Vocabulary.{comes_begin}
 use Rattle.batch_run.proofs.SessionTakes.{Took, TookSome, took_whole, took_all, took_over, took_stopped, serves_took}
 use Rattle.batch_run.proofs.LastCores.{ends, commits}
 use Rattle.batch_run.proofs.TextLaws.{whole_is_prefix, at_begin}

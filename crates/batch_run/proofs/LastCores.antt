@@ -11,15 +11,9 @@ use Rattle.engine.specs.declared.arrival.Arrival.TheVariants as arrival
 use Rattle.engine.specs.Cores.{Core}
 use Rattle.engine.specs.Arrivals as engine
 use Rattle.batch_output.specs.BatchOutput.{Standing, taken}
-use Rattle.batch_replies.specs.BatchAnswers.{HasPlace, core_behind}
-use Rattle.line_answers.specs.declared.answering.LineStop.{LineStop}
-use Rattle.line_answers.specs.declared.answering.LineStop.TheVariants as stop
-use Rattle.line_answers.specs.Services.{Service, program_of}
-use Rattle.line_answers.specs.LineAnswers.{Move, IsUntaken, IsUnplanned, IsUnanswered, IsUnreplied, whole_text}
-use Rattle.session_steps.specs.Steps.{Step, Answer, RunWaiting, move_of, behind, standing_after}
-use Rattle.session_steps.specs.Doings.{Point, going, moment, Does, StopsAt, StopsWithin, StopsBetween, Comes}
-use Rattle.session_steps.proofs.PieceLaws.{prefix_whole, prefix_none}
-use Rattle.session_steps.proofs.StepFacts.{behind_placed, behind_full, standing_over, standing-append, standing-one}
+use Rattle.batch_session.specs.Vocabulary.{Step, Answer, RunWaiting, move_of, behind, standing_after, Point, going, moment, Does, StopsAt, StopsWithin, StopsBetween, Comes, LineStop, Service, program_of, Move, IsUntaken, IsUnplanned, IsUnanswered, IsUnreplied, whole_text, HasPlace, core_behind}
+use Rattle.batch_session.specs.LineStopVariants as stop
+use Rattle.batch_session.proofs.Vocabulary.{prefix_whole, prefix_none, behind_placed, behind_full, standing_over, standing-append, standing-one}
 
 nothing_written : (a b : Option (List ℕ)) (xs : List ℕ) → b ≡ a → AppendsPrefix a b xs
 nothing_written a b xs same = subst (λ c. AppendsPrefix a c xs) (sym same) (prefix_none a xs)

@@ -6,3 +6,4 @@ pub mod EventLaws
 pub mod FullLaws
 pub mod RunLaws
 pub mod GraphLaws
+pub mod Vocabulary

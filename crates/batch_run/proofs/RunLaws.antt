@@ -12,8 +12,7 @@ use Rattle.aria_batch.specs.BatchRun as batch
 use Rattle.engine.specs.declared.engine.Engine.{Engine}
 use Rattle.engine.specs.Cores.{Core, IsSoundCore}
 use Rattle.engine.specs.EngineViews.{core_of, limit_of, RunsProgram}
-use Rattle.line_answers.specs.Services.{service_of, limits_of}
-use Rattle.session_steps.specs.declared.tally.Tally.{Tally}
+use Rattle.batch_session.specs.Vocabulary.{Tally, service_of, limits_of}
 use Rattle.batch_session.specs.declared.serving.SessionFault.{SessionFault}
 use Rattle.batch_session.specs.declared.serving.SessionFault.TheVariants.{NoMemory}
 use Rattle.batch_session.specs.Served.{View, first_point, point_at, Served}

@@ -22,15 +22,8 @@ use Rattle.batch_output.specs.SerialBatches.{IsLawfulRule, PrintsSerially}
 use Rattle.batch_output.proofs.LawfulBatches.{stays_sound}
 use Rattle.batch_output.proofs.ReportLaws.{Goes, Goes-none, Goes-then, Goes-batch}
 use Rattle.batch_output.proofs.SessionLaws.{Holds, Steps, answered, stepped, settled_holds}
-use Rattle.batch_session.specs.Vocabulary.{next_core}
-use Rattle.line_answers.specs.declared.answering.LineStop.{LineStop}
-use Rattle.line_answers.specs.LineViews.{ActionFits}
-use Rattle.line_answers.specs.Services.{Service}
-use Rattle.line_answers.proofs.LineLaws.{line_fits}
-use Rattle.session_steps.specs.Steps.{Step, Answer, RunWaiting, move_of, behind, printed_at, standing_after, printed}
-use Rattle.session_steps.specs.Doings.{Point, going, Does, Comes}
-use Rattle.session_steps.proofs.PieceLaws.{prefix_whole, prefix_after}
-use Rattle.session_steps.proofs.StepFacts.{behind_placed, printed_placed}
+use Rattle.batch_session.specs.Vocabulary.{next_core, Step, Answer, RunWaiting, move_of, behind, printed_at, standing_after, printed, Point, going, Does, Comes, LineStop, ActionFits, Service}
+use Rattle.batch_session.proofs.Vocabulary.{prefix_whole, prefix_after, behind_placed, printed_placed, line_fits}
 use Rattle.batch_run.specs.RunViews.{Shown, run_limits, run_service}
 use Rattle.batch_run.specs.RunTexts.{PrintsOneRun, RepliesAllButOne}
 use Rattle.batch_run.specs.declared.running.RunSettings.{RunSettings}

@@ -4,12 +4,8 @@ use Rattle.std.proofs.lemmas.List.{take_all, take_at, length-append}
 use Rattle.std.proofs.KnownBytes.{Consumes-trans}
 use Rattle.std.specs.declared.result.Result.{Result}
 use Rattle.std.specs.Io.KnownBytes.{Consumes, IsAtEnd}
-use Rattle.line_answers.specs.declared.answering.LineStop.{LineStop}
-use Rattle.line_answers.specs.declared.answering.LineStop.TheVariants as stop
-use Rattle.line_answers.specs.Services.{Service}
-use Rattle.session_steps.specs.declared.tally.Tally.{Tally}
-use Rattle.session_steps.specs.Steps.{Step, whole_steps, all_steps}
-use Rattle.session_steps.specs.Doings.{Comes}
+use Rattle.batch_session.specs.Vocabulary.{Tally, Step, whole_steps, all_steps, Comes, LineStop, Service}
+use Rattle.batch_session.specs.LineStopVariants as stop
 use Rattle.batch_session.specs.declared.serving.SessionFault.{SessionFault}
 use Rattle.batch_session.specs.declared.serving.SessionFault.TheVariants.{ReadFault, WriteFault, DiskFault, InputTooLong, HistoryFull, NoMemory}
 use Rattle.batch_session.specs.Served.{View, first_point, point_at, ServedWhole, ServedAll, ServedOver, StopsServing, Serves, Served}

@@ -14,19 +14,15 @@ use Rattle.aria_batch.specs.BatchRun.{source_of}
 use Rattle.engine.specs.Cores.{Core}
 use Rattle.batch_output.specs.BatchOutput.{begun, Standing, all_replies}
 use Rattle.reservations.specs.BatchRule.{batch_rule}
-use Rattle.line_answers.specs.declared.answering.LineStop.{LineStop}
-use Rattle.line_answers.specs.declared.answering.LineStop.TheVariants as stop
-use Rattle.session_steps.specs.declared.tally.Tally.{Tally}
-use Rattle.session_steps.specs.Steps.{Step, whole_steps, all_steps, standing_after, printed}
-use Rattle.session_steps.specs.StepLaws.{WroteAs, HasBegun}
+use Rattle.batch_session.specs.Vocabulary.{Tally, Step, whole_steps, all_steps, standing_after, printed, WroteAs, HasBegun, LineStop}
+use Rattle.batch_session.specs.LineStopVariants as stop
 use Rattle.batch_session.specs.declared.serving.SessionFault.{SessionFault}
 use Rattle.batch_session.specs.declared.serving.SessionFault.TheVariants.{ReadFault, WriteFault, DiskFault, InputTooLong, HistoryFull, NoMemory}
 use Rattle.batch_session.specs.Served.{View, first_point, point_at, ServedWhole, ServedAll, ServedOver, ServedEnd, StopsServing, Served}
 use Rattle.batch_run.specs.RunViews.{run_limits, run_service}
 use Rattle.batch_run.specs.RunTexts.{stands_behind, stands_at_end, whole_replies, whole_text, all_text, AnswersAll, AnswersWhole, AnswersFirst, FillsAtLine, FillsAtEnd, AnswersSome, AnswersInPart, Prints}
 use Rattle.batch_run.specs.declared.running.RunSettings.{RunSettings}
-use Rattle.session_steps.proofs.PrintLaws.{steps_print}
-use Rattle.session_steps.proofs.BeginLaws.{comes_begin}
+use Rattle.batch_session.proofs.Vocabulary.{steps_print, comes_begin}
 use Rattle.batch_run.proofs.SessionTakes.{Took, served_took}
 use Rattle.batch_run.proofs.LastCores.{full_core}
 

@@ -2,3 +2,5 @@ pub mod RunViews
 pub mod RunTexts
 pub mod RunEvents
 pub mod Runs
+pub mod Vocabulary
+pub mod SessionFaultVariants

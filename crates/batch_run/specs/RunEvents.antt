@@ -11,11 +11,7 @@ use Rattle.operator_graph.specs.Telling.{GraphTold, AlsoTold}
 use Rattle.operator_graph.specs.Turns.{Outside}
 use Rattle.engine.specs.Cores.{Core}
 use Rattle.batch_output.specs.BatchOutput.{Standing, begun}
-use Rattle.batch_replies.specs.declared.counting.BatchCounts.{BatchCounts}
-use Rattle.session_steps.specs.declared.tally.Tally.{Tally}
-use Rattle.session_steps.specs.Steps.{Step, whole_steps, all_steps, standing_after, ran_on}
-use Rattle.session_steps.specs.Traces.{no_batch, tally_after, trace_text}
-use Rattle.session_steps.specs.Doings.{RunBatches, BeginBatches}
+use Rattle.batch_session.specs.Vocabulary.{Tally, Step, whole_steps, all_steps, standing_after, ran_on, no_batch, tally_after, trace_text, RunBatches, BeginBatches, BatchCounts}
 use Rattle.batch_session.specs.declared.serving.SessionFault.{SessionFault}
 use Rattle.batch_session.specs.declared.serving.SessionFault.TheVariants.{ReadFault, WriteFault, DiskFault, InputTooLong, HistoryFull, NoMemory}
 use Rattle.batch_run.specs.RunViews.{Shown, run_service}

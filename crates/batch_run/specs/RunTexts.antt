@@ -12,8 +12,7 @@ use Rattle.engine.specs.Cores.{Core}
 use Rattle.batch_output.specs.BatchOutput.{Standing, begun, after, replies, all_replies, output_text}
 use Rattle.batch_output.specs.BatchesEnd.{last_standing}
 use Rattle.batch_output.specs.SerialBatches.{PrintsSerially}
-use Rattle.batch_session.specs.Vocabulary.{next_core}
-use Rattle.session_steps.specs.declared.tally.Tally.{Tally}
+use Rattle.batch_session.specs.Vocabulary.{next_core, Tally}
 use Rattle.batch_session.specs.declared.serving.SessionFault.{SessionFault}
 use Rattle.batch_session.specs.declared.serving.SessionFault.TheVariants.{ReadFault, WriteFault, DiskFault, InputTooLong, HistoryFull, NoMemory}
 use Rattle.batch_run.specs.RunViews.{run_limits}

@@ -7,7 +7,7 @@ use Rattle.block_step.specs.declared.compiled.Compiled.{Compiled}
 use Rattle.operator_graph.specs.Telling.{Told}
 use Rattle.operator_graph.specs.Turns.{Outside}
 use Rattle.batch_output.specs.BatchOutput.{Limits}
-use Rattle.line_answers.specs.Services.{Service, limits_of}
+use Rattle.batch_session.specs.Vocabulary.{Service, limits_of}
 use Rattle.batch_session.specs.declared.settings.Settings.{Settings}
 use Rattle.batch_run.specs.declared.running.RunSettings.{RunSettings}
 

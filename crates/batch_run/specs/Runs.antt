@@ -4,7 +4,7 @@ use Rattle.std.specs.declared.result.Result.{Result}
 use Rattle.block_step.specs.declared.compiled.Compiled.{Compiled}
 use Rattle.aria_batch.specs.BatchRun.{source_of}
 use Rattle.engine.specs.Cores.{Core, IsSoundCore}
-use Rattle.session_steps.specs.declared.tally.Tally.{Tally}
+use Rattle.batch_session.specs.Vocabulary.{Tally}
 use Rattle.batch_session.specs.declared.serving.SessionFault.{SessionFault}
 use Rattle.batch_session.specs.declared.serving.SessionFault.TheVariants.{NoMemory}
 use Rattle.batch_run.specs.RunViews.{Shown}

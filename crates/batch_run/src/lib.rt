@@ -4,6 +4,5 @@
 
 mod running;
 
-pub use batch_session::SessionFault;
+pub use batch_session::{SessionFault, Tally, write_pieces};
 pub use running::{RunSettings, run_opened, run_program};
-pub use session_steps::Tally;

@@ -16,7 +16,7 @@ use block_step::Compiled;
 use engine::Engine;
 use operator_graph::Watch;
 use reservations::Rule1;
-use session_steps::Tally;
+use batch_session::Tally;
 use sf_outside::{Chooser, Disk, Sink, Source};
 use std::alloc::Global;
 

@@ -9,9 +9,8 @@ use Rattle.request_json.specs.RequestLines.{longest}
 use Rattle.request_json.specs.Actions.{Line, whole_from, rest_from, last_line}
 use Rattle.input_lines.specs.Cuts.{IsStart, EndsLine, EndsNoLine}
 use Rattle.input_lines.proofs.CutLaws.{whole-nil, rest-nil, whole-append, rest-append}
-use Rattle.line_answers.specs.declared.answering.LineStop.{LineStop}
-use Rattle.line_answers.specs.declared.answering.LineStop.TheVariants.{NoMemory}
-use Rattle.line_answers.specs.Services.{Service}
+use Rattle.session_steps.specs.Vocabulary.{LineStop, Service}
+use Rattle.session_steps.specs.LineStopVariants.{NoMemory}
 use Rattle.session_steps.specs.Steps.{answers}
 use Rattle.session_steps.specs.Doings.{Point, Comes}
 use Rattle.session_steps.proofs.Composing.{Does-none, Comes-then, Comes-cut, Comes-passed, Comes-between}

@@ -5,11 +5,8 @@ use Rattle.std.specs.Io.KnownBytes.{Keeps}
 use Rattle.std.proofs.KnownBytes.{Appends-kept}
 use Rattle.sf_outside.specs.Bytes.{AppendsPrefix}
 use Rattle.sf_outside.specs.Gains.{joined}
-use Rattle.batch_replies.specs.declared.counting.BatchCounts.{BatchCounts}
-use Rattle.line_answers.specs.declared.answering.LineStop.{LineStop}
-use Rattle.line_answers.specs.declared.answering.LineStop.TheVariants.{HistoryFull, NoMemory, DiskFault, WriteFault}
-use Rattle.line_answers.specs.Services.{Service}
-use Rattle.line_answers.specs.LineAnswers.{Moment, Move, whole_text, IsUntaken, IsCommitted, FindsFull, IsUnplanned, IsUnlogged, IsUnanswered, IsUnreplied}
+use Rattle.session_steps.specs.Vocabulary.{BatchCounts, LineStop, Service, Moment, Move, whole_text, IsUntaken, IsCommitted, FindsFull, IsUnplanned, IsUnlogged, IsUnanswered, IsUnreplied}
+use Rattle.session_steps.specs.LineStopVariants.{HistoryFull, NoMemory, DiskFault, WriteFault}
 use Rattle.session_steps.specs.Steps.{Step, move_of}
 use Rattle.session_steps.specs.Doings.{Point, going, moment, Does, IsUncounted, StopsAt, StopsWithin, StopsBetween, Comes}
 

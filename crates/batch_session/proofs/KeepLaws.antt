@@ -7,15 +7,13 @@ use Rattle.engine.specs.declared.engine.Engine.{Engine}
 use Rattle.engine.specs.Cores.{Core}
 use Rattle.engine.specs.EngineViews.{core_of, source_of, fresh_of}
 use Rattle.session_store.specs.Vocabulary.{logged_of}
-use Rattle.batch_replies.specs.declared.counting.BatchCounts.{BatchCounts}
 use Rattle.session_store.specs.declared.store.Store.{Store}
 use Rattle.session_store.specs.Cycles.{cycle_of, next_cycle, IsInCycle}
 use Rattle.session_store.specs.Stores.{Keeps, LeavesEither}
 use Rattle.session_store.specs.Endings.{KeepsWhere}
 use Rattle.session_store.proofs.StoreLaws.{all_logged, leaves_same, leaves_more}
 use Rattle.session_store.proofs.CycleLaws.{cycle_goes_on}
-use Rattle.line_answers.specs.declared.answering.LineStop.{LineStop}
-use Rattle.line_answers.specs.LineAnswers.{is_disk_fault, disk_failed}
+use Rattle.session_steps.specs.Vocabulary.{BatchCounts, LineStop, is_disk_fault, disk_failed}
 use Rattle.session_steps.specs.declared.tally.Tally.{Tally}
 use Rattle.session_steps.specs.Traces.{with_batch}
 

@@ -6,13 +6,8 @@ use Rattle.std.specs.declared.result.Result.{Result}
 use Rattle.program_meaning.specs.ClassTables.{Source}
 use Rattle.request_json.specs.RequestLines.{longest}
 use Rattle.request_json.specs.Actions.{Ended, Left, Action, Refuse, LineTooLong, action_of, used, content_of}
-use Rattle.line_answers.specs.Vocabulary.{Standing}
-use Rattle.batch_replies.specs.declared.counting.BatchCounts.{BatchCounts}
+use Rattle.session_steps.specs.Vocabulary.{BatchCounts, Standing, LineStop, cut, Service, program_of, Moment, AnswersLine}
 use Rattle.input_lines.specs.Cuts.{IsStart}
-use Rattle.line_answers.specs.declared.answering.LineStop.{LineStop}
-use Rattle.line_answers.specs.LineViews.{cut}
-use Rattle.line_answers.specs.Services.{Service, program_of}
-use Rattle.line_answers.specs.LineAnswers.{Moment, AnswersLine}
 use Rattle.session_steps.proofs.Leaves.{Line-as}
 
 -- whether a list has at most m elements, and then the whole list, is told by its first m + 1

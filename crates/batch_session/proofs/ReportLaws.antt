@@ -3,12 +3,8 @@ use Rattle.std.proofs.Common.{◌≡◌, ◌≢◌, ◌+◌, ◌<◌, inr, Bool,
 use Rattle.std.specs.declared.result.Result.{Result}
 use Rattle.sf_outside.specs.Bytes.{AppendsPrefix}
 use Rattle.request_json.specs.Actions.{Line}
-use Rattle.batch_replies.specs.declared.counting.BatchCounts.{BatchCounts}
-use Rattle.batch_replies.specs.BatchAnswers.{Answers, TellsBatch}
-use Rattle.line_answers.specs.declared.answering.LineStop.{LineStop}
-use Rattle.line_answers.specs.declared.answering.LineStop.TheVariants.{HistoryFull, NoMemory, DiskFault, WriteFault}
-use Rattle.line_answers.specs.Services.{Service, program_of}
-use Rattle.line_answers.specs.LineAnswers.{before, AnswersLine, batch_on}
+use Rattle.session_steps.specs.Vocabulary.{BatchCounts, Answers, TellsBatch, LineStop, Service, program_of, before, AnswersLine, batch_on}
+use Rattle.session_steps.specs.LineStopVariants.{HistoryFull, NoMemory, DiskFault, WriteFault}
 use Rattle.session_steps.specs.Steps.{Step, Answer, RunWaiting}
 use Rattle.session_steps.specs.StepLaws.{TracedAs}
 use Rattle.session_steps.specs.Traces.{with_batch, trace_text}

@@ -2,8 +2,8 @@
 use Rattle.std.proofs.Common.{◌≡◌, ◌<◌, ◌↔◌, Bool, true, false, true≢false, List, [], ◌∷◌, length, Ok, Err, refl, sym, ◌∙◌, subst, arith}
 use Rattle.std.specs.Prelude.{OnOk}
 use Rattle.std.specs.declared.result.Result.{Result}
-use Rattle.batch_replies.specs.declared.answering.BatchStop.{BatchStop}
-use Rattle.batch_replies.specs.declared.answering.BatchStop.TheVariants as batch
+use Rattle.session_steps.specs.Vocabulary.{BatchStop}
+use Rattle.session_steps.specs.BatchStopVariants as batch
 use Rattle.session_steps.proofs.Leaves as leaves
 use Rattle.batch_session.specs.Points.{stop_of}
 

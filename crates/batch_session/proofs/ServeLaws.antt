@@ -4,9 +4,8 @@ use Rattle.std.specs.Prelude.{OnOk}
 use Rattle.std.specs.declared.result.Result.{Result}
 use Rattle.std.specs.Io.KnownBytes.{Consumes, Keeps, IsAtEnd}
 use Rattle.request_json.specs.Actions.{last_line, rest_from}
-use Rattle.line_answers.specs.declared.answering.LineStop.{LineStop}
-use Rattle.line_answers.specs.declared.answering.LineStop.TheVariants as line
-use Rattle.line_answers.specs.Services.{Service}
+use Rattle.session_steps.specs.Vocabulary.{LineStop, Service}
+use Rattle.session_steps.specs.LineStopVariants as line
 use Rattle.session_steps.specs.declared.tally.Tally.{Tally}
 use Rattle.session_steps.specs.Steps.{last_steps, whole_steps, all_steps}
 use Rattle.session_steps.specs.Traces.{no_batch}

@@ -7,8 +7,7 @@ use Rattle.std.specs.Io.KnownBytes.{Consumes, Keeps}
 use Rattle.std.proofs.KnownBytes.{Consumes-trans, Consumes-kept, Consumes-nil}
 use Rattle.request_json.specs.Actions.{rest_from}
 use Rattle.input_lines.specs.Cuts.{IsStart}
-use Rattle.line_answers.specs.declared.answering.LineStop.{LineStop}
-use Rattle.line_answers.specs.Services.{Service}
+use Rattle.session_steps.specs.Vocabulary.{LineStop, Service}
 use Rattle.session_steps.specs.Doings.{Point}
 use Rattle.batch_session.specs.declared.feeding.InputEnd.{InputEnd}
 use Rattle.batch_session.specs.Feeds.{Feeds}

@@ -1,8 +1,8 @@
 -- Why a session doesn't serve its whole input, from where it stopped.
 use Rattle.std.specs.Prelude.{◌≡◌, ◌⊎◌, Bool, true, false, Ok, Err}
 use Rattle.std.specs.declared.result.Result.{Result}
-use Rattle.line_answers.specs.declared.answering.LineStop.{LineStop}
-use Rattle.line_answers.specs.declared.answering.LineStop.TheVariants as line
+use Rattle.session_steps.specs.Vocabulary.{LineStop}
+use Rattle.session_steps.specs.LineStopVariants as line
 use Rattle.session_steps.specs.declared.tally.Tally.{Tally}
 use Rattle.batch_session.specs.declared.serving.SessionFault.{SessionFault}
 use Rattle.batch_session.specs.declared.serving.SessionFault.TheVariants.{ReadFault, WriteFault, DiskFault, InputTooLong, HistoryFull, NoMemory}

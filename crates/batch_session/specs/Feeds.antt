@@ -4,9 +4,7 @@ use Rattle.std.specs.declared.option.Option.{Option}
 use Rattle.std.specs.declared.result.Result.{Result}
 use Rattle.request_json.specs.Actions.{whole_from, rest_from, last_line}
 use Rattle.input_lines.specs.Cuts.{IsStart}
-use Rattle.line_answers.specs.declared.answering.LineStop.{LineStop}
-use Rattle.line_answers.specs.LineViews.{cut}
-use Rattle.line_answers.specs.Services.{Service}
+use Rattle.session_steps.specs.Vocabulary.{LineStop, cut, Service}
 use Rattle.session_steps.specs.Steps.{Answer, RunWaiting, answers, endings, last_steps}
 use Rattle.session_steps.specs.Doings.{Point, going, Comes}
 

@@ -4,3 +4,4 @@ pub mod Takes
 pub mod Faults
 pub mod Served
 pub mod Vocabulary
+pub mod LineStopVariants

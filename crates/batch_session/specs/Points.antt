@@ -5,10 +5,9 @@ use Rattle.sf_outside.specs.Choices.{Choices}
 use Rattle.operator_graph.specs.Telling.{Told}
 use Rattle.engine.specs.declared.engine.Engine.{Engine}
 use Rattle.engine.specs.EngineViews.{core_of}
-use Rattle.batch_replies.specs.declared.answering.BatchStop.{BatchStop}
-use Rattle.batch_replies.specs.declared.answering.BatchStop.TheVariants as batch
-use Rattle.line_answers.specs.declared.answering.LineStop.{LineStop}
-use Rattle.line_answers.specs.declared.answering.LineStop.TheVariants.{HistoryFull, NoMemory, DiskFault, WriteFault}
+use Rattle.session_steps.specs.BatchStopVariants as batch
+use Rattle.session_steps.specs.Vocabulary.{BatchStop, LineStop}
+use Rattle.session_steps.specs.LineStopVariants.{HistoryFull, NoMemory, DiskFault, WriteFault}
 use Rattle.session_steps.specs.declared.tally.Tally.{Tally}
 use Rattle.session_steps.specs.Doings.{Point}
 

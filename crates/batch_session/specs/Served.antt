@@ -9,9 +9,8 @@ use Rattle.operator_graph.specs.Turns.{Outside}
 use Rattle.engine.specs.declared.engine.Engine.{Engine}
 use Rattle.engine.specs.Cores.{Core}
 use Rattle.engine.specs.EngineViews.{core_of}
-use Rattle.line_answers.specs.declared.answering.LineStop.{LineStop}
-use Rattle.line_answers.specs.declared.answering.LineStop.TheVariants as line
-use Rattle.line_answers.specs.Services.{Service}
+use Rattle.session_steps.specs.Vocabulary.{LineStop, Service}
+use Rattle.session_steps.specs.LineStopVariants as line
 use Rattle.session_steps.specs.declared.tally.Tally.{Tally}
 use Rattle.session_steps.specs.Steps.{whole_steps, all_steps}
 use Rattle.session_steps.specs.Traces.{no_batch}

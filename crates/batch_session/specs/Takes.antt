@@ -3,8 +3,7 @@ use Rattle.std.specs.Prelude.{◌≡◌, ℕ, ◌≤◌, Bool, List, [], ◌∷�
 use Rattle.std.specs.declared.option.Option.{Option}
 use Rattle.std.specs.declared.result.Result.{Result}
 use Rattle.std.specs.Io.KnownBytes.{Consumes, IsAtEnd}
-use Rattle.line_answers.specs.declared.answering.LineStop.{LineStop}
-use Rattle.line_answers.specs.Services.{Service}
+use Rattle.session_steps.specs.Vocabulary.{LineStop, Service}
 use Rattle.session_steps.specs.Doings.{Point}
 use Rattle.batch_session.specs.declared.feeding.InputEnd.{InputEnd}
 use Rattle.batch_session.specs.declared.feeding.InputEnd.TheVariants.{End, ReadFault, TooLong}

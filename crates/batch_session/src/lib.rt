@@ -9,6 +9,6 @@ mod serving;
 mod settings;
 
 pub use serving::{SessionFault, serve};
-pub use session_steps::Tally;
+pub use session_steps::{Tally, comes_begin, steps_print, write_pieces};
 pub use session_store::{NoDisk, Store};
 pub use settings::Settings;

@@ -12,14 +12,14 @@ ghost use Rattle.session_store.specs.Vocabulary.{logged_of, IsStorable};
 ghost use Rattle.session_store.specs.Cycles.{IsInCycle};
 ghost use Rattle.session_store.specs.Endings.{KeepsWhere, next_core};
 ghost use Rattle.session_store.specs.Stores.{settings_of, Keeps, EndsPast};
-ghost use Rattle.line_answers.specs.LineAnswers.{disk_failed};
+ghost use Rattle.session_steps.specs.Vocabulary.{disk_failed};
 ghost use Rattle.session_steps.specs.StepLaws.{TracedAs};
 ghost use Rattle.session_steps.specs.Traces.{with_batch, trace_text};
 
 use crate::settings::Settings;
-use batch_replies::BatchCounts;
+use session_steps::BatchCounts;
 use engine::Engine;
-use line_answers::LineStop;
+use session_steps::LineStop;
 use session_steps::{Tally, write_trace};
 use session_store::{KeepFault, Store, batch_ended};
 use sf_outside::{Disk, Failed, Sink};

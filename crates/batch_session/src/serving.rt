@@ -10,7 +10,7 @@ ghost use Rattle.session_store.specs.Vocabulary.{logged_of, IsStorable};
 ghost use Rattle.session_store.specs.Cycles.{IsInCycle};
 ghost use Rattle.session_store.specs.Endings.{KeepsWhere, next_core};
 ghost use Rattle.session_store.specs.Stores.{settings_of, Keeps, EndsPast};
-ghost use Rattle.line_answers.specs.Services.{service_of};
+ghost use Rattle.session_steps.specs.Vocabulary.{service_of};
 ghost use Rattle.session_steps.specs.Traces.{no_batch};
 ghost use Rattle.batch_session.specs.Served.{view_of, Served};
 ghost use Rattle.batch_session.specs.Faults.{fault_of, finished, disk_failed, unflushed, IsFlushed};
@@ -18,7 +18,7 @@ ghost use Rattle.batch_session.specs.Faults.{fault_of, finished, disk_failed, un
 use crate::feeding::{InputEnd, Intake};
 use crate::settings::Settings;
 use engine::Engine;
-use line_answers::LineStop;
+use session_steps::LineStop;
 use operator_graph::Watch;
 use reservations::CommitRule;
 use session_steps::Tally;

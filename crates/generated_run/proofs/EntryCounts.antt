@@ -10,7 +10,7 @@ use Rattle.program_meaning.specs.Serial.{outcomes_of}
 use Rattle.request_history.specs.declared.history.Found.{Found}
 use Rattle.request_history.specs.HistoryView.{kept_at}
 use Rattle.request_history.specs.Repeats.{Kept, placed, kept_in}
-use Rattle.batch_replies.specs.BatchAnswers.{failure_count}
+use Rattle.batch_session.specs.Vocabulary.{failure_count}
 
 -- the entry at a place counted from 0, and none behind the last
 

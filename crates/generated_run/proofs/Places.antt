@@ -12,8 +12,7 @@ use Rattle.engine.proofs.PlaceLaws.{count_once}
 use Rattle.batch_output.specs.BatchOutput.{Standing, taken, is_due, committed, has_no_place, settled, settled_if, with_line, is_over}
 use Rattle.batch_output.specs.SerialBatches.{IsLawfulRule}
 use Rattle.batch_output.proofs.LawfulBatches.{is_split}
-use Rattle.line_answers.specs.Services.{Service, program_of}
-use Rattle.session_steps.specs.Steps.{Step, Answer, RunWaiting, answers, move_of, behind, standing_after}
+use Rattle.batch_session.specs.Vocabulary.{Step, Answer, RunWaiting, answers, move_of, behind, standing_after, Service, program_of}
 
 -- the entries of the history and the requests that wait
 abbrev pub places_of : Core → ℕ

@@ -10,10 +10,7 @@ use Rattle.block_step.specs.declared.compiled.Compiled.{Compiled}
 use Rattle.operator_graph.specs.Telling.{Told, AlsoTold, GraphTold}
 use Rattle.operator_graph.specs.Turns.{Outside}
 use Rattle.engine.specs.Cores.{Core}
-use Rattle.batch_replies.specs.declared.counting.BatchCounts.{BatchCounts}
-use Rattle.line_answers.specs.Services.{Service}
-use Rattle.session_steps.specs.declared.tally.Tally.{Tally}
-use Rattle.session_steps.specs.Doings.{RunBatches, BeginBatches}
+use Rattle.batch_session.specs.Vocabulary.{Tally, RunBatches, BeginBatches, Service, BatchCounts}
 use Rattle.generated_run.specs.declared.running.GenSettings.{GenSettings}
 use Rattle.generated_run.specs.declared.running.GenStop.TheVariants.{NoMemory}
 use Rattle.generated_run.specs.declared.summing.Summary.{Summary}

@@ -12,14 +12,9 @@ use Rattle.operator_graph.specs.Turns.{Outside}
 use Rattle.engine.specs.Cores.{Core, empty_core, IsSoundCore}
 use Rattle.batch_output.specs.BatchOutput.{Standing, begun}
 use Rattle.batch_output.specs.SerialBatches.{IsLawfulRule}
-use Rattle.batch_replies.specs.declared.counting.BatchCounts.{BatchCounts}
-use Rattle.line_answers.specs.declared.answering.LineStop.TheVariants as line
-use Rattle.line_answers.specs.Services.{Service, program_of}
-use Rattle.session_steps.specs.declared.tally.Tally.{Tally}
-use Rattle.session_steps.specs.Steps.{Step, answers, endings, whole_steps, all_steps, standing_after, ran_on, move_of}
-use Rattle.session_steps.specs.Doings.{Point, going, RunBatches, BeginBatches, StopsWithin}
-use Rattle.session_steps.specs.StepLaws.{StepsPrint, ComesBegin}
-use Rattle.session_steps.proofs.StepFacts.{ran-append}
+use Rattle.batch_session.specs.Vocabulary.{Tally, Step, answers, endings, whole_steps, all_steps, standing_after, ran_on, move_of, Point, going, RunBatches, BeginBatches, StopsWithin, StepsPrint, ComesBegin, Service, program_of, BatchCounts}
+use Rattle.batch_session.specs.LineStopVariants as line
+use Rattle.batch_session.proofs.Vocabulary.{ran-append}
 use Rattle.batch_session.specs.declared.serving.SessionFault.{SessionFault}
 use Rattle.batch_session.specs.declared.serving.SessionFault.TheVariants as session
 use Rattle.batch_session.specs.Faults.{disk_failed}

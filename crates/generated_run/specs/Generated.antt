@@ -17,12 +17,7 @@ use Rattle.request_json.specs.Actions.{all_lines}
 use Rattle.engine.specs.Cores.{Core, empty_core, IsSoundCore}
 use Rattle.batch_output.specs.BatchOutput as output
 use Rattle.batch_output.specs.BatchOutput.{Standing, begun}
-use Rattle.batch_replies.specs.declared.counting.BatchCounts.{BatchCounts}
-use Rattle.line_answers.specs.Services.{Service, program_of, limits_of}
-use Rattle.session_steps.specs.declared.tally.Tally.{Tally}
-use Rattle.session_steps.specs.Steps.{all_steps, ran_on}
-use Rattle.session_steps.specs.Traces.{no_batch, tally_after}
-use Rattle.session_steps.specs.Doings.{RunBatches, BeginBatches}
+use Rattle.batch_session.specs.Vocabulary.{Tally, all_steps, ran_on, no_batch, tally_after, RunBatches, BeginBatches, Service, program_of, limits_of, BatchCounts}
 use Rattle.batch_session.specs.declared.serving.SessionFault.{SessionFault}
 use Rattle.batch_session.specs.declared.serving.SessionFault.TheVariants as session
 use Rattle.generated_run.specs.declared.running.GenSettings.{GenSettings}

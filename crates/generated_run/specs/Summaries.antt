@@ -4,8 +4,7 @@ use Rattle.std.specs.Fmt.{signed_decimal}
 use Rattle.std.specs.List.{concat}
 use Rattle.program_meaning.specs.Serial.{outcomes_of}
 use Rattle.engine.specs.Cores.{Core}
-use Rattle.batch_replies.specs.BatchAnswers.{failure_count}
-use Rattle.session_steps.specs.declared.tally.Tally.{Tally}
+use Rattle.batch_session.specs.Vocabulary.{Tally, failure_count}
 use Rattle.generated_run.specs.declared.summing.Summary.{Summary}
 use Rattle.generated_run.specs.Totals.{IsTotal}
 

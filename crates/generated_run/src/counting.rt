@@ -2,7 +2,7 @@
 
 ghost use Rattle.std.specs.Prelude.{◌≡◌, ◌≤◌, [], ◌∷◌, length};
 ghost use Rattle.program_meaning.specs.Serial.{outcomes_of};
-ghost use Rattle.batch_replies.specs.BatchAnswers.{failure_count};
+ghost use Rattle.batch_session.specs.Vocabulary.{failure_count};
 ghost use Rattle.engine.specs.EngineViews.{core_of};
 
 use engine::Engine;

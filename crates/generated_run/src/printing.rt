@@ -8,7 +8,7 @@ ghost use Rattle.generated_run.specs.Summaries.{summary_line};
 
 use crate::summing::Summary;
 use itoa::Buffer;
-use session_steps::write_pieces;
+use batch_session::write_pieces;
 use sf_outside::{Failed, Sink};
 
 /// Writes the line of a summary. It takes no memory, and doesn't flush.

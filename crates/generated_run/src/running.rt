@@ -19,7 +19,7 @@ use engine::Engine;
 use entity_compiler::{Compiled, ProgramError, ProgramFault, compile};
 use operator_graph::Watch;
 use reservations::Rule1;
-use session_steps::{Tally, comes_begin, steps_print};
+use batch_session::{Tally, comes_begin, steps_print};
 use sf_outside::Chooser;
 use std::alloc::{AllocError, Global};
 use work_gen::generate;

@@ -7,7 +7,7 @@ ghost use Rattle.generated_run.specs.Summaries.{IsSummary};
 
 use crate::counting::count_entries;
 use engine::Engine;
-use session_steps::Tally;
+use batch_session::Tally;
 use sf_value::{Held, Value};
 use std::alloc::{AllocError, Global};
 

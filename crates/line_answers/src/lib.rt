@@ -7,4 +7,5 @@ mod reading;
 mod taking;
 
 pub use answering::{Batching, LineStop, answer_line};
+pub use batch_replies::{BatchCounts, BatchStop, answer_batch};
 pub use reading::InputLine;

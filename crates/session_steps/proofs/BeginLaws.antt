@@ -8,10 +8,8 @@ use Rattle.sf_outside.specs.Gains.{joined}
 use Rattle.sf_outside.specs.declared.gains.WriteStop.TheVariants as write
 use Rattle.sf_outside.proofs.GainLaws.{joined-nil, joined-append, Wrote-more, Wrote-after, Wrote-no_memory}
 use Rattle.operator_graph.specs.Turns.{Outside}
-use Rattle.line_answers.specs.Vocabulary.{Batch, IsToldAlong, Core}
 use Rattle.batch_output.specs.BatchOutput.{Standing, batch_lines, lines_if}
-use Rattle.batch_replies.specs.declared.counting.BatchCounts.{BatchCounts}
-use Rattle.batch_replies.specs.BatchAnswers.{HasPlace}
+use Rattle.line_answers.specs.Vocabulary.{Batch, IsToldAlong, Core, BatchCounts, HasPlace}
 use Rattle.line_answers.specs.declared.answering.LineStop.{LineStop}
 use Rattle.line_answers.specs.declared.answering.LineStop.TheVariants.{HistoryFull, NoMemory, DiskFault, WriteFault}
 use Rattle.line_answers.specs.Services.{Service, program_of}

@@ -3,11 +3,9 @@ use Rattle.std.proofs.Common.{◌≡◌, ℕ, zero, suc, ◌+◌, ◌-◌, ◌<�
 use Rattle.std.proofs.lemmas.List.{map-append, replicate-append-replicate}
 use Rattle.std.specs.declared.result.Result.{Result}
 use Rattle.request_json.specs.Actions.{Line, whole_lines, all_lines, last_line, rest_from}
-use Rattle.line_answers.specs.Vocabulary.{Core}
 use Rattle.batch_output.specs.SerialBatches.{IsLawfulRule}
 use Rattle.batch_output.proofs.LawfulBatches.{fewer_wait}
-use Rattle.batch_replies.specs.declared.counting.BatchCounts.{BatchCounts}
-use Rattle.batch_replies.specs.BatchAnswers.{Answers, TellsBatch, core_behind}
+use Rattle.line_answers.specs.Vocabulary.{Core, BatchCounts, Answers, TellsBatch, core_behind}
 use Rattle.line_answers.specs.declared.answering.LineStop.{LineStop}
 use Rattle.line_answers.specs.Services.{Service, program_of}
 use Rattle.line_answers.specs.LineAnswers.{batch_on}

@@ -8,12 +8,9 @@ use Rattle.sf_outside.specs.Bytes.{AppendsPrefix}
 use Rattle.sf_outside.specs.Gains.{joined}
 use Rattle.sf_outside.proofs.GainLaws.{joined-nil, joined_one}
 use Rattle.request_json.specs.Actions.{Line, Action, action_of}
-use Rattle.line_answers.specs.Vocabulary.{Core}
 use Rattle.batch_output.specs.BatchOutput.{Standing, waits, answer, taken, is_due}
-use Rattle.batch_replies.specs.declared.counting.BatchCounts.{BatchCounts}
-use Rattle.batch_replies.specs.declared.answering.BatchStop.{BatchStop}
-use Rattle.batch_replies.specs.declared.answering.BatchStop.TheVariants as batch
-use Rattle.batch_replies.specs.BatchAnswers.{Answers, TellsBatch, core_behind}
+use Rattle.line_answers.specs.Vocabulary.{Core, BatchCounts, BatchStop, Answers, TellsBatch, core_behind}
+use Rattle.line_answers.specs.BatchStopVariants as batch
 use Rattle.line_answers.specs.declared.answering.LineStop.{LineStop}
 use Rattle.line_answers.specs.declared.answering.LineStop.TheVariants.{HistoryFull, NoMemory, DiskFault, WriteFault}
 use Rattle.line_answers.specs.Services.{Service, program_of}

@@ -6,3 +6,4 @@ pub mod Endings
 pub mod PrintLaws
 pub mod BeginLaws
 pub mod TraceExamples
+pub mod Vocabulary

@@ -1,9 +1,8 @@
 -- What one step does, by whether a batch is due and has a place; and what steps do, one after another.
 use Rattle.std.proofs.Common.{◌≡◌, ℕ, ◌+◌, Bool, true, false, not, ◌||◌, List, [], ◌∷◌, ◌++◌, length, if◌then◌else◌, refl, sym, ap, ◌∙◌, append_assoc, append-nil}
 use Rattle.request_json.specs.Actions.{action_of}
-use Rattle.line_answers.specs.Vocabulary.{Core, batch_entries}
 use Rattle.batch_output.specs.BatchOutput.{Standing, waits, answer, taken, is_due, with_line, committed, settled, batch_lines, entry_lines, settled_if, lines_if}
-use Rattle.batch_replies.specs.BatchAnswers.{HasPlace, IsFull, core_behind}
+use Rattle.line_answers.specs.Vocabulary.{Core, batch_entries, HasPlace, IsFull, core_behind}
 use Rattle.line_answers.specs.Services.{Service, program_of}
 use Rattle.line_answers.specs.LineAnswers.{Move}
 use Rattle.session_steps.specs.Steps.{Step, Answer, RunWaiting, move_of, behind, printed_at, run_on, run_if, ran_at, standing_after, printed, ran_on}

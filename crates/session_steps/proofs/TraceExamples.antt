@@ -1,7 +1,7 @@
 -- What is counted and traced of two batches, worked out by hand.
 use Rattle.std.proofs.Common.{◌≡◌, ◌-◌, ◌^◌, [], ◌∷◌, codes, refl}
 use Rattle.std.specs.Fmt.{digits}
-use Rattle.batch_replies.specs.declared.counting.BatchCounts.{BatchCounts}
+use Rattle.line_answers.specs.Vocabulary.{BatchCounts}
 use Rattle.session_steps.specs.Traces.{no_batch, with_batch, tally_after, trace_lines}
 
 -- of seven requests that waited five were committed, one of which failed; and then both that waited on

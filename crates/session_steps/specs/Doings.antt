@@ -6,9 +6,8 @@ use Rattle.std.specs.Io.KnownBytes.{Appends}
 use Rattle.sf_outside.specs.Bytes.{AppendsPrefix}
 use Rattle.sf_outside.specs.Gains.{joined}
 use Rattle.operator_graph.specs.Turns.{Outside}
-use Rattle.line_answers.specs.Vocabulary.{IsToldAlong, Core}
 use Rattle.batch_output.specs.BatchOutput.{Standing}
-use Rattle.batch_replies.specs.declared.counting.BatchCounts.{BatchCounts}
+use Rattle.line_answers.specs.Vocabulary.{IsToldAlong, Core, BatchCounts}
 use Rattle.line_answers.specs.declared.answering.LineStop.{LineStop}
 use Rattle.line_answers.specs.declared.answering.LineStop.TheVariants.{HistoryFull, NoMemory, DiskFault, WriteFault}
 use Rattle.line_answers.specs.Services.{Service}

@@ -2,3 +2,6 @@ pub mod Steps
 pub mod Traces
 pub mod Doings
 pub mod StepLaws
+pub mod Vocabulary
+pub mod BatchStopVariants
+pub mod LineStopVariants

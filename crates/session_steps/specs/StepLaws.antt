@@ -7,9 +7,8 @@ use Rattle.sf_outside.specs.Bytes.{AppendsPrefix}
 use Rattle.sf_outside.specs.Gains.{joined}
 use Rattle.request_json.specs.Actions.{Line, all_lines}
 use Rattle.operator_graph.specs.Turns.{Outside}
-use Rattle.line_answers.specs.Vocabulary.{Core}
 use Rattle.batch_output.specs.BatchOutput.{Standing, begun, after, replies, at_end, all_replies}
-use Rattle.batch_replies.specs.declared.counting.BatchCounts.{BatchCounts}
+use Rattle.line_answers.specs.Vocabulary.{Core, BatchCounts}
 use Rattle.line_answers.specs.declared.answering.LineStop.{LineStop}
 use Rattle.line_answers.specs.declared.answering.LineStop.TheVariants.{HistoryFull, NoMemory, DiskFault, WriteFault}
 use Rattle.line_answers.specs.Services.{Service, program_of}

@@ -2,7 +2,7 @@
 use Rattle.std.specs.Prelude.{ℕ, ◌+◌, ◌-◌, ◌^◌, min, Bool, List, [], ◌∷◌, codes, decimal, if◌then◌else◌}
 use Rattle.std.specs.List.{concat}
 use Rattle.sf_outside.specs.Gains.{joined}
-use Rattle.batch_replies.specs.declared.counting.BatchCounts.{BatchCounts}
+use Rattle.line_answers.specs.Vocabulary.{BatchCounts}
 use Rattle.session_steps.specs.declared.tally.Tally.{Tally}
 
 -- a count stops at the largest number that it can hold

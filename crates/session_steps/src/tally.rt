@@ -1,6 +1,6 @@
 //! What is counted of a session.
 
-use batch_replies::BatchCounts;
+use line_answers::BatchCounts;
 
 /// What the batches of a session came to. A count that would be greater than it can hold stays there.
 #[derive(Clone, Copy, PartialEq, Eq, Debug)]

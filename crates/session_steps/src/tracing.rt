@@ -7,7 +7,7 @@ ghost use Rattle.sf_outside.specs.Causes.{HasCause};
 ghost use Rattle.session_steps.specs.Traces.{trace_line};
 
 use crate::pieces::write_pieces;
-use batch_replies::BatchCounts;
+use line_answers::BatchCounts;
 use itoa::Buffer;
 use sf_outside::{Failed, Sink};
 

@@ -6,7 +6,7 @@ use Rattle.std.proofs.lemmas.Bool.Decides.{nat_tests}
 use Rattle.std.proofs.Math.Nat.{add-mul-div_left, add-mul-mod_self_left, div-eq_of_lt, mod-eq_of_lt, mod_self, div_self, zero-mod, zero-div, div-add-mod, mod-lt}
 use Rattle.sf_outside.specs.DiskModel.{DiskFacts}
 use Rattle.program_meaning.specs.ClassTables.{Source}
-use Rattle.engine.specs.Cores.{Core}
+use Rattle.store_meaning.specs.Vocabulary.{Core}
 use Rattle.session_store.specs.declared.store.Store.{Store}
 use Rattle.session_store.specs.declared.store.StoreSettings.{StoreSettings}
 use Rattle.session_store.specs.Cycles.{Cycle, cycle_of, epoch_after, with_batch, next_cycle, IsBehind, IsCycleBehind, IsInCycle}

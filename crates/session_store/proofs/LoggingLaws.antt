@@ -8,15 +8,8 @@ use Rattle.sf_outside.proofs.DiskLaws.{LeavesOnly-weaker}
 use Rattle.sf_value.specs.declared.BatchRecord.{BatchRecord}
 use Rattle.request_log.specs.LogFile.{IsBatch}
 use Rattle.snapshot_store.specs.SlotFile.{IsEpoch}
-use Rattle.engine.specs.declared.engine.Engine.{Engine}
-use Rattle.engine.specs.declared.planned.Planned.{Planned}
-use Rattle.engine.specs.Batches.{after_batch}
-use Rattle.engine.specs.Cores.{Core, CoreFits}
-use Rattle.engine.specs.EngineViews.{core_of, source_of, tables_of}
-use Rattle.engine.specs.PlanReplays.{ReplaysPlan}
-use Rattle.engine.specs.Plans.{IsPlanOf}
-use Rattle.engine.specs.Replays.{replayed}
-use Rattle.engine.proofs.PlanReplays.{plans_replay}
+use Rattle.store_meaning.specs.Vocabulary.{Engine, Planned, after_batch, Core, CoreFits, core_of, source_of, tables_of, ReplaysPlan, IsPlanOf, replayed}
+use Rattle.store_meaning.proofs.Vocabulary.{plans_replay}
 use Rattle.store_meaning.specs.declared.position.Position.{Position}
 use Rattle.store_meaning.specs.Engines.{logged_of}
 use Rattle.store_meaning.specs.Keeping.{KeepsCore, KeepsSome, StandsForOne, KeepsBatch, LeavesBatch}

@@ -6,7 +6,7 @@ use Rattle.sf_outside.specs.DiskModel.{DiskFacts}
 use Rattle.program_meaning.specs.ClassTables.{Source}
 use Rattle.serial_order.specs.ConflictFree.{Access}
 use Rattle.reservations.specs.CommitRules.{Chosen}
-use Rattle.engine.specs.Cores.{Core, empty_core}
+use Rattle.store_meaning.specs.Vocabulary.{Core, empty_core}
 use Rattle.storable_cores.specs.Storable.{IsStorable}
 use Rattle.storable_cores.proofs.CoreLaws.{empty_is_storable}
 use Rattle.session_store.specs.declared.store.Store.{Store}

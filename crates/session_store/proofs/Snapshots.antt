@@ -9,10 +9,7 @@ use Rattle.sf_outside.specs.DiskModel.{Image, DiskFacts, LeavesOnly}
 use Rattle.sf_outside.proofs.DiskLaws.{LeavesOnly-start, LeavesOnly-weaker}
 use Rattle.sf_value.specs.declared.Snapshot.{Snapshot}
 use Rattle.snapshot_store.specs.SlotFile.{IsSnapshot}
-use Rattle.engine.specs.declared.engine.Engine.{Engine}
-use Rattle.engine.specs.Cores.{Core}
-use Rattle.engine.specs.EngineViews.{core_of, source_of, tables_of}
-use Rattle.engine.specs.Kept.{core_of_snapshot, SnapshotFits}
+use Rattle.store_meaning.specs.Vocabulary.{Engine, Core, core_of, source_of, tables_of, core_of_snapshot, SnapshotFits}
 use Rattle.store_meaning.specs.declared.position.Position.{Position}
 use Rattle.store_meaning.specs.Checkpoints.{next_epoch}
 use Rattle.store_meaning.specs.Engines.{program_of}

@@ -9,11 +9,7 @@ use Rattle.quiet_methods.specs.MarksKeepWithin.{source}
 use Rattle.serial_order.specs.ConflictFree.{Access}
 use Rattle.reservations.specs.CommitRules.{Chosen}
 use Rattle.block_step.specs.CompiledViews.{compiled_program, compiled_names}
-use Rattle.engine.specs.declared.engine.Engine.{Engine}
-use Rattle.engine.specs.Cores.{Core}
-use Rattle.engine.specs.EngineViews.{core_of, source_of, compiled_of, limit_of, fresh_of, RunsProgram}
-use Rattle.engine.specs.RanBatches.{accesses_on}
-use Rattle.engine.specs.Replays.{settled}
+use Rattle.store_meaning.specs.Vocabulary.{Engine, Core, core_of, source_of, compiled_of, limit_of, fresh_of, RunsProgram, accesses_on, settled}
 use Rattle.store_meaning.specs.Engines.{logged_of}
 use Rattle.store_meaning.proofs.Arrivals.{none_unlogged}
 use Rattle.storable_cores.specs.Storable.{news_of}

@@ -2,7 +2,7 @@
 use Rattle.std.specs.Prelude.{Bool, true, false, List, ℕ, Ok, Err}
 use Rattle.std.specs.declared.result.Result.{Result}
 use Rattle.sf_value.specs.declared.Snapshot.{Snapshot}
-use Rattle.engine.specs.Cores.{Core}
+use Rattle.store_meaning.specs.Vocabulary.{Core}
 use Rattle.store_meaning.specs.Checkpoints.{IsSnapshotOf}
 use Rattle.store_meaning.specs.StandsFor.{Program}
 use Rattle.session_store.specs.declared.checkpoints.KeepFault.{KeepFault}

@@ -5,9 +5,7 @@ use Rattle.sf_outside.specs.DiskModel.{DiskFacts, LeavesOnly}
 use Rattle.program_meaning.specs.ClassTables.{Source}
 use Rattle.serial_order.specs.ConflictFree.{Access}
 use Rattle.reservations.specs.CommitRules.{Chosen}
-use Rattle.engine.specs.Batches.{after_batch}
-use Rattle.engine.specs.Cores.{Core}
-use Rattle.engine.specs.RanBatches.{accesses_on}
+use Rattle.store_meaning.specs.Vocabulary.{after_batch, Core, accesses_on}
 use Rattle.session_store.specs.declared.store.Store.{Store}
 use Rattle.session_store.specs.Stores.{program_with, Keeps, StandsSomewhere, LeavesEither}
 

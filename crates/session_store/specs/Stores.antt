@@ -12,10 +12,7 @@ use Rattle.request_log.specs.LogFile.{IsBatch}
 use Rattle.snapshot_store.specs.SlotFile.{IsEpoch}
 use Rattle.serial_order.specs.ConflictFree.{Access}
 use Rattle.reservations.specs.CommitRules.{Chosen}
-use Rattle.engine.specs.Cores.{Core}
-use Rattle.engine.specs.Kept.{core_of_snapshot}
-use Rattle.engine.specs.RanBatches.{accesses_on}
-use Rattle.engine.specs.Replays.{settled}
+use Rattle.store_meaning.specs.Vocabulary.{Core, core_of_snapshot, accesses_on, settled}
 use Rattle.store_meaning.specs.declared.position.Position.{Position}
 use Rattle.store_meaning.specs.Keeping.{KeepsCore}
 use Rattle.store_meaning.specs.StandsFor.{Program, StandsFor}

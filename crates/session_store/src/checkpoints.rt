@@ -4,8 +4,7 @@ ghost use Rattle.std.specs.Prelude.{◌≡◌, ◌+◌, ◌≤◌, ◌<◌, ◌^
 ghost use Rattle.sf_outside.specs.Causes.{Rose};
 ghost use Rattle.sf_outside.specs.DiskModel.{LeavesOnly};
 ghost use Rattle.byte_sizes.specs.Spelt.{IsShortText};
-ghost use Rattle.engine.specs.Cores.{CoreFits};
-ghost use Rattle.engine.specs.EngineViews.{core_of, source_of, tables_of};
+ghost use Rattle.store_meaning.specs.Vocabulary.{CoreFits, core_of, source_of, tables_of};
 ghost use Rattle.store_meaning.specs.Checkpoints.{next_epoch};
 ghost use Rattle.store_meaning.specs.Engines.{program_of};
 ghost use Rattle.store_meaning.specs.Keeping.{KeepsCore};
@@ -16,7 +15,7 @@ ghost use Rattle.session_store.specs.Endings.{KeepsWhere, LeavesMeanwhile};
 ghost use Rattle.session_store.specs.Checkpoints.{disk_failed, HasSnapshot};
 
 use crate::store::Store;
-use engine::Engine;
+use store_meaning::Engine;
 use sf_bytes::write_snapshot;
 use sf_outside::{Disk, Failed};
 use sf_value::{Bytes, Text};

@@ -6,7 +6,7 @@ use Rattle.std.specs.declared.result.Result.{Result}
 use Rattle.std.specs.Io.KnownBytes.{Appends, Keeps}
 use Rattle.sf_outside.specs.Bytes.{AppendsPrefix}
 use Rattle.sf_outside.specs.Causes.{Rose}
-use Rattle.session_steps.proofs.PieceLaws.{prefix_whole}
+use Rattle.batch_run.proofs.Vocabulary.{prefix_whole}
 use Rattle.stateflow_cli.specs.StatusLines.{write_fault_line}
 use Rattle.stateflow_cli.specs.Telling.{Told, Whole, Part}
 

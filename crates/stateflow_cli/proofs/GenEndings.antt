@@ -15,7 +15,7 @@ use Rattle.operator_graph.specs.Turns.{Outside}
 use Rattle.block_step.specs.declared.compiled.Compiled.{Compiled}
 use Rattle.block_step.specs.CompiledViews.{compiled_program, compiled_names}
 use Rattle.entity_compiler.specs.Compiling.{IsCompiledOf}
-use Rattle.session_steps.proofs.PieceLaws.{prefix_whole}
+use Rattle.batch_run.proofs.Vocabulary.{prefix_whole}
 use Rattle.generated_run.specs.declared.running.GenSettings.{GenSettings}
 use Rattle.generated_run.specs.declared.running.GenStop.{GenStop}
 use Rattle.generated_run.specs.declared.running.GenStop.TheVariants as gen

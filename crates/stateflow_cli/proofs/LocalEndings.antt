@@ -20,8 +20,8 @@ use Rattle.session.specs.Served.{Answered, AnsweredOver, AnsweredPart, OfWhole, 
 use Rattle.session.proofs.LineLaws.{after-append, after-full}
 use Rattle.session.proofs.SerialOutputLaws.{Served-serial}
 use Rattle.session.proofs.TakenLaws.{Served-taken}
-use Rattle.batch_session.specs.declared.serving.SessionFault.{SessionFault}
-use Rattle.batch_session.specs.declared.serving.SessionFault.TheVariants as stop
+use Rattle.batch_run.specs.Vocabulary.{SessionFault}
+use Rattle.batch_run.specs.SessionFaultVariants as stop
 use Rattle.batch_run.proofs.FullLaws.{all_taken, fits_whole, exceeds, full_at_line, full_at_end}
 use Rattle.stateflow_cli.proofs.OneReading.{never_refused, never_held}
 use Rattle.stateflow_cli.proofs.ReportEndings.{still_idle}

@@ -4,7 +4,7 @@ use Rattle.std.specs.declared.option.Option.{Option}
 use Rattle.std.specs.Io.KnownBytes.{Appends, Keeps}
 use Rattle.sf_outside.specs.Causes.{Rose}
 use Rattle.py_tree.specs.PlainProgram.{PlainProgram}
-use Rattle.session_steps.proofs.PieceLaws.{prefix_whole}
+use Rattle.batch_run.proofs.Vocabulary.{prefix_whole}
 use Rattle.stateflow_cli.proofs.OneReading.{never_refused, never_held}
 use Rattle.stateflow_cli.specs.Words.{Check}
 use Rattle.stateflow_cli.specs.Devices.{Devices, Output, with_err, IsIdle, IsStill}

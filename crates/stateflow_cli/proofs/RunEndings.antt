@@ -13,13 +13,9 @@ use Rattle.block_step.specs.declared.compiled.Compiled.{Compiled}
 use Rattle.operator_graph.specs.Turns.{Outside}
 use Rattle.aria_batch.specs.BatchRun.{source_of}
 use Rattle.engine.specs.Cores.{Core, IsSoundCore}
-use Rattle.batch_replies.specs.declared.counting.BatchCounts.{BatchCounts}
-use Rattle.session_steps.specs.declared.tally.Tally.{Tally}
-use Rattle.session_steps.specs.Traces.{no_batch, trace_text}
-use Rattle.session_steps.specs.Doings.{RunBatches, BeginBatches}
-use Rattle.session_steps.proofs.PieceLaws.{prefix_whole}
-use Rattle.batch_session.specs.declared.serving.SessionFault.{SessionFault}
-use Rattle.batch_session.specs.declared.serving.SessionFault.TheVariants as stop
+use Rattle.batch_run.specs.Vocabulary.{Tally, no_batch, trace_text, RunBatches, BeginBatches, SessionFault, BatchCounts}
+use Rattle.batch_run.proofs.Vocabulary.{prefix_whole}
+use Rattle.batch_run.specs.SessionFaultVariants as stop
 use Rattle.batch_run.specs.declared.running.RunSettings.{RunSettings}
 use Rattle.batch_run.specs.RunViews.{Shown, run_service, CanServe}
 use Rattle.batch_run.specs.RunTexts.{AnswersAll, AnswersWhole, AnswersFirst, FillsAtLine, FillsAtEnd, AnswersSome, AnswersInPart, PrintsOneRun}

@@ -23,11 +23,8 @@ use Rattle.session_store.specs.declared.store.Store.{Store}
 use Rattle.session_store.specs.declared.store.StoreSettings.{StoreSettings}
 use Rattle.session_store.specs.Endings.{KeepsWhere, next_core}
 use Rattle.session_store.specs.Stores.{HasSnapshotPast, StandsSomewhere, EndsPast}
-use Rattle.session_steps.specs.declared.tally.Tally.{Tally}
-use Rattle.session_steps.specs.Traces.{no_batch, tally_after}
-use Rattle.batch_session.specs.declared.serving.SessionFault.{SessionFault}
-use Rattle.batch_session.specs.declared.serving.SessionFault.TheVariants as stop
-use Rattle.batch_session.specs.Faults.{disk_failed}
+use Rattle.batch_run.specs.Vocabulary.{Tally, no_batch, tally_after, SessionFault, disk_failed}
+use Rattle.batch_run.specs.SessionFaultVariants as stop
 use Rattle.batch_run.specs.RunEvents.{TellsRun}
 use Rattle.batch_run.specs.Runs.{IsUnbegun}
 use Rattle.store_opening.specs.declared.stop.OpenStop.{OpenStop}

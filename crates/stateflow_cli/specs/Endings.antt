@@ -17,10 +17,9 @@ use Rattle.session.specs.declared.feeding.InputEnd.TheVariants as input
 use Rattle.session.specs.declared.stopping.SessionStop.{SessionStop}
 use Rattle.session.specs.declared.stopping.SessionStop.TheVariants as local
 use Rattle.command_words.specs.Commands as words
-use Rattle.session_steps.specs.declared.tally.Tally.{Tally}
-use Rattle.batch_session.specs.declared.serving.SessionFault.{SessionFault}
-use Rattle.batch_session.specs.declared.serving.SessionFault.TheVariants.{ReadFault, WriteFault, InputTooLong, HistoryFull}
-use Rattle.batch_session.specs.declared.serving.SessionFault.TheVariants as cause
+use Rattle.batch_run.specs.Vocabulary.{Tally, SessionFault}
+use Rattle.batch_run.specs.SessionFaultVariants.{ReadFault, WriteFault, InputTooLong, HistoryFull}
+use Rattle.batch_run.specs.SessionFaultVariants as cause
 use Rattle.batch_run.specs.declared.running.RunSettings.{RunSettings}
 use Rattle.batch_run.specs.RunViews.{Shown}
 use Rattle.batch_run.specs.Runs.{Runs}

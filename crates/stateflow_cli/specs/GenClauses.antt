@@ -6,8 +6,7 @@ use Rattle.block_step.specs.declared.compiled.Compiled.{Compiled}
 use Rattle.block_step.specs.CompiledViews.{compiled_program, compiled_names, compiled_tables, compiled_blocks}
 use Rattle.entity_compiler.specs.Compiling.{IsCompiledOf, IsGraphOf}
 use Rattle.operator_graph.specs.Turns.{Outside}
-use Rattle.batch_replies.specs.declared.counting.BatchCounts.{BatchCounts}
-use Rattle.session_steps.specs.Doings.{RunBatches, BeginBatches}
+use Rattle.batch_run.specs.Vocabulary.{RunBatches, BeginBatches, BatchCounts}
 use Rattle.generated_run.specs.Generated.{Starts, service_by, input_of, batch_cores}
 use Rattle.command_words.specs.Commands as words
 use Rattle.program_text.specs.Readings.{HasFault}

@@ -9,10 +9,7 @@ use Rattle.engine.specs.Cores.{Core}
 use Rattle.block_step.specs.CompiledViews.{compiled_program, compiled_names, compiled_tables, compiled_blocks}
 use Rattle.entity_compiler.specs.Compiling.{IsCompiledOf, IsGraphOf}
 use Rattle.operator_graph.specs.Turns.{Outside}
-use Rattle.batch_replies.specs.declared.counting.BatchCounts.{BatchCounts}
-use Rattle.session_steps.specs.Steps.{Step}
-use Rattle.session_steps.specs.Traces.{no_batch, trace_text}
-use Rattle.session_steps.specs.Doings.{RunBatches, BeginBatches}
+use Rattle.batch_run.specs.Vocabulary.{Step, no_batch, trace_text, RunBatches, BeginBatches, BatchCounts}
 use Rattle.command_words.specs.Commands as words
 use Rattle.batch_run.specs.RunViews.{run_service}
 use Rattle.batch_run.specs.RunTexts.{AnswersAll, AnswersWhole, AnswersFirst, FillsAtLine, FillsAtEnd, AnswersSome, AnswersInPart}

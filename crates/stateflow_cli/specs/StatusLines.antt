@@ -7,8 +7,8 @@ use Rattle.py_tree.specs.declared.rule.Rule.{Rule}
 use Rattle.py_tree.specs.declared.rule.Rule.TheVariants as rule
 use Rattle.py_lexer.specs.declared.fault.LexKind.{LexKind}
 use Rattle.py_lexer.specs.declared.fault.LexKind.TheVariants as lex
-use Rattle.batch_session.specs.declared.serving.SessionFault.{SessionFault}
-use Rattle.batch_session.specs.declared.serving.SessionFault.TheVariants as stop
+use Rattle.batch_run.specs.Vocabulary.{SessionFault}
+use Rattle.batch_run.specs.SessionFaultVariants as stop
 use Rattle.sf_outside.specs.declared.store_disk.StoreFile.{StoreFile}
 use Rattle.sf_outside.specs.declared.store_disk.StoreFile.TheVariants.{Log0, Log1, Snap0, Snap1}
 use Rattle.store_opening.specs.declared.stop.OpenStop.{OpenStop}

@@ -22,8 +22,8 @@ use Rattle.session_store.specs.Endings.{next_core}
 use Rattle.session_store.specs.Stores.{HasSnapshotPast, StandsSomewhere, EndsPast}
 use Rattle.session_store.specs.Vocabulary.{IsStorable}
 use Rattle.store_opening.specs.Openings.{WasAt}
-use Rattle.session_steps.specs.Traces.{no_batch, tally_after}
-use Rattle.batch_session.specs.declared.serving.SessionFault.TheVariants.{DiskFault}
+use Rattle.batch_run.specs.Vocabulary.{no_batch, tally_after}
+use Rattle.batch_run.specs.SessionFaultVariants.{DiskFault}
 use Rattle.batch_run.specs.Runs.{Runs}
 use Rattle.batch_run.specs.RunTexts.{AnswersAll, PrintsOneRun, RepliesAllButOne}
 use Rattle.command_words.specs.Commands as words

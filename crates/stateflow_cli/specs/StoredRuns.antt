@@ -18,9 +18,7 @@ use Rattle.session_store.specs.Cycles.{IsInCycle}
 use Rattle.session_store.specs.Endings.{KeepsWhere, next_core}
 use Rattle.session_store.specs.Stores.{HasSnapshotPast, EndsPast}
 use Rattle.session_store.specs.Vocabulary.{IsStorable}
-use Rattle.session_steps.specs.declared.tally.Tally.{Tally}
-use Rattle.batch_session.specs.declared.serving.SessionFault.{SessionFault}
-use Rattle.batch_session.specs.Faults.{disk_failed}
+use Rattle.batch_run.specs.Vocabulary.{Tally, SessionFault, disk_failed}
 use Rattle.batch_run.specs.declared.running.RunSettings.{RunSettings}
 use Rattle.batch_run.specs.RunViews.{Shown}
 use Rattle.batch_run.specs.Runs.{Runs}

@@ -9,7 +9,7 @@ ghost use Rattle.stateflow_cli.specs.CheckLine.{counts_line};
 
 use entity_tables::ClassTable;
 use itoa::Buffer;
-use session_steps::write_pieces;
+use batch_run::write_pieces;
 use sf_outside::{Failed, Sink};
 
 /// How many classes and methods a program has, without `__init__` and `__key__`.

@@ -12,7 +12,7 @@ use crate::fault::fault_name_of;
 use batch_run::SessionFault;
 use itoa::Buffer;
 use program_text::ProgramFault;
-use session_steps::write_pieces;
+use batch_run::write_pieces;
 use sf_outside::{Failed, Sink, StoreFile};
 use store_opening::OpenStop;
 

@@ -6,3 +6,4 @@ pub mod StoreSteps
 pub mod Arrivals
 pub mod KeepingLaws
 pub mod EngineLaws
+pub mod Vocabulary

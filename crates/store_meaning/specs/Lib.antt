@@ -5,3 +5,4 @@ pub mod Checkpoints
 pub mod Arrivals
 pub mod Keeping
 pub mod Engines
+pub mod Vocabulary

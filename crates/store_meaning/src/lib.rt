@@ -14,3 +14,4 @@ pub use laws::{
     arrivals_are_not_logged, checkpoint_is_kept, image_has_one_meaning, logged_batch_is_kept,
 };
 pub use position::Position;
+pub use engine::{Engine, Planned};

@@ -4,7 +4,7 @@ use Rattle.sf_value.specs.declared.Request.{Request}
 use Rattle.reservations.specs.Accesses.{accesses_of, access_of_work}
 use Rattle.commit_order.specs.CommittedSerial.{IsSerial}
 use Rattle.commit_order.proofs.BatchLaws.{committed_is_serial}
-use Rattle.operator_graph.specs.FirstFlights.{acts_of}
+use Rattle.batch_events.specs.Vocabulary.{acts_of}
 use Rattle.aria_batch.specs.BatchRun.{source_of}
 use Rattle.aria_batch.proofs.batch.run_batch.Goals as goal
 

@@ -1,5 +1,5 @@
 use Rattle.std.proofs.Common.{◌≡◌, ◌∙◌, ap, arith}
-use Rattle.operator_graph.specs.Flights.{no_works}
+use Rattle.batch_events.specs.Vocabulary.{no_works}
 use Rattle.aria_batch.proofs.events.empty_works.Goals as goal
 
 pub returns : goal.returns

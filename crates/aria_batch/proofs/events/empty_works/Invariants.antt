@@ -1,5 +1,5 @@
 use Rattle.std.proofs.Common.{◌≡◌}
-use Rattle.operator_graph.specs.Flights.{no_works}
+use Rattle.batch_events.specs.Vocabulary.{no_works}
 use Rattle.aria_batch.proofs.events.empty_works.Given as goal
 
 abbrev pub invariant-loop : goal.invariant-loop

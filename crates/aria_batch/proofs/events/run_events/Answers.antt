@@ -1,9 +1,6 @@
 use Rattle.std.proofs.Common.{◌≡◌, ◌≤◌, ◌*◌, ap, sym, ◌∙◌, arith, subst, length, Ok}
-use Rattle.batch_events.specs.Vocabulary.{firsts, most_weight}
-use Rattle.operator_graph.specs.FirstFlights.{acts_of}
+use Rattle.batch_events.specs.Vocabulary.{firsts, most_weight, acts_of, EachTransaction, no_works, IsUnderWay, flights_in, weight_in_flight}
 use Rattle.aria_batch.specs.BatchRun.{source_of}
-use Rattle.operator_graph.specs.Flights.{EachTransaction, no_works}
-use Rattle.operator_graph.specs.BatchInFlight.{IsUnderWay, flights_in, weight_in_flight}
 use Rattle.aria_batch.proofs.BatchLaws.{uncounted, begins, goes_on, stops, all_told, works_of_runs, outcomes_of_runs, nothing_told}
 use Rattle.aria_batch.proofs.events.run_events.Goals as goal
 

@@ -1,6 +1,5 @@
 use Rattle.std.proofs.Common.{◌≤◌, ◌+◌, ◌*◌, ◌^◌}
-use Rattle.batch_events.specs.Vocabulary.{most_weight}
-use Rattle.operator_graph.specs.BatchInFlight.{IsUnderWay, flights_in, weight_in_flight}
+use Rattle.batch_events.specs.Vocabulary.{most_weight, IsUnderWay, flights_in, weight_in_flight}
 use Rattle.aria_batch.proofs.BatchLaws.{SoFar}
 use Rattle.aria_batch.proofs.events.run_events.Given as goal
 

@@ -1,5 +1,4 @@
-use Rattle.engine.specs.EngineViews.{core_of, compiled_of}
-use Rattle.batch_output.specs.Vocabulary.{batch_of}
+use Rattle.batch_output.specs.Vocabulary.{batch_of, core_of, compiled_of}
 use Rattle.batch_replies.proofs.AnswerLaws.{tells_planned}
 use Rattle.batch_replies.proofs.answering.answer_batch.Goals as goal
 

@@ -1,7 +1,6 @@
 use Rattle.std.proofs.Common.{◌<◌, length, sym, subst}
 use Rattle.sf_outside.proofs.ImageSteps.{on_ok}
-use Rattle.engine.specs.Cores.{Core}
-use Rattle.engine.specs.EngineViews.{core_of, source_of}
+use Rattle.batch_output.specs.Vocabulary.{Core, core_of, source_of}
 use Rattle.session_store.proofs.Vocabulary.{commit_storable, plan_is_spelt}
 use Rattle.batch_replies.proofs.AnswerLaws.{answered, plan_replies}
 use Rattle.batch_replies.proofs.CountLaws.{fewer_left}

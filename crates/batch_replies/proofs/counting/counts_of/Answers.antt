@@ -1,5 +1,5 @@
 use Rattle.std.proofs.Common.{ap, length, arith}
-use Rattle.engine.specs.EngineViews.{core_of}
+use Rattle.batch_output.specs.Vocabulary.{core_of}
 use Rattle.batch_replies.proofs.CountLaws.{few_committed, few_replies}
 use Rattle.batch_replies.proofs.counting.counts_of.Goals as goal
 

@@ -1,7 +1,7 @@
 use Rattle.std.proofs.Common.{sym, ap, ◌∙◌, ◌++◌, [], length, take, get_or}
 use Rattle.std.specs.List.{slice_get, cons_option}
-use Rattle.engine.specs.Batches.{requests_at}
-use Rattle.engine.proofs.CopyLaws.{given_more}
+use Rattle.batch_output.specs.Vocabulary.{requests_at}
+use Rattle.batch_output.proofs.Vocabulary.{given_more}
 use Rattle.batch_replies.specs.LinesInOrder.{line_of, reply_lines}
 use Rattle.batch_replies.proofs.ReplyLaws.{lines_given}
 use Rattle.batch_replies.proofs.lines.reply_lines.Goals as goal

@@ -1,5 +1,5 @@
 use Rattle.std.proofs.Common.{◌≡◌, take}
-use Rattle.engine.specs.Batches.{requests_at}
+use Rattle.batch_output.specs.Vocabulary.{requests_at}
 use Rattle.batch_replies.specs.LinesInOrder.{reply_lines}
 use Rattle.batch_replies.proofs.lines.reply_lines.Given as goal
 

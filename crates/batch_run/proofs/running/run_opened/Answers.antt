@@ -3,7 +3,7 @@ use Rattle.block_step.specs.CompiledViews.{compiled_tables, compiled_blocks}
 use Rattle.operator_graph.specs.Turns.{Outside}
 use Rattle.reservations.specs.BatchRule.{batch_rule}
 use Rattle.engine.specs.EngineViews.{core_of, compiled_of}
-use Rattle.line_answers.specs.Services.{service_of}
+use Rattle.batch_session.specs.Vocabulary.{service_of}
 use Rattle.batch_session.specs.declared.settings.Settings.{Settings}
 use Rattle.batch_session.specs.Served.{View, Served}
 use Rattle.batch_run.specs.RunEvents.{Starts}

@@ -1,6 +1,6 @@
 use Rattle.std.proofs.Common.{◌<◌, ◌^◌, ◌∙◌, refl, ap, length, Err, arith}
 use Rattle.engine.specs.EngineViews.{core_of}
-use Rattle.line_answers.specs.Services.{Service, service_of}
+use Rattle.session_steps.specs.Vocabulary.{Service, service_of}
 use Rattle.session_steps.specs.Steps.{RunWaiting}
 use Rattle.session_steps.specs.Doings.{Point}
 use Rattle.session_steps.proofs.Leaves as leaves

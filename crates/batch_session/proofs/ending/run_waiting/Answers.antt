@@ -1,7 +1,7 @@
 use Rattle.std.proofs.Common.{◌∙◌, refl, ap, sym, Ok, Err, arith}
 use Rattle.std.proofs.lemmas.Result.{err_from_is_err_and}
-use Rattle.line_answers.specs.Services.{service_of}
-use Rattle.line_answers.proofs.TakenLaws.{same_service}
+use Rattle.session_steps.specs.Vocabulary.{service_of}
+use Rattle.session_steps.proofs.Vocabulary.{same_service}
 use Rattle.session_steps.proofs.Composing.{Comes-passed, Comes-same}
 use Rattle.session_steps.proofs.Endings.{Ending-none, Ending-more, Ending-over, Ending-stop}
 use Rattle.batch_session.proofs.SameProgram.{fits_back, sound_on, sound_back, runs_on}

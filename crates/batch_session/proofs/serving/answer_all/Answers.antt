@@ -1,7 +1,7 @@
 use Rattle.std.proofs.Common.{ap, Ok, Err}
 use Rattle.batch_session.specs.declared.feeding.InputEnd.TheVariants.{End, ReadFault, TooLong}
-use Rattle.line_answers.specs.Services.{Service, service_of}
-use Rattle.line_answers.proofs.TakenLaws.{same_service}
+use Rattle.session_steps.specs.Vocabulary.{Service, service_of}
+use Rattle.session_steps.proofs.Vocabulary.{same_service}
 use Rattle.session_steps.specs.Doings.{Point}
 use Rattle.batch_session.specs.Points.{point_of}
 use Rattle.batch_session.specs.Served.{View, view_of}

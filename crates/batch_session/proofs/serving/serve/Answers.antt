@@ -1,4 +1,4 @@
-use Rattle.line_answers.specs.Services.{service_of}
+use Rattle.session_steps.specs.Vocabulary.{service_of}
 use Rattle.batch_session.specs.Served.{view_of}
 use Rattle.batch_session.proofs.ServeLaws.{Served-flushed}
 use Rattle.batch_session.proofs.serving.serve.Goals as goal

@@ -1,6 +1,6 @@
 use Rattle.std.proofs.Common.{◌≡◌, ◌≤◌, length, take}
 use Rattle.program_meaning.specs.Serial.{outcomes_of}
-use Rattle.batch_replies.specs.BatchAnswers.{failure_count}
+use Rattle.batch_session.specs.Vocabulary.{failure_count}
 use Rattle.engine.specs.EngineViews.{core_of}
 use Rattle.generated_run.proofs.counting.count_entries.Given as goal
 

@@ -7,8 +7,7 @@ use Rattle.reservations.specs.BatchRule.{batch_rule}
 use Rattle.reservations.specs.BatchRuleLaws.{batch_rule_is_lawful}
 use Rattle.engine.specs.EngineViews.{core_of, source_of, compiled_of, fresh_of}
 use Rattle.batch_session.proofs.Vocabulary.{never_failed}
-use Rattle.line_answers.specs.Services.{Service, service_of, limits_of}
-use Rattle.session_steps.specs.declared.tally.Tally.{Tally}
+use Rattle.batch_session.specs.Vocabulary.{Tally, Service, service_of, limits_of}
 use Rattle.batch_session.specs.Faults.{disk_failed}
 use Rattle.batch_session.specs.Served.{View, view_of}
 use Rattle.generated_run.specs.declared.running.GenSettings.{GenSettings}

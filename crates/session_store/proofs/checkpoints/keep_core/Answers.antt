@@ -1,5 +1,5 @@
 use Rattle.std.proofs.Common.{inl, inr, sym, subst}
-use Rattle.engine.specs.EngineViews.{core_of}
+use Rattle.store_meaning.specs.Vocabulary.{core_of}
 use Rattle.store_meaning.specs.Engines.{program_of}
 use Rattle.session_store.specs.Checkpoints.{HasSnapshot}
 use Rattle.session_store.proofs.Snapshots.{moments_checked, snapshot_past}

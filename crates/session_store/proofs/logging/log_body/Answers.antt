@@ -1,8 +1,7 @@
 use Rattle.std.proofs.Common.{◌⊎◌, Some, inl, inr, sym, subst}
 use Rattle.sf_outside.specs.Causes.{Rose}
 use Rattle.request_log.specs.LogFile.{IsBatch}
-use Rattle.engine.specs.Batches.{after_batch}
-use Rattle.engine.specs.EngineViews.{core_of, source_of}
+use Rattle.store_meaning.specs.Vocabulary.{after_batch, core_of, source_of}
 use Rattle.store_meaning.specs.Engines.{logged_of}
 use Rattle.session_store.specs.Stores.{KeepsStored, LeavesStored, RecordEndsPast}
 use Rattle.session_store.proofs.LoggingLaws.{on_err, body_short, keeps_logged, moments_logged, record_past}

@@ -1,8 +1,6 @@
 use Rattle.std.proofs.Common.{refl, ap, ◌+◌, Ok, Err, Some, None}
 use Rattle.engine.specs.EngineViews.{core_of}
-use Rattle.line_answers.specs.LineViews.{cut}
-use Rattle.line_answers.specs.LineAnswers.{before}
-use Rattle.line_answers.specs.Services.{Service, service_of}
+use Rattle.session_steps.specs.Vocabulary.{cut, before, Service, service_of}
 use Rattle.session_steps.specs.Steps.{Answer}
 use Rattle.session_steps.specs.Doings.{Point, moment}
 use Rattle.session_steps.proofs.Leaves.{Does-line, Stops-line, Comes-one}

@@ -1,8 +1,8 @@
 use Rattle.std.proofs.Common.{◌∙◌, ap, refl, Err}
 use Rattle.std.proofs.lemmas.Result.{err_from_is_err_and}
 use Rattle.request_json.specs.Actions.{last_line}
-use Rattle.line_answers.specs.Services.{service_of}
-use Rattle.line_answers.proofs.TakenLaws.{same_service}
+use Rattle.session_steps.specs.Vocabulary.{service_of}
+use Rattle.session_steps.proofs.Vocabulary.{same_service}
 use Rattle.session_steps.proofs.Composing.{Comes-passed, Comes-same}
 use Rattle.session_steps.proofs.Endings.{Last-stop, Last-then}
 use Rattle.batch_session.proofs.KeepLaws.{kept_passed}

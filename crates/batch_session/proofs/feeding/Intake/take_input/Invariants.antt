@@ -4,7 +4,7 @@ use Rattle.engine.specs.EngineViews.{core_of, source_of, tables_of, compiled_of,
 use Rattle.session_store.specs.Vocabulary.{logged_of, IsStorable}
 use Rattle.session_store.specs.Cycles.{IsInCycle}
 use Rattle.session_store.specs.Stores.{settings_of, Keeps}
-use Rattle.line_answers.specs.Services.{service_of}
+use Rattle.session_steps.specs.Vocabulary.{service_of}
 use Rattle.batch_session.specs.Points.{point_of}
 use Rattle.batch_session.proofs.TakeLaws.{Going}
 use Rattle.batch_session.proofs.feeding.Intake.take_input.Given as goal

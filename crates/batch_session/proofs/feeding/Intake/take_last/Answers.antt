@@ -1,7 +1,7 @@
 use Rattle.std.proofs.Common.{◌≡◌, ap, arith, length}
 use Rattle.std.proofs.lemmas.List.{nil_from_length}
 use Rattle.std.proofs.lemmas.Bool.Decides.{nat_tests}
-use Rattle.line_answers.specs.Services.{service_of}
+use Rattle.session_steps.specs.Vocabulary.{service_of}
 use Rattle.batch_session.proofs.FeedLaws.{last-none, last-line}
 use Rattle.batch_session.proofs.feeding.Intake.take_last.Goals as goal
 

@@ -1,6 +1,6 @@
 use Rattle.std.proofs.Common.{◌∙◌, ap, refl, Ok, Err, Some}
 use Rattle.std.proofs.lemmas.Result.{err_from_is_err_and}
-use Rattle.line_answers.specs.Services.{service_of}
+use Rattle.session_steps.specs.Vocabulary.{service_of}
 use Rattle.batch_session.proofs.FeedLaws.{Feeds-no_memory, Feeds-line, Feeds-none_whole, Feeds-stop, Feeds-told}
 use Rattle.batch_session.proofs.KeepLaws.{kept_passed}
 use Rattle.batch_session.proofs.feeding.Intake.take_line.Goals as goal

@@ -1,8 +1,8 @@
 use Rattle.std.proofs.Common.{◌-◌, ◌∙◌, refl, ap, Ok, Err, List, ℕ, length, take, drop, arith}
 use Rattle.std.proofs.lemmas.List.{length-take, length-drop}
 use Rattle.std.proofs.lemmas.Result.{err_from_is_err_and}
-use Rattle.line_answers.specs.Services.{service_of}
-use Rattle.line_answers.proofs.TakenLaws.{same_service}
+use Rattle.session_steps.specs.Vocabulary.{service_of}
+use Rattle.session_steps.proofs.Vocabulary.{same_service}
 use Rattle.batch_session.proofs.SameProgram.{fits_back, sound_on, sound_back, runs_on}
 use Rattle.batch_session.proofs.FeedLaws.{Feeds-none, Feeds-next, Feeds-from, Feeds-passed, Feeds-other, Feeds-same, from_place}
 use Rattle.batch_session.proofs.KeepLaws.{kept_passed}

@@ -1,0 +1,3 @@
+-- The lemmas of lower crates that the crates above this one name from here.
+pub use Rattle.line_answers.proofs.LineLaws.{line_fits}
+pub use Rattle.line_answers.proofs.TakenLaws.{same_service}

@@ -1,0 +1,2 @@
+-- The lemmas of lower crates that the crates above this one name from here.
+pub use Rattle.engine.proofs.PlanReplays.{plans_replay}
