@@ -4,6 +4,7 @@ pub use Rattle.engine.specs.Cores.{Core, CoreFits, IsSoundCore}
 pub use Rattle.engine.specs.EngineViews.{RunsProgram, compiled_of, core_of, fresh_of, limit_of, source_of, tables_of}
 pub use Rattle.engine.specs.Plans.{IsPlanOf}
 pub use Rattle.engine.specs.RanBatches.{accesses_on}
+pub use Rattle.engine.specs.Replays.{settled}
 pub use Rattle.engine.specs.Vocabulary.{Batch, IsToldAlong, batch_of}
 pub use Rattle.engine.specs.declared.engine.Engine.{Engine}
 pub use Rattle.engine.specs.declared.planned.Planned.{Planned}

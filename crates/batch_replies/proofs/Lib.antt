@@ -3,3 +3,4 @@ pub mod CountLaws
 pub mod WriteLaws
 pub mod AnswerLaws
 pub mod Vocabulary
+pub mod MomentLaws

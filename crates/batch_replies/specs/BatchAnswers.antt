@@ -1,6 +1,6 @@
 -- What a batch that is due comes to where it is run, logged, committed and answered: the core behind it, what the output gained, what is counted,
 -- and what is told.
-use Rattle.std.specs.Prelude.{◌≡◌, ℕ, ◌+◌, Bool, false, true, List, [], ◌∷◌, length, Some, None, Ok, Err}
+use Rattle.std.specs.Prelude.{◌≡◌, ℕ, ◌+◌, Bool, false, true, List, [], ◌∷◌, length, Some, None, Ok, Err, if◌then◌else◌}
 use Rattle.std.specs.declared.option.Option.{Option}
 use Rattle.std.specs.declared.result.Result.{Result}
 use Rattle.std.specs.Io.KnownBytes.{Appends}
@@ -35,6 +35,10 @@ module _ (src : Source) (rule : List Access → Chosen) (limits : Limits) where
   -- the core behind the batch that the rule commits, and the text of its reply lines
   abbrev pub core_behind : Core → Core
   core_behind core = after_batch src core (committed src rule limits core)
+
+  -- the core that a batch is run on, where the history has a place for it
+  abbrev pub runs_on : Core → List Core
+  runs_on core = if has_no_place src rule limits core then [] else core ∷ []
 
   abbrev pub reply_text : Core → List ℕ
   reply_text core = joined (batch_lines src rule limits core)

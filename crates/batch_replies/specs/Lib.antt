@@ -1,3 +1,4 @@
 pub mod BatchAnswers
 pub mod LinesInOrder
 pub mod Vocabulary
+pub mod Moments

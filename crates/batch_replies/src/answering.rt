@@ -1,7 +1,7 @@
 //! A batch from its run to its replies. All memory is taken before its record is logged, the record is logged
 //! before the batch is committed, and the commit comes before the first reply.
 
-ghost use Rattle.std.specs.Prelude.{◌≡◌, ◌≢◌, ◌≤◌, ◌<◌, ◌⊎◌, ℕ, true, List, length, IfOk, IfErr, OnOk, OnErr, Err};
+ghost use Rattle.std.specs.Prelude.{◌≡◌, ◌≢◌, ◌≤◌, ◌<◌, ◌⊎◌, ℕ, true, List, [], ◌∷◌, length, IfOk, IfErr, OnOk, OnErr, Err};
 ghost use Rattle.std.specs.Io.KnownBytes.{Appends};
 ghost use Rattle.sf_outside.specs.Bytes.{AppendsPrefix};
 ghost use Rattle.sf_outside.specs.Causes.{Rose, HasCause};
@@ -14,9 +14,10 @@ ghost use Rattle.batch_output.specs.Vocabulary.{batch_of, requests_at, CoreFits,
 ghost use Rattle.session_store.specs.Vocabulary.{logged_of, IsStorable};
 ghost use Rattle.session_store.specs.Cycles.{cycle_of};
 ghost use Rattle.session_store.specs.Endings.{KeepsWhere, next_core};
-ghost use Rattle.session_store.specs.Stores.{Keeps, IsRecordFor, EndsPast};
-ghost use Rattle.batch_replies.specs.BatchAnswers.{AnswersBatch, TellsBatch, IsChosenBy, disk_failed, fresh_behind};
+ghost use Rattle.session_store.specs.Stores.{settings_of, Keeps, IsRecordFor, EndsPast};
+ghost use Rattle.batch_replies.specs.BatchAnswers.{AnswersBatch, TellsBatch, IsChosenBy, disk_failed, fresh_behind, runs_on};
 ghost use Rattle.batch_replies.specs.LinesInOrder.{reply_lines};
+ghost use Rattle.batch_replies.specs.Moments.{Logs};
 
 use crate::counting::{BatchCounts, counts_of};
 use crate::drafts::{Draft, draft_of};
@@ -76,6 +77,9 @@ pub fn answer_batch<R: CommitRule, K: Sink, D: Disk, C: Chooser, W: Watch>(
     ensures storable { IsStorable (core_of engine.new) (fresh_of engine.new) }
     ensures kept { KeepsWhere (disk_failed result) store.new (source_of engine.new) (logged_of engine.new)
         (next_core (R.choice rule.now) (source_of engine.new) (core_of engine.new)) (D.facts disk.new) }
+    ensures logs { (size : ℕ) → Logs (source_of engine.old) (R.choice rule.now) (settings_of store.old)
+        (runs_on (source_of engine.old) (R.choice rule.now) (record { batch = size; history = limit_of engine.old }) (core_of engine.old))
+        (logged_of engine.old) (logged_of engine.new) (D.facts disk.old) (D.facts disk.new) }
     ensures cycle { cycle_of store.new ≡ cycle_of store.old }
     ensures later_disk { D.faults disk.old ≤ D.faults disk.new }
     ensures disk_cause { disk_failed result ≡ true → Rose (D.faults disk.old) (D.faults disk.new)
@@ -118,6 +122,9 @@ fn answer_planned<K: Sink, D: Disk>(
     ensures kept { (rule : List Access → Chosen) → IsChosenBy rule engine.old planned.batch.committed
         → KeepsWhere (disk_failed result) store.new (source_of engine.new) (logged_of engine.new)
         (next_core rule (source_of engine.new) (core_of engine.new)) (D.facts disk.new) }
+    ensures logs { (rule : List Access → Chosen) → IsChosenBy rule engine.old planned.batch.committed
+        → Logs (source_of engine.old) rule (settings_of store.old) (core_of engine.old ∷ []) (logged_of engine.old) (logged_of engine.new)
+        (D.facts disk.old) (D.facts disk.new) }
     ensures cycle { cycle_of store.new ≡ cycle_of store.old }
     ensures later_disk { D.faults disk.old ≤ D.faults disk.new }
     ensures disk_cause { (rule : List Access → Chosen) → IsChosenBy rule engine.old planned.batch.committed
@@ -165,6 +172,9 @@ fn answer_drafted<K: Sink, D: Disk>(
     ensures kept { (rule : List Access → Chosen) → IsChosenBy rule engine.old planned.batch.committed
         → KeepsWhere (disk_failed result) store.new (source_of engine.new) (logged_of engine.new)
         (next_core rule (source_of engine.new) (core_of engine.new)) (D.facts disk.new) }
+    ensures logs { (rule : List Access → Chosen) → IsChosenBy rule engine.old planned.batch.committed
+        → Logs (source_of engine.old) rule (settings_of store.old) (core_of engine.old ∷ []) (logged_of engine.old) (logged_of engine.new)
+        (D.facts disk.old) (D.facts disk.new) }
     ensures cycle { cycle_of store.new ≡ cycle_of store.old }
     ensures later_disk { D.faults disk.old ≤ D.faults disk.new }
     ensures disk_cause { (rule : List Access → Chosen) → IsChosenBy rule engine.old planned.batch.committed

@@ -8,7 +8,8 @@ ghost use Rattle.engine.specs.Cores.{Core, CoreFits, IsSoundCore, empty_core};
 ghost use Rattle.engine.specs.EngineViews.{core_of, source_of, tables_of, compiled_of, limit_of, fresh_of, RunsProgram};
 ghost use Rattle.batch_session.specs.Vocabulary.{logged_of, IsStorable, IsInCycle, KeepsWhere, next_core, settings_of, Keeps, EndsPast};
 ghost use Rattle.batch_session.specs.Faults.{disk_failed};
-ghost use Rattle.batch_run.specs.RunViews.{shown, CanServe};
+ghost use Rattle.batch_session.specs.Served.{LogsServed};
+ghost use Rattle.batch_run.specs.RunViews.{run_service, shown, CanServe};
 ghost use Rattle.batch_run.specs.Runs.{Runs};
 
 use batch_session::{NoDisk, SessionFault, Settings, Store, serve};
@@ -134,6 +135,9 @@ pub fn run_opened<S: Source, K: Sink, E: Sink, D: Disk, C: Chooser, W: Watch>(
     ensures storable { IsStorable (core_of engine.new) (fresh_of engine.new) }
     ensures kept { KeepsWhere (disk_failed result) store.new (source_of engine.new) (logged_of engine.new)
         (next_core batch_rule (source_of engine.new) (core_of engine.new)) (D.facts disk.new) }
+    ensures logs { LogsServed (run_service (compiled_of engine.old) settings.now) (settings_of store.old) settings.now.limit
+        (core_of engine.old) (S.left input.old) (S.left input.new)
+        (logged_of engine.old) (logged_of engine.new) (D.facts disk.old) (D.facts disk.new) }
     ensures in_cycle { IfOk result (λ tally. IsInCycle store.new tally.batches) }
     ensures settings { settings_of store.new ≡ settings_of store.old }
     ensures later_disk { D.faults disk.old ≤ D.faults disk.new }

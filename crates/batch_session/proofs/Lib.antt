@@ -8,3 +8,4 @@ pub mod TakeLaws
 pub mod FlushLaws
 pub mod ServeLaws
 pub mod Vocabulary
+pub mod LoggedLaws

@@ -21,10 +21,10 @@ use Rattle.batch_session.specs.Served.{View, point_at, first_point, ServedWhole,
 use Rattle.batch_session.proofs.FlushLaws.{Comes-flushed}
 
 -- it began before the first line
-pub Takes-first : (v : Service) (traces : Bool) (limit : ℕ) (r : Result InputEnd LineStop) (kept : List ℕ) (left left' : Option (List ℕ)) (old : View) (lines : ℕ) (tally : Tally) (q : Point) → lines ≡ 0 → tally ≡ no_batch
-    → Takes v traces limit r kept left left' (point_at old lines tally) q → Takes v traces limit r kept left left' (first_point old) q
-Takes-first v traces limit r kept left left' old lines tally q none uncounted t =
-    subst (λ n. Takes v traces limit r kept left left' (point_at old n no_batch) q) none (subst (λ c. Takes v traces limit r kept left left' (point_at old lines c) q) uncounted t)
+pub Takes-first : (v : Service) (traces : Bool) (limit : ℕ) (P : List ℕ → Type 0) (r : Result InputEnd LineStop) (kept : List ℕ) (left left' : Option (List ℕ)) (old : View) (lines : ℕ) (tally : Tally) (q : Point) → lines ≡ 0
+    → tally ≡ no_batch → Takes v traces limit P r kept left left' (point_at old lines tally) q → Takes v traces limit P r kept left left' (first_point old) q
+Takes-first v traces limit P r kept left left' old lines tally q none uncounted t =
+    subst (λ n. Takes v traces limit P r kept left left' (point_at old n no_batch) q) none (subst (λ c. Takes v traces limit P r kept left left' (point_at old lines c) q) uncounted t)
 
 module _ (v : Service) (traces : Bool) (limit : ℕ) where
   -- The exits

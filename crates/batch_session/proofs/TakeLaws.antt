@@ -87,9 +87,10 @@ module _ (v : Service) (traces : Bool) where
   }
 
   -- the session stopped while it answered the lines of a piece
-  pub Takes-stopped : (V : Type 0) (stop : LineStop) (r : Result InputEnd LineStop) (limit count : ℕ) (k₁ k₂ : List ℕ) (left l₁ l₂ : Option (List ℕ)) (p₀ p₁ p₂ : Point) (piece fed : List ℕ) → r ≡ Err stop
+  pub Takes-stopped : (V : Type 0) (stop : LineStop) (P : List ℕ → Type 0) (r : Result InputEnd LineStop) (limit count : ℕ) (k₁ k₂ : List ℕ) (left l₁ l₂ : Option (List ℕ)) (p₀ p₁ p₂ : Point) (piece fed : List ℕ) → r ≡ Err stop
       → (w : Going v traces count k₁ left l₁ p₀ p₁) → Consumes l₁ l₂ piece → fed ≡ piece → count + length piece ≤ limit → Feeds v traces {T = V} (Err stop) k₂ (rest_from [] w.taken) fed p₁ p₂
-      → Takes v traces limit r k₂ left l₂ p₀ p₂
-  Takes-stopped V stop r limit count k₁ k₂ left l₁ l₂ p₀ p₁ p₂ piece fed k w c same n f =
+      → P (w.taken ++ piece) → Takes v traces limit P r k₂ left l₂ p₀ p₂
+  Takes-stopped V stop P r limit count k₁ k₂ left l₁ l₂ p₀ p₁ p₂ piece fed k w c same n f holds =
       let q : Feeds v traces {T = V} (Err stop) k₂ (rest_from [] w.taken) piece p₁ p₂ = subst (λ bytes. Feeds v traces {T = V} (Err stop) k₂ (rest_from [] w.taken) bytes p₁ p₂) same f in
-      subst (λ x. Takes v traces limit x k₂ left l₂ p₀ p₂) (sym k) (Went-step (Err stop) limit count k₁ k₂ left l₁ l₂ p₀ p₁ p₂ piece w c n (Feeds-passed v traces V stop (Err stop) k₂ _ piece p₁ p₂ refl q))
+      subst (λ x. Takes v traces limit P x k₂ left l₂ p₀ p₂) (sym k)
+      (Went-step (Err stop) limit count k₁ k₂ left l₁ l₂ p₀ p₁ p₂ piece w c n (Feeds-passed v traces V stop (Err stop) k₂ _ piece p₁ p₂ refl q), holds)

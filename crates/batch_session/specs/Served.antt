@@ -1,20 +1,21 @@
 -- What a session in batches has done for the input that it took.
-use Rattle.std.specs.Prelude.{◌≡◌, ℕ, ◌≤◌, ◌⊎◌, Bool, List, [], ◌∷◌, length, Ok, Err}
+use Rattle.std.specs.Prelude.{◌≡◌, ℕ, ◌≤◌, ◌⊎◌, Bool, List, [], ◌∷◌, length, take, Ok, Err}
 use Rattle.std.specs.declared.option.Option.{Option}
 use Rattle.std.specs.declared.result.Result.{Result}
 use Rattle.std.specs.Io.KnownBytes.{Consumes, IsAtEnd}
 use Rattle.sf_outside.specs.Choices.{Choices}
+use Rattle.sf_outside.specs.DiskModel.{DiskFacts}
 use Rattle.operator_graph.specs.Telling.{Told}
 use Rattle.operator_graph.specs.Turns.{Outside}
 use Rattle.engine.specs.declared.engine.Engine.{Engine}
 use Rattle.engine.specs.Cores.{Core}
 use Rattle.engine.specs.EngineViews.{core_of}
-use Rattle.session_steps.specs.Vocabulary.{LineStop, Service}
+use Rattle.session_steps.specs.Vocabulary.{LineStop, Service, StoreSettings}
 use Rattle.session_steps.specs.LineStopVariants as line
 use Rattle.session_steps.specs.declared.tally.Tally.{Tally}
-use Rattle.session_steps.specs.Steps.{whole_steps, all_steps}
+use Rattle.session_steps.specs.Steps.{Step, whole_steps, all_steps}
 use Rattle.session_steps.specs.Traces.{no_batch}
-use Rattle.session_steps.specs.Doings.{Point, Comes}
+use Rattle.session_steps.specs.Doings.{Point, Comes, LogsSteps}
 use Rattle.batch_session.specs.declared.serving.SessionFault.{SessionFault}
 use Rattle.batch_session.specs.declared.serving.SessionFault.TheVariants.{ReadFault, WriteFault, DiskFault, InputTooLong, HistoryFull, NoMemory}
 
@@ -94,3 +95,13 @@ module _ (v : Service) (traces : Bool) (limit : ℕ) where
   Served (Err NoMemory) old new = Serves (Err NoMemory) old new
   Served (Err DiskFault) old new = Serves (Err DiskFault) old new
   Served (Err WriteFault) old new = (before : Result (Unit {0}) SessionFault) × Serves before old new
+
+-- These bytes were taken, and these are their steps: those of the whole lines of the first, as many as may come; or of all of them where the input
+-- had ended. What is logged behind them, and what each moment since may leave in the store.
+pub record LogsServed (v : Service) (settings : Option StoreSettings) (limit : ℕ) (core : Core) (left left' : Option (List ℕ)) (first last : Core)
+    (old new : DiskFacts) : Type 0 where
+  pub taken : List ℕ
+  pub consumed : Consumes left left' taken
+  pub steps : List Step
+  pub of_taken : (steps ≡ whole_steps (take limit taken)) ⊎ ((length taken ≤ limit) × IsAtEnd left' × (steps ≡ all_steps v core taken))
+  pub logs : LogsSteps v settings core 0 steps first last old new

@@ -26,9 +26,11 @@ pub record WentOver {T : Type 0} (v : Service) (traces : Bool) (result : Result 
   pub next : ℕ
   pub beyond : Consumes before left' (next ∷ [])
 
--- the input ended, could not be read, or was too long; or the session stopped
-abbrev pub Takes : Service → Bool → ℕ → Result InputEnd LineStop → List ℕ → Option (List ℕ) → Option (List ℕ) → Point → Point → Type 0
-Takes v traces limit (Ok End) kept left left' old new = Went {T = InputEnd} v traces (Ok End) limit kept left left' old new × IsAtEnd left'
-Takes v traces limit (Ok ReadFault) kept left left' old new = Went {T = InputEnd} v traces (Ok ReadFault) limit kept left left' old new
-Takes v traces limit (Ok TooLong) kept left left' old new = WentOver {T = InputEnd} v traces (Ok TooLong) limit kept left left' old new
-Takes v traces limit (Err stop) kept left left' old new = Went {T = InputEnd} v traces (Err stop) limit kept left left' old new
+-- the input ended, could not be read, or was too long; or the session stopped. And this holds of the bytes that were fed.
+abbrev pub Takes : Service → Bool → ℕ → (List ℕ → Type 0) → Result InputEnd LineStop → List ℕ → Option (List ℕ) → Option (List ℕ) → Point → Point → Type 0
+Takes v traces limit P (Ok End) kept left left' old new =
+    (w : Went {T = InputEnd} v traces (Ok End) limit kept left left' old new) × IsAtEnd left' × P w.taken
+Takes v traces limit P (Ok ReadFault) kept left left' old new = (w : Went {T = InputEnd} v traces (Ok ReadFault) limit kept left left' old new) × P w.taken
+Takes v traces limit P (Ok TooLong) kept left left' old new =
+    (w : WentOver {T = InputEnd} v traces (Ok TooLong) limit kept left left' old new) × P w.went.taken
+Takes v traces limit P (Err stop) kept left left' old new = (w : Went {T = InputEnd} v traces (Err stop) limit kept left left' old new) × P w.taken

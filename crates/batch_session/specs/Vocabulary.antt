@@ -3,7 +3,7 @@ pub use Rattle.session_steps.specs.Doings.{BeginBatches, Comes, Does, Point, Run
 pub use Rattle.session_steps.specs.StepLaws.{ComesBegin, HasBegun, StepsPrint, ToldAs, TracedAs, WroteAs}
 pub use Rattle.session_steps.specs.Steps.{Answer, RunWaiting, Step, all_steps, answers, behind, endings, move_of, printed, printed_at, ran_on, standing_after, whole_steps}
 pub use Rattle.session_steps.specs.Traces.{no_batch, tally_after, trace_text}
-pub use Rattle.session_steps.specs.Vocabulary.{ActionFits, BatchCounts, HasPlace, IsUnanswered, IsUnplanned, IsUnreplied, IsUntaken, LineStop, Move, Service, core_behind, failure_count, limits_of, program_of, service_of, whole_text}
+pub use Rattle.session_steps.specs.Vocabulary.{ActionFits, BatchCounts, HasPlace, IsUnanswered, IsUnplanned, IsUnreplied, IsUntaken, LineStop, Move, Service, StandsLogged, core_behind, failure_count, limits_of, program_of, service_of, whole_text}
 pub use Rattle.session_steps.specs.declared.tally.Tally.{Tally}
 pub use Rattle.session_store.specs.Cycles.{IsInCycle}
 pub use Rattle.session_store.specs.Endings.{KeepsWhere, next_core}

@@ -1,6 +1,6 @@
 //! Batches at the end of the input, until nothing waits.
 
-ghost use Rattle.std.specs.Prelude.{◌≡◌, ◌≤◌, ◌<◌, ◌⊎◌, ℕ, true, [], length, OnOk, Err};
+ghost use Rattle.std.specs.Prelude.{◌≡◌, ◌≤◌, ◌<◌, ◌⊎◌, ℕ, true, [], ◌∷◌, length, OnOk, Err};
 ghost use Rattle.sf_outside.specs.Causes.{Rose};
 ghost use Rattle.block_step.specs.CompiledViews.{IsWhole};
 ghost use Rattle.engine.specs.Cores.{CoreFits, IsSoundCore};
@@ -10,6 +10,8 @@ ghost use Rattle.session_store.specs.Cycles.{IsInCycle};
 ghost use Rattle.session_store.specs.Endings.{KeepsWhere, next_core};
 ghost use Rattle.session_store.specs.Stores.{settings_of, Keeps, EndsPast};
 ghost use Rattle.session_steps.specs.Vocabulary.{disk_failed, service_of};
+ghost use Rattle.session_steps.specs.Steps.{RunWaiting, endings, open_at};
+ghost use Rattle.session_steps.specs.Doings.{LogsSteps};
 ghost use Rattle.batch_session.specs.Points.{point_of, stop_of};
 ghost use Rattle.batch_session.specs.Feeds.{RunsOne, RunsWaiting};
 
@@ -62,6 +64,9 @@ pub(crate) fn run_waiting<R: CommitRule, K: Sink, E: Sink, D: Disk, C: Chooser, 
     ensures storable { IsStorable (core_of engine.new) (fresh_of engine.new) }
     ensures kept { KeepsWhere (disk_failed result) store.new (source_of engine.new) (logged_of engine.new)
         (next_core (R.choice rule.now) (source_of engine.new) (core_of engine.new)) (D.facts disk.new) }
+    ensures logs { (lines : ℕ) → LogsSteps (service_of engine.old (R.choice rule.now) settings.now.batch settings.now.parts)
+        (settings_of store.old) (core_of engine.old) lines (endings (open_at (core_of engine.old) lines))
+        (logged_of engine.old) (logged_of engine.new) (D.facts disk.old) (D.facts disk.new) }
     ensures in_cycle { OnOk result (IsInCycle store.new tally.new.batches) }
     ensures settings { settings_of store.new ≡ settings_of store.old }
     ensures later_disk { D.faults disk.old ≤ D.faults disk.new }
@@ -114,6 +119,9 @@ fn run_batch<R: CommitRule, K: Sink, E: Sink, D: Disk, C: Chooser, W: Watch>(
     ensures storable { IsStorable (core_of engine.new) (fresh_of engine.new) }
     ensures kept { KeepsWhere (disk_failed result) store.new (source_of engine.new) (logged_of engine.new)
         (next_core (R.choice rule.now) (source_of engine.new) (core_of engine.new)) (D.facts disk.new) }
+    ensures logs { (lines : ℕ) → LogsSteps (service_of engine.old (R.choice rule.now) settings.now.batch settings.now.parts)
+        (settings_of store.old) (core_of engine.old) lines (RunWaiting ∷ [])
+        (logged_of engine.old) (logged_of engine.new) (D.facts disk.old) (D.facts disk.new) }
     ensures in_cycle { OnOk result (IsInCycle store.new tally.new.batches) }
     ensures settings { settings_of store.new ≡ settings_of store.old }
     ensures later_disk { D.faults disk.old ≤ D.faults disk.new }

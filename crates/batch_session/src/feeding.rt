@@ -1,6 +1,6 @@
 //! The input, piece by piece: each line is answered as soon as it is whole, and a batch runs where one is due.
 
-ghost use Rattle.std.specs.Prelude.{◌≡◌, ◌≤◌, ◌<◌, ◌+◌, ◌^◌, ◌⊎◌, length, [], true, IfOk, OnOk, Ok, Err};
+ghost use Rattle.std.specs.Prelude.{◌≡◌, ◌≤◌, ◌<◌, ◌+◌, ◌^◌, ◌⊎◌, ℕ, List, length, [], ◌∷◌, true, IfOk, OnOk, Ok, Err};
 ghost use Rattle.sf_outside.specs.Causes.{Rose};
 ghost use Rattle.block_step.specs.CompiledViews.{IsWhole};
 ghost use Rattle.engine.specs.Cores.{CoreFits, IsSoundCore};
@@ -9,8 +9,11 @@ ghost use Rattle.session_store.specs.Vocabulary.{logged_of, IsStorable};
 ghost use Rattle.session_store.specs.Cycles.{IsInCycle};
 ghost use Rattle.session_store.specs.Endings.{KeepsWhere, next_core};
 ghost use Rattle.session_store.specs.Stores.{settings_of, Keeps, EndsPast};
-ghost use Rattle.input_lines.specs.Cuts.{IsWithin};
-ghost use Rattle.session_steps.specs.Vocabulary.{disk_failed, service_of};
+ghost use Rattle.request_json.specs.Actions.{whole_from, whole_lines, last_line};
+ghost use Rattle.input_lines.specs.Cuts.{IsStart, IsWithin};
+ghost use Rattle.session_steps.specs.Vocabulary.{cut, disk_failed, service_of};
+ghost use Rattle.session_steps.specs.Steps.{Answer, answers, last_steps, open_at};
+ghost use Rattle.session_steps.specs.Doings.{LogsSteps};
 ghost use Rattle.session_steps.specs.Traces.{no_batch};
 ghost use Rattle.batch_session.specs.Points.{point_of};
 ghost use Rattle.batch_session.specs.Feeds.{AnswersKept, FeedsBytes, fed_of, AnswersLast, Finishes};
@@ -101,6 +104,10 @@ impl Intake {
         ensures storable { IsStorable (core_of engine.new) (fresh_of engine.new) }
         ensures kept { KeepsWhere (disk_failed result) store.new (source_of engine.new) (logged_of engine.new)
             (next_core (R.choice rule.now) (source_of engine.new) (core_of engine.new)) (D.facts disk.new) }
+        ensures logs { (line : List ℕ) → IsStart self.old.line line
+            → LogsSteps (service_of engine.old (R.choice rule.now) settings.now.batch settings.now.parts)
+            (settings_of store.old) (core_of engine.old) self.old.lines (Answer (cut ended line) ∷ [])
+            (logged_of engine.old) (logged_of engine.new) (D.facts disk.old) (D.facts disk.new) }
         ensures in_cycle { OnOk result (IsInCycle store.new self.new.tally.batches) }
         ensures settings { settings_of store.new ≡ settings_of store.old }
         ensures later_disk { D.faults disk.old ≤ D.faults disk.new }
@@ -183,6 +190,10 @@ impl Intake {
         ensures storable { IsStorable (core_of engine.new) (fresh_of engine.new) }
         ensures kept { KeepsWhere (disk_failed result) store.new (source_of engine.new) (logged_of engine.new)
             (next_core (R.choice rule.now) (source_of engine.new) (core_of engine.new)) (D.facts disk.new) }
+        ensures logs { (part : List ℕ) → IsStart self.old.line part
+            → LogsSteps (service_of engine.old (R.choice rule.now) settings.now.batch settings.now.parts)
+            (settings_of store.old) (core_of engine.old) self.old.lines (answers (whole_from part (fed_of result piece.now)))
+            (logged_of engine.old) (logged_of engine.new) (D.facts disk.old) (D.facts disk.new) }
         ensures in_cycle { OnOk result (IsInCycle store.new self.new.tally.batches) }
         ensures settings { settings_of store.new ≡ settings_of store.old }
         ensures later_disk { D.faults disk.old ≤ D.faults disk.new }
@@ -242,6 +253,10 @@ impl Intake {
         ensures storable { IsStorable (core_of engine.new) (fresh_of engine.new) }
         ensures kept { KeepsWhere (disk_failed result) store.new (source_of engine.new) (logged_of engine.new)
             (next_core (R.choice rule.now) (source_of engine.new) (core_of engine.new)) (D.facts disk.new) }
+        ensures logs { (part : List ℕ) → IsStart self.old.line part
+            → LogsSteps (service_of engine.old (R.choice rule.now) settings.now.batch settings.now.parts)
+            (settings_of store.old) (core_of engine.old) self.old.lines (answers (whole_from part piece.now))
+            (logged_of engine.old) (logged_of engine.new) (D.facts disk.old) (D.facts disk.new) }
         ensures in_cycle { OnOk result (IsInCycle store.new self.new.tally.batches) }
         ensures settings { settings_of store.new ≡ settings_of store.old }
         ensures later_disk { D.faults disk.old ≤ D.faults disk.new }
@@ -307,8 +322,11 @@ impl Intake {
         ensures lines { self.new.lines ≤ settings.now.limit }
         ensures read { S.faults input.old ≤ S.faults input.new }
         ensures fault { result ≡ Ok InputEnd.ReadFault → Rose (S.faults input.old) (S.faults input.new) }
-        ensures takes { Takes (service_of engine.old (R.choice rule.now) settings.now.batch settings.now.parts) settings.now.trace settings.now.limit result
-            self.new.line (S.left input.old) (S.left input.new)
+        ensures takes { Takes (service_of engine.old (R.choice rule.now) settings.now.batch settings.now.parts) settings.now.trace settings.now.limit
+            (λ fed. LogsSteps (service_of engine.old (R.choice rule.now) settings.now.batch settings.now.parts)
+            (settings_of store.old) (core_of engine.old) self.old.lines (answers (whole_lines fed))
+            (logged_of engine.old) (logged_of engine.new) (D.facts disk.old) (D.facts disk.new))
+            result self.new.line (S.left input.old) (S.left input.new)
             (point_of engine.old self.old.lines self.old.tally (K.held out.old) (E.held err.old) (C.choices chooser.old) (W.told watch.old))
             (point_of engine.new self.new.lines self.new.tally (K.held out.new) (E.held err.new) (C.choices chooser.new) (W.told watch.new)) }
         ensures later { K.faults out.old ≤ K.faults out.new }
@@ -397,6 +415,10 @@ impl Intake {
         ensures storable { IsStorable (core_of engine.new) (fresh_of engine.new) }
         ensures kept { KeepsWhere (disk_failed result) store.new (source_of engine.new) (logged_of engine.new)
             (next_core (R.choice rule.now) (source_of engine.new) (core_of engine.new)) (D.facts disk.new) }
+        ensures logs { (part : List ℕ) → IsStart self.old.line part
+            → LogsSteps (service_of engine.old (R.choice rule.now) settings.now.batch settings.now.parts)
+            (settings_of store.old) (core_of engine.old) self.old.lines (answers (last_line part))
+            (logged_of engine.old) (logged_of engine.new) (D.facts disk.old) (D.facts disk.new) }
         ensures in_cycle { OnOk result (IsInCycle store.new self.new.tally.batches) }
         ensures settings { settings_of store.new ≡ settings_of store.old }
         ensures later_disk { D.faults disk.old ≤ D.faults disk.new }
@@ -449,6 +471,11 @@ impl Intake {
         ensures storable { IsStorable (core_of engine.new) (fresh_of engine.new) }
         ensures kept { KeepsWhere (disk_failed result) store.new (source_of engine.new) (logged_of engine.new)
             (next_core (R.choice rule.now) (source_of engine.new) (core_of engine.new)) (D.facts disk.new) }
+        ensures logs { (part : List ℕ) → IsStart self.old.line part
+            → LogsSteps (service_of engine.old (R.choice rule.now) settings.now.batch settings.now.parts)
+            (settings_of store.old) (core_of engine.old) self.old.lines (last_steps (service_of engine.old (R.choice rule.now) settings.now.batch settings.now.parts)
+            (open_at (core_of engine.old) self.old.lines) (last_line part))
+            (logged_of engine.old) (logged_of engine.new) (D.facts disk.old) (D.facts disk.new) }
         ensures in_cycle { OnOk result (IsInCycle store.new self.new.tally.batches) }
         ensures settings { settings_of store.new ≡ settings_of store.old }
         ensures later_disk { D.faults disk.old ≤ D.faults disk.new }

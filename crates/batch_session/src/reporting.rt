@@ -12,7 +12,7 @@ ghost use Rattle.session_store.specs.Vocabulary.{logged_of, IsStorable};
 ghost use Rattle.session_store.specs.Cycles.{IsInCycle};
 ghost use Rattle.session_store.specs.Endings.{KeepsWhere, next_core};
 ghost use Rattle.session_store.specs.Stores.{settings_of, Keeps, EndsPast};
-ghost use Rattle.session_steps.specs.Vocabulary.{disk_failed};
+ghost use Rattle.session_steps.specs.Vocabulary.{disk_failed, Logs};
 ghost use Rattle.session_steps.specs.StepLaws.{TracedAs};
 ghost use Rattle.session_steps.specs.Traces.{with_batch, trace_text};
 
@@ -50,6 +50,8 @@ pub(crate) fn end_batch<E: Sink, D: Disk>(
     ensures cause { result ≡ Err LineStop.WriteFault → Rose (E.faults err.old) (E.faults err.new) }
     ensures kept { (rule : List Access → Chosen) → KeepsWhere (disk_failed result) store.new (source_of engine.now) (logged_of engine.now)
         (next_core rule (source_of engine.now) (core_of engine.now)) (D.facts disk.new) }
+    ensures logs { (rule : List Access → Chosen) → Logs (source_of engine.now) rule (settings_of store.old) []
+        (logged_of engine.now) (logged_of engine.now) (D.facts disk.old) (D.facts disk.new) }
     ensures in_cycle { OnOk result (IsInCycle store.new tally.new.batches) }
     ensures settings { settings_of store.new ≡ settings_of store.old }
     ensures later_disk { D.faults disk.old ≤ D.faults disk.new }

@@ -12,7 +12,7 @@ ghost use Rattle.session_store.specs.Endings.{KeepsWhere, next_core};
 ghost use Rattle.session_store.specs.Stores.{settings_of, Keeps, EndsPast};
 ghost use Rattle.session_steps.specs.Vocabulary.{service_of};
 ghost use Rattle.session_steps.specs.Traces.{no_batch};
-ghost use Rattle.batch_session.specs.Served.{view_of, Served};
+ghost use Rattle.batch_session.specs.Served.{view_of, Served, LogsServed};
 ghost use Rattle.batch_session.specs.Faults.{fault_of, finished, disk_failed, unflushed, IsFlushed};
 
 use crate::feeding::{InputEnd, Intake};
@@ -86,6 +86,9 @@ pub fn serve<R: CommitRule, S: Source, K: Sink, E: Sink, D: Disk, C: Chooser, W:
     ensures storable { IsStorable (core_of engine.new) (fresh_of engine.new) }
     ensures kept { KeepsWhere (disk_failed result) store.new (source_of engine.new) (logged_of engine.new)
         (next_core (R.choice rule.now) (source_of engine.new) (core_of engine.new)) (D.facts disk.new) }
+    ensures logs { LogsServed (service_of engine.old (R.choice rule.now) settings.now.batch settings.now.parts) (settings_of store.old) settings.now.limit
+        (core_of engine.old) (S.left input.old) (S.left input.new)
+        (logged_of engine.old) (logged_of engine.new) (D.facts disk.old) (D.facts disk.new) }
     ensures in_cycle { IfOk result (λ tally. IsInCycle store.new tally.batches) }
     ensures settings { settings_of store.new ≡ settings_of store.old }
     ensures later_disk { D.faults disk.old ≤ D.faults disk.new }
@@ -153,6 +156,9 @@ fn answer_all<R: CommitRule, S: Source, K: Sink, E: Sink, D: Disk, C: Chooser, W
     ensures storable { IsStorable (core_of engine.new) (fresh_of engine.new) }
     ensures kept { KeepsWhere (disk_failed result) store.new (source_of engine.new) (logged_of engine.new)
         (next_core (R.choice rule.now) (source_of engine.new) (core_of engine.new)) (D.facts disk.new) }
+    ensures logs { LogsServed (service_of engine.old (R.choice rule.now) settings.now.batch settings.now.parts) (settings_of store.old) settings.now.limit
+        (core_of engine.old) (S.left input.old) (S.left input.new)
+        (logged_of engine.old) (logged_of engine.new) (D.facts disk.old) (D.facts disk.new) }
     ensures in_cycle { IfOk result (λ tally. IsInCycle store.new tally.batches) }
     ensures settings { settings_of store.new ≡ settings_of store.old }
     ensures later_disk { D.faults disk.old ≤ D.faults disk.new }

@@ -8,6 +8,7 @@ use Rattle.std.specs.Io.KnownBytes.{Appends}
 use Rattle.std.proofs.KnownBytes.{Appends-trans}
 use Rattle.sf_value.specs.declared.Request.{Request}
 use Rattle.sf_outside.specs.Bytes.{AppendsPrefix}
+use Rattle.sf_outside.specs.DiskModel.{DiskFacts}
 use Rattle.sf_outside.specs.declared.gains.WriteStop.TheVariants as write
 use Rattle.sf_outside.specs.Gains.{joined}
 use Rattle.sf_outside.proofs.GainLaws.{Wrote-after, joined-append}
@@ -16,6 +17,7 @@ use Rattle.reservations.specs.CommitRules.{Chosen}
 use Rattle.request_json.specs.Actions.{Line, Action, Skip, Refuse, Ask, action_of}
 use Rattle.block_step.specs.declared.compiled.Compiled.{Compiled}
 use Rattle.operator_graph.specs.Turns.{Outside}
+use Rattle.batch_replies.specs.Vocabulary.{StoreSettings, logged_of}
 use Rattle.engine.specs.declared.arrival.Arrival.{Arrival}
 use Rattle.engine.specs.declared.arrival.Arrival.TheVariants as arrival
 use Rattle.engine.specs.declared.engine.Engine.{Engine}
@@ -23,7 +25,9 @@ use Rattle.engine.specs.Cores.{Core}
 use Rattle.engine.specs.EngineViews.{core_of, source_of, compiled_of, limit_of, RunsProgram}
 use Rattle.engine.specs.Arrivals.{joined as joins, arrival_of}
 use Rattle.batch_replies.specs.Vocabulary.{Standing, answer, taken, fills, is_due, batch_lines, IsLawfulRule}
-use Rattle.batch_replies.proofs.Vocabulary.{fewer_wait}
+use Rattle.batch_replies.specs.Moments.{Logs}
+use Rattle.batch_replies.proofs.MomentLaws.{Logs-same}
+use Rattle.batch_replies.proofs.Vocabulary.{fewer_wait, same_source}
 use Rattle.batch_replies.specs.declared.counting.BatchCounts.{BatchCounts}
 use Rattle.batch_replies.specs.declared.answering.BatchStop.{BatchStop}
 use Rattle.batch_replies.specs.declared.answering.BatchStop.TheVariants as batch
@@ -31,7 +35,7 @@ use Rattle.batch_replies.specs.BatchAnswers.{core_behind, Answers, TellsBatch}
 use Rattle.line_answers.specs.declared.answering.LineStop.{LineStop}
 use Rattle.line_answers.specs.declared.answering.LineStop.TheVariants.{HistoryFull, NoMemory, DiskFault, WriteFault}
 use Rattle.line_answers.specs.Services.{Service, program_of, limits_of, service_of}
-use Rattle.line_answers.specs.LineAnswers.{before, Moment, Move, move_at, Moves, AnswersLine, batch_on, line_result}
+use Rattle.line_answers.specs.LineAnswers.{before, Moment, Move, move_at, ran_by, Moves, AnswersLine, batch_on, line_result}
 
 -- an engine that runs the same program serves the same
 pub same_service : (old new : Engine) → RunsProgram new (compiled_of old) (limit_of old) → (rule : List Access → Chosen) (size parts : ℕ) → service_of new rule size parts ≡ service_of old rule size parts
@@ -194,3 +198,17 @@ engine_moved e next runs rule size parts number line lines due from_one next_is 
     let m : Move = record { answer = lines; core = core_of next; is_due = due } in
     subst (λ n. Moves v result n old new) (taken_move v (core_of e) (core_of next) number line lines due from_one next_is lines_are due_is)
     (subst (λ w. Moves w result m old new) (same_service e next runs rule size parts) moves)
+
+-- and so is what its store may be left with
+pub engine_logs : (e next : Engine) → RunsProgram next (compiled_of e) (limit_of e) → (rule : List Access → Chosen) (size parts number : ℕ) (line : Line) (lines : List (List ℕ)) (due : Bool) → 1 ≤ number
+    → core_of next ≡ taken (core_of e) (action_of (source_of e) line) → lines ≡ answer (core_of e) number (action_of (source_of e) line)
+    → due ≡ is_due (source_of e) rule (limits_of size (limit_of e)) (core_of e) (action_of (source_of e) line) → logged_of next ≡ logged_of e
+    → (settings : Option StoreSettings) (last : Core) (old new : DiskFacts)
+    → Logs (source_of next) rule settings (ran_by (service_of next rule size parts) (record { answer = lines; core = core_of next; is_due = due })) (logged_of next) last old new
+    → Logs (source_of e) rule settings (ran_by (service_of e rule size parts) (move_at (service_of e rule size parts) (before (core_of e) number) line)) (logged_of e) last old new
+engine_logs e next runs rule size parts number line lines due from_one next_is lines_are due_is logged settings last old new l =
+    let v : Service = service_of e rule size parts in
+    let m : Move = record { answer = lines; core = core_of next; is_due = due } in
+    let same : m ≡ move_at v (before (core_of e) number) line = taken_move v (core_of e) (core_of next) number line lines due from_one next_is lines_are due_is in
+    Logs-same (source_of next) (source_of e) rule settings (ran_by (service_of next rule size parts) m) (ran_by v (move_at v (before (core_of e) number) line)) (logged_of next) (logged_of e) last old new
+    (sym (same_source e next runs)) (λ i. ran_by (same_service e next runs rule size parts i) (same i)) logged l

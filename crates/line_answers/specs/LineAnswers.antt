@@ -1,5 +1,5 @@
 -- What a line of the input comes to where it is answered.
-use Rattle.std.specs.Prelude.{◌≡◌, ℕ, ◌+◌, ◌-◌, ◌⊎◌, Bool, true, false, nat_le, List, ◌++◌, length, Some, None, Ok, Err}
+use Rattle.std.specs.Prelude.{◌≡◌, ℕ, ◌+◌, ◌-◌, ◌⊎◌, Bool, true, false, nat_le, List, [], ◌++◌, length, Some, None, Ok, Err, if◌then◌else◌}
 use Rattle.std.specs.declared.option.Option.{Option}
 use Rattle.std.specs.declared.result.Result.{Result}
 use Rattle.std.specs.Io.KnownBytes.{Appends}
@@ -20,7 +20,7 @@ use Rattle.batch_replies.specs.Vocabulary.{Standing, answer, taken, is_due, batc
 use Rattle.batch_replies.specs.declared.counting.BatchCounts.{BatchCounts}
 use Rattle.batch_replies.specs.declared.answering.BatchStop.{BatchStop}
 use Rattle.batch_replies.specs.declared.answering.BatchStop.TheVariants as batch
-use Rattle.batch_replies.specs.BatchAnswers.{HasPlace, IsFull, core_behind, AreCounts}
+use Rattle.batch_replies.specs.BatchAnswers.{HasPlace, IsFull, core_behind, runs_on, AreCounts}
 use Rattle.line_answers.specs.declared.answering.LineStop.{LineStop}
 use Rattle.line_answers.specs.declared.answering.LineStop.TheVariants.{HistoryFull, NoMemory, DiskFault, WriteFault}
 use Rattle.line_answers.specs.Services.{Service, program_of}
@@ -67,6 +67,10 @@ module _ (v : Service) where
     core = taken s.core (action_of (program_of v) line);
     is_due = is_due (program_of v) v.rule v.limits s.core (action_of (program_of v) line);
   }
+
+  -- the cores that its batches are run on
+  abbrev pub ran_by : Move → List Core
+  ran_by m = if m.is_due then runs_on (program_of v) v.rule v.limits m.core else []
 
   -- what is written of it, with the replies to the batch
   abbrev pub whole_text : Move → List ℕ

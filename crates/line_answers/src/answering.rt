@@ -10,10 +10,11 @@ ghost use Rattle.sf_outside.specs.Gains.{joined};
 ghost use Rattle.block_step.specs.CompiledViews.{IsWhole};
 ghost use Rattle.engine.specs.Cores.{CoreFits, IsSoundCore};
 ghost use Rattle.engine.specs.EngineViews.{core_of, source_of, tables_of, compiled_of, limit_of, fresh_of, RunsProgram};
-ghost use Rattle.batch_replies.specs.Vocabulary.{logged_of, IsStorable, cycle_of, KeepsWhere, next_core, Keeps, EndsPast};
+ghost use Rattle.batch_replies.specs.Vocabulary.{logged_of, IsStorable, cycle_of, KeepsWhere, next_core, settings_of, Keeps, EndsPast};
+ghost use Rattle.batch_replies.specs.Moments.{Logs};
 ghost use Rattle.line_answers.specs.LineViews.{line_of};
 ghost use Rattle.line_answers.specs.Services.{service_of};
-ghost use Rattle.line_answers.specs.LineAnswers.{before, moment_of, Moves, AnswersLine, disk_failed, line_result};
+ghost use Rattle.line_answers.specs.LineAnswers.{before, moment_of, move_at, ran_by, Moves, AnswersLine, disk_failed, line_result};
 
 use crate::reading::InputLine;
 use crate::taking::{Taken, take_line};
@@ -84,6 +85,11 @@ pub fn answer_line<R: CommitRule, K: Sink, D: Disk, C: Chooser, W: Watch>(
     ensures storable { IsStorable (core_of engine.new) (fresh_of engine.new) }
     ensures kept { KeepsWhere (disk_failed result) store.new (source_of engine.new) (logged_of engine.new)
         (next_core (R.choice rule.now) (source_of engine.new) (core_of engine.new)) (D.facts disk.new) }
+    ensures logs { Logs (source_of engine.old) (R.choice rule.now) (settings_of store.old)
+        (ran_by (service_of engine.old (R.choice rule.now) batching.now.batch batching.now.parts)
+        (move_at (service_of engine.old (R.choice rule.now) batching.now.batch batching.now.parts)
+        (before (core_of engine.old) line.entry.number) (line_of line.entry)))
+        (logged_of engine.old) (logged_of engine.new) (D.facts disk.old) (D.facts disk.new) }
     ensures cycle { cycle_of store.new ≡ cycle_of store.old }
     ensures later_disk { D.faults disk.old ≤ D.faults disk.new }
     ensures disk_cause { disk_failed result ≡ true → Rose (D.faults disk.old) (D.faults disk.new)
@@ -140,6 +146,10 @@ fn answer_taken<R: CommitRule, K: Sink, D: Disk, C: Chooser, W: Watch>(
     ensures storable { IsStorable (core_of engine.new) (fresh_of engine.new) }
     ensures kept { KeepsWhere (disk_failed result) store.new (source_of engine.new) (logged_of engine.new)
         (next_core (R.choice rule.now) (source_of engine.new) (core_of engine.new)) (D.facts disk.new) }
+    ensures logs { (size : ℕ) → Logs (source_of engine.old) (R.choice rule.now) (settings_of store.old)
+        (ran_by (service_of engine.old (R.choice rule.now) size parts)
+        (record { answer = cons_option taken.answer []; core = core_of engine.old; is_due = taken.is_due }))
+        (logged_of engine.old) (logged_of engine.new) (D.facts disk.old) (D.facts disk.new) }
     ensures cycle { cycle_of store.new ≡ cycle_of store.old }
     ensures later_disk { D.faults disk.old ≤ D.faults disk.new }
     ensures disk_cause { disk_failed result ≡ true → Rose (D.faults disk.old) (D.faults disk.new)

@@ -9,9 +9,9 @@ use Rattle.line_answers.specs.Vocabulary.{Core, BatchCounts, Answers, TellsBatch
 use Rattle.line_answers.specs.declared.answering.LineStop.{LineStop}
 use Rattle.line_answers.specs.Services.{Service, program_of}
 use Rattle.line_answers.specs.LineAnswers.{batch_on}
-use Rattle.session_steps.specs.Steps.{Step, Answer, RunWaiting, answers, endings, standing_after, last_steps, all_steps, whole_steps}
+use Rattle.session_steps.specs.Steps.{Step, open_at, Answer, RunWaiting, answers, endings, standing_after, last_steps, all_steps, whole_steps}
 use Rattle.session_steps.specs.Doings.{Point, going, Does, Comes}
-use Rattle.session_steps.proofs.StepFacts.{open_at, standing-append}
+use Rattle.session_steps.proofs.StepFacts.{standing-append}
 use Rattle.session_steps.proofs.Composing.{Does-none, Does-then, Comes-then, Comes-cut}
 use Rattle.session_steps.proofs.Leaves.{IsCounted, Does-batch, Does-idle}
 
@@ -19,7 +19,7 @@ use Rattle.session_steps.proofs.Leaves.{IsCounted, Does-batch, Does-idle}
 abbrev pub runs : ℕ → List Step
 runs n = replicate n RunWaiting
 
-runs-add : (n k : ℕ) → runs (n + k) ≡ runs n ++ runs k
+pub runs-add : (n k : ℕ) → runs (n + k) ≡ runs n ++ runs k
 runs-add n k = sym (replicate-append-replicate n k RunWaiting)
 
 pub answers-append : (xs ys : List Line) → answers (xs ++ ys) ≡ answers xs ++ answers ys

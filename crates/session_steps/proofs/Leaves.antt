@@ -17,10 +17,10 @@ use Rattle.line_answers.specs.Services.{Service, program_of}
 use Rattle.line_answers.specs.LineAnswers.{before, Move, Moment, Moves, IsUntaken, FindsFull, IsUnplanned, IsUnlogged, AnswersLine, batch_on, line_result}
 use Rattle.line_answers.proofs.TakenLaws.{batch_moved}
 use Rattle.session_steps.specs.declared.tally.Tally.{Tally}
-use Rattle.session_steps.specs.Steps.{Step, Answer, RunWaiting, move_of}
+use Rattle.session_steps.specs.Steps.{Step, open_at, Answer, RunWaiting, move_of}
 use Rattle.session_steps.specs.Traces.{with_batch, trace_line, trace_lines, trace_text}
 use Rattle.session_steps.specs.Doings.{Point, going, moment, RunBatches, IsUncounted, Does, StopsAt, Comes}
-use Rattle.session_steps.proofs.StepFacts.{open_at, lines_behind, printed_undue, behind_undue, ran_undue, printed_placed, behind_placed, ran_placed, standing-one, printed-one, ran-one}
+use Rattle.session_steps.proofs.StepFacts.{lines_behind, printed_undue, behind_undue, ran_undue, printed_placed, behind_placed, ran_placed, standing-one, printed-one, ran-one}
 use Rattle.session_steps.proofs.Composing.{tally-nil, tally-one, trace-nil, Does-none, Comes-at}
 
 -- What is counted and traced of a step
@@ -203,7 +203,7 @@ module _ (v : Service) where
   move_by s action =
       record { answer = answer s.core (s.lines + 1) action; core = taken s.core action; is_due = is_due (program_of v) v.rule v.limits s.core action }
 
-  move_as : (s : Standing) (line line' : Line) → action_of (program_of v) line ≡ action_of (program_of v) line'
+  pub move_as : (s : Standing) (line line' : Line) → action_of (program_of v) line ≡ action_of (program_of v) line'
       → move_of v s (Answer line) ≡ move_of v s (Answer line')
   move_as s line line' same = ap (move_by s) same
 

@@ -7,3 +7,4 @@ pub mod PrintLaws
 pub mod BeginLaws
 pub mod TraceExamples
 pub mod Vocabulary
+pub mod LoggedSteps

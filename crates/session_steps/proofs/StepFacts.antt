@@ -2,14 +2,10 @@
 use Rattle.std.proofs.Common.{◌≡◌, ℕ, ◌+◌, Bool, true, false, not, ◌||◌, List, [], ◌∷◌, ◌++◌, length, if◌then◌else◌, refl, sym, ap, ◌∙◌, append_assoc, append-nil}
 use Rattle.request_json.specs.Actions.{action_of}
 use Rattle.batch_output.specs.BatchOutput.{Standing, waits, answer, taken, is_due, with_line, committed, settled, batch_lines, entry_lines, settled_if, lines_if}
-use Rattle.line_answers.specs.Vocabulary.{Core, batch_entries, HasPlace, IsFull, core_behind}
+use Rattle.line_answers.specs.Vocabulary.{Core, batch_entries, HasPlace, IsFull, core_behind, runs_on}
 use Rattle.line_answers.specs.Services.{Service, program_of}
 use Rattle.line_answers.specs.LineAnswers.{Move}
-use Rattle.session_steps.specs.Steps.{Step, Answer, RunWaiting, move_of, behind, printed_at, run_on, run_if, ran_at, standing_after, printed, ran_on}
-
--- a session that goes on, behind so many lines
-abbrev pub open_at : Core → ℕ → Standing
-open_at core lines = record { core = core; lines = lines; is_full = false }
+use Rattle.session_steps.specs.Steps.{Step, open_at, Answer, RunWaiting, move_of, behind, printed_at, ran_at, standing_after, printed, ran_on}
 
 -- how many lines came behind a step
 abbrev pub lines_behind : ℕ → Step → ℕ
@@ -43,7 +39,10 @@ module _ (v : Service) where
   behind_is core n (Answer line) = refl
   behind_is core n RunWaiting = if_not (waits core) (open_at core n) (settle (open_at core n))
 
-  ran_is : (core : Core) (n : ℕ) (step : Step) → ran_at v (open_at core n) step ≡ run_if v (m core n step).is_due (m core n step).core
+  abbrev run_if : Bool → Core → List Core
+  run_if due core = if due then runs_on (program_of v) v.rule v.limits core else []
+
+  ran_is : (core : Core) (n : ℕ) (step : Step) → ran_at v (open_at core n) step ≡ run_if (m core n step).is_due (m core n step).core
   ran_is core n step = refl
 
   abbrev by_room : Bool → Core → ℕ → Standing
@@ -72,7 +71,7 @@ module _ (v : Service) where
         undue
 
     pub ran_undue : (m core n step).is_due ≡ false → ran_at v (open_at core n) step ≡ []
-    ran_undue undue = ran_is core n step ∙ ap (λ b. run_if v b (m core n step).core) undue
+    ran_undue undue = ran_is core n step ∙ ap (λ b. run_if b (m core n step).core) undue
 
     module _ (due : (m core n step).is_due ≡ true) where
       printed_due : printed_at v (open_at core n) step ≡ (m core n step).answer ++ lines_of (m core n step).core
@@ -81,8 +80,8 @@ module _ (v : Service) where
       behind_due : behind v (open_at core n) step ≡ settle (open_at (m core n step).core (lines_behind n step))
       behind_due = behind_is core n step ∙ ap (λ b. settled_if (program_of v) v.rule v.limits b (open_at (m core n step).core (lines_behind n step))) due
 
-      ran_due : ran_at v (open_at core n) step ≡ run_on v (m core n step).core
-      ran_due = ran_is core n step ∙ ap (λ b. run_if v b (m core n step).core) due
+      ran_due : ran_at v (open_at core n) step ≡ runs_on (program_of v) v.rule v.limits (m core n step).core
+      ran_due = ran_is core n step ∙ ap (λ b. run_if b (m core n step).core) due
 
       -- the batch that is due has a place
 
@@ -125,7 +124,7 @@ module _ (v : Service) where
   printed_over s RunWaiting over = ap (λ b. if b || not (waits s.core) then [] else lines_of s.core) over
 
   ran_over : (s : Standing) (step : Step) → s.is_full ≡ true → ran_at v s step ≡ []
-  ran_over s step over = ap (λ b. if b then [] else run_if v (move_of v s step).is_due (move_of v s step).core) over
+  ran_over s step over = ap (λ b. if b then [] else run_if (move_of v s step).is_due (move_of v s step).core) over
 
   pub standing_over : (s : Standing) (steps : List Step) → s.is_full ≡ true → standing_after v s steps ≡ s
   unfolding standing_after

@@ -4,16 +4,17 @@ use Rattle.std.specs.declared.option.Option.{Option}
 use Rattle.std.specs.declared.result.Result.{Result}
 use Rattle.std.specs.Io.KnownBytes.{Appends}
 use Rattle.sf_outside.specs.Bytes.{AppendsPrefix}
+use Rattle.sf_outside.specs.DiskModel.{DiskFacts}
 use Rattle.sf_outside.specs.Gains.{joined}
 use Rattle.operator_graph.specs.Turns.{Outside}
 use Rattle.batch_output.specs.BatchOutput.{Standing}
-use Rattle.line_answers.specs.Vocabulary.{IsToldAlong, Core, BatchCounts}
+use Rattle.line_answers.specs.Vocabulary.{IsToldAlong, Core, BatchCounts, Logs, StoreSettings}
 use Rattle.line_answers.specs.declared.answering.LineStop.{LineStop}
 use Rattle.line_answers.specs.declared.answering.LineStop.TheVariants.{HistoryFull, NoMemory, DiskFault, WriteFault}
-use Rattle.line_answers.specs.Services.{Service}
+use Rattle.line_answers.specs.Services.{Service, program_of}
 use Rattle.line_answers.specs.LineAnswers.{Moment, RunsBatch, Moves, IsUntaken, FindsFull, IsUnplanned, IsUnlogged, IsCommitted, batch_on}
 use Rattle.session_steps.specs.declared.tally.Tally.{Tally}
-use Rattle.session_steps.specs.Steps.{Step, move_of, standing_after, printed, ran_on}
+use Rattle.session_steps.specs.Steps.{Step, open_at, move_of, standing_after, printed, ran_on}
 use Rattle.session_steps.specs.Traces.{with_batch, tally_after, trace_text}
 
 -- where a session is: its core, how many lines came, what its output and its trace hold, what was chosen and told, and what is counted of its
@@ -39,6 +40,11 @@ pub record IsUncounted (old new : Point) : Type 0 where
   pub traced : new.traced ≡ old.traced
 
 module _ (v : Service) where
+  -- these steps were begun from this core on, behind so many lines: what is logged behind them, and what each moment may leave in the store
+  abbrev pub LogsSteps : Option StoreSettings → Core → ℕ → List Step → Core → Core → DiskFacts → DiskFacts → Type 0
+  LogsSteps settings core lines steps first last old new =
+      Logs (program_of v) v.rule settings (ran_on v (open_at core lines) steps) first last old new
+
   -- batches on these cores were run to their ends, one after another, and have these counts
   abbrev pub RunBatches : List Core → List BatchCounts → Outside → Outside → Type 0
   RunBatches [] [] old new = new ≡ old

@@ -1,11 +1,11 @@
 -- A session in batches as steps: each answers a line of the input, or, at its end, runs a batch of what waits.
-use Rattle.std.specs.Prelude.{ℕ, Bool, List, [], ◌∷◌, ◌++◌, length, map, replicate, if◌then◌else◌}
+use Rattle.std.specs.Prelude.{ℕ, false, List, [], ◌∷◌, ◌++◌, length, map, replicate, if◌then◌else◌}
 use Rattle.request_json.specs.Actions.{Line, whole_lines, all_lines}
 use Rattle.line_answers.specs.Vocabulary.{Core}
 use Rattle.batch_output.specs.BatchOutput as output
-use Rattle.batch_output.specs.BatchOutput.{Standing, begun, waits, is_over, settled, batch_lines, has_no_place}
+use Rattle.batch_output.specs.BatchOutput.{Standing, begun, waits, is_over, settled, batch_lines}
 use Rattle.line_answers.specs.Services.{Service, program_of}
-use Rattle.line_answers.specs.LineAnswers.{Move, move_at}
+use Rattle.line_answers.specs.LineAnswers.{Move, move_at, ran_by}
 
 pub data Step : Type 0 where
   Answer : (line : Line) → Step
@@ -13,6 +13,10 @@ pub data Step : Type 0 where
 
 abbrev pub answers : List Line → List Step
 answers = map Answer
+
+-- a session that goes on from this core, behind so many lines
+abbrev pub open_at : Core → ℕ → Standing
+open_at core lines = record { core = core; lines = lines; is_full = false }
 
 -- each batch commits a request, so as many as requests wait are enough at the end
 abbrev pub endings : Standing → List Step
@@ -37,15 +41,9 @@ module _ (v : Service) where
   printed_at s (Answer line) = output.reply (program_of v) v.rule v.limits s line
   printed_at s RunWaiting = if is_over (program_of v) v.rule v.limits s then [] else batch_lines (program_of v) v.rule v.limits s.core
 
-  -- the core that a batch runs on, where the history has a place for it
-  abbrev pub run_on : Core → List Core
-  run_on core = if has_no_place (program_of v) v.rule v.limits core then [] else core ∷ []
-
-  abbrev pub run_if : Bool → Core → List Core
-  run_if due core = if due then run_on core else []
-
+  -- the cores that its batch runs on, where one is due and has a place
   abbrev pub ran_at : Standing → Step → List Core
-  ran_at s step = if s.is_full then [] else run_if (move_of s step).is_due (move_of s step).core
+  ran_at s step = if s.is_full then [] else ran_by v (move_of s step)
 
   -- What steps do, one after another
 

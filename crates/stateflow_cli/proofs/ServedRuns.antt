@@ -6,7 +6,7 @@ use Rattle.std.specs.Str.{chars}
 use Rattle.std.specs.declared.option.Option.{Option}
 use Rattle.std.specs.declared.result.Result.{Result}
 use Rattle.sf_outside.specs.Causes.{Rose}
-use Rattle.sf_outside.specs.DiskModel.{Image, DiskFacts, untold, mounted}
+use Rattle.sf_outside.specs.DiskModel.{Image, DiskFacts, Mounts, untold, mounted}
 use Rattle.program_meaning.specs.ClassTables.{Source}
 use Rattle.reservations.specs.BatchRule.{batch_rule}
 use Rattle.block_step.specs.declared.compiled.Compiled.{Compiled}
@@ -22,14 +22,16 @@ use Rattle.store_meaning.specs.declared.position.Position.{Position}
 use Rattle.store_meaning.specs.Engines.{logged_of}
 use Rattle.store_meaning.specs.StandsFor.{StandsFor}
 use Rattle.session_store.specs.declared.store.Store.{Store}
+use Rattle.session_store.specs.declared.store.StoreSettings.{StoreSettings}
+use Rattle.session_store.proofs.StoreLaws.{all_logged}
 use Rattle.session_store.specs.Cycles.{IsInCycle}
 use Rattle.session_store.specs.Endings.{KeepsWhere, next_core}
 use Rattle.session_store.specs.Stores.{settings_of, HasSnapshotPast, EndsPast}
 use Rattle.session_store.specs.Vocabulary.{IsStorable}
-use Rattle.batch_run.specs.Vocabulary.{Tally, SessionFault, disk_failed}
+use Rattle.batch_run.specs.Vocabulary.{Tally, SessionFault, disk_failed, LogsServed}
 use Rattle.batch_run.specs.SessionFaultVariants.{ReadFault, WriteFault}
 use Rattle.batch_run.specs.declared.running.RunSettings.{RunSettings}
-use Rattle.batch_run.specs.RunViews.{Shown}
+use Rattle.batch_run.specs.RunViews.{Shown, run_service}
 use Rattle.batch_run.specs.Runs.{Runs}
 use Rattle.store_opening.specs.declared.opened_store.OpenSettings.{OpenSettings}
 use Rattle.store_opening.specs.declared.opened_store.OpenedStore.{OpenedStore}
@@ -45,7 +47,7 @@ use Rattle.stateflow_cli.specs.Devices.{Devices, Input, Output, StoreDisk, devic
 use Rattle.stateflow_cli.specs.Loading.{HoldsOne, Refuses, IsCompiledWith}
 use Rattle.stateflow_cli.specs.declared.loading.CompiledText.{CompiledText}
 use Rattle.stateflow_cli.specs.Starts.{program_of, BeginsWith}
-use Rattle.stateflow_cli.specs.StoredRuns.{IsUntouched, DiskRose, settings_by, RanOpened, KeepsRun, KeepsIn}
+use Rattle.stateflow_cli.specs.StoredRuns.{IsUntouched, DiskRose, settings_by, RanOpened, RunMoments, MomentsIn, KeepsRun, KeepsIn}
 use Rattle.stateflow_cli.specs.Endings.{RunEnds, RunsFile, shown_of, settings_for}
 use Rattle.stateflow_cli.specs.declared.ending.Ending.{Ending}
 use Rattle.stateflow_cli.specs.declared.ending.Ending.TheVariants.{Misused, Refused, FileFault, NoMemory, Printed, Unprinted, Served, Stopped, Unopened}
@@ -103,6 +105,15 @@ keeps_alone (Some dir) s src text start last before after now result alone fine 
     named : Some dir ≡ None → ⊥
     named same = cc
 
+-- and no moment leaves anything
+pub moments_alone : (store : Option (List ℕ)) (compiled : Compiled) (s : RunSettings) (text : List ℕ) (start : Core) (left left' : Option (List ℕ)) (before after : StoreDisk) (now : DiskFacts)
+    → store ≡ None → MomentsIn store compiled s text start left left' before after now
+moments_alone None compiled s text start left left' before after now alone = tt
+moments_alone (Some dir) compiled s text start left left' before after now alone = absurd (named alone)
+  where
+    named : Some dir ≡ None → ⊥
+    named same = cc
+
 -- so it is whatever is told of the disk
 module _ (limit : ℕ) (file : List ℕ) (s : words.RunSettings) (before after : Devices) (facts : DiskFacts) (alone : s.store ≡ None) (same : after.disk ≡ before.disk) where
   untouched_too : IsUntouched before.disk after.disk facts facts
@@ -120,6 +131,7 @@ module _ (limit : ℕ) (file : List ℕ) (s : words.RunSettings) (before after :
     write_cause = r.write_cause;
     err_later = r.err_later;
     keeps = kept s.store alone r.keeps;
+    moments = moments_alone s.store r.compiled (settings_for limit s) r.holds.text r.start before.input.left after.input.left before.disk after.disk facts alone;
   }
     where
       kept : (store : Option (List ℕ)) → store ≡ None → KeepsIn store s (source_of r.compiled) r.holds.text r.start r.last before.disk after.disk untold result
@@ -151,7 +163,7 @@ module _ (limit : ℕ) (file : List ℕ) (s : words.RunSettings) (before after :
 
 -- the engine of an opened store has run
 module _ (opened : OpenedStore) (now : Engine) (limit : ℕ) (runs : RunsProgram now (compiled_of opened.engine) limit) (result : Result Tally SessionFault) (old new : Shown) (faults faults' : ℕ)
-    (facts : DiskFacts) (s : RunSettings) where
+    (was facts : DiskFacts) (s : RunSettings) where
   same_source : engine.source_of now ≡ engine.source_of opened.engine
   same_source = ap source_of runs.compiled_is
 
@@ -160,13 +172,14 @@ module _ (opened : OpenedStore) (now : Engine) (limit : ℕ) (runs : RunsProgram
       → KeepsWhere (disk_failed result) store (engine.source_of now) (logged_of now) (next_core batch_rule (engine.source_of now) (core_of now)) facts
       → IfOk result (λ tally. IsInCycle store tally.batches)
       → (disk_failed result ≡ true → Rose faults faults' ⊎ EndsPast batch_rule store (engine.source_of now) (core_of now) (fresh_of now) facts)
-      → IsStorable (core_of now) (fresh_of now)
-      → RanOpened opened s result old new faults faults' facts
-  ran_opened None settings ran sound kept in_cycle cause storable = absurd (none settings)
+      → IsStorable (core_of now) (fresh_of now) → fresh_of opened.engine ≡ 0
+      → LogsServed (run_service (compiled_of opened.engine) s) (Some opened.store.settings) s.limit (core_of opened.engine) old.left new.left (logged_of opened.engine) (logged_of now) was facts
+      → RanOpened opened s result old new faults faults' was facts
+  ran_opened None settings ran sound kept in_cycle cause storable none_fresh logs = absurd (none settings)
     where
       none : None ≡ Some opened.store.settings → ⊥
       none same = cc
-  ran_opened (Some store) settings ran sound kept in_cycle cause storable = record {
+  ran_opened (Some store) settings ran sound kept in_cycle cause storable none_fresh logs = record {
     last = core_of now;
     runs = ran;
     sound = sound;
@@ -176,6 +189,8 @@ module _ (opened : OpenedStore) (now : Engine) (limit : ℕ) (runs : RunsProgram
     storable = storable;
     kept = subst (λ src. KeepsWhere (disk_failed result) (Some store) src (logged_of now) (next_core batch_rule src (core_of now)) facts) same_source kept;
     in_cycle = in_cycle;
+    logs = subst (λ first. LogsServed (run_service (compiled_of opened.engine) s) (Some opened.store.settings) s.limit (core_of opened.engine) old.left new.left first (logged_of now) was facts)
+        (all_logged opened.engine none_fresh) logs;
     cause = λ failed. subst (λ src. Rose faults faults' ⊎ EndsPast batch_rule (Some store) src (core_of now) (fresh_of now) facts) same_source (cause failed);
   }
     where
@@ -240,8 +255,9 @@ module _ (limit : ℕ) (file dir : List ℕ) (w : words.RunSettings) (before aft
         ∙ ap (λ n. record { program = chars holds.text; every = n; opened = opened.store.position.epoch }) every
 
     module _ (s : RunSettings) (is : s ≡ settings_for limit w) (result : Result Tally SessionFault) (faults : ℕ) (later : before.disk.faults ≤ faults) (moment : ℕ)
-        (mounts : after.disk.mounts ≡ mounted before.disk.mounts dir moment)
-        (ran : RanOpened opened s result (shown_of before) (shown_of after) faults after.disk.faults now) where
+        (mounts : after.disk.mounts ≡ mounted before.disk.mounts dir moment) (mid : DiskFacts) (within : moment ≤ mid.moment)
+        (earlier : (image : Image) → mid.left_since moment image → LeavesFound (program_for made.compiled made.text) (before.disk.found dir) image)
+        (ran : RanOpened opened s result (shown_of before) (shown_of after) faults after.disk.faults mid now) where
       source_so : engine.source_of opened.engine ≡ source_of made.compiled
       source_so = ap source_of ready.runs.compiled_is
 
@@ -269,6 +285,28 @@ module _ (limit : ℕ) (file dir : List ℕ) (w : words.RunSettings) (before aft
         cause = cause_so;
       }
 
+      -- what was logged, in this run's own terms
+      abbrev Logged : Compiled → RunSettings → StoreSettings → Type 0
+      Logged c t kept = LogsServed (run_service c t) (Some kept) t.limit start before.input.left after.input.left start (settled ran.last ran.fresh) mid now
+
+      logs_so : Logged made.compiled (settings_for limit w) (settings_by w holds.text opened.store.position.epoch)
+      logs_so =
+          subst (Logged made.compiled (settings_for limit w)) same_settings
+          (subst (λ t. Logged made.compiled t opened.store.settings) is (subst (λ c. Logged c s opened.store.settings) ready.runs.compiled_is ran.logs))
+
+      moments_run : RunMoments made.compiled (settings_for limit w) holds.text start before.input.left after.input.left (before.disk.found dir) after.disk.mounts.moment now
+      moments_run = record {
+        taken = logs_so.taken;
+        consumed = logs_so.consumed;
+        steps = logs_so.steps;
+        of_taken = logs_so.of_taken;
+        each = λ image left.
+            elim (logs_so.logs.moments.before moment image within (subst (λ n. now.left_since n image) (ap (λ (m : Mounts). m.moment) mounts) left)) [
+              | inl before_run ↦ inl (subst (λ t. LeavesFound (program_for made.compiled t) (before.disk.found dir) image) holds.is.characters (earlier image before_run))
+              | inr stands ↦ inr stands
+            ];
+      }
+
       pub ran_stored : (result ≡ Err ReadFault → Rose before.input.faults after.input.faults)
           → (result ≡ Err WriteFault → Rose before.out.faults after.out.faults ⊎ Rose before.err.faults after.err.faults) → before.err.faults ≤ after.err.faults
           → RunsFile limit file w before after now result
@@ -284,4 +322,6 @@ module _ (limit : ℕ) (file dir : List ℕ) (w : words.RunSettings) (before aft
         write_cause = write_cause;
         err_later = err_later;
         keeps = subst (λ store. KeepsIn store w (source_of made.compiled) holds.text start ran.last before.disk after.disk now result) (sym named) keeps_run;
+        moments =
+            subst (λ store. MomentsIn store made.compiled (settings_for limit w) holds.text start before.input.left after.input.left before.disk after.disk now) (sym named) moments_run;
       }

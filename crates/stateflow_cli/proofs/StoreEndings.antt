@@ -7,7 +7,7 @@ use Rattle.std.specs.declared.option.Option.{Option}
 use Rattle.std.specs.declared.result.Result.{Result}
 use Rattle.std.specs.Io.KnownBytes.{Appends}
 use Rattle.sf_outside.specs.Causes.{Rose}
-use Rattle.sf_outside.specs.DiskModel.{Image, DiskFacts, IsClean}
+use Rattle.sf_outside.specs.DiskModel.{Image, DiskFacts, Mounts, IsClean}
 use Rattle.sf_outside.specs.declared.store_disk.StoreFile.{StoreFile}
 use Rattle.program_meaning.specs.ClassTables.{Source}
 use Rattle.reservations.specs.BatchRule.{batch_rule}
@@ -35,7 +35,7 @@ use Rattle.stateflow_cli.specs.Words.{Run}
 use Rattle.stateflow_cli.specs.Devices.{Devices, StoreDisk, Output, with_err, IsIdle}
 use Rattle.stateflow_cli.specs.Loading.{HoldsOne}
 use Rattle.stateflow_cli.specs.Starts.{program_of}
-use Rattle.stateflow_cli.specs.StoredRuns.{IsUntouched, DiskRose, KeepsRun, KeepsIn}
+use Rattle.stateflow_cli.specs.StoredRuns.{IsUntouched, DiskRose, RunMoments, MomentsIn, KeepsRun, KeepsIn}
 use Rattle.stateflow_cli.specs.Endings.{RunEnds, RunsFile, IsUnopened, shown_of, settings_for, run_ending}
 use Rattle.stateflow_cli.specs.StatusLines.{status_of, line_of, file_name, bad_store_line}
 use Rattle.stateflow_cli.specs.StoreClauses.{OfStored, IsBadAt, BadIn, HasBadStore, OtherIn, HasOtherStore, FailsIn, DiskFails, MayBeUnmounted, MayBeDiskFault, LeavesFinal, LeavesOpened, LeavesIn, StoreEnds}
@@ -224,6 +224,9 @@ module _ (limit : ℕ) (before after : Devices) (was now : DiskFacts) (behind : 
           inr (inl (record {
             mounted_once = record { moment = m.moment; mounts = m.mounts };
             idle = still_idle before after behind u.still;
+            moments =
+                of_stored (λ p. (image : Image) → now.left_since after.disk.mounts.moment image → LeavesFound p (before.disk.found u.dir) image) u.compiled u.holds
+                (λ image left. m.each image (subst (λ n. now.left_since n image) (ap (λ (x : Mounts). x.moment) m.mounts) left));
             unchanged = unchanged;
             why = why;
           }))
@@ -348,9 +351,10 @@ module _ (limit : ℕ) (before after : Devices) (was now : DiskFacts) (behind : 
       failed_status (Err stop.NoMemory) is failed = absurd (unfailed failed)
       failed_status (Ok tally) is failed = absurd (unfailed failed)
 
-      opened_leaves : (result : Result Tally SessionFault) (r : Came result) → Kept result r → status_of e ≡ status_of (run_ending result)
-          → LeavesOpened limit file dir s before after now status
-      opened_leaves result r k is = record {
+      opened_leaves : (result : Result Tally SessionFault) (r : Came result) → Kept result r
+          → RunMoments r.compiled (settings_for limit s) r.holds.text r.start before.input.left after.input.left (before.disk.found dir) after.disk.mounts.moment now
+          → status_of e ≡ status_of (run_ending result) → LeavesOpened limit file dir s before after now status
+      opened_leaves result r k moments is = record {
         mounted_once = record { moment = k.moment; mounts = k.mounts };
         holds = holds_compiled (before.content file) r.compiled r.holds;
         opened = k.opened;
@@ -364,14 +368,16 @@ module _ (limit : ℕ) (before after : Devices) (was now : DiskFacts) (behind : 
         replies = λ sound. (r.runs.serial sound).replies;
         each = kept_each k.store (source_of r.compiled) r.holds.text (ap (λ (x : StoreSettings). x.program) k.settings) (settled r.last k.fresh)
             (next_core batch_rule (source_of r.compiled) r.last) now (disk_failed result) (MayBeDiskFault status) (failed_status result is) k.kept;
+        moments = record { compiled = r.compiled; holds = r.holds; moments = moments };
         final = final result r k is;
       }
 
     module _ (e : Ending) (own : (status ≡ 4 → ⊥) → status ≡ status_of e) (one : IsOneOf status (status_of e)) where
       came_leaves : (result : Result Tally SessionFault) (r : Came result) → status_of e ≡ status_of (run_ending result) → (store : Option (List ℕ))
-          → KeepsIn store s (source_of r.compiled) r.holds.text r.start r.last before.disk after.disk now result → Leaves store
-      came_leaves result r is None keeps = tt
-      came_leaves result r is (Some dir) keeps = inr (inr (opened_leaves e own one dir result r keeps is))
+          → KeepsIn store s (source_of r.compiled) r.holds.text r.start r.last before.disk after.disk now result
+          → MomentsIn store r.compiled (settings_for limit s) r.holds.text r.start before.input.left after.input.left before.disk after.disk now → Leaves store
+      came_leaves result r is None keeps moments = tt
+      came_leaves result r is (Some dir) keeps moments = inr (inr (opened_leaves e own one dir result r keeps moments is))
 
     pub run_leaves : (e : Ending) → ((status ≡ 4 → ⊥) → status ≡ status_of e) → IsOneOf status (status_of e) → RunEnded e
         → StoreEnds limit (Some (Run file s)) before after was now status
@@ -393,6 +399,6 @@ module _ (limit : ℕ) (before after : Devices) (was now : DiskFacts) (behind : 
         by (inr n) = inr (inr (inl n))
     run_leaves Printed own one ends = absurd ends
     run_leaves Unprinted own one ends = absurd ends
-    run_leaves Served own one ends = came_leaves Served own one (Ok ends.0) ends.1 refl s.store ends.1.keeps
-    run_leaves (Stopped stopped) own one ends = came_leaves (Stopped stopped) own one (Err stopped) ends refl s.store ends.keeps
+    run_leaves Served own one ends = came_leaves Served own one (Ok ends.0) ends.1 refl s.store ends.1.keeps ends.1.moments
+    run_leaves (Stopped stopped) own one ends = came_leaves (Stopped stopped) own one (Err stopped) ends refl s.store ends.keeps ends.moments
     run_leaves (Unopened stopped) own one ends = subst Leaves (sym ends.named) (unopened_leaves stopped ends one)

@@ -35,7 +35,7 @@ use Rattle.stateflow_cli.specs.CompiledText.{IsCompiledText}
 use Rattle.stateflow_cli.specs.Devices.{Devices, AreUnread, IsStill}
 use Rattle.stateflow_cli.specs.Loading.{Refuses, Holds, HoldsOne, source_in}
 use Rattle.stateflow_cli.specs.Starts.{IsStart}
-use Rattle.stateflow_cli.specs.StoredRuns.{KeepsIn, FailsToOpen, IsUntouched}
+use Rattle.stateflow_cli.specs.StoredRuns.{KeepsIn, FailsToOpen, IsUntouched, MomentsIn}
 use Rattle.py_tree.specs.PlainProgram.{PlainProgram}
 use Rattle.operator_graph.specs.Turns.{Outside}
 use Rattle.program_text.specs.declared.fault.ProgramFault.{ProgramFault}
@@ -103,6 +103,7 @@ pub record RunsFile (limit : ℕ) (file : List ℕ) (s : words.RunSettings) (bef
   pub write_cause : result ≡ Err WriteFault → Rose before.out.faults after.out.faults ⊎ Rose before.err.faults after.err.faults
   pub err_later : before.err.faults ≤ after.err.faults
   pub keeps : KeepsIn s.store s (source_of compiled) holds.text start last before.disk after.disk now result
+  pub moments : MomentsIn s.store compiled (settings_for limit s) holds.text start before.input.left after.input.left before.disk after.disk now
 
 -- the work that words give
 abbrev pub work_for : words.GenSettings → GenSettings

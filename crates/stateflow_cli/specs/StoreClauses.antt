@@ -21,7 +21,7 @@ use Rattle.session_store.specs.declared.store.Store.{Store}
 use Rattle.session_store.specs.Endings.{next_core}
 use Rattle.session_store.specs.Stores.{HasSnapshotPast, StandsSomewhere, EndsPast}
 use Rattle.session_store.specs.Vocabulary.{IsStorable}
-use Rattle.store_opening.specs.Openings.{WasAt}
+use Rattle.store_opening.specs.Openings.{WasAt, LeavesFound}
 use Rattle.batch_run.specs.Vocabulary.{no_batch, tally_after}
 use Rattle.batch_run.specs.SessionFaultVariants.{DiskFault}
 use Rattle.batch_run.specs.Runs.{Runs}
@@ -33,7 +33,7 @@ use Rattle.stateflow_cli.specs.Loading.{Holds, HoldsOne, source_in}
 use Rattle.stateflow_cli.specs.Endings.{shown_of, settings_for}
 use Rattle.stateflow_cli.specs.RunClauses.{TellsByStatus}
 use Rattle.stateflow_cli.specs.Starts.{program_of, IsStart}
-use Rattle.stateflow_cli.specs.StoredRuns.{DiskRose}
+use Rattle.stateflow_cli.specs.StoredRuns.{DiskRose, RunMoments}
 use Rattle.stateflow_cli.specs.StatusLines.{file_name, bad_store_line}
 
 -- the folder of a store that the words name
@@ -140,10 +140,12 @@ pub record IsUnmounted (dir : List ℕ) (before after : Devices) (was now : Disk
   pub idle : IsIdle before after
   pub why : MayBeUnmounted dir before after status
 
--- it was mounted, and no session began; where the store is bad, or of another program, it is as it was found
-pub record LeavesUnopened (dir : List ℕ) (before after : Devices) (now : DiskFacts) (status : ℕ) : Type 0 where
+-- It was mounted, and no session began. Each image that a crash may have left since is what was found, or stands for nothing committed where a new
+-- store was found; where the store is bad, or of another program, it is as it was found.
+pub record LeavesUnopened (file dir : List ℕ) (before after : Devices) (now : DiskFacts) (status : ℕ) : Type 0 where
   pub mounted_once : MountsOnce dir before after
   pub idle : IsIdle before after
+  pub moments : OfStored file before (λ p. (image : Image) → now.left_since after.disk.mounts.moment image → LeavesFound p (before.disk.found dir) image)
   pub unchanged : (status ≡ 6) ⊎ (status ≡ 7) → IsClean now × (now.seen ≡ before.disk.found dir)
   pub why : (status ≡ 4) ⊎ ((status ≡ 5) ⊎ ((status ≡ 6) ⊎ ((status ≡ 7) ⊎ (status ≡ 8))))
 
@@ -163,6 +165,13 @@ module _ (limit : ℕ) (file dir : List ℕ) (s : words.RunSettings) (before aft
     pub answers : AnswersAll src (settings_for limit s) start before.input.left after.input.left before.out.held after.out.held last
     pub tells : TellsByStatus limit file s before after status
     pub keeps : KeepsLast (program_of src text) last now opened s.every (tally_after no_batch tells.counts).batches
+
+  -- at each moment since the mount
+  pub record LeavesSince (start : Core) : Type 0 where
+    pub compiled : Compiled
+    pub holds : HoldsOne (λ text. IsCompiledOf text compiled) (before.content file)
+    pub moments : RunMoments compiled (settings_for limit s) holds.text start before.input.left after.input.left (before.disk.found dir)
+        after.disk.mounts.moment now
 
   -- A session was served on the store, from the core that was found to another. Each image that a crash now may leave stands for what was logged of
   -- the last core; or, where the disk failed, perhaps for the core behind the batch that is next there, of which no reply line was begun.
@@ -185,12 +194,13 @@ module _ (limit : ℕ) (file dir : List ℕ) (s : words.RunSettings) (before aft
         → StandsSomewhere (program_of (source_in (before.content file) holds) holds.holds.text) image (settled last fresh)
         ⊎ (MayBeDiskFault status × StandsSomewhere (program_of (source_in (before.content file) holds) holds.holds.text) image
         (next_core batch_rule (source_in (before.content file) holds) last))
+    pub moments : LeavesSince start
     pub final : status ≡ 0 → LeavesFinal (source_in (before.content file) holds) holds.holds.text opened.epoch start last
 
 abbrev pub LeavesIn : ℕ → Option (List ℕ) → List ℕ → words.RunSettings → Devices → Devices → DiskFacts → DiskFacts → ℕ → Type 0
 LeavesIn limit None file s before after was now status = ⊤
 LeavesIn limit (Some dir) file s before after was now status = IsUnmounted dir before after was now status
-    ⊎ (LeavesUnopened dir before after now status ⊎ LeavesOpened limit file dir s before after now status)
+    ⊎ (LeavesUnopened file dir before after now status ⊎ LeavesOpened limit file dir s before after now status)
 
 -- where the words name a store
 abbrev pub StoreEnds : ℕ → Option Asked → Devices → Devices → DiskFacts → DiskFacts → ℕ → Type 0

@@ -113,7 +113,7 @@ fn run_on<S: Source, K: Sink, E: Sink, D: Disk, C: Chooser, W: Watch>(
     ensures ran { RanOpened opened settings.now result
         (shown (S.left input.old) (K.held out.old) (E.held err.old) (C.choices chooser.old) (W.told watch.old))
         (shown (S.left input.new) (K.held out.new) (E.held err.new) (C.choices chooser.new) (W.told watch.new))
-        (D.faults disk.old) (D.faults disk.new) (D.facts disk.new) }
+        (D.faults disk.old) (D.faults disk.new) (D.facts disk.old) (D.facts disk.new) }
     ensures later_err { E.faults err.old ≤ E.faults err.new }
     ensures read_cause { result ≡ Err SessionFault.ReadFault → Rose (S.faults input.old) (S.faults input.new) }
     ensures write_cause { result ≡ Err SessionFault.WriteFault → Rose (K.faults out.old) (K.faults out.new) ⊎ Rose (E.faults err.old) (E.faults err.new) }

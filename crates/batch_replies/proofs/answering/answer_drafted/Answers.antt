@@ -1,9 +1,11 @@
-use Rattle.std.proofs.Common.{◌<◌, length, sym, subst}
+use Rattle.std.proofs.Common.{◌<◌, inl, inr, length, refl, sym, ◌∙◌, subst}
 use Rattle.sf_outside.proofs.ImageSteps.{on_ok}
 use Rattle.batch_output.specs.Vocabulary.{Core, core_of, source_of}
+use Rattle.session_store.proofs.StoreLaws.{all_logged}
 use Rattle.session_store.proofs.Vocabulary.{commit_storable, plan_is_spelt}
 use Rattle.batch_replies.proofs.AnswerLaws.{answered, plan_replies}
 use Rattle.batch_replies.proofs.CountLaws.{fewer_left}
+use Rattle.batch_replies.proofs.MomentLaws.{logs_chosen}
 use Rattle.batch_replies.proofs.answering.answer_drafted.Goals as goal
 
 pub log_planned-logged-requires-clause-short : goal.log_planned-logged-requires-clause-short
@@ -28,3 +30,12 @@ returns-in-Ok-clause-fewer g c =
 pub returns-in-Ok-clause-storable : goal.returns-in-Ok-clause-storable
 returns-in-Ok-clause-storable g c =
     commit_storable c.args.engine.now c.commit.new.self c.args.planned.batch.committed c.commit.ensures.core c.commit.ensures.fresh c.requires.fits c.requires.storable
+
+pub returns-in-Ok-clause-logs : goal.returns-in-Ok-clause-logs
+returns-in-Ok-clause-logs g c = λ rule chosen.
+    logs_chosen c.args.engine.now c.commit.new.self rule c.args.planned.batch.committed c.args.store.now _ _ chosen c.log_planned-logged.ensures.moments
+    (inr (all_logged c.commit.new.self c.commit.ensures.fresh ∙ c.commit.ensures.core))
+
+pub returns-in-Err-clause-logs : goal.returns-in-Err-clause-logs
+returns-in-Err-clause-logs g c = λ rule chosen.
+    logs_chosen c.args.engine.now c.args.engine.now rule c.args.planned.batch.committed c.args.store.now _ _ chosen c.log_planned-logged.ensures.moments (inl refl)

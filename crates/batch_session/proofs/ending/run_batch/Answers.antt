@@ -1,11 +1,17 @@
 use Rattle.std.proofs.Common.{◌<◌, ◌^◌, ◌∙◌, refl, ap, length, Err, arith}
-use Rattle.engine.specs.EngineViews.{core_of}
-use Rattle.session_steps.specs.Vocabulary.{Service, service_of}
+use Rattle.engine.specs.EngineViews.{core_of, source_of, limit_of}
+use Rattle.session_store.specs.Stores.{settings_of}
+use Rattle.session_store.specs.Vocabulary.{logged_of}
+use Rattle.session_store.proofs.CycleLaws.{settings_kept}
+use Rattle.session_steps.specs.Vocabulary.{Service, service_of, runs_on}
 use Rattle.session_steps.specs.Steps.{RunWaiting}
 use Rattle.session_steps.specs.Doings.{Point}
 use Rattle.session_steps.proofs.Leaves as leaves
 use Rattle.session_steps.proofs.Leaves.{Comes-one, Stops-batch}
 use Rattle.session_steps.proofs.Endings.{fewer_behind}
+use Rattle.session_steps.proofs.LoggedSteps.{Logged-batch}
+use Rattle.session_steps.proofs.Vocabulary.{Logs-end}
+use Rattle.batch_session.proofs.LoggedLaws.{ended_logs}
 use Rattle.batch_session.specs.Points.{point_of}
 use Rattle.batch_session.proofs.RunLaws.{same_stop, on_ok}
 use Rattle.batch_session.proofs.ReportLaws.{Batch-ended}
@@ -39,3 +45,24 @@ returns-in-Err-clause-runs_one g c = λ lines.
     let new : Point = point_of ran.engine lines c.args.tally.now (g.K.Sink.held ran.out) held (g.C.Chooser.choices ran.chooser) (g.W.Watch.told ran.watch) in
     Comes-one v traces {T = Unit {0}} (Err c.stop_of.result) (leaves.stop_of stop) RunWaiting old new (ap Err (c.stop_of.ensures ∙ same_stop stop))
     (Stops-batch v traces stop old new c.requires.some (c.in-Err.ensures.answers size) c.in-Err.ensures.told (record { tally = refl; traced = refl }))
+
+pub returns-in-Ok-clause-logs : goal.returns-in-Ok-clause-logs
+returns-in-Ok-clause-logs g c = λ lines.
+    let e = c.args.engine.now in
+    let now = c.answer_batch.new.engine in
+    let rule = g.R.CommitRule.choice c.args.rule.now in
+    let size = c.args.settings.now.batch in
+    let settings = settings_of c.args.store.now in
+    let old = g.D.Disk.facts c.args.disk.now in
+    let between = g.D.Disk.facts c.answer_batch.new.disk in
+    let new = g.D.Disk.facts c.end_batch.new.disk in
+    Logged-batch (service_of e rule size c.args.settings.now.parts) settings (core_of e) lines (logged_of e) (logged_of now) old new c.requires.some
+    (Logs-end (source_of e) rule settings (runs_on (source_of e) rule (record { batch = size; history = limit_of e }) (core_of e)) (logged_of e) (logged_of now) old between new (c.answer_batch.ensures.logs size)
+    (ended_logs e now c.answer_batch.ensures.runs rule settings _ (logged_of now) between new (settings_kept _ _ c.answer_batch.ensures.cycle) (c.end_batch.ensures.logs rule)))
+
+pub returns-in-Err-clause-logs : goal.returns-in-Err-clause-logs
+returns-in-Err-clause-logs g c = λ lines.
+    let e = c.args.engine.now in
+    let size = c.args.settings.now.batch in
+    Logged-batch (service_of e (g.R.CommitRule.choice c.args.rule.now) size c.args.settings.now.parts) (settings_of c.args.store.now) (core_of e) lines (logged_of e) (logged_of c.answer_batch.new.engine)
+    (g.D.Disk.facts c.args.disk.now) (g.D.Disk.facts c.answer_batch.new.disk) c.requires.some (c.answer_batch.ensures.logs size)

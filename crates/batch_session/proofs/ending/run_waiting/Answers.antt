@@ -1,7 +1,12 @@
 use Rattle.std.proofs.Common.{◌∙◌, refl, ap, sym, Ok, Err, arith}
 use Rattle.std.proofs.lemmas.Result.{err_from_is_err_and}
+use Rattle.engine.specs.EngineViews.{source_of}
+use Rattle.session_store.specs.Stores.{settings_of}
+use Rattle.session_store.specs.Vocabulary.{logged_of}
 use Rattle.session_steps.specs.Vocabulary.{service_of}
-use Rattle.session_steps.proofs.Vocabulary.{same_service}
+use Rattle.session_steps.proofs.Vocabulary.{same_service, Logs-still}
+use Rattle.session_steps.proofs.LoggedSteps.{Logged-run}
+use Rattle.batch_session.proofs.LoggedLaws.{Logged-same, Logged-over, Logged-stop}
 use Rattle.session_steps.proofs.Composing.{Comes-passed, Comes-same}
 use Rattle.session_steps.proofs.Endings.{Ending-none, Ending-more, Ending-over, Ending-stop}
 use Rattle.batch_session.proofs.SameProgram.{fits_back, sound_on, sound_back, runs_on}
@@ -11,7 +16,11 @@ use Rattle.batch_session.proofs.ending.run_waiting.Goals as goal
 
 pub loop-alloc-init : goal.loop-alloc-init
 loop-alloc-init g c = record {
-  ending = λ lines. Ending-none (service_of c.args.engine.now (g.R.CommitRule.choice c.args.rule.now) c.args.settings.now.batch c.args.settings.now.parts) c.args.settings.now.trace _;
+  ending = λ lines. (
+    Ending-none (service_of c.args.engine.now (g.R.CommitRule.choice c.args.rule.now) c.args.settings.now.batch c.args.settings.now.parts) c.args.settings.now.trace _,
+    Logs-still (source_of c.args.engine.now) (g.R.CommitRule.choice c.args.rule.now) c.args.store.now _ (logged_of c.args.engine.now) (logged_of c.args.engine.now) (g.D.Disk.facts c.args.disk.now) refl
+        c.requires.kept,
+  );
   later = omega arith;
   later_err = omega arith;
   few = c.requires.few;
@@ -35,8 +44,11 @@ loop-alloc-preserved g c =
     let runs = c.loop-alloc.invariant.runs in
     let same = same_service c.args.engine.now c.loop-alloc.engine runs rule c.args.settings.now.batch c.args.settings.now.parts in
     record {
-      ending = λ lines.
-          Ending-more v traces _ _ _ (c.loop-alloc.invariant.ending lines) (Comes-same v here traces (Ok (tt {0})) _ _ _ same (c.in_ok-run_batch.ensures.runs_one lines)) c.in_ok-run_batch.ensures.fewer;
+      ending = λ lines. let so_far = c.loop-alloc.invariant.ending lines in (
+        Ending-more v traces _ _ _ so_far.0 (Comes-same v here traces (Ok (tt {0})) _ _ _ same (c.in_ok-run_batch.ensures.runs_one lines)) c.in_ok-run_batch.ensures.fewer,
+        Logged-run v (settings_of c.args.store.now) traces so_far.0.count _ _ _ _ _ _ _ _ so_far.0.did so_far.1
+            (Logged-same v (settings_of c.args.store.now) here _ _ _ _ _ _ _ _ same c.loop-alloc.invariant.settings (c.run_batch.ensures.logs lines)),
+      );
       later = omega (arith, c.loop-alloc.invariant.later, c.run_batch.ensures.later);
       later_err = omega (arith, c.loop-alloc.invariant.later_err, c.run_batch.ensures.later_err);
       few = omega (arith, c.loop-alloc.invariant.few, c.in_ok-run_batch.ensures.fewer);
@@ -61,14 +73,32 @@ returns-in_err-run_batch-clause-runs_waiting g c = λ lines.
     let same = same_service c.args.engine.now c.loop-alloc.engine c.loop-alloc.invariant.runs rule c.args.settings.now.batch c.args.settings.now.parts in
     let some = some_wait c.is_empty.result c.pending.result.now c.loop-alloc.engine.pending c.is_empty.ensures c.loop-alloc-test.true c.pending.ensures in
     Comes-passed v traces (Unit {0}) _ _ _ _ _ (p.1 ∙ ap Err p.2)
-    (Ending-stop v traces {T = Unit {0}} (Err _) _ _ _ refl (c.loop-alloc.invariant.ending lines) some (Comes-same {T = Unit {0}} v here traces (Err _) _ _ _ same (c.in_err-run_batch.ensures.runs_one lines)))
+    (Ending-stop v traces {T = Unit {0}} (Err _) _ _ _ refl (c.loop-alloc.invariant.ending lines).0 some (Comes-same {T = Unit {0}} v here traces (Err _) _ _ _ same (c.in_err-run_batch.ensures.runs_one lines)))
 
 pub returns-clause-runs_waiting : goal.returns-clause-runs_waiting
 returns-clause-runs_waiting g c = λ lines.
     let v = service_of c.args.engine.now (g.R.CommitRule.choice c.args.rule.now) c.args.settings.now.batch c.args.settings.now.parts in
-    Ending-over v c.args.settings.now.trace _ _ (c.loop-alloc.invariant.ending lines) (sym c.pending.ensures ∙ c.is_empty.ensures.0 c.loop-alloc-test.false)
+    Ending-over v c.args.settings.now.trace _ _ (c.loop-alloc.invariant.ending lines).0 (sym c.pending.ensures ∙ c.is_empty.ensures.0 c.loop-alloc-test.false)
 
 pub returns-in_err-run_batch-clause-kept : goal.returns-in_err-run_batch-clause-kept
 returns-in_err-run_batch-clause-kept g c =
     let p = err_from_is_err_and c.from_residual.result c.from_residual.ensures.1 in
     kept_passed c.from_residual.result _ _ _ _ _ _ (p.1 ∙ ap Err p.2) c.in_err-run_batch.ensures.kept
+
+pub returns-in_err-run_batch-clause-logs : goal.returns-in_err-run_batch-clause-logs
+returns-in_err-run_batch-clause-logs g c = λ lines.
+    let rule = g.R.CommitRule.choice c.args.rule.now in
+    let settings = settings_of c.args.store.now in
+    let v = service_of c.args.engine.now rule c.args.settings.now.batch c.args.settings.now.parts in
+    let here = service_of c.loop-alloc.engine rule c.args.settings.now.batch c.args.settings.now.parts in
+    let same = same_service c.args.engine.now c.loop-alloc.engine c.loop-alloc.invariant.runs rule c.args.settings.now.batch c.args.settings.now.parts in
+    let some = some_wait c.is_empty.result c.pending.result.now c.loop-alloc.engine.pending c.is_empty.ensures c.loop-alloc-test.true c.pending.ensures in
+    let so_far = c.loop-alloc.invariant.ending lines in
+    Logged-stop v settings c.args.settings.now.trace _ _ _ _ _ _ so_far.0 so_far.1 _ _ some
+    (Logged-same v settings here _ _ _ _ _ _ _ _ same c.loop-alloc.invariant.settings (c.run_batch.ensures.logs lines))
+
+pub returns-clause-logs : goal.returns-clause-logs
+returns-clause-logs g c = λ lines.
+    let v = service_of c.args.engine.now (g.R.CommitRule.choice c.args.rule.now) c.args.settings.now.batch c.args.settings.now.parts in
+    let so_far = c.loop-alloc.invariant.ending lines in
+    Logged-over v (settings_of c.args.store.now) c.args.settings.now.trace _ _ _ _ _ _ so_far.0 so_far.1

@@ -5,7 +5,8 @@ use Rattle.session_store.specs.Vocabulary.{logged_of, IsStorable}
 use Rattle.session_store.specs.Cycles.{IsInCycle}
 use Rattle.session_store.specs.Stores.{settings_of, Keeps}
 use Rattle.session_steps.specs.Vocabulary.{service_of}
-use Rattle.session_steps.proofs.Endings.{Ending}
+use Rattle.session_steps.specs.Doings.{LogsSteps}
+use Rattle.session_steps.proofs.Endings.{Ending, runs}
 use Rattle.batch_session.specs.Points.{point_of}
 use Rattle.batch_session.proofs.ending.run_waiting.Given as goal
 
@@ -15,9 +16,11 @@ decreases-loop-alloc g l = length (core_of l.engine).pending
 
 abbrev pub invariant-loop-alloc : goal.invariant-loop-alloc
 invariant-loop-alloc g l = record {
-  ending : (lines : ℕ) → Ending (service_of l.fn.engine (g.R.CommitRule.choice l.rule) l.settings.batch l.settings.parts) l.settings.trace
+  ending : (lines : ℕ) → (e : Ending (service_of l.fn.engine (g.R.CommitRule.choice l.rule) l.settings.batch l.settings.parts) l.settings.trace
       (point_of l.fn.engine lines l.fn.tally (g.K.Sink.held l.fn.out) (g.E.Sink.held l.fn.err) (g.C.Chooser.choices l.fn.chooser) (g.W.Watch.told l.fn.watch))
-      (point_of l.engine lines l.tally (g.K.Sink.held l.out) (g.E.Sink.held l.err) (g.C.Chooser.choices l.chooser) (g.W.Watch.told l.watch));
+      (point_of l.engine lines l.tally (g.K.Sink.held l.out) (g.E.Sink.held l.err) (g.C.Chooser.choices l.chooser) (g.W.Watch.told l.watch)))
+      × LogsSteps (service_of l.fn.engine (g.R.CommitRule.choice l.rule) l.settings.batch l.settings.parts) (settings_of l.fn.store) (core_of l.fn.engine) lines (runs e.count)
+      (logged_of l.fn.engine) (logged_of l.engine) (g.D.Disk.facts l.fn.disk) (g.D.Disk.facts l.disk);
   later : g.K.Sink.faults l.fn.out ≤ g.K.Sink.faults l.out;
   later_err : g.E.Sink.faults l.fn.err ≤ g.E.Sink.faults l.err;
   few : length (core_of l.engine).pending < 256;

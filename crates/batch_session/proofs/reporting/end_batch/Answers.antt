@@ -1,6 +1,11 @@
+use Rattle.std.proofs.Common.{[], refl, sym, subst}
 use Rattle.engine.specs.EngineViews.{core_of, source_of}
 use Rattle.session_store.specs.Vocabulary.{logged_of}
 use Rattle.session_store.specs.Endings.{next_core}
+use Rattle.session_store.specs.Stores.{settings_of}
+use Rattle.session_store.proofs.StoreLaws.{all_logged}
+use Rattle.session_steps.specs.Vocabulary.{Logs}
+use Rattle.session_steps.proofs.Vocabulary.{Logs-still, Logs-checkpoint}
 use Rattle.batch_session.proofs.KeepLaws.{left_logged, cycle_counted}
 use Rattle.batch_session.proofs.reporting.end_batch.Goals as goal
 
@@ -15,3 +20,31 @@ returns-in-Err-DiskFault-clause-kept g c = λ rule.
     let e = c.args.engine.now in
     left_logged e c.requires.fresh c.batch_ended.new.store (g.D.Disk.facts c.batch_ended.new.disk) (next_core rule (source_of e) (core_of e))
     (rw c.in-Err-DiskFault.field-0-is at c.in-Err-DiskFault.ensures.kept)
+
+pub returns-in-Ok-batch_ended-clause-logs : goal.returns-in-Ok-batch_ended-clause-logs
+returns-in-Ok-batch_ended-clause-logs g c = λ rule.
+    let e = c.args.engine.now in
+    let old = g.D.Disk.facts c.args.disk.now in
+    let new = g.D.Disk.facts c.batch_ended.new.disk in
+    subst (λ core. Logs (source_of e) rule (settings_of c.args.store.now) [] core core old new) (sym (all_logged e c.requires.fresh))
+    (Logs-checkpoint (source_of e) rule c.args.store.now (core_of e) old new c.batch_ended.ensures.moments)
+
+pub returns-in-Err-DiskFault-clause-logs : goal.returns-in-Err-DiskFault-clause-logs
+returns-in-Err-DiskFault-clause-logs g c = λ rule.
+    let e = c.args.engine.now in
+    let old = g.D.Disk.facts c.args.disk.now in
+    let new = g.D.Disk.facts c.batch_ended.new.disk in
+    subst (λ core. Logs (source_of e) rule (settings_of c.args.store.now) [] core core old new) (sym (all_logged e c.requires.fresh))
+    (Logs-checkpoint (source_of e) rule c.args.store.now (core_of e) old new c.batch_ended.ensures.moments)
+
+pub returns-in-Err-NoMemory-clause-logs : goal.returns-in-Err-NoMemory-clause-logs
+returns-in-Err-NoMemory-clause-logs g c = λ rule.
+    let e = c.args.engine.now in
+    let old = g.D.Disk.facts c.args.disk.now in
+    let new = g.D.Disk.facts c.batch_ended.new.disk in
+    subst (λ core. Logs (source_of e) rule (settings_of c.args.store.now) [] core core old new) (sym (all_logged e c.requires.fresh))
+    (Logs-checkpoint (source_of e) rule c.args.store.now (core_of e) old new c.batch_ended.ensures.moments)
+
+pub returns-in-Err-clause-logs : goal.returns-in-Err-clause-logs
+returns-in-Err-clause-logs g c = λ rule.
+    let e = c.args.engine.now in Logs-still (source_of e) rule c.args.store.now [] (logged_of e) (logged_of e) (g.D.Disk.facts c.args.disk.now) refl c.requires.kept

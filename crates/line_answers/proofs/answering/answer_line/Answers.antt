@@ -2,10 +2,12 @@ use Rattle.std.proofs.Common.{[]}
 use Rattle.std.specs.List.{cons_option}
 use Rattle.request_json.specs.Actions.{action_of}
 use Rattle.engine.specs.EngineViews.{core_of, source_of}
+use Rattle.batch_replies.specs.Vocabulary.{settings_of, logged_of}
+use Rattle.batch_replies.proofs.MomentLaws.{Logs-still}
 use Rattle.line_answers.specs.LineViews.{line_of}
 use Rattle.line_answers.specs.Services.{service_of}
-use Rattle.line_answers.specs.LineAnswers.{before, Moment, moment_of}
-use Rattle.line_answers.proofs.TakenLaws.{engine_moved, line_moved, taken_waits, few_behind}
+use Rattle.line_answers.specs.LineAnswers.{before, Moment, moment_of, move_at, ran_by}
+use Rattle.line_answers.proofs.TakenLaws.{engine_moved, engine_logs, line_moved, taken_waits, few_behind}
 use Rattle.line_answers.proofs.answering.answer_line.Goals as goal
 
 -- a batch is due only where a request waits
@@ -45,3 +47,20 @@ returns-in-Ok-clause-few g c =
     few_behind (service_of e rule size parts) (g.met.R.CommitRule.lawful c.args.rule.now) c.requires.batch (core_of e) number line c.requires.few c.answer_taken.result old new
     (engine_moved e next c.take_line.ensures.runs rule size parts number line (cons_option c.in-Ok.taken.answer []) c.in-Ok.taken.is_due c.requires.first
     c.in-Ok.ensures.core c.in-Ok.ensures.answer (c.in-Ok.ensures.due rule e.limit) c.answer_taken.result old new (c.answer_taken.ensures.answers size))
+
+pub returns-in-Ok-clause-logs : goal.returns-in-Ok-clause-logs
+returns-in-Ok-clause-logs g c =
+    let e = c.args.engine.now in
+    let rule = g.R.CommitRule.choice c.args.rule.now in
+    let size = c.args.batching.now.batch in
+    engine_logs e c.take_line.new.engine c.take_line.ensures.runs rule size c.args.batching.now.parts c.args.line.number (line_of c.args.line) (cons_option c.in-Ok.taken.answer []) c.in-Ok.taken.is_due c.requires.first
+    c.in-Ok.ensures.core c.in-Ok.ensures.answer (c.in-Ok.ensures.due rule e.limit) c.take_line.ensures.logged (settings_of c.args.store.now) (logged_of c.answer_taken.new.engine)
+    (g.D.Disk.facts c.args.disk.now) (g.D.Disk.facts c.answer_taken.new.disk) (c.answer_taken.ensures.logs size)
+
+pub returns-in-Err-clause-logs : goal.returns-in-Err-clause-logs
+returns-in-Err-clause-logs g c =
+    let e = c.args.engine.now in
+    let rule = g.R.CommitRule.choice c.args.rule.now in
+    let v = service_of e rule c.args.batching.now.batch c.args.batching.now.parts in
+    Logs-still (source_of e) rule c.args.store.now (ran_by v (move_at v (before (core_of e) c.args.line.number) (line_of c.args.line))) (logged_of e) (logged_of c.take_line.new.engine)
+    (g.D.Disk.facts c.args.disk.now) c.take_line.ensures.logged c.requires.kept

@@ -1,10 +1,14 @@
-use Rattle.std.proofs.Common.{[], sym, subst}
+use Rattle.std.proofs.Common.{[], refl, sym, subst, if◌then◌else◌}
 use Rattle.std.specs.List.{cons_option}
 use Rattle.std.specs.Io.KnownBytes.{Appends}
 use Rattle.sf_outside.specs.Gains.{joined}
-use Rattle.engine.specs.EngineViews.{core_of}
+use Rattle.engine.specs.EngineViews.{core_of, source_of, limit_of}
+use Rattle.batch_replies.specs.Vocabulary.{settings_of, logged_of}
+use Rattle.batch_replies.specs.BatchAnswers.{runs_on}
+use Rattle.batch_replies.specs.Moments.{Logs}
+use Rattle.batch_replies.proofs.MomentLaws.{Logs-still}
 use Rattle.line_answers.specs.Services.{service_of}
-use Rattle.line_answers.specs.LineAnswers.{Move, Moment, moment_of, Moves}
+use Rattle.line_answers.specs.LineAnswers.{Move, Moment, moment_of, ran_by, Moves}
 use Rattle.line_answers.proofs.TakenLaws.{batch_moved, where_ok}
 use Rattle.line_answers.proofs.answering.answer_taken.Goals as goal
 
@@ -20,3 +24,24 @@ returns-clause-answers g c = λ size.
     (batch_moved v c.answer_batch.result m old new (g.K.Sink.held c.write_answer.new.out) c.if-not-is_due.false
     (where_ok c.write_answer.result (Appends (g.K.Sink.held c.args.out.now) (g.K.Sink.held c.write_answer.new.out) (joined lines)) c.if-is_err.ensures.value c.write_answer.ensures.whole)
     (c.answer_batch.ensures.answers size) c.answer_batch.ensures.told)
+
+pub returns-then-is_err-clause-logs : goal.returns-then-is_err-clause-logs
+returns-then-is_err-clause-logs g c = λ size.
+    let e = c.args.engine.now in
+    let rule = g.R.CommitRule.choice c.args.rule.now in
+    Logs-still (source_of e) rule c.args.store.now (ran_by (service_of e rule size c.args.parts) (record { answer = cons_option c.args.taken.answer []; core = core_of e; is_due = c.args.taken.is_due }))
+    (logged_of e) (logged_of e) (g.D.Disk.facts c.args.disk.now) refl c.requires.kept
+
+pub returns-then-not-is_due-clause-logs : goal.returns-then-not-is_due-clause-logs
+returns-then-not-is_due-clause-logs g c = λ size.
+    let e = c.args.engine.now in
+    let rule = g.R.CommitRule.choice c.args.rule.now in
+    Logs-still (source_of e) rule c.args.store.now (ran_by (service_of e rule size c.args.parts) (record { answer = cons_option c.args.taken.answer []; core = core_of e; is_due = c.args.taken.is_due }))
+    (logged_of e) (logged_of e) (g.D.Disk.facts c.args.disk.now) refl c.requires.kept
+
+pub returns-clause-logs : goal.returns-clause-logs
+returns-clause-logs g c = λ size.
+    let e = c.args.engine.now in
+    let rule = g.R.CommitRule.choice c.args.rule.now in
+    subst (λ due. Logs (source_of e) rule (settings_of c.args.store.now) (if due then runs_on (source_of e) rule (record { batch = size; history = limit_of e }) (core_of e) else []) (logged_of e)
+    (logged_of c.answer_batch.new.engine) (g.D.Disk.facts c.args.disk.now) (g.D.Disk.facts c.answer_batch.new.disk)) (sym c.if-not-is_due.false) (c.answer_batch.ensures.logs size)

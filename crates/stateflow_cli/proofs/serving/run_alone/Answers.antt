@@ -8,7 +8,7 @@ use Rattle.batch_run.specs.declared.running.RunSettings.{RunSettings}
 use Rattle.stateflow_cli.specs.Devices.{devices, source, sink, outside}
 use Rattle.stateflow_cli.specs.Endings.{longest_input}
 use Rattle.stateflow_cli.proofs.RunEndings.{run_ends, can_serve}
-use Rattle.stateflow_cli.proofs.ServedRuns.{unnamed, begins_alone, keeps_alone}
+use Rattle.stateflow_cli.proofs.ServedRuns.{unnamed, begins_alone, keeps_alone, moments_alone}
 use Rattle.stateflow_cli.proofs.serving.run_alone.Goals as goal
 
 pub run_program-requires : goal.run_program-requires
@@ -37,4 +37,5 @@ returns g c = λ disk.
       write_cause = c.run_program.ensures.write_cause;
       err_later = c.run_program.ensures.later_err;
       keeps = keeps_alone _ (settings_by c.args.words) _ _ _ _ disk disk untold c.run_program.result (unnamed c.args.words c.requires.alone) c.run_program.ensures.no_disk;
+      moments = moments_alone _ _ _ _ _ _ _ _ _ _ (unnamed c.args.words c.requires.alone);
     })

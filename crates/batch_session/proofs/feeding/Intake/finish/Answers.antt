@@ -1,8 +1,14 @@
 use Rattle.std.proofs.Common.{◌∙◌, ap, refl, Err}
 use Rattle.std.proofs.lemmas.Result.{err_from_is_err_and}
 use Rattle.request_json.specs.Actions.{last_line}
+use Rattle.engine.specs.EngineViews.{core_of}
+use Rattle.session_store.specs.Stores.{settings_of}
+use Rattle.session_store.specs.Vocabulary.{logged_of}
 use Rattle.session_steps.specs.Vocabulary.{service_of}
 use Rattle.session_steps.proofs.Vocabulary.{same_service}
+use Rattle.session_steps.specs.Steps.{answers, endings, standing_after, open_at}
+use Rattle.session_steps.proofs.LoggedSteps.{Logged-more, Logged-last}
+use Rattle.batch_session.proofs.LoggedLaws.{Logged-same}
 use Rattle.session_steps.proofs.Composing.{Comes-passed, Comes-same}
 use Rattle.session_steps.proofs.Endings.{Last-stop, Last-then}
 use Rattle.batch_session.proofs.KeepLaws.{kept_passed}
@@ -28,3 +34,21 @@ pub returns-in_err-take_last-clause-kept : goal.returns-in_err-take_last-clause-
 returns-in_err-take_last-clause-kept g c =
     let p = err_from_is_err_and c.from_residual.result c.from_residual.ensures.1 in
     kept_passed c.from_residual.result _ _ _ _ _ _ (p.1 ∙ ap Err p.2) c.in_err-take_last.ensures.kept
+
+pub returns-in_err-take_last-clause-logs : goal.returns-in_err-take_last-clause-logs
+returns-in_err-take_last-clause-logs g c = λ part h.
+    let e = c.args.engine.now in
+    let lines = c.args.self.now.lines in
+    let v = service_of e (g.R.CommitRule.choice c.args.rule.now) c.args.settings.now.batch c.args.settings.now.parts in
+    Logged-more v (settings_of c.args.store.now) (answers (last_line part)) (endings (standing_after v (open_at (core_of e) lines) (answers (last_line part)))) (core_of e) lines _ _ _ _
+    (c.take_last.ensures.logs part h)
+
+pub returns-clause-logs : goal.returns-clause-logs
+returns-clause-logs g c = λ part h.
+    let rule = g.R.CommitRule.choice c.args.rule.now in
+    let settings = settings_of c.args.store.now in
+    let v = service_of c.args.engine.now rule c.args.settings.now.batch c.args.settings.now.parts in
+    let here = service_of c.take_last.new.engine rule c.args.settings.now.batch c.args.settings.now.parts in
+    let same = same_service c.args.engine.now c.take_last.new.engine c.take_last.ensures.runs rule c.args.settings.now.batch c.args.settings.now.parts in
+    Logged-last v settings c.args.settings.now.trace (last_line part) _ _ _ _ _ _ _ _ (c.in_ok-take_last.ensures.answers part h) (c.take_last.ensures.logs part h)
+    (Logged-same v settings here _ _ _ _ _ _ _ _ same c.take_last.ensures.settings (c.run_waiting.ensures.logs c.take_last.new.self.lines))

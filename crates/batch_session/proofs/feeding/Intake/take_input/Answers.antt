@@ -1,8 +1,12 @@
-use Rattle.std.proofs.Common.{◌≡◌, ◌++◌, ◌∙◌, refl, ap, sym, Err, length, take, drop, arith}
+use Rattle.std.proofs.Common.{◌≡◌, [], ◌++◌, ◌∙◌, refl, ap, sym, Err, length, take, drop, arith}
 use Rattle.std.proofs.lemmas.List.{length-take}
 use Rattle.std.proofs.lemmas.Result.{err_from_is_err_and}
+use Rattle.engine.specs.EngineViews.{source_of}
+use Rattle.session_store.specs.Stores.{settings_of}
+use Rattle.session_store.specs.Vocabulary.{logged_of}
 use Rattle.session_steps.specs.Vocabulary.{service_of}
-use Rattle.session_steps.proofs.Vocabulary.{same_service}
+use Rattle.session_steps.proofs.Vocabulary.{same_service, Logs-still}
+use Rattle.batch_session.proofs.LoggedLaws.{Logged-same, Logged-fed}
 use Rattle.batch_session.proofs.SameProgram.{fits_back, sound_on, sound_back, runs_on}
 use Rattle.batch_session.proofs.FeedLaws.{Feeds-same}
 use Rattle.batch_session.proofs.TakeLaws.{Going-none, Going-step, Went-over, Takes-stopped, front_of_buffer}
@@ -11,7 +15,11 @@ use Rattle.batch_session.proofs.feeding.Intake.take_input.Goals as goal
 
 pub loop-taken-init : goal.loop-taken-init
 loop-taken-init g c = record {
-  going = Going-none (service_of c.args.engine.now (g.R.CommitRule.choice c.args.rule.now) c.args.settings.now.batch c.args.settings.now.parts) c.args.settings.now.trace _ _ _ c.requires.fresh;
+  going = (
+    Going-none (service_of c.args.engine.now (g.R.CommitRule.choice c.args.rule.now) c.args.settings.now.batch c.args.settings.now.parts) c.args.settings.now.trace _ _ _ c.requires.fresh,
+    Logs-still (source_of c.args.engine.now) (g.R.CommitRule.choice c.args.rule.now) c.args.store.now _ (logged_of c.args.engine.now) (logged_of c.args.engine.now) (g.D.Disk.facts c.args.disk.now) refl
+        c.requires.kept,
+  );
   lines = omega (arith, c.requires.lines);
   within = omega arith;
   read = omega arith;
@@ -36,11 +44,15 @@ returns-in_err-take_piece-in-Ok-clause-takes g c =
     let v = service_of c.args.engine.now rule c.args.settings.now.batch c.args.settings.now.parts in
     let here = service_of c.loop-taken.engine rule c.args.settings.now.batch c.args.settings.now.parts in
     let same = same_service c.args.engine.now c.loop-taken.engine c.loop-taken.invariant.runs rule c.args.settings.now.batch c.args.settings.now.parts in
-    let w = c.loop-taken.invariant.going in
+    let so_far = c.loop-taken.invariant.going in
+    let w = so_far.0 in
     let bound = c.in-Ok.ensures.bound in
-    Takes-stopped v c.args.settings.now.trace (Unit {0}) _ _ _ c.loop-taken.taken _ _ _ _ _ _ _ _ (take c.in-Ok.count c.read.new.buf) _ (p.1 ∙ ap Err p.2) w c.in-Ok.ensures.bytes.0
+    let e : take c.in-Ok.count (c.read.new.buf ++ drop c.next_piece-room.result c.loop-taken.buf) ≡ take c.in-Ok.count c.read.new.buf = front_of_buffer c.in-Ok.count c.read.new.buf _ bound.0 in
+    Takes-stopped v c.args.settings.now.trace (Unit {0}) _ _ _ _ c.loop-taken.taken _ _ _ _ _ _ _ _ (take c.in-Ok.count c.read.new.buf) _ (p.1 ∙ ap Err p.2) w c.in-Ok.ensures.bytes.0
     (front_of_buffer c.in-Ok.count c.read.new.buf _ bound.0) (omega (arith, bound.0, bound.1, c.read.auto.buf, c.next_piece-room.ensures.value, length-take c.next_piece-room.result c.loop-taken.buf))
     (Feeds-same v here c.args.settings.now.trace _ _ _ _ _ _ same (c.in_err-take_piece-in-Ok.ensures.feeds _ w.fed.start))
+    (Logged-fed v (settings_of c.args.store.now) c.args.settings.now.trace [] w.taken (take c.in-Ok.count c.read.new.buf) _ _ _ _ _ _ _ _ w.fed.came so_far.1
+    (Logged-same v (settings_of c.args.store.now) here _ _ _ _ _ _ _ _ same c.loop-taken.invariant.settings (rw e at (c.take_piece.ensures.logs _ w.fed.start))))
 
 pub loop-taken-preserved : goal.loop-taken-preserved
 loop-taken-preserved g c =
@@ -49,12 +61,17 @@ loop-taken-preserved g c =
     let here = service_of c.loop-taken.engine rule c.args.settings.now.batch c.args.settings.now.parts in
     let runs = c.loop-taken.invariant.runs in
     let same = same_service c.args.engine.now c.loop-taken.engine runs rule c.args.settings.now.batch c.args.settings.now.parts in
-    let w = c.loop-taken.invariant.going in
+    let so_far = c.loop-taken.invariant.going in
+    let w = so_far.0 in
     let bound = c.in-Ok.ensures.bound in
     let e : take c.in-Ok.count (c.read.new.buf ++ drop c.next_piece-room.result c.loop-taken.buf) ≡ take c.in-Ok.count c.read.new.buf = front_of_buffer c.in-Ok.count c.read.new.buf _ bound.0 in
     record {
-      going = Going-step v c.args.settings.now.trace c.loop-taken.taken _ _ _ _ _ _ _ _ (take c.in-Ok.count c.read.new.buf) c.in-Ok.count w c.in-Ok.ensures.bytes.0 (sym bound.1)
-          (Feeds-same v here c.args.settings.now.trace _ _ _ _ _ _ same (rw e at (c.in_ok-take_piece-in-Ok.ensures.feeds _ w.fed.start)));
+      going = (
+        Going-step v c.args.settings.now.trace c.loop-taken.taken _ _ _ _ _ _ _ _ (take c.in-Ok.count c.read.new.buf) c.in-Ok.count w c.in-Ok.ensures.bytes.0 (sym bound.1)
+            (Feeds-same v here c.args.settings.now.trace _ _ _ _ _ _ same (rw e at (c.in_ok-take_piece-in-Ok.ensures.feeds _ w.fed.start))),
+        Logged-fed v (settings_of c.args.store.now) c.args.settings.now.trace [] w.taken (take c.in-Ok.count c.read.new.buf) _ _ _ _ _ _ _ _ w.fed.came so_far.1
+            (Logged-same v (settings_of c.args.store.now) here _ _ _ _ _ _ _ _ same c.loop-taken.invariant.settings (rw e at (c.take_piece.ensures.logs _ w.fed.start))),
+      );
       lines = omega (arith, c.loop-taken.invariant.lines, c.take_piece.ensures.lines, e, bound.0, bound.1, ap length e);
       within = omega (arith, bound.0, bound.1, c.read.auto.buf, c.next_piece-room.ensures.value, length-take c.next_piece-room.result c.loop-taken.buf);
       read = omega (arith, c.loop-taken.invariant.read, c.read.ensures.cause.later);
@@ -75,11 +92,12 @@ loop-taken-preserved g c =
 pub returns-in-Ok-read-clause-takes : goal.returns-in-Ok-read-clause-takes
 returns-in-Ok-read-clause-takes g c =
     let v = service_of c.args.engine.now (g.R.CommitRule.choice c.args.rule.now) c.args.settings.now.batch c.args.settings.now.parts in
-    let w = c.loop-taken.invariant.going in
+    let so_far = c.loop-taken.invariant.going in
+    let w = so_far.0 in
     let bytes = c.in-Ok-read.ensures.bytes in
     let bound = c.in-Ok-read.ensures.bound in
-    Went-over v c.args.settings.now.trace _ _ c.loop-taken.taken _ _ _ _ _ _ (take c.in-Ok-read.field-0 c.read-2.new.buf) w (omega (arith, c.loop-taken.invariant.within))
-    (omega (arith, bound.0, bound.1, c.in-Ok-read.field-0-test.1, c.read-2.auto.buf, length-take 1 c.loop-taken.buf)) bytes.0
+    (Went-over v c.args.settings.now.trace _ _ c.loop-taken.taken _ _ _ _ _ _ (take c.in-Ok-read.field-0 c.read-2.new.buf) w (omega (arith, c.loop-taken.invariant.within))
+    (omega (arith, bound.0, bound.1, c.in-Ok-read.field-0-test.1, c.read-2.auto.buf, length-take 1 c.loop-taken.buf)) bytes.0, so_far.1)
 
 pub returns-in_err-take_piece-in-Ok-clause-kept : goal.returns-in_err-take_piece-in-Ok-clause-kept
 returns-in_err-take_piece-in-Ok-clause-kept g c =

@@ -1,6 +1,15 @@
-use Rattle.std.proofs.Common.{◌∙◌, ap, refl, Ok, Err, Some}
+use Rattle.std.proofs.Common.{◌∙◌, ap, refl, sym, subst, Ok, Err, Some}
 use Rattle.std.proofs.lemmas.Result.{err_from_is_err_and}
+use Rattle.request_json.specs.Actions.{whole_from}
+use Rattle.engine.specs.EngineViews.{core_of, source_of}
+use Rattle.session_store.specs.Stores.{settings_of}
+use Rattle.session_store.specs.Vocabulary.{logged_of}
 use Rattle.session_steps.specs.Vocabulary.{service_of}
+use Rattle.session_steps.specs.Steps.{answers}
+use Rattle.session_steps.specs.Doings.{LogsSteps}
+use Rattle.session_steps.proofs.Vocabulary.{Logs-still}
+use Rattle.batch_session.specs.Feeds.{fed_of}
+use Rattle.batch_session.proofs.LoggedLaws.{Logged-ends, Logged-first}
 use Rattle.batch_session.proofs.FeedLaws.{Feeds-no_memory, Feeds-line, Feeds-none_whole, Feeds-stop, Feeds-told}
 use Rattle.batch_session.proofs.KeepLaws.{kept_passed}
 use Rattle.batch_session.proofs.feeding.Intake.take_line.Goals as goal
@@ -36,3 +45,38 @@ pub returns-in_err-answer-in-Ok-Some-clause-kept : goal.returns-in_err-answer-in
 returns-in_err-answer-in-Ok-Some-clause-kept g c =
     let p = err_from_is_err_and c.from_residual.result c.from_residual.ensures.1 in
     kept_passed c.from_residual.result _ _ _ _ _ _ (p.1 ∙ ap Err p.2) c.in_err-answer-in-Ok-Some.ensures.kept
+
+pub returns-in_err-answer-in-Ok-Some-clause-logs : goal.returns-in_err-answer-in-Ok-Some-clause-logs
+returns-in_err-answer-in-Ok-Some-clause-logs g c = λ part h.
+    let p = err_from_is_err_and c.from_residual.result c.from_residual.ensures.1 in
+    let e = c.args.engine.now in
+    let lines = c.args.self.now.lines in
+    let v = service_of e (g.R.CommitRule.choice c.args.rule.now) c.args.settings.now.batch c.args.settings.now.parts in
+    let settings = settings_of c.args.store.now in
+    let last = logged_of c.answer.new.engine in
+    let old = g.D.Disk.facts c.args.disk.now in
+    let new = g.D.Disk.facts c.answer.new.disk in
+    let cut = rw c.in-Ok-Some.field-0-is at c.in-Ok-Some.ensures.cut in
+    let ends = cut part h in
+    subst (λ r. LogsSteps v settings (core_of e) lines (answers (whole_from part (fed_of r c.args.piece.now))) (logged_of e) last old new) (sym (p.1 ∙ ap Err p.2))
+    (Logged-first v settings part c.args.piece.now c.in-Ok-Some.count (core_of e) lines (logged_of e) last old new
+    (Logged-ends v settings (core_of e) lines c.take_line.new.self part _ (logged_of e) last old new ends (c.answer.ensures.logs ends.line ends.start)))
+
+pub returns-in_ok-answer-in-Ok-Some-clause-logs : goal.returns-in_ok-answer-in-Ok-Some-clause-logs
+returns-in_ok-answer-in-Ok-Some-clause-logs g c = λ part h.
+    let e = c.args.engine.now in
+    let v = service_of e (g.R.CommitRule.choice c.args.rule.now) c.args.settings.now.batch c.args.settings.now.parts in
+    let cut = rw c.in-Ok-Some.field-0-is at c.in-Ok-Some.ensures.cut in
+    let ends = cut part h in
+    Logged-ends v (settings_of c.args.store.now) (core_of e) c.args.self.now.lines c.take_line.new.self part _ (logged_of e) (logged_of c.answer.new.engine)
+    (g.D.Disk.facts c.args.disk.now) (g.D.Disk.facts c.answer.new.disk) ends (c.answer.ensures.logs ends.line ends.start)
+
+pub returns-in-Ok-None-clause-logs : goal.returns-in-Ok-None-clause-logs
+returns-in-Ok-None-clause-logs g c = λ part h.
+    let e = c.args.engine.now in
+    Logs-still (source_of e) (g.R.CommitRule.choice c.args.rule.now) c.args.store.now _ (logged_of e) (logged_of e) (g.D.Disk.facts c.args.disk.now) refl c.requires.kept
+
+pub returns-in-Err-clause-logs : goal.returns-in-Err-clause-logs
+returns-in-Err-clause-logs g c = λ part h.
+    let e = c.args.engine.now in
+    Logs-still (source_of e) (g.R.CommitRule.choice c.args.rule.now) c.args.store.now _ (logged_of e) (logged_of e) (g.D.Disk.facts c.args.disk.now) refl c.requires.kept

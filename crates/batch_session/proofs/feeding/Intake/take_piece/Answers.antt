@@ -1,8 +1,12 @@
 use Rattle.std.proofs.Common.{◌-◌, ◌∙◌, refl, ap, Ok, Err, List, ℕ, length, take, drop, arith}
 use Rattle.std.proofs.lemmas.List.{length-take, length-drop}
 use Rattle.std.proofs.lemmas.Result.{err_from_is_err_and}
+use Rattle.engine.specs.EngineViews.{source_of}
+use Rattle.session_store.specs.Stores.{settings_of}
+use Rattle.session_store.specs.Vocabulary.{logged_of}
 use Rattle.session_steps.specs.Vocabulary.{service_of}
-use Rattle.session_steps.proofs.Vocabulary.{same_service}
+use Rattle.session_steps.proofs.Vocabulary.{same_service, Logs-still}
+use Rattle.batch_session.proofs.LoggedLaws.{Logged-same, Logged-next, Logged-from}
 use Rattle.batch_session.proofs.SameProgram.{fits_back, sound_on, sound_back, runs_on}
 use Rattle.batch_session.proofs.FeedLaws.{Feeds-none, Feeds-next, Feeds-from, Feeds-passed, Feeds-other, Feeds-same, from_place}
 use Rattle.batch_session.proofs.KeepLaws.{kept_passed}
@@ -12,6 +16,8 @@ pub loop-count-init : goal.loop-count-init
 loop-count-init g c = record {
   within = omega arith;
   feeds = λ part h. Feeds-none (service_of c.args.engine.now (g.R.CommitRule.choice c.args.rule.now) c.args.settings.now.batch c.args.settings.now.parts) c.args.settings.now.trace (tt {0}) _ part _ h;
+  logs = λ part h. Logs-still (source_of c.args.engine.now) (g.R.CommitRule.choice c.args.rule.now) c.args.store.now _ (logged_of c.args.engine.now) (logged_of c.args.engine.now)
+      (g.D.Disk.facts c.args.disk.now) refl c.requires.kept;
   lines = omega arith;
   later = omega arith;
   later_err = omega arith;
@@ -56,6 +62,11 @@ loop-count-preserved g c =
           let k = rw c.in-Some.is at (c.in_ok-count.ensures.feeds _ f.start) in
           Feeds-next v c.args.settings.now.trace (tt {0}) (Ok (tt {0})) _ _ _ _ _ part c.args.piece.now rest c.loop-count.start c.in-Some.count all f
           (Feeds-other v c.args.settings.now.trace _ (tt {0}) _ _ _ _ _ (Feeds-same v here c.args.settings.now.trace _ _ _ _ _ _ same k));
+      logs = λ part h.
+          let f = c.loop-count.invariant.feeds part h in
+          let k = rw c.in-Some.is at (c.in_ok-count.ensures.logs _ f.start) in
+          Logged-next v (settings_of c.args.store.now) c.args.settings.now.trace part c.args.piece.now rest c.loop-count.start c.in-Some.count _ _ _ _ _ _ _ _ all f.came (c.loop-count.invariant.logs part h)
+          (Logged-same v (settings_of c.args.store.now) here _ _ _ _ _ _ _ _ same c.loop-count.invariant.settings k);
       lines = omega (arith, c.loop-count.invariant.lines, lines, length-take c.in-Some.count rest);
       later = omega (arith, c.loop-count.invariant.later, c.take_line.ensures.later);
       later_err = omega (arith, c.loop-count.invariant.later_err, c.take_line.ensures.later_err);
@@ -86,3 +97,27 @@ pub returns-in_err-count-clause-kept : goal.returns-in_err-count-clause-kept
 returns-in_err-count-clause-kept g c =
     let p = err_from_is_err_and c.from_residual.result c.from_residual.ensures.1 in
     kept_passed c.from_residual.result _ _ _ _ _ _ (p.1 ∙ ap Err p.2) c.in_err-count.ensures.kept
+
+pub returns-in_err-count-clause-logs : goal.returns-in_err-count-clause-logs
+returns-in_err-count-clause-logs g c = λ part h.
+    let rule = g.R.CommitRule.choice c.args.rule.now in
+    let settings = settings_of c.args.store.now in
+    let v = service_of c.args.engine.now rule c.args.settings.now.batch c.args.settings.now.parts in
+    let here = service_of c.loop-count.engine rule c.args.settings.now.batch c.args.settings.now.parts in
+    let same = same_service c.args.engine.now c.loop-count.engine c.loop-count.invariant.runs rule c.args.settings.now.batch c.args.settings.now.parts in
+    let f = c.loop-count.invariant.feeds part h in
+    let k = c.in_err-count.ensures.logs _ f.start in
+    Logged-from v settings c.args.settings.now.trace part c.args.piece.now _ c.loop-count.start _ _ _ _ _ _ _ _ (from_place c.loop-count.start c.args.piece.now) f.came (c.loop-count.invariant.logs part h)
+    (Logged-same v settings here _ _ _ _ _ _ _ _ same c.loop-count.invariant.settings k)
+
+pub returns-clause-logs : goal.returns-clause-logs
+returns-clause-logs g c = λ part h.
+    let rule = g.R.CommitRule.choice c.args.rule.now in
+    let settings = settings_of c.args.store.now in
+    let v = service_of c.args.engine.now rule c.args.settings.now.batch c.args.settings.now.parts in
+    let here = service_of c.loop-count.engine rule c.args.settings.now.batch c.args.settings.now.parts in
+    let same = same_service c.args.engine.now c.loop-count.engine c.loop-count.invariant.runs rule c.args.settings.now.batch c.args.settings.now.parts in
+    let f = c.loop-count.invariant.feeds part h in
+    let k = rw c.in_default.is at (c.in_ok-count.ensures.logs _ f.start) in
+    Logged-from v settings c.args.settings.now.trace part c.args.piece.now _ c.loop-count.start _ _ _ _ _ _ _ _ (from_place c.loop-count.start c.args.piece.now) f.came (c.loop-count.invariant.logs part h)
+    (Logged-same v settings here _ _ _ _ _ _ _ _ same c.loop-count.invariant.settings k)
