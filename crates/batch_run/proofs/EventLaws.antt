@@ -57,7 +57,7 @@ module _ (compiled : Compiled) (s : RunSettings) (start : Core) (left held said 
       → Comes (run_service compiled s) s.trace r steps (first_point old) (point_at new lines tally) → CommitsFirst compiled s start steps new.core
   commits_some r steps lines tally came =
       let c =
-      commits (run_service compiled s) s.trace steps (first_point old) (point_at new lines tally)
+      commits (run_service compiled s) s.trace r steps (first_point old) (point_at new lines tally)
       (ends (run_service compiled s) s.trace r steps (first_point old) (point_at new lines tally) came) in
       record { first = c.first; rest = c.rest; split = c.split; history = c.committed.history; state = c.committed.state }
 

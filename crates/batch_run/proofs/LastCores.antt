@@ -59,8 +59,9 @@ module _ (v : Service) (traces : Bool) where
     pub core : q.core ≡ core_behind (program_of v) v.rule v.limits (move_of v (going p) step).core
     pub part : AppendsPrefix p.held q.held (whole_text v (move_of v (going p) step))
 
-  abbrev pub EndsAt : Step → Point → Point → Type 0
-  EndsAt step p q = IsStill p q ⊎ HasMoved step p q ⊎ HasRun step p q
+  -- the last of these where something couldn't be written
+  abbrev pub EndsAt : Result (Unit {0}) LineStop → Step → Point → Point → Type 0
+  EndsAt r step p q = IsStill p q ⊎ HasMoved step p q ⊎ ((r ≡ Err stop.WriteFault) × HasRun step p q)
 
   -- behind some first steps, or at the next one
   pub record EndsBehind (steps : List Step) (p q : Point) : Type 0 where
@@ -69,49 +70,49 @@ module _ (v : Service) (traces : Bool) where
     pub split : steps ≡ first ++ rest
     pub did : Does v traces first p q
 
-  pub record EndsWithin (steps : List Step) (p q : Point) : Type 0 where
+  pub record EndsWithin (r : Result (Unit {0}) LineStop) (steps : List Step) (p q : Point) : Type 0 where
     pub first : List Step
     pub step : Step
     pub rest : List Step
     pub split : steps ≡ first ++ step ∷ rest
     pub between : Point
     pub did : Does v traces first p between
-    pub at : EndsAt step between q
+    pub at : EndsAt r step between q
 
-  abbrev pub Ends : List Step → Point → Point → Type 0
-  Ends steps p q = EndsBehind steps p q ⊎ EndsWithin steps p q
+  abbrev pub Ends : Result (Unit {0}) LineStop → List Step → Point → Point → Type 0
+  Ends r steps p q = EndsBehind steps p q ⊎ EndsWithin r steps p q
 
   -- at a step
 
-  untaken : (step : Step) (p q : Point) → IsUntaken (going p) (move_of v (going p) step) (moment p) (moment q) → EndsAt step p q
-  untaken step p q u = by u.core
+  untaken : (r : Result (Unit {0}) LineStop) (step : Step) (p q : Point) → IsUntaken (going p) (move_of v (going p) step) (moment p) (moment q) → EndsAt r step p q
+  untaken r step p q u = by u.core
     where
-      by : (q.core ≡ p.core) ⊎ (q.core ≡ (move_of v (going p) step).core) → EndsAt step p q
+      by : (q.core ≡ p.core) ⊎ (q.core ≡ (move_of v (going p) step).core) → EndsAt r step p q
       by (inl core) = inl (record { core = core; held = u.unwritten })
       by (inr core) = inr (inl (record { core = core; part = nothing_written p.held q.held (joined (move_of v (going p) step).answer) u.unwritten }))
 
-  moved : (step : Step) (p q : Point) → q.core ≡ (move_of v (going p) step).core → AppendsPrefix p.held q.held (joined (move_of v (going p) step).answer)
-      → EndsAt step p q
-  moved step p q core part = inr (inl (record { core = core; part = part }))
+  moved : (r : Result (Unit {0}) LineStop) (step : Step) (p q : Point) → q.core ≡ (move_of v (going p) step).core → AppendsPrefix p.held q.held (joined (move_of v (going p) step).answer)
+      → EndsAt r step p q
+  moved r step p q core part = inr (inl (record { core = core; part = part }))
 
-  stops : (why : LineStop) (step : Step) (p q : Point) → StopsAt v traces why step p q → EndsAt step p q
-  stops stop.HistoryFull step p q s = moved step p q s.0.core (prefix_whole p.held q.held (joined (move_of v (going p) step).answer) s.0.wrote)
+  stops : (why : LineStop) (step : Step) (p q : Point) → StopsAt v traces why step p q → EndsAt (Err why) step p q
+  stops stop.HistoryFull step p q s = moved (Err stop.HistoryFull) step p q s.0.core (prefix_whole p.held q.held (joined (move_of v (going p) step).answer) s.0.wrote)
   stops stop.NoMemory step p q s = by s.0
     where
-      by : IsUntaken (going p) (move_of v (going p) step) (moment p) (moment q) ⊎ IsUnplanned v (move_of v (going p) step) (moment p) (moment q) → EndsAt step p q
-      by (inl u) = untaken step p q u
-      by (inr u) = moved step p q u.core (prefix_whole p.held q.held (joined (move_of v (going p) step).answer) u.wrote)
-  stops stop.DiskFault step p q s = moved step p q s.0.core (prefix_whole p.held q.held (joined (move_of v (going p) step).answer) s.0.wrote)
+      by : IsUntaken (going p) (move_of v (going p) step) (moment p) (moment q) ⊎ IsUnplanned v (move_of v (going p) step) (moment p) (moment q) → EndsAt (Err stop.NoMemory) step p q
+      by (inl u) = untaken (Err stop.NoMemory) step p q u
+      by (inr u) = moved (Err stop.NoMemory) step p q u.core (prefix_whole p.held q.held (joined (move_of v (going p) step).answer) u.wrote)
+  stops stop.DiskFault step p q s = moved (Err stop.DiskFault) step p q s.0.core (prefix_whole p.held q.held (joined (move_of v (going p) step).answer) s.0.wrote)
   stops stop.WriteFault step p q (inl s) = by s.0
     where
-      by : IsUnanswered v (move_of v (going p) step) (moment p) (moment q) ⊎ IsUnreplied v (move_of v (going p) step) (moment p) (moment q) → EndsAt step p q
-      by (inl u) = moved step p q u.core u.part
-      by (inr u) = inr (inr (record { due = u.due; place = u.place; core = u.core; part = u.part }))
+      by : IsUnanswered v (move_of v (going p) step) (moment p) (moment q) ⊎ IsUnreplied v (move_of v (going p) step) (moment p) (moment q) → EndsAt (Err stop.WriteFault) step p q
+      by (inl u) = moved (Err stop.WriteFault) step p q u.core u.part
+      by (inr u) = inr (inr (refl, record { due = u.due; place = u.place; core = u.core; part = u.part }))
   stops stop.WriteFault step p q (inr s) =
       let c = s.committed in
-      inr (inr (record { due = c.due; place = c.place; core = c.core; part = prefix_whole p.held q.held (whole_text v (move_of v (going p) step)) c.wrote }))
+      inr (inr (refl, record { due = c.due; place = c.place; core = c.core; part = prefix_whole p.held q.held (whole_text v (move_of v (going p) step)) c.wrote }))
 
-  within : (why : LineStop) (steps : List Step) (p q : Point) → StopsWithin v traces why steps p q → Ends steps p q
+  within : (why : LineStop) (steps : List Step) (p q : Point) → StopsWithin v traces why steps p q → Ends (Err why) steps p q
   within why steps p q s = inr (record {
     first = s.first;
     step = s.step;
@@ -122,16 +123,16 @@ module _ (v : Service) (traces : Bool) where
     at = stops why s.step s.between q s.stopped;
   })
 
-  between_steps : (steps : List Step) (p q : Point) → StopsBetween v traces steps p q → Ends steps p q
-  between_steps steps p q s = inl (record { first = s.first; rest = s.rest; split = s.split; did = s.did })
+  between_steps : (r : Result (Unit {0}) LineStop) (steps : List Step) (p q : Point) → StopsBetween v traces steps p q → Ends r steps p q
+  between_steps r steps p q s = inl (record { first = s.first; rest = s.rest; split = s.split; did = s.did })
 
-  pub ends : (r : Result (Unit {0}) LineStop) (steps : List Step) (p q : Point) → Comes v traces r steps p q → Ends steps p q
+  pub ends : (r : Result (Unit {0}) LineStop) (steps : List Step) (p q : Point) → Comes v traces r steps p q → Ends r steps p q
   ends (Ok value) steps p q d = inl (record { first = steps; rest = []; split = sym (append-nil steps); did = d })
   ends (Err stop.HistoryFull) steps p q s = within stop.HistoryFull steps p q s
   ends (Err stop.NoMemory) steps p q (inl s) = within stop.NoMemory steps p q s
-  ends (Err stop.NoMemory) steps p q (inr s) = between_steps steps p q s
+  ends (Err stop.NoMemory) steps p q (inr s) = between_steps (Err stop.NoMemory) steps p q s
   ends (Err stop.DiskFault) steps p q (inl s) = within stop.DiskFault steps p q s
-  ends (Err stop.DiskFault) steps p q (inr s) = between_steps steps p q s
+  ends (Err stop.DiskFault) steps p q (inr s) = between_steps (Err stop.DiskFault) steps p q s
   ends (Err stop.WriteFault) steps p q s = within stop.WriteFault steps p q s
 
   -- What was committed
@@ -167,26 +168,26 @@ module _ (v : Service) (traces : Bool) where
       ∙ sym (ap (λ (t : Standing). t.core)
       (standing-append v first (step ∷ []) (going p) ∙ ap (λ t. standing_after v t (step ∷ [])) d.stands ∙ standing-one v (going between) step))
 
-  pub commits : (steps : List Step) (p q : Point) → Ends steps p q → IsCommittedAs steps p q
-  commits steps p q (inl e) = record {
+  pub commits : (r : Result (Unit {0}) LineStop) (steps : List Step) (p q : Point) → Ends r steps p q → IsCommittedAs steps p q
+  commits r steps p q (inl e) = record {
     first = e.first;
     rest = e.rest;
     split = e.split;
     committed = first_committed e.first p q q e.did (record { history = refl; state = refl });
   }
-  commits steps p q (inr e) = by e.at
+  commits r steps p q (inr e) = by e.at
     where
       stays : HasCommitted q.core e.between.core → IsCommittedAs steps p q
       stays h = record { first = e.first; rest = e.step ∷ e.rest; split = e.split; committed = first_committed e.first p e.between q e.did h }
 
-      by : EndsAt e.step e.between q → IsCommittedAs steps p q
+      by : EndsAt r e.step e.between q → IsCommittedAs steps p q
       by (inl h) = stays (same_committed q.core e.between.core h.core)
       by (inr (inl h)) = stays (committed_as q.core (move_of v (going e.between) e.step).core e.between.core h.core (move_committed (going e.between) e.step))
       by (inr (inr h)) = record {
         first = e.first ++ e.step ∷ [];
         rest = e.rest;
         split = e.split ∙ sym (append_assoc e.first (e.step ∷ []) e.rest);
-        committed = same_committed q.core (standing_after v (going p) (e.first ++ e.step ∷ [])).core (one_more e.first e.step p e.between q e.did h);
+        committed = same_committed q.core (standing_after v (going p) (e.first ++ e.step ∷ [])).core (one_more e.first e.step p e.between q e.did h.1);
       }
 
   -- Where the history is full

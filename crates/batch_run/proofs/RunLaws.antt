@@ -14,7 +14,8 @@ use Rattle.engine.specs.Cores.{Core, IsSoundCore}
 use Rattle.engine.specs.EngineViews.{core_of, limit_of, RunsProgram}
 use Rattle.batch_session.specs.Vocabulary.{Tally, service_of, limits_of}
 use Rattle.batch_session.specs.declared.serving.SessionFault.{SessionFault}
-use Rattle.batch_session.specs.declared.serving.SessionFault.TheVariants.{NoMemory}
+use Rattle.batch_session.specs.LineStopVariants as stop
+use Rattle.batch_session.specs.declared.serving.SessionFault.TheVariants.{NoMemory, WriteFault}
 use Rattle.batch_session.specs.Served.{View, first_point, point_at, Served}
 use Rattle.batch_run.specs.RunViews.{Shown, run_service}
 use Rattle.batch_run.specs.RunEvents.{Starts}
@@ -22,7 +23,7 @@ use Rattle.batch_run.specs.Runs.{IsSerialRun, Runs}
 use Rattle.batch_run.specs.declared.running.RunSettings.{RunSettings}
 use Rattle.batch_run.proofs.SessionTakes.{served_took}
 use Rattle.batch_run.proofs.TextLaws.{at_begin, served_in_part, served_prints}
-use Rattle.batch_run.proofs.SerialLaws.{serial_session, serial_none}
+use Rattle.batch_run.proofs.SerialLaws.{serial_session, serial_none, replies_by}
 use Rattle.batch_run.proofs.EventLaws.{served_tells}
 
 abbrev pub shown_by : View → Shown
@@ -33,8 +34,8 @@ module _ (compiled : Compiled) (s : RunSettings) (result : Result Tally SessionF
   pub unbegun : result ≡ Err NoMemory → (start : Core) (shown : Shown) → Runs compiled s start start result shown shown
   unbegun is start shown = subst (λ r. Runs compiled s start start r shown shown) (sym is) nothing
     where
-      unserial : IsSoundCore (batch.source_of compiled) start → IsSerialRun compiled start start shown shown
-      unserial sound = let none = serial_none (batch.source_of compiled) start sound shown.held in record { prints = none.0; replies = none.1 }
+      unserial : IsSoundCore (batch.source_of compiled) start → IsSerialRun compiled start start (Err NoMemory) shown shown
+      unserial sound = let none = serial_none (batch.source_of compiled) start sound shown.held (Err {T = Tally} NoMemory ≡ Err WriteFault) in record { prints = none.0; replies = none.1 }
 
       nothing : Runs compiled s start start (Err NoMemory) shown shown
       nothing = record {
@@ -58,11 +59,14 @@ module _ (compiled : Compiled) (s : RunSettings) (result : Result Tally SessionF
     first = record { left = left; held = held; said = said; outside = before }
 
     serial : Served (run_service compiled s) s.trace s.limit result old new → IsSoundCore (batch.source_of compiled) start
-        → IsSerialRun compiled start new.core first (shown_by new)
+        → IsSerialRun compiled start new.core result first (shown_by new)
     serial served sound =
         let t = served_took (run_service compiled s) s.trace s.limit result old new served in
         let runs = serial_session compiled s few t.0 t.1.steps (first_point old) (point_at new t.1.lines t.1.tally) t.1.came refl sound waiting in
-        record { prints = runs.0; replies = runs.1 }
+        record {
+          prints = runs.0;
+          replies = replies_by (batch.source_of compiled) start new.core held new.held (t.0 ≡ Err stop.WriteFault) (result ≡ Err WriteFault) t.2 runs.1;
+        }
 
     begun_so : Starts compiled s before started → Served (run_service compiled s) s.trace s.limit result old new
         → Runs compiled s start new.core result first (shown_by new)

@@ -1,5 +1,5 @@
 -- Whatever a run printed is what one serial run prints, or a prefix of it; and all but the replies to one batch was written.
-use Rattle.std.proofs.Common.{◌≡◌, ℕ, ◌+◌, ◌≤◌, ◌<◌, ◌^◌, ◌⊎◌, inl, inr, Bool, true, false, not, ◌||◌, List, [], ◌∷◌, ◌++◌, length, take, if◌then◌else◌, refl, sym, ap, ◌∙◌, subst, append-nil, arith}
+use Rattle.std.proofs.Common.{◌≡◌, ℕ, ◌+◌, ◌≤◌, ◌<◌, ◌^◌, ◌⊎◌, inl, inr, Bool, true, false, not, ◌||◌, List, [], ◌∷◌, ◌++◌, length, take, Err, if◌then◌else◌, refl, sym, ap, ◌∙◌, subst, append-nil, arith}
 use Rattle.std.specs.declared.option.Option.{Option}
 use Rattle.std.specs.declared.result.Result.{Result}
 use Rattle.std.specs.Io.KnownBytes.{Appends}
@@ -23,6 +23,7 @@ use Rattle.batch_output.proofs.LawfulBatches.{stays_sound}
 use Rattle.batch_output.proofs.ReportLaws.{Goes, Goes-none, Goes-then, Goes-batch}
 use Rattle.batch_output.proofs.SessionLaws.{Holds, Steps, answered, stepped, settled_holds}
 use Rattle.batch_session.specs.Vocabulary.{next_core, Step, Answer, RunWaiting, move_of, behind, printed_at, standing_after, printed, Point, going, Does, Comes, LineStop, ActionFits, Service}
+use Rattle.batch_session.specs.LineStopVariants as stop
 use Rattle.batch_session.proofs.Vocabulary.{prefix_whole, prefix_after, behind_placed, printed_placed, line_fits}
 use Rattle.batch_run.specs.RunViews.{Shown, run_limits, run_service}
 use Rattle.batch_run.specs.RunTexts.{PrintsOneRun, RepliesAllButOne}
@@ -159,10 +160,10 @@ module _ (compiled : Compiled) (s : RunSettings) (few : s.batch ≤ 256) where
     }
 
     -- what the first steps print was written, and then these bytes
-    but_one : (first : List Step) (between : Point) → Does v s.trace first p between → (before : Core) → Goes src between.core before between.lines between.lines []
-        → (more : List ℕ) → Appends between.held q.held more → (q.core ≡ before) ⊎ (q.core ≡ next_core batch_rule src before)
-        → RepliesAllButOne src p.core q.core p.held q.held
-    but_one first between d before goes more wrote last_is = record {
+    but_one : (unwritten : Type 0) (first : List Step) (between : Point) → Does v s.trace first p between → (before : Core) → Goes src between.core before between.lines between.lines []
+        → (more : List ℕ) → Appends between.held q.held more → (q.core ≡ before) ⊎ (unwritten × (q.core ≡ next_core batch_rule src before))
+        → RepliesAllButOne src p.core q.core p.held q.held unwritten
+    but_one unwritten first between d before goes more wrote last_is = record {
       before = before;
       lines = between.lines;
       texts = printed v (going p) first ++ [];
@@ -187,27 +188,27 @@ module _ (compiled : Compiled) (s : RunSettings) (few : s.batch ≤ 256) where
     no_part : (a b : Option (List ℕ)) → b ≡ a → AppendsPrefix a b (joined [])
     no_part a b same = subst (AppendsPrefix a b) (sym joined-nil) (prefix_whole a b [] (none_gained a b same))
 
-    abbrev RunsSerially : Type 0
-    RunsSerially = PrintsOneRun src p.core q.core p.held q.held × RepliesAllButOne src p.core q.core p.held q.held
+    abbrev RunsSerially : Type 0 → Type 0
+    RunsSerially unwritten = PrintsOneRun src p.core q.core p.held q.held × RepliesAllButOne src p.core q.core p.held q.held unwritten
 
-    still : (first : List Step) (between : Point) → Does v s.trace first p between → q.core ≡ between.core → q.held ≡ between.held → RunsSerially
-    still first between d core held = (
+    still : (unwritten : Type 0) (first : List Step) (between : Point) → Does v s.trace first p between → q.core ≡ between.core → q.held ≡ between.held → RunsSerially unwritten
+    still unwritten first between d core held = (
       one_run first between d between.lines []
           (subst (λ c. Goes src between.core c between.lines between.lines []) (sym core) (nothing_more first between d)) (no_part between.held q.held held),
-      but_one first between d between.core (nothing_more first between d) [] (none_gained between.held q.held held) (inl core),
+      but_one unwritten first between d between.core (nothing_more first between d) [] (none_gained between.held q.held held) (inl core),
     )
 
-    moved : (first : List Step) (step : Step) (between : Point) → Does v s.trace first p between → HasMoved v s.trace step between q → RunsSerially
-    moved first step between d h =
+    moved : (unwritten : Type 0) (first : List Step) (step : Step) (between : Point) → Does v s.trace first p between → HasMoved v s.trace step between q → RunsSerially unwritten
+    moved unwritten first step between d h =
         let m = move_of v (going between) step in
         let there = between_stands first between d in (
           one_run first between d (between.lines + 1) m.answer
               (subst (λ c. Goes src between.core c between.lines (between.lines + 1) m.answer) (sym h.core) (begins step (going between) there)) h.part,
-          but_one first between d m.core (begins_quietly step (going between) there) (take h.part.0 (joined m.answer)) h.part.1 (inl h.core),
+          but_one unwritten first between d m.core (begins_quietly step (going between) there) (take h.part.0 (joined m.answer)) h.part.1 (inl h.core),
         )
 
-    ran : (first : List Step) (step : Step) (between : Point) → Does v s.trace first p between → HasRun v s.trace step between q → RunsSerially
-    ran first step between d h =
+    ran : (unwritten : Type 0) → unwritten → (first : List Step) (step : Step) (between : Point) → Does v s.trace first p between → HasRun v s.trace step between q → RunsSerially unwritten
+    ran unwritten fault first step between d h =
         let m = move_of v (going between) step in
         let there = between_stands first between d in
         let next : Standing = behind v (going between) step in
@@ -216,29 +217,42 @@ module _ (compiled : Compiled) (s : RunSettings) (few : s.batch ≤ 256) where
           one_run first between d next.lines texts
               (subst (λ c. Goes src between.core c between.lines next.lines texts) (sym (run_core v s.trace step between q h)) (one step (going between) there).goes)
               (subst (λ l. AppendsPrefix between.held q.held (joined l)) (sym is) h.part),
-          but_one first between d m.core (begins_quietly step (going between) there)
-              (take h.part.0 (joined (m.answer ++ batch_lines src batch_rule (run_limits s) m.core))) h.part.1 (inr h.core),
+          but_one unwritten first between d m.core (begins_quietly step (going between) there)
+              (take h.part.0 (joined (m.answer ++ batch_lines src batch_rule (run_limits s) m.core))) h.part.1 (inr (fault, h.core)),
         )
 
-    runs_serially : (steps : List Step) → Ends v s.trace steps p q → RunsSerially
-    runs_serially steps (inl e) = still e.first q e.did refl refl
-    runs_serially steps (inr e) = by e.at
+    runs_serially : (r : Result (Unit {0}) LineStop) (steps : List Step) → Ends v s.trace r steps p q → RunsSerially (r ≡ Err stop.WriteFault)
+    runs_serially r steps (inl e) = still (r ≡ Err stop.WriteFault) e.first q e.did refl refl
+    runs_serially r steps (inr e) = by e.at
       where
-        by : EndsAt v s.trace e.step e.between q → RunsSerially
-        by (inl h) = still e.first e.between e.did h.core h.held
-        by (inr (inl h)) = moved e.first e.step e.between e.did h
-        by (inr (inr h)) = ran e.first e.step e.between e.did h
+        by : EndsAt v s.trace r e.step e.between q → RunsSerially (r ≡ Err stop.WriteFault)
+        by (inl h) = still (r ≡ Err stop.WriteFault) e.first e.between e.did h.core h.held
+        by (inr (inl h)) = moved (r ≡ Err stop.WriteFault) e.first e.step e.between e.did h
+        by (inr (inr h)) = ran (r ≡ Err stop.WriteFault) h.0 e.first e.step e.between e.did h.1
 
   -- a session that began with a sound core, of which fewer than 256 requests wait
   pub serial_session : (r : Result (Unit {0}) LineStop) (steps : List Step) (p q : Point) → Comes v s.trace r steps p q → p.lines ≡ 0 → IsSoundCore src p.core
-      → length p.core.pending < 256 → PrintsOneRun src p.core q.core p.held q.held × RepliesAllButOne src p.core q.core p.held q.held
+      → length p.core.pending < 256 → PrintsOneRun src p.core q.core p.held q.held × RepliesAllButOne src p.core q.core p.held q.held (r ≡ Err stop.WriteFault)
   serial_session r steps p q came none sound few =
-      runs_serially p q none (record { sound = sound; few = λ goes. few }) steps (ends v s.trace r steps p q came)
+      runs_serially p q none (record { sound = sound; few = λ goes. few }) r steps (ends v s.trace r steps p q came)
+
+-- where that can be seen from outside
+pub replies_by : (src : Source) (start last : Core) (held held' : Option (List ℕ)) (unwritten shown : Type 0) → (unwritten → shown)
+    → RepliesAllButOne src start last held held' unwritten → RepliesAllButOne src start last held held' shown
+replies_by src start last held held' unwritten shown follows r = record {
+  before = r.before;
+  lines = r.lines;
+  texts = r.texts;
+  serial = r.serial;
+  more = r.more;
+  wrote = r.wrote;
+  last_is = elim r.last_is [ inl same ↦ inl same | inr next ↦ inr (follows next.0, next.1) ];
+}
 
 -- nothing was printed
-pub serial_none : (src : Source) (start : Core) → IsSoundCore src start → (held : Option (List ℕ))
-    → PrintsOneRun src start start held held × RepliesAllButOne src start start held held
-serial_none src start sound held =
+pub serial_none : (src : Source) (start : Core) → IsSoundCore src start → (held : Option (List ℕ)) (unwritten : Type 0)
+    → PrintsOneRun src start start held held × RepliesAllButOne src start start held held unwritten
+serial_none src start sound held unwritten =
     let serial : PrintsSerially src start start 0 [] = record {
       sound = sound;
       added = [];

@@ -75,11 +75,15 @@ module _ (v : Service) (traces : Bool) (limit : ℕ) where
   serves_took (Err DiskFault) old new p = (Err stop.DiskFault, took_stopped stop.DiskFault old new p)
   serves_took (Err WriteFault) old new p = (Err stop.WriteFault, took_stopped stop.WriteFault old new p)
 
-  pub served_took : (result : Result Tally SessionFault) (old new : View) → Served v traces limit result old new → TookSome old new
-  served_took (Ok tally) old new p = serves_took (Ok (tt {0})) old new p.0
-  served_took (Err ReadFault) old new p = serves_took (Err ReadFault) old new p
-  served_took (Err InputTooLong) old new p = serves_took (Err InputTooLong) old new p
-  served_took (Err HistoryFull) old new p = serves_took (Err HistoryFull) old new p
-  served_took (Err NoMemory) old new p = serves_took (Err NoMemory) old new p
-  served_took (Err DiskFault) old new p = serves_took (Err DiskFault) old new p
-  served_took (Err WriteFault) old new p = serves_took p.0 old new p.1
+  -- something couldn't be written only where the result says so
+  abbrev pub TookFor : Result Tally SessionFault → View → View → Type 0
+  TookFor result old new = (r : Result (Unit {0}) LineStop) × Took r old new × (r ≡ Err stop.WriteFault → result ≡ Err WriteFault)
+
+  pub served_took : (result : Result Tally SessionFault) (old new : View) → Served v traces limit result old new → TookFor result old new
+  served_took (Ok tally) old new p = (Ok (tt {0}), took_all (Ok (tt {0})) old new p.0.all, λ is. cc)
+  served_took (Err ReadFault) old new p = (Ok (tt {0}), took_whole (Ok (tt {0})) old new p, λ is. cc)
+  served_took (Err InputTooLong) old new p = (Ok (tt {0}), took_over old new p, λ is. cc)
+  served_took (Err HistoryFull) old new p = (Err stop.HistoryFull, took_stopped stop.HistoryFull old new p, λ is. cc)
+  served_took (Err NoMemory) old new p = (Err stop.NoMemory, took_stopped stop.NoMemory old new p, λ is. cc)
+  served_took (Err DiskFault) old new p = (Err stop.DiskFault, took_stopped stop.DiskFault old new p, λ is. cc)
+  served_took (Err WriteFault) old new p = let t = serves_took p.0 old new p.1 in (t.0, t.1, λ is. refl)

@@ -132,12 +132,13 @@ module _ (src : Source) (start last : Core) (held held' : Option (List ℕ)) whe
     pub serial : PrintsSerially src start last lines texts
     pub front : AppendsPrefix held held' (joined texts)
 
-  -- and no more than one batch was committed to which not all replies were written: what is printed before it was written, and perhaps more
-  pub record RepliesAllButOne : Type 0 where
+  -- And all replies to what was committed were written; or, where something couldn't be written, all but those to one batch: what is printed before it
+  -- was written, and perhaps more.
+  pub record RepliesAllButOne (unwritten : Type 0) : Type 0 where
     pub before : Core
     pub lines : ℕ
     pub texts : List (List ℕ)
     pub serial : PrintsSerially src start before lines texts
     pub more : List ℕ
     pub wrote : Appends held held' (joined texts ++ more)
-    pub last_is : (last ≡ before) ⊎ (last ≡ next_core batch_rule src before)
+    pub last_is : (last ≡ before) ⊎ (unwritten × (last ≡ next_core batch_rule src before))

@@ -41,6 +41,7 @@ use Rattle.stateflow_cli.specs.StatusLines.{status_of, line_of, file_name, bad_s
 use Rattle.stateflow_cli.specs.StoreClauses.{OfStored, IsBadAt, BadIn, HasBadStore, OtherIn, HasOtherStore, FailsIn, DiskFails, MayBeUnmounted, MayBeDiskFault, LeavesFinal, LeavesOpened, LeavesIn, StoreEnds}
 use Rattle.stateflow_cli.specs.declared.ending.Ending.{Ending}
 use Rattle.stateflow_cli.specs.declared.ending.Ending.TheVariants.{Misused, Refused, FileFault, NoMemory, Printed, Unprinted, Served, Stopped, Unopened}
+use Rattle.batch_run.proofs.SerialLaws.{replies_by}
 use Rattle.stateflow_cli.proofs.PrintLaws.{holds_compiled}
 use Rattle.stateflow_cli.proofs.ReportEndings.{still_idle}
 use Rattle.stateflow_cli.proofs.LocalEndings.{no_stop}
@@ -351,6 +352,17 @@ module _ (limit : ℕ) (before after : Devices) (was now : DiskFacts) (behind : 
       failed_status (Err stop.NoMemory) is failed = absurd (unfailed failed)
       failed_status (Ok tally) is failed = absurd (unfailed failed)
 
+      -- and where something couldn't be written
+      unwritten_status : (result : Result Tally SessionFault) → status_of e ≡ status_of (run_ending result) → result ≡ Err stop.WriteFault → status ≡ 4
+      unwritten_status result is same = by one
+        where
+          is_4 : status_of e ≡ 4
+          is_4 = is ∙ ap (λ x. status_of (run_ending x)) same
+
+          by : IsOneOf status (status_of e) → status ≡ 4
+          by (inl own_status) = own_status ∙ is_4
+          by (inr told) = told
+
       opened_leaves : (result : Result Tally SessionFault) (r : Came result) → Kept result r
           → RunMoments r.compiled (settings_for limit s) r.holds.text r.start before.input.left after.input.left (before.disk.found dir) after.disk.mounts.moment now
           → status_of e ≡ status_of (run_ending result) → LeavesOpened limit file dir s before after now status
@@ -365,7 +377,8 @@ module _ (limit : ℕ) (before after : Devices) (was now : DiskFacts) (behind : 
         storable = k.storable;
         sound = k.sound;
         prints = λ sound. (r.runs.serial sound).prints;
-        replies = λ sound. (r.runs.serial sound).replies;
+        replies = λ sound.
+            replies_by (source_of r.compiled) r.start r.last before.out.held after.out.held (result ≡ Err stop.WriteFault) (status ≡ 4) (unwritten_status result is) (r.runs.serial sound).replies;
         each = kept_each k.store (source_of r.compiled) r.holds.text (ap (λ (x : StoreSettings). x.program) k.settings) (settled r.last k.fresh)
             (next_core batch_rule (source_of r.compiled) r.last) now (disk_failed result) (MayBeDiskFault status) (failed_status result is) k.kept;
         moments = record { compiled = r.compiled; holds = r.holds; moments = moments };

@@ -189,7 +189,7 @@ module _ (limit : ℕ) (file dir : List ℕ) (s : words.RunSettings) (before aft
     pub prints : IsSoundCore (source_in (before.content file) holds) start
         → PrintsOneRun (source_in (before.content file) holds) start last before.out.held after.out.held
     pub replies : IsSoundCore (source_in (before.content file) holds) start
-        → RepliesAllButOne (source_in (before.content file) holds) start last before.out.held after.out.held
+        → RepliesAllButOne (source_in (before.content file) holds) start last before.out.held after.out.held (status ≡ 4)
     pub each : (image : Image) → now.may_leave image
         → StandsSomewhere (program_of (source_in (before.content file) holds) holds.holds.text) image (settled last fresh)
         ⊎ (MayBeDiskFault status × StandsSomewhere (program_of (source_in (before.content file) holds) holds.holds.text) image
