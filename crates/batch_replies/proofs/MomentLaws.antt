@@ -1,7 +1,7 @@
 -- What the moments of some calls may leave in a store, and then those of more calls.
 use Rattle.std.proofs.Common.{◌≡◌, ◌≢◌, ◌⊎◌, ℕ, false, if◌then◌else◌, inl, inr, List, [], ◌∷◌, ◌++◌, Some, None, Ok, Err, refl, append-nil, sym, ap, ◌∙◌, subst}
 use Rattle.std.specs.declared.option.Option.{Option}
-use Rattle.sf_outside.specs.DiskModel.{Image, DiskFacts, LeavesOnly}
+use Rattle.sf_outside.specs.DiskModel.{Image, DiskFacts}
 use Rattle.sf_outside.proofs.DiskLaws.{LeavesOnly-start, LeavesOnly-then, LeavesOnly-weaker}
 use Rattle.program_meaning.specs.ClassTables.{Source}
 use Rattle.serial_order.specs.ConflictFree.{Access}

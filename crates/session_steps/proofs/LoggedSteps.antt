@@ -1,5 +1,5 @@
 -- What steps leave in a store, one after another.
-use Rattle.std.proofs.Common.{◌≡◌, ℕ, ◌+◌, ◌-◌, ◌≤◌, ◌<◌, List, [], ◌∷◌, ◌++◌, length, if◌then◌else◌, sym, ap, ◌∙◌, subst, append_assoc, Bool, arith}
+use Rattle.std.proofs.Common.{◌≡◌, ℕ, ◌+◌, ◌-◌, ◌≤◌, ◌<◌, List, [], ◌∷◌, ◌++◌, length, false, if◌then◌else◌, sym, ap, ◌∙◌, subst, append_assoc, Bool, arith}
 use Rattle.std.specs.declared.option.Option.{Option}
 use Rattle.sf_outside.specs.DiskModel.{DiskFacts}
 use Rattle.request_json.specs.Actions.{Line, whole_lines, all_lines, last_line, rest_from}
@@ -27,7 +27,7 @@ module _ (v : Service) (settings : Option StoreSettings) where
       → Logs (program_of v) v.rule settings (runs_on (program_of v) v.rule v.limits core) first last old new → LogsSteps v settings core lines (RunWaiting ∷ []) first last old new
   Logged-batch core lines first last old new some l =
       subst (λ ran. Logs (program_of v) v.rule settings ran first last old new)
-      (sym (ap (λ due. if due then runs_on (program_of v) v.rule v.limits core else []) (some_waits core some)) ∙ sym (ran-one v (open_at core lines) RunWaiting)) l
+      (sym (ap (λ due. if due then runs_on (program_of v) v.rule v.limits core else []) (some_waits v false core some)) ∙ sym (ran-one v (open_at core lines) RunWaiting)) l
 
   -- ---- steps, and then more of them
 
