@@ -1,6 +1,6 @@
 -- What lines, bytes and batches leave in the store of a session, one call after another.
 use Rattle.std.proofs.Math.Seq.{take-add}
-use Rattle.std.proofs.Common.{◌≡◌, ℕ, ◌+◌, ◌≤◌, ◌<◌, inl, inr, Bool, List, [], ◌∷◌, ◌++◌, length, take, drop, Ok, Err, refl, sym, ap, ◌∙◌, subst, arith}
+use Rattle.std.proofs.Common.{◌≡◌, ℕ, ◌+◌, ◌≤◌, ◌<◌, inl, inr, Bool, true, false, List, [], ◌∷◌, ◌++◌, length, take, drop, Ok, Err, refl, sym, ap, ◌∙◌, subst, arith}
 use Rattle.std.proofs.lemmas.List.{take_all, take_at, take-append-drop}
 use Rattle.std.specs.declared.option.Option.{Option}
 use Rattle.std.specs.declared.result.Result.{Result}
@@ -38,6 +38,12 @@ module _ (v : Service) (settings : Option StoreSettings) where
       → LogsSteps v' at core lines steps first last old new → LogsSteps v settings core lines steps first last old new
   Logged-same v' at core lines steps first last old new same held l =
       subst (λ s. LogsSteps v s core lines steps first last old new) held (subst (λ x. LogsSteps x at core lines steps first last old new) same l)
+
+  -- where the steps are those of the service
+  pub Logged-by : (v' : Service) (at : Option StoreSettings) (core : Core) (lines : ℕ) (steps : Service → List Step) (first last : Core) (old new : DiskFacts) → v' ≡ v → at ≡ settings
+      → LogsSteps v' at core lines (steps v') first last old new → LogsSteps v settings core lines (steps v) first last old new
+  Logged-by v' at core lines steps first last old new same held l =
+      subst (λ s. LogsSteps v s core lines (steps v) first last old new) held (subst (λ x. LogsSteps x at core lines (steps x) first last old new) same l)
 
   -- ---- lines
 

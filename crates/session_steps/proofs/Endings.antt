@@ -1,5 +1,5 @@
 -- Batches at the end of the input: a loop that runs them until nothing waits does the steps of the end.
-use Rattle.std.proofs.Common.{◌≡◌, ℕ, zero, suc, ◌+◌, ◌-◌, ◌<◌, ◌≤◌, ◌^◌, Bool, List, [], ◌∷◌, ◌++◌, Ok, IsErr, length, replicate, sym, ap, ◌∙◌, subst, append_assoc, add-one, arith}
+use Rattle.std.proofs.Common.{◌≡◌, ℕ, zero, suc, ◌+◌, ◌-◌, ◌<◌, ◌≤◌, ◌^◌, Bool, List, [], ◌∷◌, ◌++◌, Ok, IsErr, length, replicate, refl, sym, ap, ◌∙◌, subst, append_assoc, add-one, arith}
 use Rattle.std.proofs.lemmas.List.{map-append, replicate-append-replicate}
 use Rattle.std.specs.declared.result.Result.{Result}
 use Rattle.request_json.specs.Actions.{Line, whole_lines, all_lines, last_line, rest_from}
@@ -53,6 +53,10 @@ module _ (v : Service) (traces : Bool) where
         did = subst (λ steps. Does v traces steps old q) (sym (runs-add count 1)) (Does-then v traces (runs count) (RunWaiting ∷ []) old p q e.did d);
         fewer = omega arith;
       }
+
+  pub more_count : (old p q : Point) (e : Ending old p) (d : Does v traces (RunWaiting ∷ []) p q) (less : length q.core.pending < length p.core.pending) → (Ending-more old p q e d less).count ≡ e.count + 1
+  unfolding Ending-more
+  more_count old p q e d less = refl
 
   pub Ending-batch : IsLawfulRule v.rule → (counts : BatchCounts) (old p q : Point) → Ending old p → 0 < length p.core.pending
       → length p.core.pending < 2 ^ 32 → q.lines ≡ p.lines

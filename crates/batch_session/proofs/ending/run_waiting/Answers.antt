@@ -1,14 +1,15 @@
-use Rattle.std.proofs.Common.{◌∙◌, refl, ap, sym, Ok, Err, arith}
+use Rattle.std.proofs.Common.{◌∙◌, refl, ap, sym, subst, Ok, Err, arith}
 use Rattle.std.proofs.lemmas.Result.{err_from_is_err_and}
-use Rattle.engine.specs.EngineViews.{source_of}
+use Rattle.engine.specs.EngineViews.{core_of, source_of}
 use Rattle.session_store.specs.Stores.{settings_of}
 use Rattle.session_store.specs.Vocabulary.{logged_of}
 use Rattle.session_steps.specs.Vocabulary.{service_of}
 use Rattle.session_steps.proofs.Vocabulary.{same_service, Logs-still}
 use Rattle.session_steps.proofs.LoggedSteps.{Logged-run}
 use Rattle.batch_session.proofs.LoggedLaws.{Logged-same, Logged-over, Logged-stop}
+use Rattle.session_steps.specs.Doings.{LogsSteps}
 use Rattle.session_steps.proofs.Composing.{Comes-passed, Comes-same}
-use Rattle.session_steps.proofs.Endings.{Ending-none, Ending-more, Ending-over, Ending-stop}
+use Rattle.session_steps.proofs.Endings.{runs as run_steps, Ending-none, Ending-more, more_count, Ending-over, Ending-stop}
 use Rattle.batch_session.proofs.SameProgram.{fits_back, sound_on, sound_back, runs_on}
 use Rattle.batch_session.proofs.RunLaws.{some_wait}
 use Rattle.batch_session.proofs.KeepLaws.{kept_passed}
@@ -44,11 +45,16 @@ loop-alloc-preserved g c =
     let runs = c.loop-alloc.invariant.runs in
     let same = same_service c.args.engine.now c.loop-alloc.engine runs rule c.args.settings.now.batch c.args.settings.now.parts in
     record {
-      ending = λ lines. let so_far = c.loop-alloc.invariant.ending lines in (
-        Ending-more v traces _ _ _ so_far.0 (Comes-same v here traces (Ok (tt {0})) _ _ _ same (c.in_ok-run_batch.ensures.runs_one lines)) c.in_ok-run_batch.ensures.fewer,
-        Logged-run v (settings_of c.args.store.now) traces so_far.0.count _ _ _ _ _ _ _ _ so_far.0.did so_far.1
-            (Logged-same v (settings_of c.args.store.now) here _ _ _ _ _ _ _ _ same c.loop-alloc.invariant.settings (c.run_batch.ensures.logs lines)),
-      );
+      ending = λ lines.
+          let so_far = c.loop-alloc.invariant.ending lines in
+          let did = Comes-same v here traces (Ok (tt {0})) _ _ _ same (c.in_ok-run_batch.ensures.runs_one lines) in
+          let fewer = c.in_ok-run_batch.ensures.fewer in (
+            Ending-more v traces _ _ _ so_far.0 did fewer,
+            subst (λ n. LogsSteps v (settings_of c.args.store.now) (core_of c.args.engine.now) lines (run_steps n) (logged_of c.args.engine.now) (logged_of c.run_batch.new.engine) (g.D.Disk.facts c.args.disk.now)
+                (g.D.Disk.facts c.run_batch.new.disk)) (sym (more_count v traces _ _ _ so_far.0 did fewer))
+                (Logged-run v (settings_of c.args.store.now) traces so_far.0.count _ _ _ _ _ _ _ _ so_far.0.did so_far.1
+                (Logged-same v (settings_of c.args.store.now) here _ _ _ _ _ _ _ _ same c.loop-alloc.invariant.settings (c.run_batch.ensures.logs lines))),
+          );
       later = omega (arith, c.loop-alloc.invariant.later, c.run_batch.ensures.later);
       later_err = omega (arith, c.loop-alloc.invariant.later_err, c.run_batch.ensures.later_err);
       few = omega (arith, c.loop-alloc.invariant.few, c.in_ok-run_batch.ensures.fewer);

@@ -1,13 +1,15 @@
-use Rattle.std.proofs.Common.{ap, Ok, Err}
+use Rattle.std.proofs.Common.{[], ap, Ok, Err}
+use Rattle.request_json.specs.Actions.{last_line, rest_from}
 use Rattle.batch_session.specs.declared.feeding.InputEnd.TheVariants.{End, ReadFault, TooLong}
 use Rattle.engine.specs.EngineViews.{core_of}
 use Rattle.session_store.specs.Stores.{settings_of}
 use Rattle.session_store.specs.Vocabulary.{logged_of}
 use Rattle.session_steps.specs.Vocabulary.{Service, service_of}
 use Rattle.session_steps.proofs.Vocabulary.{same_service}
+use Rattle.session_steps.specs.Steps.{last_steps, open_at}
 use Rattle.session_steps.specs.Doings.{Point}
 use Rattle.session_steps.proofs.LoggedSteps.{Logged-all}
-use Rattle.batch_session.proofs.LoggedLaws.{Logged-same, first_lines, from_first, served_all, served_over}
+use Rattle.batch_session.proofs.LoggedLaws.{Logged-by, first_lines, from_first, served_all, served_over}
 use Rattle.batch_session.specs.Points.{point_of}
 use Rattle.batch_session.specs.Served.{View, view_of}
 use Rattle.batch_session.proofs.FeedLaws.{Finishes-same}
@@ -97,7 +99,8 @@ returns-in-Ok-End-clause-logs g c =
     let new = g.D.Disk.facts end.disk in
     served_all v settings limit (core_of e) _ _ (logged_of e) (logged_of end.engine) old new t.0.taken t.0.consumed t.0.within t.1
     (Logged-all v settings traces t.0.taken _ _ (logged_of e) (logged_of took.engine) (logged_of end.engine) old between new c.requires.lines t.0.fed.came t.2
-    (Logged-same v settings here _ _ _ _ _ _ _ _ same c.take_input.ensures.settings (c.finish-ended.ensures.logs _ t.0.fed.start)))
+    (Logged-by v settings here _ (core_of took.engine) took.self.lines (λ w. last_steps w (open_at (core_of took.engine) took.self.lines) (last_line (rest_from [] t.0.taken)))
+    (logged_of took.engine) (logged_of end.engine) between new same c.take_input.ensures.settings (c.finish-ended.ensures.logs _ t.0.fed.start)))
 
 pub returns-in-Ok-ReadFault-clause-logs : goal.returns-in-Ok-ReadFault-clause-logs
 returns-in-Ok-ReadFault-clause-logs g c =
