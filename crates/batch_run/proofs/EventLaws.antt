@@ -1,5 +1,5 @@
 -- From what a session in batches came to, to what a run told and traced.
-use Rattle.std.proofs.Common.{◌≡◌, ℕ, ◌≤◌, ◌⊎◌, inr, List, [], ◌∷◌, length, take, Ok, Err, refl, sym, ◌∙◌, subst}
+use Rattle.std.proofs.Common.{◌≡◌, ℕ, inr, List, [], ◌∷◌, Ok, Err, refl, sym, ◌∙◌}
 use Rattle.std.specs.declared.option.Option.{Option}
 use Rattle.std.specs.declared.result.Result.{Result}
 use Rattle.sf_outside.specs.Bytes.{AppendsPrefix}
@@ -15,7 +15,7 @@ use Rattle.batch_run.specs.RunViews.{Shown, run_service}
 use Rattle.batch_run.specs.RunEvents.{Starts, CommitsFirst, TellsBatches, TracesBatches, TellsRun, batches_of}
 use Rattle.batch_run.specs.declared.running.RunSettings.{RunSettings}
 use Rattle.batch_session.proofs.Vocabulary.{comes_begin}
-use Rattle.batch_run.proofs.SessionTakes.{Took, TookSome, took_whole, took_all, took_over, took_stopped, serves_took}
+use Rattle.batch_run.proofs.SessionTakes.{Took, TookSome, took_whole, took_over, took_stopped, serves_took}
 use Rattle.batch_run.proofs.LastCores.{ends, commits}
 use Rattle.batch_run.proofs.TextLaws.{whole_is_prefix, at_begin}
 

@@ -11,7 +11,7 @@ use Rattle.engine.specs.declared.arrival.Arrival.TheVariants as arrival
 use Rattle.engine.specs.Cores.{Core}
 use Rattle.engine.specs.Arrivals as engine
 use Rattle.batch_output.specs.BatchOutput.{Standing, taken}
-use Rattle.batch_session.specs.Vocabulary.{Step, Answer, RunWaiting, move_of, behind, standing_after, Point, going, moment, Does, StopsAt, StopsWithin, StopsBetween, Comes, LineStop, Service, program_of, Move, IsUntaken, IsUnplanned, IsUnanswered, IsUnreplied, whole_text, HasPlace, core_behind}
+use Rattle.batch_session.specs.Vocabulary.{Step, Answer, RunWaiting, move_of, behind, standing_after, Point, going, moment, Does, StopsAt, StopsWithin, StopsBetween, Comes, LineStop, Service, program_of, IsUntaken, IsUnplanned, IsUnanswered, IsUnreplied, whole_text, HasPlace, core_behind}
 use Rattle.batch_session.specs.LineStopVariants as stop
 use Rattle.batch_session.proofs.Vocabulary.{prefix_whole, prefix_none, behind_placed, behind_full, standing_over, standing-append, standing-one}
 

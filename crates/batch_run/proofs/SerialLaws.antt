@@ -1,5 +1,5 @@
 -- Whatever a run printed is what one serial run prints, or a prefix of it; and all but the replies to one batch was written.
-use Rattle.std.proofs.Common.{◌≡◌, ℕ, ◌+◌, ◌≤◌, ◌<◌, ◌^◌, ◌⊎◌, inl, inr, Bool, true, false, not, ◌||◌, List, [], ◌∷◌, ◌++◌, length, take, Err, if◌then◌else◌, refl, sym, ap, ◌∙◌, subst, append-nil, arith}
+use Rattle.std.proofs.Common.{◌≡◌, ℕ, ◌+◌, ◌≤◌, ◌<◌, ◌^◌, ◌⊎◌, inl, inr, Bool, true, false, not, ◌||◌, List, [], ◌∷◌, ◌++◌, length, take, Err, if◌then◌else◌, refl, sym, ◌∙◌, subst, append-nil, arith}
 use Rattle.std.specs.declared.option.Option.{Option}
 use Rattle.std.specs.declared.result.Result.{Result}
 use Rattle.std.specs.Io.KnownBytes.{Appends}
@@ -12,7 +12,7 @@ use Rattle.sf_value.specs.declared.Request.{Request}
 use Rattle.program_meaning.specs.ClassTables.{Source}
 use Rattle.reservations.specs.BatchRule.{batch_rule}
 use Rattle.reservations.specs.BatchRuleLaws.{batch_rule_is_lawful}
-use Rattle.request_json.specs.Actions.{Ask, action_of}
+use Rattle.request_json.specs.Actions.{action_of}
 use Rattle.block_step.specs.declared.compiled.Compiled.{Compiled}
 use Rattle.aria_batch.specs.BatchRun.{source_of}
 use Rattle.engine.specs.Cores.{Core, IsSoundCore}
@@ -24,11 +24,11 @@ use Rattle.batch_output.proofs.ReportLaws.{Goes, Goes-none, Goes-then, Goes-batc
 use Rattle.batch_output.proofs.SessionLaws.{Holds, Steps, answered, stepped, settled_holds}
 use Rattle.batch_session.specs.Vocabulary.{next_core, Step, Answer, RunWaiting, move_of, behind, printed_at, standing_after, printed, Point, going, Does, Comes, LineStop, ActionFits, Service}
 use Rattle.batch_session.specs.LineStopVariants as stop
-use Rattle.batch_session.proofs.Vocabulary.{prefix_whole, prefix_after, behind_placed, printed_placed, line_fits}
-use Rattle.batch_run.specs.RunViews.{Shown, run_limits, run_service}
+use Rattle.batch_session.proofs.Vocabulary.{prefix_whole, prefix_after, printed_placed, line_fits}
+use Rattle.batch_run.specs.RunViews.{run_limits, run_service}
 use Rattle.batch_run.specs.RunTexts.{PrintsOneRun, RepliesAllButOne}
 use Rattle.batch_run.specs.declared.running.RunSettings.{RunSettings}
-use Rattle.batch_run.proofs.LastCores.{IsStill, HasMoved, HasRun, EndsAt, Ends, EndsBehind, EndsWithin, ends, move_committed, run_core}
+use Rattle.batch_run.proofs.LastCores.{HasMoved, HasRun, EndsAt, Ends, ends, move_committed, run_core}
 
 module _ (compiled : Compiled) (s : RunSettings) (few : s.batch ≤ 256) where
   abbrev src : Source

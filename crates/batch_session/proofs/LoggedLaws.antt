@@ -1,28 +1,27 @@
 -- What lines, bytes and batches leave in the store of a session, one call after another.
 use Rattle.std.proofs.Math.Seq.{take-add}
-use Rattle.std.proofs.Common.{◌≡◌, ℕ, ◌+◌, ◌≤◌, ◌<◌, inl, inr, Bool, true, false, List, [], ◌∷◌, ◌++◌, length, take, drop, Ok, Err, refl, sym, ap, ◌∙◌, subst, arith}
+use Rattle.std.proofs.Common.{◌≡◌, ℕ, ◌+◌, ◌≤◌, ◌<◌, inl, inr, Bool, true, false, List, [], ◌∷◌, ◌++◌, length, take, drop, refl, sym, ap, ◌∙◌, subst, arith}
 use Rattle.std.proofs.lemmas.List.{take_all, take_at, take-append-drop}
 use Rattle.std.specs.declared.option.Option.{Option}
-use Rattle.std.specs.declared.result.Result.{Result}
 use Rattle.std.specs.Io.KnownBytes.{Consumes, IsAtEnd}
 use Rattle.std.proofs.KnownBytes.{Consumes-trans}
 use Rattle.sf_outside.specs.DiskModel.{DiskFacts}
 use Rattle.serial_order.specs.ConflictFree.{Access}
 use Rattle.reservations.specs.CommitRules.{Chosen}
-use Rattle.request_json.specs.Actions.{action_of, whole_from, whole_lines, rest_from, last_line}
+use Rattle.request_json.specs.Actions.{action_of, whole_from, rest_from, last_line}
 use Rattle.input_lines.specs.Cuts.{IsStart, EndsLine}
 use Rattle.input_lines.proofs.CutLaws.{whole-append}
 use Rattle.engine.specs.declared.engine.Engine.{Engine}
 use Rattle.engine.specs.Cores.{Core}
 use Rattle.engine.specs.EngineViews.{source_of, compiled_of, limit_of, RunsProgram}
 use Rattle.session_store.proofs.StoreLaws.{same_source}
-use Rattle.session_steps.specs.Vocabulary.{LineStop, cut, Service, program_of, before, move_at, ran_by, Logs, StoreSettings}
-use Rattle.session_steps.specs.Steps.{Step, Answer, RunWaiting, answers, endings, whole_steps, all_steps, last_steps}
+use Rattle.session_steps.specs.Vocabulary.{cut, Service, program_of, before, move_at, ran_by, Logs, StoreSettings}
+use Rattle.session_steps.specs.Steps.{Step, Answer, RunWaiting, answers, endings, whole_steps, all_steps}
 use Rattle.session_steps.specs.Doings.{Point, going, Does, LogsSteps}
 use Rattle.session_steps.proofs.Vocabulary.{Logs-same}
 use Rattle.session_steps.proofs.Leaves.{move_as}
 use Rattle.session_steps.proofs.Endings.{Ending, runs, answers-append}
-use Rattle.session_steps.proofs.LoggedSteps.{Logged-line, Logged-then, Logged-more, Logged-of, Logged-run, Logged-endings, Logged-all}
+use Rattle.session_steps.proofs.LoggedSteps.{Logged-line, Logged-then, Logged-more, Logged-of, Logged-run, Logged-endings}
 use Rattle.batch_session.specs.Served.{LogsServed}
 use Rattle.batch_session.proofs.LineLaws.{action-start}
 

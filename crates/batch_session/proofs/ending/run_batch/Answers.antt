@@ -1,4 +1,4 @@
-use Rattle.std.proofs.Common.{◌<◌, ◌^◌, ◌∙◌, refl, ap, length, Err, arith}
+use Rattle.std.proofs.Common.{◌∙◌, refl, ap, Err}
 use Rattle.engine.specs.EngineViews.{core_of, source_of, limit_of}
 use Rattle.session_store.specs.Stores.{settings_of}
 use Rattle.session_store.specs.Vocabulary.{logged_of}
@@ -8,7 +8,6 @@ use Rattle.session_steps.specs.Steps.{RunWaiting}
 use Rattle.session_steps.specs.Doings.{Point}
 use Rattle.session_steps.proofs.Leaves as leaves
 use Rattle.session_steps.proofs.Leaves.{Comes-one, Stops-batch}
-use Rattle.session_steps.proofs.Endings.{fewer_behind}
 use Rattle.session_steps.proofs.LoggedSteps.{Logged-batch}
 use Rattle.session_steps.proofs.Vocabulary.{Logs-end}
 use Rattle.batch_session.proofs.LoggedLaws.{ended_logs}

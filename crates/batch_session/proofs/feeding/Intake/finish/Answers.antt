@@ -3,7 +3,6 @@ use Rattle.std.proofs.lemmas.Result.{err_from_is_err_and}
 use Rattle.request_json.specs.Actions.{last_line}
 use Rattle.engine.specs.EngineViews.{core_of}
 use Rattle.session_store.specs.Stores.{settings_of}
-use Rattle.session_store.specs.Vocabulary.{logged_of}
 use Rattle.session_steps.specs.Vocabulary.{service_of}
 use Rattle.session_steps.proofs.Vocabulary.{same_service}
 use Rattle.session_steps.specs.Steps.{answers, endings, standing_after, open_at}
