@@ -35,7 +35,9 @@ module _ (compiled : Compiled) (s : RunSettings) (result : Result Tally SessionF
   unbegun is start shown = subst (λ r. Runs compiled s start start r shown shown) (sym is) nothing
     where
       unserial : IsSoundCore (batch.source_of compiled) start → IsSerialRun compiled start start (Err NoMemory) shown shown
-      unserial sound = let none = serial_none (batch.source_of compiled) start sound shown.held (Err {T = Tally} NoMemory ≡ Err WriteFault) in record { prints = none.0; replies = none.1 }
+      unserial sound =
+          let wanting : Result Tally SessionFault = Err NoMemory in
+          let none = serial_none (batch.source_of compiled) start sound shown.held (wanting ≡ Err WriteFault) in record { prints = none.0; replies = none.1 }
 
       nothing : Runs compiled s start start (Err NoMemory) shown shown
       nothing = record {
