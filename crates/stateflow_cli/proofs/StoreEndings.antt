@@ -357,7 +357,7 @@ module _ (limit : ℕ) (before after : Devices) (was now : DiskFacts) (behind : 
       unwritten_status result is same = by one
         where
           is_4 : status_of e ≡ 4
-          is_4 = is ∙ ap (λ x. status_of (run_ending x)) same
+          is_4 = is ∙ ap (λ (x : Result Tally SessionFault). status_of (run_ending x)) same
 
           by : IsOneOf status (status_of e) → status ≡ 4
           by (inl own_status) = own_status ∙ is_4
