@@ -11,9 +11,9 @@ ghost use Rattle.aria_batch.specs.BatchRun.{source_of, own_outcomes, batch_of, I
 ghost use Rattle.aria_batch.specs.Counts.{counted_in_batch};
 
 use crate::events::run_events;
+use batch_events::Watch;
 use block_step::Compiled;
 use keyed_state::{Keyed, Works};
-use batch_events::Watch;
 use reservations::CommitRule;
 use sf_outside::Chooser;
 use sf_value::{Outcomes, Places, Requests};

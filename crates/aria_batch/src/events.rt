@@ -9,9 +9,9 @@ ghost use Rattle.batch_events.specs.Vocabulary.{acts_of, no_works, Outside};
 ghost use Rattle.aria_batch.specs.BatchRun.{source_of, own_outcomes, batch_of, IsToldAlong};
 ghost use Rattle.aria_batch.specs.Counts.{counted_in_run};
 
+use batch_events::{InFlight, Watch};
 use block_step::Compiled;
 use keyed_state::{Keyed, Work, Works};
-use batch_events::{InFlight, Watch};
 use sf_list::Sequence;
 use sf_outside::Chooser;
 use sf_value::{Outcomes, Requests};

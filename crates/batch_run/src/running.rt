@@ -12,12 +12,11 @@ ghost use Rattle.batch_session.specs.Served.{LogsServed};
 ghost use Rattle.batch_run.specs.RunViews.{run_service, shown, CanServe};
 ghost use Rattle.batch_run.specs.Runs.{Runs};
 
-use batch_session::{NoDisk, SessionFault, Settings, Store, serve};
+use batch_session::{NoDisk, SessionFault, Settings, Store, Tally, serve};
 use block_step::Compiled;
 use engine::Engine;
 use operator_graph::Watch;
 use reservations::Rule1;
-use batch_session::Tally;
 use sf_outside::{Chooser, Disk, Sink, Source};
 use std::alloc::Global;
 

@@ -17,12 +17,10 @@ ghost use Rattle.batch_session.specs.Feeds.{RunsOne, RunsWaiting};
 
 use crate::reporting::end_batch;
 use crate::settings::Settings;
-use session_steps::{BatchStop, answer_batch};
 use engine::Engine;
-use session_steps::LineStop;
 use operator_graph::Watch;
 use reservations::CommitRule;
-use session_steps::Tally;
+use session_steps::{BatchStop, LineStop, Tally, answer_batch};
 use session_store::Store;
 use sf_list::Sequence;
 use sf_outside::{Chooser, Disk, Sink};

@@ -17,10 +17,8 @@ ghost use Rattle.session_steps.specs.StepLaws.{TracedAs};
 ghost use Rattle.session_steps.specs.Traces.{with_batch, trace_text};
 
 use crate::settings::Settings;
-use session_steps::BatchCounts;
 use engine::Engine;
-use session_steps::LineStop;
-use session_steps::{Tally, write_trace};
+use session_steps::{BatchCounts, LineStop, Tally, write_trace};
 use session_store::{KeepFault, Store, batch_ended};
 use sf_outside::{Disk, Failed, Sink};
 use std::alloc::Global;

@@ -18,10 +18,9 @@ ghost use Rattle.batch_session.specs.Faults.{fault_of, finished, disk_failed, un
 use crate::feeding::{InputEnd, Intake};
 use crate::settings::Settings;
 use engine::Engine;
-use session_steps::LineStop;
 use operator_graph::Watch;
 use reservations::CommitRule;
-use session_steps::Tally;
+use session_steps::{LineStop, Tally};
 use session_store::Store;
 use sf_outside::{Chooser, Disk, Sink, Source};
 use std::alloc::Global;

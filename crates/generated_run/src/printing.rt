@@ -7,8 +7,8 @@ ghost use Rattle.sf_outside.specs.Causes.{HasCause};
 ghost use Rattle.generated_run.specs.Summaries.{summary_line};
 
 use crate::summing::Summary;
-use itoa::Buffer;
 use batch_session::write_pieces;
+use itoa::Buffer;
 use sf_outside::{Failed, Sink};
 
 /// Writes the line of a summary. It takes no memory, and doesn't flush.

@@ -13,13 +13,12 @@ ghost use Rattle.generated_run.specs.Generated.{IsNoFault, tally_of, history_lim
 
 use crate::devices::{DroppingSink, GivenInput};
 use crate::summing::{Summary, summary_of};
-use batch_session::{NoDisk, SessionFault, Settings, serve};
+use batch_session::{NoDisk, SessionFault, Settings, Tally, comes_begin, serve, steps_print};
 use block_code::Graph;
 use engine::Engine;
 use entity_compiler::{Compiled, ProgramError, ProgramFault, compile};
 use operator_graph::Watch;
 use reservations::Rule1;
-use batch_session::{Tally, comes_begin, steps_print};
 use sf_outside::Chooser;
 use std::alloc::{AllocError, Global};
 use work_gen::generate;

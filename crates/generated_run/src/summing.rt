@@ -6,8 +6,8 @@ ghost use Rattle.generated_run.specs.Totals.{balance_of, added_up, IsTotal};
 ghost use Rattle.generated_run.specs.Summaries.{IsSummary};
 
 use crate::counting::count_entries;
-use engine::Engine;
 use batch_session::Tally;
+use engine::Engine;
 use sf_value::{Held, Value};
 use std::alloc::{AllocError, Global};
 

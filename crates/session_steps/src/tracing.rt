@@ -7,8 +7,8 @@ ghost use Rattle.sf_outside.specs.Causes.{HasCause};
 ghost use Rattle.session_steps.specs.Traces.{trace_line};
 
 use crate::pieces::write_pieces;
-use line_answers::BatchCounts;
 use itoa::Buffer;
+use line_answers::BatchCounts;
 use sf_outside::{Failed, Sink};
 
 /// Writes the line of a batch: its number, counted from 1, and what it came to. It takes no memory, and

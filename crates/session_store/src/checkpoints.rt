@@ -15,12 +15,11 @@ ghost use Rattle.session_store.specs.Endings.{KeepsWhere, LeavesMeanwhile};
 ghost use Rattle.session_store.specs.Checkpoints.{disk_failed, HasSnapshot};
 
 use crate::store::Store;
-use store_meaning::Engine;
 use sf_bytes::write_snapshot;
 use sf_outside::{Disk, Failed};
 use sf_value::{Bytes, Text};
 use std::alloc::{AllocError, Global};
-use store_meaning::{Position, keep_snapshot};
+use store_meaning::{Engine, Position, keep_snapshot};
 
 /// Behind this epoch there is no checkpoint any more.
 const LAST_EPOCH: u64 = (1 << 63) - 1;

@@ -12,12 +12,11 @@ ghost use Rattle.session_store.specs.Endings.{LeavesMeanwhile};
 ghost use Rattle.session_store.specs.Stores.{Keeps, LeavesEither, IsRecordFor, RecordEndsPast};
 
 use crate::store::Store;
-use store_meaning::{Engine, Planned};
 use sf_bytes::write_batch;
 use sf_outside::{Disk, Failed};
 use sf_value::Bytes;
 use std::alloc::{AllocError, Global};
-use store_meaning::log_batch;
+use store_meaning::{Engine, Planned, log_batch};
 
 /// The bytes of the record of a plan, where there is a store.
 pub fn record_bytes(

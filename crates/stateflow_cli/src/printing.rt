@@ -7,9 +7,9 @@ ghost use Rattle.sf_outside.specs.Bytes.{AppendsPrefix};
 ghost use Rattle.sf_outside.specs.Causes.{HasCause};
 ghost use Rattle.stateflow_cli.specs.CheckLine.{counts_line};
 
+use batch_run::write_pieces;
 use entity_tables::ClassTable;
 use itoa::Buffer;
-use batch_run::write_pieces;
 use sf_outside::{Failed, Sink};
 
 /// How many classes and methods a program has, without `__init__` and `__key__`.

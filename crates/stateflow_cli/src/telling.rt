@@ -9,10 +9,9 @@ ghost use Rattle.stateflow_cli.specs.Telling.{Told};
 
 use crate::ending::Ending;
 use crate::fault::fault_name_of;
-use batch_run::SessionFault;
+use batch_run::{SessionFault, write_pieces};
 use itoa::Buffer;
 use program_text::ProgramFault;
-use batch_run::write_pieces;
 use sf_outside::{Failed, Sink, StoreFile};
 use store_opening::OpenStop;
 
