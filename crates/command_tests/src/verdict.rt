@@ -2,6 +2,8 @@
 
 use memory_calls::{Answer, Faults, NO_FAULTS, call};
 use std::alloc::{AllocError, Global};
+use std::process::Abort;
+use std::test::Fail;
 use test_support::{Setting, rows, text_in};
 
 /// Checks a text as this file. The input fails wherever it is read.
@@ -89,7 +91,7 @@ fn verdict(alloc: Global, text: &[u8]) -> Result<Vec<u8>, AllocError> {
 
 /// The label of the first row of which something else is said, or nothing where a table of so many
 /// rows has none.
-pub fn other(
+fn other(
     alloc: Global,
     setting: Setting,
     table: &str,
@@ -106,4 +108,17 @@ pub fn other(
         return format!(in alloc; "there are {} rows", rows.len());
     }
     Ok(String::new(alloc))
+}
+
+/// Asserts that each row is as it says.
+pub fn hold(
+    rt: &impl Abort,
+    alloc: Global,
+    setting: Setting,
+    table: &str,
+    count: usize,
+) -> Result<(), Fail> {
+    let other = other(alloc, setting, table, count)?;
+    assert_eq!(rt; other.as_str(), "");
+    Ok(())
 }

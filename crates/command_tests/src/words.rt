@@ -2,6 +2,7 @@
 
 use memory_calls::{Answer, NO_FAULTS, call};
 use std::alloc::{AllocError, Global};
+use std::process::Abort;
 use std::test::Fail;
 use test_support::{COUNTER, rows};
 
@@ -68,6 +69,13 @@ fn other(alloc: Global, table: &str, count: usize) -> Result<String, AllocError>
     Ok(String::new(alloc))
 }
 
+/// Asserts that each row is as it says.
+fn hold(rt: &impl Abort, alloc: Global, table: &str, count: usize) -> Result<(), Fail> {
+    let other = other(alloc, table, count)?;
+    assert_eq!(rt; other.as_str(), "");
+    Ok(())
+}
+
 const SERVED: &str = "
     check                    | check a.py                       | checked
     compile                  | compile a.py                     | compiled
@@ -89,9 +97,7 @@ const SERVED: &str = "
 
 #[test]
 fn words_that_are_served(rt: HostRuntime) -> Result<(), Fail> {
-    let other = other(rt.alloc(), SERVED, 16)?;
-    assert_eq!(rt; other.as_str(), "");
-    Ok(())
+    hold(&rt, rt.alloc(), SERVED, 16)
 }
 
 const OTHER_WORDS: &str = "
@@ -122,9 +128,7 @@ const OTHER_WORDS: &str = "
 
 #[test]
 fn words_of_no_command_are_told_the_usage(rt: HostRuntime) -> Result<(), Fail> {
-    let other = other(rt.alloc(), OTHER_WORDS, 23)?;
-    assert_eq!(rt; other.as_str(), "");
-    Ok(())
+    hold(&rt, rt.alloc(), OTHER_WORDS, 23)
 }
 
 const WORKS: &str = "
@@ -154,9 +158,7 @@ const WORKS: &str = "
 
 #[test]
 fn words_of_generated_work(rt: HostRuntime) -> Result<(), Fail> {
-    let other = other(rt.alloc(), WORKS, 22)?;
-    assert_eq!(rt; other.as_str(), "");
-    Ok(())
+    hold(&rt, rt.alloc(), WORKS, 22)
 }
 
 const OTHER_WORKS: &str = "
@@ -187,7 +189,5 @@ const OTHER_WORKS: &str = "
 
 #[test]
 fn words_of_no_generated_work_are_told_the_usage(rt: HostRuntime) -> Result<(), Fail> {
-    let other = other(rt.alloc(), OTHER_WORKS, 23)?;
-    assert_eq!(rt; other.as_str(), "");
-    Ok(())
+    hold(&rt, rt.alloc(), OTHER_WORKS, 23)
 }

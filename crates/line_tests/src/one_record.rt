@@ -7,6 +7,7 @@ use sf_list::Sequence;
 use sf_value::{Outcome, Record, Ref, Text, Value};
 use source_meaning::{Ended, eval_here, run_here};
 use std::alloc::{AllocError, Global};
+use std::process::Abort;
 use std::test::Fail;
 use test_support::{Setting, rows, text_in};
 use text_trees::{last_method, tree_in, written};
@@ -167,6 +168,13 @@ fn other(alloc: Global, table: &str, wrote: bool) -> Result<String, Fail> {
     other
 }
 
+/// Asserts that each row is as it says.
+fn hold(rt: &impl Abort, alloc: Global, table: &str, wrote: bool) -> Result<(), Fail> {
+    let other = other(alloc, table, wrote)?;
+    assert_eq!(rt; other.as_str(), "");
+    Ok(())
+}
+
 const UNWRITTEN: &str = "
     a field is assigned what it is | self.x = 5↵pass    | on: 'a', 5 written, leaves 8
     a local is assigned            | x = 7↵pass         | on: 'a', 5 as it was, x 7, leaves 8
@@ -175,9 +183,7 @@ const UNWRITTEN: &str = "
 
 #[test]
 fn a_record_is_written_where_a_field_is_assigned(rt: HostRuntime) -> Result<(), Fail> {
-    let other = other(rt.alloc(), UNWRITTEN, false)?;
-    assert_eq!(rt; other.as_str(), "");
-    Ok(())
+    hold(&rt, rt.alloc(), UNWRITTEN, false)
 }
 
 const WRITTEN: &str = "
@@ -188,9 +194,7 @@ const WRITTEN: &str = "
 fn a_failing_statement_leaves_the_locals_and_the_steps_of_that_moment(
     rt: HostRuntime,
 ) -> Result<(), Fail> {
-    let other = other(rt.alloc(), WRITTEN, true)?;
-    assert_eq!(rt; other.as_str(), "");
-    Ok(())
+    hold(&rt, rt.alloc(), WRITTEN, true)
 }
 
 /// Computes an expression with so many calls open, and gives what it comes to.

@@ -7,6 +7,7 @@ use sf_list::Sequence;
 use sf_value::{Bytes, Outcome, Ref, Reply, Text, Value};
 use source_meaning::Local;
 use std::alloc::{AllocError, Global};
+use std::process::Abort;
 use std::test::Fail;
 use test_support::{Setting, rows, text_in};
 
@@ -68,6 +69,13 @@ fn other(alloc: Global, table: &str) -> Result<String, Fail> {
     Ok(String::new(alloc))
 }
 
+/// Asserts that each row is as it says.
+fn hold(rt: &impl Abort, alloc: Global, table: &str) -> Result<(), Fail> {
+    let other = other(alloc, table)?;
+    assert_eq!(rt; other.as_str(), "");
+    Ok(())
+}
+
 const VALUES: &str = r#"
     a small int              | int: return 3                        | {"id":"r1","ok":3,"seq":7}
     the least of 64 bits     | int: return -9223372036854775808     | {"id":"r1","ok":-9223372036854775808,"seq":7}
@@ -81,9 +89,7 @@ const VALUES: &str = r#"
 
 #[test]
 fn lines_of_values(rt: HostRuntime) -> Result<(), Fail> {
-    let other = other(rt.alloc(), VALUES)?;
-    assert_eq!(rt; other.as_str(), "");
-    Ok(())
+    hold(&rt, rt.alloc(), VALUES)
 }
 
 const FAILURES: &str = r#"
@@ -94,9 +100,7 @@ const FAILURES: &str = r#"
 
 #[test]
 fn lines_of_failures(rt: HostRuntime) -> Result<(), Fail> {
-    let other = other(rt.alloc(), FAILURES)?;
-    assert_eq!(rt; other.as_str(), "");
-    Ok(())
+    hold(&rt, rt.alloc(), FAILURES)
 }
 
 /// A list of an entity and a list without elements, which no program makes.

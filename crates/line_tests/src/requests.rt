@@ -5,6 +5,7 @@ use py_tree::Checked;
 use sf_value::Ref;
 use source_meaning::{Attempt, Local};
 use std::alloc::{AllocError, Global};
+use std::process::Abort;
 use std::test::Fail;
 use test_support::{NUM, rows};
 use value_texts::outcome_told;
@@ -102,6 +103,13 @@ fn other(alloc: Global, table: &str) -> Result<String, Fail> {
     Ok(String::new(alloc))
 }
 
+/// Asserts that each row is as it says.
+fn hold(rt: &impl Abort, alloc: Global, table: &str) -> Result<(), Fail> {
+    let other = other(alloc, table)?;
+    assert_eq!(rt; other.as_str(), "");
+    Ok(())
+}
+
 const ARITHMETIC: &str = r#"
     a quotient below 0        | p div [-7,2]                                          | -4 reads p writes none leaves 99998
     a rest of what is below 0 | p mod [-7,2]                                          | 1 reads p writes none leaves 99998
@@ -115,9 +123,7 @@ const ARITHMETIC: &str = r#"
 
 #[test]
 fn arithmetic_is_floored_and_stays_in_range(rt: HostRuntime) -> Result<(), Fail> {
-    let other = other(rt.alloc(), ARITHMETIC)?;
-    assert_eq!(rt; other.as_str(), "");
-    Ok(())
+    hold(&rt, rt.alloc(), ARITHMETIC)
 }
 
 const LIMITS: &str = "
@@ -129,9 +135,7 @@ const LIMITS: &str = "
 
 #[test]
 fn steps_and_depth_have_limits(rt: HostRuntime) -> Result<(), Fail> {
-    let other = other(rt.alloc(), LIMITS)?;
-    assert_eq!(rt; other.as_str(), "");
-    Ok(())
+    hold(&rt, rt.alloc(), LIMITS)
 }
 
 const INDEXES: &str = "
@@ -143,9 +147,7 @@ const INDEXES: &str = "
 
 #[test]
 fn index_counts_from_either_end_within_the_list(rt: HostRuntime) -> Result<(), Fail> {
-    let other = other(rt.alloc(), INDEXES)?;
-    assert_eq!(rt; other.as_str(), "");
-    Ok(())
+    hold(&rt, rt.alloc(), INDEXES)
 }
 
 /// What a call comes to that is to double a text of so many letters.
@@ -184,7 +186,5 @@ const EFFECTS: &str = r#"
 
 #[test]
 fn failed_requests_write_nothing_and_keep_their_reads(rt: HostRuntime) -> Result<(), Fail> {
-    let other = other(rt.alloc(), EFFECTS)?;
-    assert_eq!(rt; other.as_str(), "");
-    Ok(())
+    hold(&rt, rt.alloc(), EFFECTS)
 }

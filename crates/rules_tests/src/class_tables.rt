@@ -6,6 +6,7 @@ use py_parser::Parsed;
 use py_tree::Names;
 use sf_list::TryClone;
 use std::alloc::{AllocError, Global};
+use std::process::Abort;
 use std::test::Fail;
 use test_support::{Setting, rows};
 use text_trees::tree_in;
@@ -118,15 +119,20 @@ fn other(alloc: Global, setting: Setting, table: &str) -> Result<String, Fail> {
     Ok(String::new(alloc))
 }
 
+/// Asserts that each row is as it says.
+fn hold(rt: &impl Abort, alloc: Global, setting: Setting, table: &str) -> Result<(), Fail> {
+    let other = other(alloc, setting, table)?;
+    assert_eq!(rt; other.as_str(), "");
+    Ok(())
+}
+
 const ITEM: &str = "
     an item | def price(self) -> int: return self.cost | Item(name: str, cost: int) key 0 of 0 has name: str, cost: int does price() -> int
 ";
 
 #[test]
 fn an_item_has_its_table(rt: HostRuntime) -> Result<(), Fail> {
-    let other = other(rt.alloc(), MEMBERS, ITEM)?;
-    assert_eq!(rt; other.as_str(), "");
-    Ok(())
+    hold(&rt, rt.alloc(), MEMBERS, ITEM)
 }
 
 const CLASSES: &str = "
@@ -137,9 +143,7 @@ const CLASSES: &str = "
 
 #[test]
 fn names_of_classes_come_first(rt: HostRuntime) -> Result<(), Fail> {
-    let other = other(rt.alloc(), BEHIND, CLASSES)?;
-    assert_eq!(rt; other.as_str(), "");
-    Ok(())
+    hold(&rt, rt.alloc(), BEHIND, CLASSES)
 }
 
 const PARAMETERS: &str = "
@@ -151,9 +155,7 @@ const PARAMETERS: &str = "
 
 #[test]
 fn parameters_are_told_in_order(rt: HostRuntime) -> Result<(), Fail> {
-    let other = other(rt.alloc(), MEMBERS, PARAMETERS)?;
-    assert_eq!(rt; other.as_str(), "");
-    Ok(())
+    hold(&rt, rt.alloc(), MEMBERS, PARAMETERS)
 }
 
 const METHODS: &str = "
@@ -165,9 +167,7 @@ const METHODS: &str = "
 
 #[test]
 fn methods_have_names_and_results(rt: HostRuntime) -> Result<(), Fail> {
-    let other = other(rt.alloc(), MEMBERS, METHODS)?;
-    assert_eq!(rt; other.as_str(), "");
-    Ok(())
+    hold(&rt, rt.alloc(), MEMBERS, METHODS)
 }
 
 const RESULTS: &str = "
@@ -177,9 +177,7 @@ const RESULTS: &str = "
 
 #[test]
 fn types_are_told_at_their_parts(rt: HostRuntime) -> Result<(), Fail> {
-    let other = other(rt.alloc(), MEMBERS, RESULTS)?;
-    assert_eq!(rt; other.as_str(), "");
-    Ok(())
+    hold(&rt, rt.alloc(), MEMBERS, RESULTS)
 }
 
 const INIT_RESULTS: &str = "
@@ -190,9 +188,7 @@ const INIT_RESULTS: &str = "
 
 #[test]
 fn an_init_gives_nothing(rt: HostRuntime) -> Result<(), Fail> {
-    let other = other(rt.alloc(), CLASS, INIT_RESULTS)?;
-    assert_eq!(rt; other.as_str(), "");
-    Ok(())
+    hold(&rt, rt.alloc(), CLASS, INIT_RESULTS)
 }
 
 const DECLARED: &str = "
@@ -205,9 +201,7 @@ const DECLARED: &str = "
 
 #[test]
 fn an_init_declares_fields(rt: HostRuntime) -> Result<(), Fail> {
-    let other = other(rt.alloc(), INIT, DECLARED)?;
-    assert_eq!(rt; other.as_str(), "");
-    Ok(())
+    hold(&rt, rt.alloc(), INIT, DECLARED)
 }
 
 const COMPUTED: &str = "
@@ -218,9 +212,7 @@ const COMPUTED: &str = "
 
 #[test]
 fn an_init_only_computes(rt: HostRuntime) -> Result<(), Fail> {
-    let other = other(rt.alloc(), INIT, COMPUTED)?;
-    assert_eq!(rt; other.as_str(), "");
-    Ok(())
+    hold(&rt, rt.alloc(), INIT, COMPUTED)
 }
 
 const KEYS: &str = "
@@ -232,9 +224,7 @@ const KEYS: &str = "
 
 #[test]
 fn a_key_is_one_field(rt: HostRuntime) -> Result<(), Fail> {
-    let other = other(rt.alloc(), KEY, KEYS)?;
-    assert_eq!(rt; other.as_str(), "");
-    Ok(())
+    hold(&rt, rt.alloc(), KEY, KEYS)
 }
 
 const NO_KEYS: &str = "
@@ -244,9 +234,7 @@ const NO_KEYS: &str = "
 
 #[test]
 fn a_class_has_a_key(rt: HostRuntime) -> Result<(), Fail> {
-    let other = other(rt.alloc(), CLASS, NO_KEYS)?;
-    assert_eq!(rt; other.as_str(), "");
-    Ok(())
+    hold(&rt, rt.alloc(), CLASS, NO_KEYS)
 }
 
 /// A piece so many times, with its number in place of `#`.

@@ -7,6 +7,7 @@ use entity_types::{FlowEnv, Tables, condition, narrow, narrow_here, type_expr};
 use py_parser::Parsed;
 use py_tree::{Expr, Stmt, StmtKind, Ty};
 use std::alloc::Global;
+use std::process::Abort;
 use std::test::Fail;
 use test_support::{Setting, rows};
 use text_trees::written;
@@ -82,6 +83,13 @@ fn other(alloc: Global, table: &str) -> Result<String, Fail> {
     Ok(String::new(alloc))
 }
 
+/// Asserts that each row is as it says.
+fn hold(rt: &impl Abort, alloc: Global, table: &str) -> Result<(), Fail> {
+    let other = other(alloc, table)?;
+    assert_eq!(rt; other.as_str(), "");
+    Ok(())
+}
+
 const NAMES: &str = "
     a number                | 5        | int
     None                    | None     | None
@@ -97,9 +105,7 @@ const NAMES: &str = "
 
 #[test]
 fn a_name_is_a_local_that_is_assigned(rt: HostRuntime) -> Result<(), Fail> {
-    let other = other(rt.alloc(), NAMES)?;
-    assert_eq!(rt; other.as_str(), "");
-    Ok(())
+    hold(&rt, rt.alloc(), NAMES)
 }
 
 const FIELDS: &str = "
@@ -111,9 +117,7 @@ const FIELDS: &str = "
 
 #[test]
 fn a_field_is_one_of_self(rt: HostRuntime) -> Result<(), Fail> {
-    let other = other(rt.alloc(), FIELDS)?;
-    assert_eq!(rt; other.as_str(), "");
-    Ok(())
+    hold(&rt, rt.alloc(), FIELDS)
 }
 
 const CALLS: &str = "
@@ -126,9 +130,7 @@ const CALLS: &str = "
 
 #[test]
 fn a_call_is_of_a_method_of_an_entity(rt: HostRuntime) -> Result<(), Fail> {
-    let other = other(rt.alloc(), CALLS)?;
-    assert_eq!(rt; other.as_str(), "");
-    Ok(())
+    hold(&rt, rt.alloc(), CALLS)
 }
 
 const ARGUMENTS: &str = "
@@ -140,9 +142,7 @@ const ARGUMENTS: &str = "
 
 #[test]
 fn arguments_are_told_one_by_one(rt: HostRuntime) -> Result<(), Fail> {
-    let other = other(rt.alloc(), ARGUMENTS)?;
-    assert_eq!(rt; other.as_str(), "");
-    Ok(())
+    hold(&rt, rt.alloc(), ARGUMENTS)
 }
 
 const CREATIONS: &str = "
@@ -154,9 +154,7 @@ const CREATIONS: &str = "
 
 #[test]
 fn a_creation_takes_what_init_takes(rt: HostRuntime) -> Result<(), Fail> {
-    let other = other(rt.alloc(), CREATIONS)?;
-    assert_eq!(rt; other.as_str(), "");
-    Ok(())
+    hold(&rt, rt.alloc(), CREATIONS)
 }
 
 const FUNCTIONS: &str = "
@@ -171,9 +169,7 @@ const FUNCTIONS: &str = "
 
 #[test]
 fn functions_ask_for_their_operands(rt: HostRuntime) -> Result<(), Fail> {
-    let other = other(rt.alloc(), FUNCTIONS)?;
-    assert_eq!(rt; other.as_str(), "");
-    Ok(())
+    hold(&rt, rt.alloc(), FUNCTIONS)
 }
 
 const INDEXES: &str = "
@@ -185,9 +181,7 @@ const INDEXES: &str = "
 
 #[test]
 fn an_index_is_an_int_into_a_list(rt: HostRuntime) -> Result<(), Fail> {
-    let other = other(rt.alloc(), INDEXES)?;
-    assert_eq!(rt; other.as_str(), "");
-    Ok(())
+    hold(&rt, rt.alloc(), INDEXES)
 }
 
 const LISTS: &str = "
@@ -200,9 +194,7 @@ const LISTS: &str = "
 
 #[test]
 fn a_list_has_a_type_for_its_elements(rt: HostRuntime) -> Result<(), Fail> {
-    let other = other(rt.alloc(), LISTS)?;
-    assert_eq!(rt; other.as_str(), "");
-    Ok(())
+    hold(&rt, rt.alloc(), LISTS)
 }
 
 const OPERATORS: &str = "
@@ -217,9 +209,7 @@ const OPERATORS: &str = "
 
 #[test]
 fn an_operator_has_two_sides_of_one_type(rt: HostRuntime) -> Result<(), Fail> {
-    let other = other(rt.alloc(), OPERATORS)?;
-    assert_eq!(rt; other.as_str(), "");
-    Ok(())
+    hold(&rt, rt.alloc(), OPERATORS)
 }
 
 const TRUTHS: &str = "
@@ -234,9 +224,7 @@ const TRUTHS: &str = "
 
 #[test]
 fn operands_know_what_those_before_show(rt: HostRuntime) -> Result<(), Fail> {
-    let other = other(rt.alloc(), TRUTHS)?;
-    assert_eq!(rt; other.as_str(), "");
-    Ok(())
+    hold(&rt, rt.alloc(), TRUTHS)
 }
 
 const COMPARISONS: &str = "
@@ -250,9 +238,7 @@ const COMPARISONS: &str = "
 
 #[test]
 fn a_comparison_has_sides_that_compare(rt: HostRuntime) -> Result<(), Fail> {
-    let other = other(rt.alloc(), COMPARISONS)?;
-    assert_eq!(rt; other.as_str(), "");
-    Ok(())
+    hold(&rt, rt.alloc(), COMPARISONS)
 }
 
 const CONDITIONALS: &str = "
@@ -265,9 +251,7 @@ const CONDITIONALS: &str = "
 
 #[test]
 fn a_conditional_joins_its_parts(rt: HostRuntime) -> Result<(), Fail> {
-    let other = other(rt.alloc(), CONDITIONALS)?;
-    assert_eq!(rt; other.as_str(), "");
-    Ok(())
+    hold(&rt, rt.alloc(), CONDITIONALS)
 }
 
 /// The test that is the row's line of this number.

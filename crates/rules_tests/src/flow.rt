@@ -15,6 +15,7 @@ use py_parser::Parsed;
 use py_tree::{Class, Method, Name, Names, Place, Program, Stmt, StmtKind, Stmts};
 use sf_list::{Sequence, TryClone};
 use std::alloc::{AllocError, Global};
+use std::process::Abort;
 use std::test::Fail;
 use test_support::{Setting, rows};
 use text_trees::{last_method, tree_in, written};
@@ -124,6 +125,13 @@ fn other(alloc: Global, setting: Setting, table: &str) -> Result<String, Fail> {
     Ok(String::new(alloc))
 }
 
+/// Asserts that each row is as it says.
+fn hold(rt: &impl Abort, alloc: Global, setting: Setting, table: &str) -> Result<(), Fail> {
+    let other = other(alloc, setting, table)?;
+    assert_eq!(rt; other.as_str(), "");
+    Ok(())
+}
+
 const TYPED: &str = "
     the same type again       | x = 1↵x = 1      | 4 locals, x: int
     a text for a number       | x = 1↵x = 'a'    | LocalRetyped 9:9
@@ -134,9 +142,7 @@ const TYPED: &str = "
 
 #[test]
 fn a_local_keeps_the_type_of_its_first_assignment(rt: HostRuntime) -> Result<(), Fail> {
-    let other = other(rt.alloc(), ENDS, TYPED)?;
-    assert_eq!(rt; other.as_str(), "");
-    Ok(())
+    hold(&rt, rt.alloc(), ENDS, TYPED)
 }
 
 const NARROWED: &str = "
@@ -146,9 +152,7 @@ const NARROWED: &str = "
 
 #[test]
 fn an_assignment_narrows_and_widens(rt: HostRuntime) -> Result<(), Fail> {
-    let other = other(rt.alloc(), ENDS, NARROWED)?;
-    assert_eq!(rt; other.as_str(), "");
-    Ok(())
+    hold(&rt, rt.alloc(), ENDS, NARROWED)
 }
 
 const WAYS: &str = "
@@ -160,9 +164,7 @@ const WAYS: &str = "
 
 #[test]
 fn a_name_is_assigned_where_it_is_on_each_way(rt: HostRuntime) -> Result<(), Fail> {
-    let other = other(rt.alloc(), ENDS, WAYS)?;
-    assert_eq!(rt; other.as_str(), "");
-    Ok(())
+    hold(&rt, rt.alloc(), ENDS, WAYS)
 }
 
 const FORS: &str = "
@@ -173,9 +175,7 @@ const FORS: &str = "
 
 #[test]
 fn the_name_of_a_for_is_as_assigned_as_before(rt: HostRuntime) -> Result<(), Fail> {
-    let other = other(rt.alloc(), ENDS, FORS)?;
-    assert_eq!(rt; other.as_str(), "");
-    Ok(())
+    hold(&rt, rt.alloc(), ENDS, FORS)
 }
 
 const HEADS: &str = "
@@ -185,9 +185,7 @@ const HEADS: &str = "
 
 #[test]
 fn the_head_of_a_loop_forgets_what_its_body_assigns(rt: HostRuntime) -> Result<(), Fail> {
-    let other = other(rt.alloc(), ENDS, HEADS)?;
-    assert_eq!(rt; other.as_str(), "");
-    Ok(())
+    hold(&rt, rt.alloc(), ENDS, HEADS)
 }
 
 const LOOPS: &str = "
@@ -198,9 +196,7 @@ const LOOPS: &str = "
 
 #[test]
 fn behind_while_true_only_breaks_count(rt: HostRuntime) -> Result<(), Fail> {
-    let other = other(rt.alloc(), ENDS, LOOPS)?;
-    assert_eq!(rt; other.as_str(), "");
-    Ok(())
+    hold(&rt, rt.alloc(), ENDS, LOOPS)
 }
 
 const UNREACHED: &str = "
@@ -210,9 +206,7 @@ const UNREACHED: &str = "
 
 #[test]
 fn what_cannot_be_reached_is_not_looked_at(rt: HostRuntime) -> Result<(), Fail> {
-    let other = other(rt.alloc(), ENDS, UNREACHED)?;
-    assert_eq!(rt; other.as_str(), "");
-    Ok(())
+    hold(&rt, rt.alloc(), ENDS, UNREACHED)
 }
 
 const LOOP_WORDS: &str = "
@@ -223,9 +217,7 @@ const LOOP_WORDS: &str = "
 
 #[test]
 fn break_and_continue_stand_in_loops(rt: HostRuntime) -> Result<(), Fail> {
-    let other = other(rt.alloc(), ENDS, LOOP_WORDS)?;
-    assert_eq!(rt; other.as_str(), "");
-    Ok(())
+    hold(&rt, rt.alloc(), ENDS, LOOP_WORDS)
 }
 
 const FIELDS: &str = "
@@ -238,9 +230,7 @@ const FIELDS: &str = "
 
 #[test]
 fn a_field_is_assigned_unless_it_is_the_key(rt: HostRuntime) -> Result<(), Fail> {
-    let other = other(rt.alloc(), ENDS, FIELDS)?;
-    assert_eq!(rt; other.as_str(), "");
-    Ok(())
+    hold(&rt, rt.alloc(), ENDS, FIELDS)
 }
 
 const COMBINED: &str = "
@@ -252,9 +242,7 @@ const COMBINED: &str = "
 
 #[test]
 fn what_is_combined_is_read_first(rt: HostRuntime) -> Result<(), Fail> {
-    let other = other(rt.alloc(), ENDS, COMBINED)?;
-    assert_eq!(rt; other.as_str(), "");
-    Ok(())
+    hold(&rt, rt.alloc(), ENDS, COMBINED)
 }
 
 const ENDED: &str = "
@@ -263,9 +251,7 @@ const ENDED: &str = "
 
 #[test]
 fn a_method_of_nothing_may_end(rt: HostRuntime) -> Result<(), Fail> {
-    let other = other(rt.alloc(), ENDS, ENDED)?;
-    assert_eq!(rt; other.as_str(), "");
-    Ok(())
+    hold(&rt, rt.alloc(), ENDS, ENDED)
 }
 
 const GIVEN: &str = "
@@ -278,9 +264,7 @@ const GIVEN: &str = "
 
 #[test]
 fn a_method_gives_what_it_is_to_give(rt: HostRuntime) -> Result<(), Fail> {
-    let other = other(rt.alloc(), GIVES, GIVEN)?;
-    assert_eq!(rt; other.as_str(), "");
-    Ok(())
+    hold(&rt, rt.alloc(), GIVES, GIVEN)
 }
 
 /// A row has the declarations behind that of the key.

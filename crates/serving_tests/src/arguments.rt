@@ -2,6 +2,7 @@
 
 use crate::echo::answers;
 use std::alloc::{AllocError, Global};
+use std::process::Abort;
 use std::test::Fail;
 use test_support::rows;
 
@@ -26,6 +27,13 @@ fn other_call(alloc: Global, table: &str, count: usize) -> Result<String, AllocE
         return format!(in alloc; "there are {} rows", rows.len());
     }
     Ok(String::new(alloc))
+}
+
+/// Asserts that each row is as it says.
+fn hold_call(rt: &impl Abort, alloc: Global, table: &str, count: usize) -> Result<(), Fail> {
+    let other = other_call(alloc, table, count)?;
+    assert_eq!(rt; other.as_str(), "");
+    Ok(())
 }
 
 const INTS: &str = r#"
@@ -64,9 +72,7 @@ const INTS: &str = r#"
 
 #[test]
 fn ints_are_numbers_of_64_bits_or_texts(rt: HostRuntime) -> Result<(), Fail> {
-    let other = other_call(rt.alloc(), INTS, 31)?;
-    assert_eq!(rt; other.as_str(), "");
-    Ok(())
+    hold_call(&rt, rt.alloc(), INTS, 31)
 }
 
 const TYPES: &str = r#"
@@ -105,7 +111,5 @@ const TYPES: &str = r#"
 
 #[test]
 fn values_have_the_form_of_their_type(rt: HostRuntime) -> Result<(), Fail> {
-    let other = other_call(rt.alloc(), TYPES, 31)?;
-    assert_eq!(rt; other.as_str(), "");
-    Ok(())
+    hold_call(&rt, rt.alloc(), TYPES, 31)
 }

@@ -2,6 +2,7 @@
 
 use crate::echo::answers;
 use std::alloc::{AllocError, Global};
+use std::process::Abort;
 use std::test::Fail;
 use test_support::rows;
 
@@ -20,6 +21,13 @@ fn other_words(alloc: Global, table: &str, count: usize) -> Result<String, Alloc
         return format!(in alloc; "there are {} rows", rows.len());
     }
     Ok(String::new(alloc))
+}
+
+/// Asserts that each row is as it says.
+fn hold_words(rt: &impl Abort, alloc: Global, table: &str, count: usize) -> Result<(), Fail> {
+    let other = other_words(alloc, table, count)?;
+    assert_eq!(rt; other.as_str(), "");
+    Ok(())
 }
 
 const REFUSED: &str = r#"
@@ -59,9 +67,7 @@ const REFUSED: &str = r#"
 
 #[test]
 fn the_first_refusal_in_order_is_told(rt: HostRuntime) -> Result<(), Fail> {
-    let other = other_words(rt.alloc(), REFUSED, 32)?;
-    assert_eq!(rt; other.as_str(), "");
-    Ok(())
+    hold_words(&rt, rt.alloc(), REFUSED, 32)
 }
 
 /// What is answered to bytes that no row can hold.

@@ -2,6 +2,7 @@
 
 use memory_calls::{NO_FAULTS, call};
 use std::alloc::{AllocError, Global};
+use std::process::Abort;
 use std::test::Fail;
 use test_support::{COUNTER, rows};
 
@@ -68,6 +69,13 @@ fn other(alloc: Global, text: &str, table: &str, count: usize) -> Result<String,
     Ok(String::new(alloc))
 }
 
+/// Asserts that each row is as it says.
+fn hold(rt: &impl Abort, alloc: Global, text: &str, table: &str, count: usize) -> Result<(), Fail> {
+    let other = other(alloc, text, table, count)?;
+    assert_eq!(rt; other.as_str(), "");
+    Ok(())
+}
+
 const REQUESTS: &str = r#"
     a creation       | {"id":"a","class":"Counter","new":["x",3]}                                          | made
     the greatest int | {"id":"b","class":"Counter","key":"x","method":"add","args":[9223372036854775807]}  | no entity
@@ -78,8 +86,7 @@ const REQUESTS: &str = r#"
 
 #[test]
 fn lines_that_are_requests(rt: HostRuntime) -> Result<(), Fail> {
-    let other = other(rt.alloc(), COUNTER, REQUESTS, 5)?;
-    assert_eq!(rt; other.as_str(), "");
+    hold(&rt, rt.alloc(), COUNTER, REQUESTS, 5)?;
     let spaced = r#" {"new" : ["\u0078",-3], "class":"Counter","id":"a"} "#;
     let answer = answer_to(rt.alloc(), COUNTER, spaced.as_bytes())?;
     assert_eq!(rt; answer.as_slice(), MADE);
@@ -112,8 +119,7 @@ const NO_REQUESTS: &str = r#"
 
 #[test]
 fn lines_that_are_none(rt: HostRuntime) -> Result<(), Fail> {
-    let other = other(rt.alloc(), COUNTER, NO_REQUESTS, 21)?;
-    assert_eq!(rt; other.as_str(), "");
+    hold(&rt, rt.alloc(), COUNTER, NO_REQUESTS, 21)?;
     let no_text = b"{\"id\":\"\xff\",\"class\":\"Counter\",\"new\":[\"x\",3]}";
     let answer = answer_to(rt.alloc(), COUNTER, no_text)?;
     assert_eq!(rt; name_of(rt.alloc(), &answer)?, "not json");
@@ -186,7 +192,5 @@ const TYPED_LINES: &str = r#"
 
 #[test]
 fn declared_types_decide_what_can_be_asked_for(rt: HostRuntime) -> Result<(), Fail> {
-    let other = other(rt.alloc(), TYPED, TYPED_LINES, 19)?;
-    assert_eq!(rt; other.as_str(), "");
-    Ok(())
+    hold(&rt, rt.alloc(), TYPED, TYPED_LINES, 19)
 }

@@ -6,6 +6,7 @@ use sf_bytes::{
     write_request, write_snapshot, write_value,
 };
 use std::alloc::{AllocError, Global};
+use std::process::Abort;
 use std::test::Fail;
 use test_support::rows;
 use value_texts::{act_told, batch_told, bytes_of, outcome_told, value_told};
@@ -114,6 +115,13 @@ fn other(alloc: Global, table: &str) -> Result<String, Fail> {
     Ok(String::new(alloc))
 }
 
+/// Asserts that each row is as it says.
+fn hold(rt: &impl Abort, alloc: Global, table: &str) -> Result<(), Fail> {
+    let other = other(alloc, table)?;
+    assert_eq!(rt; other.as_str(), "");
+    Ok(())
+}
+
 const THINGS: &str = "
     None                                  | value 00                                                | None, 0 left
     a list of a list of -1, and an entity | value 05 00000002 05 00000001 03 ffffffffffffffffffffffffffffffff 06 00000001 00000001 6b | [[-1], 1:k], 0 left
@@ -129,9 +137,7 @@ const THINGS: &str = "
 
 #[test]
 fn each_thing_is_read_and_written_again(rt: HostRuntime) -> Result<(), Fail> {
-    let other = other(rt.alloc(), THINGS)?;
-    assert_eq!(rt; other.as_str(), "");
-    Ok(())
+    hold(&rt, rt.alloc(), THINGS)
 }
 
 const NO_THINGS: &str = "
@@ -144,9 +150,7 @@ const NO_THINGS: &str = "
 
 #[test]
 fn what_is_no_value_is_none(rt: HostRuntime) -> Result<(), Fail> {
-    let other = other(rt.alloc(), NO_THINGS)?;
-    assert_eq!(rt; other.as_str(), "");
-    Ok(())
+    hold(&rt, rt.alloc(), NO_THINGS)
 }
 
 #[test]

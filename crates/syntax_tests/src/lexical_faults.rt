@@ -2,6 +2,7 @@
 
 use crate::outcome::lexed;
 use std::alloc::{AllocError, Global};
+use std::process::Abort;
 use std::test::Fail;
 
 /// A label, a text, and the place of its fault.
@@ -17,6 +18,13 @@ fn other(alloc: Global, kind: &str, rows: &[Row<'_>]) -> Result<String, AllocErr
         }
     }
     Ok(String::new(alloc))
+}
+
+/// Asserts that each row is as it says.
+fn hold(rt: &impl Abort, alloc: Global, kind: &str, rows: &[Row<'_>]) -> Result<(), Fail> {
+    let other = other(alloc, kind, rows)?;
+    assert_eq!(rt; other.as_str(), "");
+    Ok(())
 }
 
 #[test]
@@ -46,8 +54,7 @@ fn bytes_that_are_no_text_are_told(rt: HostRuntime) -> Result<(), Fail> {
         ("behind a number", b"1\xff", "1:2"),
         ("in brackets", b"(\xff", "1:2"),
     ];
-    assert_eq!(rt; other(rt.alloc(), "NotUtf8", &rows)?.as_str(), "");
-    Ok(())
+    hold(&rt, rt.alloc(), "NotUtf8", &rows)
 }
 
 #[test]
@@ -60,8 +67,7 @@ fn tabs_before_a_token_are_told(rt: HostRuntime) -> Result<(), Fail> {
         ("behind a space", b"a\n \t'abc'\n", "2:2"),
         ("before a bad character", b"\tx $ \n", "1:1"),
     ];
-    assert_eq!(rt; other(rt.alloc(), "TabIndent", &rows)?.as_str(), "");
-    Ok(())
+    hold(&rt, rt.alloc(), "TabIndent", &rows)
 }
 
 #[test]
@@ -74,8 +80,7 @@ fn dedents_to_no_open_column_are_told(rt: HostRuntime) -> Result<(), Fail> {
         ("between two columns", b"a\n        b\n    c\n", "3:5"),
         ("below the first", b"  a\n b\n", "2:2"),
     ];
-    assert_eq!(rt; other(rt.alloc(), "BadDedent", &rows)?.as_str(), "");
-    Ok(())
+    hold(&rt, rt.alloc(), "BadDedent", &rows)
 }
 
 #[test]
@@ -89,8 +94,7 @@ fn escapes_that_are_none_are_told(rt: HostRuntime) -> Result<(), Fail> {
         ("in an open string", b"x = '\\b\n", "1:6"),
         ("of a byte of 0", b"'\\\x00'", "1:2"),
     ];
-    assert_eq!(rt; other(rt.alloc(), "BadEscape", &rows)?.as_str(), "");
-    Ok(())
+    hold(&rt, rt.alloc(), "BadEscape", &rows)
 }
 
 #[test]
@@ -102,8 +106,7 @@ fn strings_without_an_end_are_told(rt: HostRuntime) -> Result<(), Fail> {
         ("in brackets at the end", b"('a", "1:2"),
         ("two quotes of three", b"'''a''", "1:1"),
     ];
-    assert_eq!(rt; other(rt.alloc(), "OpenString", &rows)?.as_str(), "");
-    Ok(())
+    hold(&rt, rt.alloc(), "OpenString", &rows)
 }
 
 #[test]
@@ -119,8 +122,7 @@ fn numbers_that_are_none_are_told(rt: HostRuntime) -> Result<(), Fail> {
         ("an attribute", b"x = 1.real\n", "1:5"),
         ("two points", b"1..2\n", "1:1"),
     ];
-    assert_eq!(rt; other(rt.alloc(), "BadNumber", &rows)?.as_str(), "");
-    Ok(())
+    hold(&rt, rt.alloc(), "BadNumber", &rows)
 }
 
 #[test]
@@ -132,8 +134,7 @@ fn numbers_above_the_greatest_are_told(rt: HostRuntime) -> Result<(), Fail> {
         ("one above it, in parts", parted, "1:5"),
         ("one above it", whole, "1:1"),
     ];
-    assert_eq!(rt; other(rt.alloc(), "LiteralTooWide", &rows)?.as_str(), "");
-    Ok(())
+    hold(&rt, rt.alloc(), "LiteralTooWide", &rows)
 }
 
 #[test]
@@ -159,8 +160,7 @@ fn characters_of_no_token_are_told(rt: HostRuntime) -> Result<(), Fail> {
         ("a backslash on a line alone", b"x\n\\\ny\n", "2:1"),
         ("behind a long string", b"x = '''a\nbc''' $\n", "2:7"),
     ];
-    assert_eq!(rt; other(rt.alloc(), "BadCharacter", &rows)?.as_str(), "");
-    Ok(())
+    hold(&rt, rt.alloc(), "BadCharacter", &rows)
 }
 
 #[test]
@@ -172,8 +172,7 @@ fn brackets_that_stay_open_are_told(rt: HostRuntime) -> Result<(), Fail> {
         ("closed by another kind", b"([)\n", "1:1"),
         ("behind closed ones", b"a[0](2, (1)[3]\n", "1:5"),
     ];
-    assert_eq!(rt; other(rt.alloc(), "OpenBracket", &rows)?.as_str(), "");
-    Ok(())
+    hold(&rt, rt.alloc(), "OpenBracket", &rows)
 }
 
 /// What the lexer makes of a comment of so many bytes.

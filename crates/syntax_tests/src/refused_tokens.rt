@@ -2,6 +2,7 @@
 
 use crate::outcome::parsed;
 use std::alloc::{AllocError, Global};
+use std::process::Abort;
 use std::test::Fail;
 use test_support::rows;
 
@@ -39,6 +40,19 @@ fn other(alloc: Global, front: &str, table: &str, count: usize) -> Result<String
     Ok(String::new(alloc))
 }
 
+/// Asserts that each row is as it says.
+fn hold(
+    rt: &impl Abort,
+    alloc: Global,
+    front: &str,
+    table: &str,
+    count: usize,
+) -> Result<(), Fail> {
+    let other = other(alloc, front, table, count)?;
+    assert_eq!(rt; other.as_str(), "");
+    Ok(())
+}
+
 const IMPORTS: &str = "
     a word that is left out    |   try↵                             | 1:3: LeftOut
     a string behind an import  | import stateflow↵'b'↵              | 2:1: Unexpected
@@ -57,9 +71,7 @@ const IMPORTS: &str = "
 
 #[test]
 fn a_token_refused_in_an_import_is_told(rt: HostRuntime) -> Result<(), Fail> {
-    let other = other(rt.alloc(), WHOLE, IMPORTS, 13)?;
-    assert_eq!(rt; other.as_str(), "");
-    Ok(())
+    hold(&rt, rt.alloc(), WHOLE, IMPORTS, 13)
 }
 
 const CLASSES: &str = "
@@ -81,9 +93,7 @@ const CLASSES: &str = "
 
 #[test]
 fn a_token_refused_in_a_class_is_told(rt: HostRuntime) -> Result<(), Fail> {
-    let other = other(rt.alloc(), WHOLE, CLASSES, 14)?;
-    assert_eq!(rt; other.as_str(), "");
-    Ok(())
+    hold(&rt, rt.alloc(), WHOLE, CLASSES, 14)
 }
 
 const SIGNATURES: &str = "
@@ -99,9 +109,7 @@ const SIGNATURES: &str = "
 
 #[test]
 fn a_token_refused_in_a_signature_is_told(rt: HostRuntime) -> Result<(), Fail> {
-    let other = other(rt.alloc(), MEMBER, SIGNATURES, 8)?;
-    assert_eq!(rt; other.as_str(), "");
-    Ok(())
+    hold(&rt, rt.alloc(), MEMBER, SIGNATURES, 8)
 }
 
 const SIMPLE_STATEMENTS: &str = "
@@ -123,9 +131,7 @@ const SIMPLE_STATEMENTS: &str = "
 
 #[test]
 fn a_token_refused_in_a_simple_statement_is_told(rt: HostRuntime) -> Result<(), Fail> {
-    let other = other(rt.alloc(), MEMBER, SIMPLE_STATEMENTS, 14)?;
-    assert_eq!(rt; other.as_str(), "");
-    Ok(())
+    hold(&rt, rt.alloc(), MEMBER, SIMPLE_STATEMENTS, 14)
 }
 
 const SUITES: &str = "
@@ -148,9 +154,7 @@ const SUITES: &str = "
 
 #[test]
 fn a_token_refused_in_a_suite_is_told(rt: HostRuntime) -> Result<(), Fail> {
-    let other = other(rt.alloc(), MEMBER, SUITES, 15)?;
-    assert_eq!(rt; other.as_str(), "");
-    Ok(())
+    hold(&rt, rt.alloc(), MEMBER, SUITES, 15)
 }
 
 const OPERATORS: &str = "
@@ -169,9 +173,7 @@ const OPERATORS: &str = "
 
 #[test]
 fn a_token_refused_beside_an_operator_is_told(rt: HostRuntime) -> Result<(), Fail> {
-    let other = other(rt.alloc(), MEMBER, OPERATORS, 11)?;
-    assert_eq!(rt; other.as_str(), "");
-    Ok(())
+    hold(&rt, rt.alloc(), MEMBER, OPERATORS, 11)
 }
 
 const ATOMS: &str = "
@@ -193,7 +195,5 @@ const ATOMS: &str = "
 
 #[test]
 fn a_token_refused_in_an_atom_is_told(rt: HostRuntime) -> Result<(), Fail> {
-    let other = other(rt.alloc(), MEMBER, ATOMS, 14)?;
-    assert_eq!(rt; other.as_str(), "");
-    Ok(())
+    hold(&rt, rt.alloc(), MEMBER, ATOMS, 14)
 }

@@ -1,6 +1,6 @@
 //! Numbers at both ends of their ranges, and one beyond.
 
-use crate::told::other_asked;
+use crate::told::hold_asked;
 use std::test::Fail;
 
 const RUNS: &str = "
@@ -28,8 +28,7 @@ const RUNS: &str = "
 
 #[test]
 fn a_number_of_run_is_in_its_range(rt: HostRuntime) -> Result<(), Fail> {
-    assert_eq!(rt; other_asked(rt.alloc(), RUNS, 20)?.as_str(), "");
-    Ok(())
+    hold_asked(&rt, rt.alloc(), RUNS, 20)
 }
 
 const WORKS: &str = "
@@ -47,8 +46,7 @@ const WORKS: &str = "
 
 #[test]
 fn a_number_of_gen_is_in_its_range(rt: HostRuntime) -> Result<(), Fail> {
-    assert_eq!(rt; other_asked(rt.alloc(), WORKS, 10)?.as_str(), "");
-    Ok(())
+    hold_asked(&rt, rt.alloc(), WORKS, 10)
 }
 
 const DIGITS: &str = "
@@ -70,6 +68,5 @@ const DIGITS: &str = "
 
 #[test]
 fn a_number_is_1_to_20_decimal_digits(rt: HostRuntime) -> Result<(), Fail> {
-    assert_eq!(rt; other_asked(rt.alloc(), DIGITS, 14)?.as_str(), "");
-    Ok(())
+    hold_asked(&rt, rt.alloc(), DIGITS, 14)
 }

@@ -1,6 +1,6 @@
 //! Words that are a command's: each option in both forms, in any order.
 
-use crate::told::other_asked;
+use crate::told::hold_asked;
 use std::test::Fail;
 
 const FILES: &str = "
@@ -17,8 +17,7 @@ const FILES: &str = "
 
 #[test]
 fn a_command_takes_its_file(rt: HostRuntime) -> Result<(), Fail> {
-    assert_eq!(rt; other_asked(rt.alloc(), FILES, 9)?.as_str(), "");
-    Ok(())
+    hold_asked(&rt, rt.alloc(), FILES, 9)
 }
 
 const RUNS: &str = "
@@ -47,8 +46,7 @@ const RUNS: &str = "
 
 #[test]
 fn run_takes_its_options(rt: HostRuntime) -> Result<(), Fail> {
-    assert_eq!(rt; other_asked(rt.alloc(), RUNS, 21)?.as_str(), "");
-    Ok(())
+    hold_asked(&rt, rt.alloc(), RUNS, 21)
 }
 
 const WORKS: &str = "
@@ -62,6 +60,5 @@ const WORKS: &str = "
 
 #[test]
 fn gen_takes_its_options(rt: HostRuntime) -> Result<(), Fail> {
-    assert_eq!(rt; other_asked(rt.alloc(), WORKS, 6)?.as_str(), "");
-    Ok(())
+    hold_asked(&rt, rt.alloc(), WORKS, 6)
 }

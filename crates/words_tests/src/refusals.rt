@@ -1,15 +1,11 @@
 //! Words that are no command's.
 
-use crate::told::other_asked;
+use crate::told::hold_asked;
 use std::test::Fail;
 
 #[test]
 fn no_words_are_no_command(rt: HostRuntime) -> Result<(), Fail> {
-    assert_eq!(rt;
-        other_asked(rt.alloc(), "    none |  | usage", 1)?.as_str(),
-        ""
-    );
-    Ok(())
+    hold_asked(&rt, rt.alloc(), "    none |  | usage", 1)
 }
 
 const FILES: &str = "
@@ -34,8 +30,7 @@ const FILES: &str = "
 
 #[test]
 fn a_command_takes_one_file_where_it_has_one(rt: HostRuntime) -> Result<(), Fail> {
-    assert_eq!(rt; other_asked(rt.alloc(), FILES, 17)?.as_str(), "");
-    Ok(())
+    hold_asked(&rt, rt.alloc(), FILES, 17)
 }
 
 const REPEATS: &str = "
@@ -55,8 +50,7 @@ const REPEATS: &str = "
 
 #[test]
 fn an_option_stands_once(rt: HostRuntime) -> Result<(), Fail> {
-    assert_eq!(rt; other_asked(rt.alloc(), REPEATS, 12)?.as_str(), "");
-    Ok(())
+    hold_asked(&rt, rt.alloc(), REPEATS, 12)
 }
 
 const HYPHENS: &str = "
@@ -88,8 +82,7 @@ const HYPHENS: &str = "
 
 #[test]
 fn a_hyphen_begins_options_alone(rt: HostRuntime) -> Result<(), Fail> {
-    assert_eq!(rt; other_asked(rt.alloc(), HYPHENS, 24)?.as_str(), "");
-    Ok(())
+    hold_asked(&rt, rt.alloc(), HYPHENS, 24)
 }
 
 const OPTIONS: &str = "
@@ -123,6 +116,5 @@ const OPTIONS: &str = "
 
 #[test]
 fn other_options_are_refused(rt: HostRuntime) -> Result<(), Fail> {
-    assert_eq!(rt; other_asked(rt.alloc(), OPTIONS, 26)?.as_str(), "");
-    Ok(())
+    hold_asked(&rt, rt.alloc(), OPTIONS, 26)
 }

@@ -2,6 +2,8 @@
 
 use command_words::{Command, GenWords, RunWords, WordsError, command_of};
 use std::alloc::{AllocError, Global};
+use std::process::Abort;
+use std::test::Fail;
 use test_support::rows;
 
 /// The words of a row, with a blank between two. In a row `''` stands for an empty word.
@@ -68,7 +70,7 @@ fn asked(alloc: Global, text: &str) -> Result<String, AllocError> {
 }
 
 /// The first row of a table whose words ask for something else, with what they ask for.
-pub(crate) fn other_asked(alloc: Global, table: &str, count: usize) -> Result<String, AllocError> {
+fn other_asked(alloc: Global, table: &str, count: usize) -> Result<String, AllocError> {
     let rows = rows(alloc, table)?;
     for row in &rows {
         let found = asked(alloc, row.text.as_str().trim())?;
@@ -80,4 +82,16 @@ pub(crate) fn other_asked(alloc: Global, table: &str, count: usize) -> Result<St
         return format!(in alloc; "there are {} rows", rows.len());
     }
     Ok(String::new(alloc))
+}
+
+/// Asserts that each row is as it says.
+pub(crate) fn hold_asked(
+    rt: &impl Abort,
+    alloc: Global,
+    table: &str,
+    count: usize,
+) -> Result<(), Fail> {
+    let other = other_asked(alloc, table, count)?;
+    assert_eq!(rt; other.as_str(), "");
+    Ok(())
 }
