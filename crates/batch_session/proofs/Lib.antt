@@ -1,5 +1,6 @@
 pub mod SameProgram
 pub mod KeepLaws
+pub mod StateLaws
 pub mod LineLaws
 pub mod RunLaws
 pub mod ReportLaws

@@ -26,6 +26,23 @@ abbrev pub disk_failed : {T : Type 0} → Result T SessionFault → Bool
 disk_failed (Ok value) = false
 disk_failed (Err fault) = is_disk_fault fault
 
+-- something couldn't be written: at a line, or in the session
+abbrev pub line_unwritten : {T : Type 0} → Result T LineStop → Bool
+line_unwritten (Ok value) = false
+line_unwritten (Err line.HistoryFull) = false
+line_unwritten (Err line.NoMemory) = false
+line_unwritten (Err line.DiskFault) = false
+line_unwritten (Err line.WriteFault) = true
+
+abbrev pub write_failed : {T : Type 0} → Result T SessionFault → Bool
+write_failed (Ok value) = false
+write_failed (Err ReadFault) = false
+write_failed (Err WriteFault) = true
+write_failed (Err DiskFault) = false
+write_failed (Err InputTooLong) = false
+write_failed (Err HistoryFull) = false
+write_failed (Err NoMemory) = false
+
 -- where the end of the input was served, or the session stopped at it
 abbrev pub finished : Result (Unit {0}) LineStop → Tally → Result Tally SessionFault
 finished (Ok value) tally = Ok tally

@@ -1,4 +1,5 @@
 pub mod Points
+pub mod SessionStates
 pub mod Feeds
 pub mod Takes
 pub mod Faults

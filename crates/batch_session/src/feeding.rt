@@ -1,14 +1,10 @@
 //! The input, piece by piece: each line is answered as soon as it is whole, and a batch runs where one is due.
 
-ghost use Rattle.std.specs.Prelude.{◌≡◌, ◌≤◌, ◌<◌, ◌+◌, ◌^◌, ◌⊎◌, ℕ, List, length, [], ◌∷◌, true, IfOk, OnOk, Ok, Err};
+ghost use Rattle.std.specs.Prelude.{◌≡◌, ◌≤◌, ◌<◌, ◌+◌, ◌^◌, ℕ, List, length, [], ◌∷◌, true, IfOk, OnOk, Ok, Err};
 ghost use Rattle.sf_outside.specs.Causes.{Rose};
-ghost use Rattle.block_step.specs.CompiledViews.{IsWhole};
-ghost use Rattle.engine.specs.Cores.{CoreFits, IsSoundCore};
-ghost use Rattle.engine.specs.EngineViews.{core_of, source_of, tables_of, compiled_of, limit_of, fresh_of, RunsProgram};
-ghost use Rattle.session_store.specs.Vocabulary.{logged_of, IsStorable};
-ghost use Rattle.session_store.specs.Cycles.{IsInCycle};
-ghost use Rattle.session_store.specs.Endings.{KeepsWhere, next_core};
-ghost use Rattle.session_store.specs.Stores.{settings_of, Keeps, EndsPast};
+ghost use Rattle.engine.specs.EngineViews.{core_of};
+ghost use Rattle.session_store.specs.Vocabulary.{logged_of};
+ghost use Rattle.session_store.specs.Stores.{settings_of};
 ghost use Rattle.request_json.specs.Actions.{whole_from, whole_lines, last_line};
 ghost use Rattle.input_lines.specs.Cuts.{IsStart, IsWithin};
 ghost use Rattle.session_steps.specs.Vocabulary.{cut, disk_failed, service_of};
@@ -18,6 +14,8 @@ ghost use Rattle.session_steps.specs.Traces.{no_batch};
 ghost use Rattle.batch_session.specs.Points.{point_of};
 ghost use Rattle.batch_session.specs.Feeds.{AnswersKept, FeedsBytes, fed_of, AnswersLast, Finishes};
 ghost use Rattle.batch_session.specs.Takes.{Takes};
+ghost use Rattle.batch_session.specs.SessionStates.{state_of, IsInRange, IsReady, GoesOn, WritesOn};
+ghost use Rattle.batch_session.specs.Faults.{line_unwritten};
 
 use crate::ending::run_waiting;
 use crate::reporting::end_batch;
@@ -77,15 +75,8 @@ impl Intake {
         chooser: &mut C,
         watch: &mut W,
     ) -> Result<(), LineStop>
-        requires whole { IsWhole (compiled_of engine.old) }
-        requires batch { settings.now.batch ≤ 256 }
-        requires least { 1 ≤ settings.now.parts }
-        requires most { settings.now.parts ≤ 64 }
-        requires few { length (core_of engine.old).pending < 256 }
-        requires fits { CoreFits (tables_of engine.old) (core_of engine.old) }
-        requires storable { IsStorable (core_of engine.old) (fresh_of engine.old) }
-        requires kept { Keeps store.old (source_of engine.old) (logged_of engine.old) (D.facts disk.old) }
-        requires in_cycle { IsInCycle store.old self.old.tally.batches }
+        requires range { IsInRange settings.now }
+        requires ready { IsReady (state_of engine.old store.old (D.facts disk.old) (D.faults disk.old) (D.mounts disk.old)) self.old.tally.batches }
         requires lines { self.old.lines + 1 < 2 ^ 64 }
         ensures answers { AnswersKept (service_of engine.old (R.choice rule.now) settings.now.batch settings.now.parts)
             settings.now.trace result ended self.old.line
@@ -93,26 +84,14 @@ impl Intake {
             (point_of engine.new self.new.lines self.new.tally (K.held out.new) (E.held err.new) (C.choices chooser.new) (W.told watch.new)) }
         ensures within { self.new.lines ≤ self.old.lines + 1 }
         ensures cleared { OnOk result (self.new.line ≡ []) }
-        ensures later { K.faults out.old ≤ K.faults out.new }
-        ensures later_err { E.faults err.old ≤ E.faults err.new }
-        ensures cause { result ≡ Err LineStop.WriteFault → Rose (K.faults out.old) (K.faults out.new) ⊎ Rose (E.faults err.old) (E.faults err.new) }
-        ensures few { OnOk result (length (core_of engine.new).pending < 256) }
-        ensures runs { RunsProgram engine.new (compiled_of engine.old) (limit_of engine.old) }
-        ensures core_fits { CoreFits (tables_of engine.old) (core_of engine.new) }
-        ensures sound { IsSoundCore (source_of engine.old) (core_of engine.old) → IsSoundCore (source_of engine.old) (core_of engine.new) }
-        ensures storable { IsStorable (core_of engine.new) (fresh_of engine.new) }
-        ensures kept { KeepsWhere (disk_failed result) store.new (source_of engine.new) (logged_of engine.new)
-            (next_core (R.choice rule.now) (source_of engine.new) (core_of engine.new)) (D.facts disk.new) }
         ensures logs { (line : List ℕ) → IsStart self.old.line line
             → LogsSteps (service_of engine.old (R.choice rule.now) settings.now.batch settings.now.parts)
             (settings_of store.old) (core_of engine.old) self.old.lines (Answer (cut ended line) ∷ [])
             (logged_of engine.old) (logged_of engine.new) (D.facts disk.old) (D.facts disk.new) }
-        ensures in_cycle { OnOk result (IsInCycle store.new self.new.tally.batches) }
-        ensures settings { settings_of store.new ≡ settings_of store.old }
-        ensures later_disk { D.faults disk.old ≤ D.faults disk.new }
-        ensures disk_cause { disk_failed result ≡ true → Rose (D.faults disk.old) (D.faults disk.new)
-            ⊎ EndsPast (R.choice rule.now) store.new (source_of engine.new) (core_of engine.new) (fresh_of engine.new) (D.facts disk.new) }
-        ensures mounts { D.mounts disk.new ≡ D.mounts disk.old }
+        ensures ready { OnOk result (IsReady (state_of engine.new store.new (D.facts disk.new) (D.faults disk.new) (D.mounts disk.new)) self.new.tally.batches) }
+        ensures goes_on { GoesOn (R.choice rule.now) (disk_failed result) (state_of engine.old store.old (D.facts disk.old) (D.faults disk.old) (D.mounts disk.old))
+            (state_of engine.new store.new (D.facts disk.new) (D.faults disk.new) (D.mounts disk.new)) }
+        ensures writes { WritesOn (line_unwritten result) (K.faults out.old) (K.faults out.new) (E.faults err.old) (E.faults err.new) }
     {
         let batching = Batching {
             batch: settings.batch,
@@ -163,15 +142,8 @@ impl Intake {
         chooser: &mut C,
         watch: &mut W,
     ) -> Result<Option<usize>, LineStop>
-        requires whole { IsWhole (compiled_of engine.old) }
-        requires batch { settings.now.batch ≤ 256 }
-        requires least { 1 ≤ settings.now.parts }
-        requires most { settings.now.parts ≤ 64 }
-        requires few { length (core_of engine.old).pending < 256 }
-        requires fits { CoreFits (tables_of engine.old) (core_of engine.old) }
-        requires storable { IsStorable (core_of engine.old) (fresh_of engine.old) }
-        requires kept { Keeps store.old (source_of engine.old) (logged_of engine.old) (D.facts disk.old) }
-        requires in_cycle { IsInCycle store.old self.old.tally.batches }
+        requires range { IsInRange settings.now }
+        requires ready { IsReady (state_of engine.old store.old (D.facts disk.old) (D.faults disk.old) (D.mounts disk.old)) self.old.tally.batches }
         requires lines { self.old.lines + length piece.now < 2 ^ 64 }
         ensures within { IfOk result (λ taken. IsWithin piece.now taken) }
         ensures lines { self.new.lines ≤ self.old.lines + length (fed_of result piece.now) }
@@ -179,26 +151,14 @@ impl Intake {
             settings.now.trace result self.old.line self.new.line (fed_of result piece.now)
             (point_of engine.old self.old.lines self.old.tally (K.held out.old) (E.held err.old) (C.choices chooser.old) (W.told watch.old))
             (point_of engine.new self.new.lines self.new.tally (K.held out.new) (E.held err.new) (C.choices chooser.new) (W.told watch.new)) }
-        ensures later { K.faults out.old ≤ K.faults out.new }
-        ensures later_err { E.faults err.old ≤ E.faults err.new }
-        ensures cause { result ≡ Err LineStop.WriteFault → Rose (K.faults out.old) (K.faults out.new) ⊎ Rose (E.faults err.old) (E.faults err.new) }
-        ensures few { OnOk result (length (core_of engine.new).pending < 256) }
-        ensures runs { RunsProgram engine.new (compiled_of engine.old) (limit_of engine.old) }
-        ensures core_fits { CoreFits (tables_of engine.old) (core_of engine.new) }
-        ensures sound { IsSoundCore (source_of engine.old) (core_of engine.old) → IsSoundCore (source_of engine.old) (core_of engine.new) }
-        ensures storable { IsStorable (core_of engine.new) (fresh_of engine.new) }
-        ensures kept { KeepsWhere (disk_failed result) store.new (source_of engine.new) (logged_of engine.new)
-            (next_core (R.choice rule.now) (source_of engine.new) (core_of engine.new)) (D.facts disk.new) }
         ensures logs { (part : List ℕ) → IsStart self.old.line part
             → LogsSteps (service_of engine.old (R.choice rule.now) settings.now.batch settings.now.parts)
             (settings_of store.old) (core_of engine.old) self.old.lines (answers (whole_from part (fed_of result piece.now)))
             (logged_of engine.old) (logged_of engine.new) (D.facts disk.old) (D.facts disk.new) }
-        ensures in_cycle { OnOk result (IsInCycle store.new self.new.tally.batches) }
-        ensures settings { settings_of store.new ≡ settings_of store.old }
-        ensures later_disk { D.faults disk.old ≤ D.faults disk.new }
-        ensures disk_cause { disk_failed result ≡ true → Rose (D.faults disk.old) (D.faults disk.new)
-            ⊎ EndsPast (R.choice rule.now) store.new (source_of engine.new) (core_of engine.new) (fresh_of engine.new) (D.facts disk.new) }
-        ensures mounts { D.mounts disk.new ≡ D.mounts disk.old }
+        ensures ready { OnOk result (IsReady (state_of engine.new store.new (D.facts disk.new) (D.faults disk.new) (D.mounts disk.new)) self.new.tally.batches) }
+        ensures goes_on { GoesOn (R.choice rule.now) (disk_failed result) (state_of engine.old store.old (D.facts disk.old) (D.faults disk.old) (D.mounts disk.old))
+            (state_of engine.new store.new (D.facts disk.new) (D.faults disk.new) (D.mounts disk.new)) }
+        ensures writes { WritesOn (line_unwritten result) (K.faults out.old) (K.faults out.new) (E.faults err.old) (E.faults err.new) }
     {
         match self.line.take_line(piece) {
             Ok(Some(count)) => {
@@ -227,41 +187,22 @@ impl Intake {
         chooser: &mut C,
         watch: &mut W,
     ) -> Result<(), LineStop>
-        requires whole { IsWhole (compiled_of engine.old) }
-        requires batch { settings.now.batch ≤ 256 }
-        requires least { 1 ≤ settings.now.parts }
-        requires most { settings.now.parts ≤ 64 }
-        requires few { length (core_of engine.old).pending < 256 }
-        requires fits { CoreFits (tables_of engine.old) (core_of engine.old) }
-        requires storable { IsStorable (core_of engine.old) (fresh_of engine.old) }
-        requires kept { Keeps store.old (source_of engine.old) (logged_of engine.old) (D.facts disk.old) }
-        requires in_cycle { IsInCycle store.old self.old.tally.batches }
+        requires range { IsInRange settings.now }
+        requires ready { IsReady (state_of engine.old store.old (D.facts disk.old) (D.faults disk.old) (D.mounts disk.old)) self.old.tally.batches }
         requires lines { self.old.lines + length piece.now < 2 ^ 64 }
         ensures lines { self.new.lines ≤ self.old.lines + length piece.now }
         ensures feeds { FeedsBytes (service_of engine.old (R.choice rule.now) settings.now.batch settings.now.parts)
             settings.now.trace result self.old.line self.new.line piece.now
             (point_of engine.old self.old.lines self.old.tally (K.held out.old) (E.held err.old) (C.choices chooser.old) (W.told watch.old))
             (point_of engine.new self.new.lines self.new.tally (K.held out.new) (E.held err.new) (C.choices chooser.new) (W.told watch.new)) }
-        ensures later { K.faults out.old ≤ K.faults out.new }
-        ensures later_err { E.faults err.old ≤ E.faults err.new }
-        ensures cause { result ≡ Err LineStop.WriteFault → Rose (K.faults out.old) (K.faults out.new) ⊎ Rose (E.faults err.old) (E.faults err.new) }
-        ensures few { OnOk result (length (core_of engine.new).pending < 256) }
-        ensures runs { RunsProgram engine.new (compiled_of engine.old) (limit_of engine.old) }
-        ensures core_fits { CoreFits (tables_of engine.old) (core_of engine.new) }
-        ensures sound { IsSoundCore (source_of engine.old) (core_of engine.old) → IsSoundCore (source_of engine.old) (core_of engine.new) }
-        ensures storable { IsStorable (core_of engine.new) (fresh_of engine.new) }
-        ensures kept { KeepsWhere (disk_failed result) store.new (source_of engine.new) (logged_of engine.new)
-            (next_core (R.choice rule.now) (source_of engine.new) (core_of engine.new)) (D.facts disk.new) }
         ensures logs { (part : List ℕ) → IsStart self.old.line part
             → LogsSteps (service_of engine.old (R.choice rule.now) settings.now.batch settings.now.parts)
             (settings_of store.old) (core_of engine.old) self.old.lines (answers (whole_from part piece.now))
             (logged_of engine.old) (logged_of engine.new) (D.facts disk.old) (D.facts disk.new) }
-        ensures in_cycle { OnOk result (IsInCycle store.new self.new.tally.batches) }
-        ensures settings { settings_of store.new ≡ settings_of store.old }
-        ensures later_disk { D.faults disk.old ≤ D.faults disk.new }
-        ensures disk_cause { disk_failed result ≡ true → Rose (D.faults disk.old) (D.faults disk.new)
-            ⊎ EndsPast (R.choice rule.now) store.new (source_of engine.new) (core_of engine.new) (fresh_of engine.new) (D.facts disk.new) }
-        ensures mounts { D.mounts disk.new ≡ D.mounts disk.old }
+        ensures ready { OnOk result (IsReady (state_of engine.new store.new (D.facts disk.new) (D.faults disk.new) (D.mounts disk.new)) self.new.tally.batches) }
+        ensures goes_on { GoesOn (R.choice rule.now) (disk_failed result) (state_of engine.old store.old (D.facts disk.old) (D.faults disk.old) (D.mounts disk.old))
+            (state_of engine.new store.new (D.facts disk.new) (D.faults disk.new) (D.mounts disk.new)) }
+        ensures writes { WritesOn (line_unwritten result) (K.faults out.old) (K.faults out.new) (E.faults err.old) (E.faults err.new) }
     {
         let mut start = 0;
         while let Some(count) = self.take_line(
@@ -306,15 +247,8 @@ impl Intake {
         chooser: &mut C,
         watch: &mut W,
     ) -> Result<InputEnd, LineStop>
-        requires whole { IsWhole (compiled_of engine.old) }
-        requires batch { settings.now.batch ≤ 256 }
-        requires least { 1 ≤ settings.now.parts }
-        requires most { settings.now.parts ≤ 64 }
-        requires few { length (core_of engine.old).pending < 256 }
-        requires fits { CoreFits (tables_of engine.old) (core_of engine.old) }
-        requires storable { IsStorable (core_of engine.old) (fresh_of engine.old) }
-        requires kept { Keeps store.old (source_of engine.old) (logged_of engine.old) (D.facts disk.old) }
-        requires in_cycle { IsInCycle store.old self.old.tally.batches }
+        requires range { IsInRange settings.now }
+        requires ready { IsReady (state_of engine.old store.old (D.facts disk.old) (D.faults disk.old) (D.mounts disk.old)) self.old.tally.batches }
         requires fresh { self.old.line ≡ [] }
         requires lines { self.old.lines ≡ 0 }
         requires limit { settings.now.limit ≤ 2 ^ 62 }
@@ -328,22 +262,10 @@ impl Intake {
             result self.new.line (S.left input.old) (S.left input.new)
             (point_of engine.old self.old.lines self.old.tally (K.held out.old) (E.held err.old) (C.choices chooser.old) (W.told watch.old))
             (point_of engine.new self.new.lines self.new.tally (K.held out.new) (E.held err.new) (C.choices chooser.new) (W.told watch.new)) }
-        ensures later { K.faults out.old ≤ K.faults out.new }
-        ensures later_err { E.faults err.old ≤ E.faults err.new }
-        ensures cause { result ≡ Err LineStop.WriteFault → Rose (K.faults out.old) (K.faults out.new) ⊎ Rose (E.faults err.old) (E.faults err.new) }
-        ensures few { OnOk result (length (core_of engine.new).pending < 256) }
-        ensures runs { RunsProgram engine.new (compiled_of engine.old) (limit_of engine.old) }
-        ensures core_fits { CoreFits (tables_of engine.old) (core_of engine.new) }
-        ensures sound { IsSoundCore (source_of engine.old) (core_of engine.old) → IsSoundCore (source_of engine.old) (core_of engine.new) }
-        ensures storable { IsStorable (core_of engine.new) (fresh_of engine.new) }
-        ensures kept { KeepsWhere (disk_failed result) store.new (source_of engine.new) (logged_of engine.new)
-            (next_core (R.choice rule.now) (source_of engine.new) (core_of engine.new)) (D.facts disk.new) }
-        ensures in_cycle { OnOk result (IsInCycle store.new self.new.tally.batches) }
-        ensures settings { settings_of store.new ≡ settings_of store.old }
-        ensures later_disk { D.faults disk.old ≤ D.faults disk.new }
-        ensures disk_cause { disk_failed result ≡ true → Rose (D.faults disk.old) (D.faults disk.new)
-            ⊎ EndsPast (R.choice rule.now) store.new (source_of engine.new) (core_of engine.new) (fresh_of engine.new) (D.facts disk.new) }
-        ensures mounts { D.mounts disk.new ≡ D.mounts disk.old }
+        ensures ready { OnOk result (IsReady (state_of engine.new store.new (D.facts disk.new) (D.faults disk.new) (D.mounts disk.new)) self.new.tally.batches) }
+        ensures goes_on { GoesOn (R.choice rule.now) (disk_failed result) (state_of engine.old store.old (D.facts disk.old) (D.faults disk.old) (D.mounts disk.old))
+            (state_of engine.new store.new (D.facts disk.new) (D.faults disk.new) (D.mounts disk.new)) }
+        ensures writes { WritesOn (line_unwritten result) (K.faults out.old) (K.faults out.new) (E.faults err.old) (E.faults err.new) }
     {
         let mut buf = [0; PIECE];
         let mut taken: u64 = 0;
@@ -391,39 +313,20 @@ impl Intake {
         chooser: &mut C,
         watch: &mut W,
     ) -> Result<(), LineStop>
-        requires whole { IsWhole (compiled_of engine.old) }
-        requires batch { settings.now.batch ≤ 256 }
-        requires least { 1 ≤ settings.now.parts }
-        requires most { settings.now.parts ≤ 64 }
-        requires few { length (core_of engine.old).pending < 256 }
-        requires fits { CoreFits (tables_of engine.old) (core_of engine.old) }
-        requires storable { IsStorable (core_of engine.old) (fresh_of engine.old) }
-        requires kept { Keeps store.old (source_of engine.old) (logged_of engine.old) (D.facts disk.old) }
-        requires in_cycle { IsInCycle store.old self.old.tally.batches }
+        requires range { IsInRange settings.now }
+        requires ready { IsReady (state_of engine.old store.old (D.facts disk.old) (D.faults disk.old) (D.mounts disk.old)) self.old.tally.batches }
         requires lines { self.old.lines + 1 < 2 ^ 64 }
         ensures answers { AnswersLast (service_of engine.old (R.choice rule.now) settings.now.batch settings.now.parts) settings.now.trace result self.old.line
             (point_of engine.old self.old.lines self.old.tally (K.held out.old) (E.held err.old) (C.choices chooser.old) (W.told watch.old))
             (point_of engine.new self.new.lines self.new.tally (K.held out.new) (E.held err.new) (C.choices chooser.new) (W.told watch.new)) }
-        ensures later { K.faults out.old ≤ K.faults out.new }
-        ensures later_err { E.faults err.old ≤ E.faults err.new }
-        ensures cause { result ≡ Err LineStop.WriteFault → Rose (K.faults out.old) (K.faults out.new) ⊎ Rose (E.faults err.old) (E.faults err.new) }
-        ensures few { OnOk result (length (core_of engine.new).pending < 256) }
-        ensures runs { RunsProgram engine.new (compiled_of engine.old) (limit_of engine.old) }
-        ensures core_fits { CoreFits (tables_of engine.old) (core_of engine.new) }
-        ensures sound { IsSoundCore (source_of engine.old) (core_of engine.old) → IsSoundCore (source_of engine.old) (core_of engine.new) }
-        ensures storable { IsStorable (core_of engine.new) (fresh_of engine.new) }
-        ensures kept { KeepsWhere (disk_failed result) store.new (source_of engine.new) (logged_of engine.new)
-            (next_core (R.choice rule.now) (source_of engine.new) (core_of engine.new)) (D.facts disk.new) }
         ensures logs { (part : List ℕ) → IsStart self.old.line part
             → LogsSteps (service_of engine.old (R.choice rule.now) settings.now.batch settings.now.parts)
             (settings_of store.old) (core_of engine.old) self.old.lines (answers (last_line part))
             (logged_of engine.old) (logged_of engine.new) (D.facts disk.old) (D.facts disk.new) }
-        ensures in_cycle { OnOk result (IsInCycle store.new self.new.tally.batches) }
-        ensures settings { settings_of store.new ≡ settings_of store.old }
-        ensures later_disk { D.faults disk.old ≤ D.faults disk.new }
-        ensures disk_cause { disk_failed result ≡ true → Rose (D.faults disk.old) (D.faults disk.new)
-            ⊎ EndsPast (R.choice rule.now) store.new (source_of engine.new) (core_of engine.new) (fresh_of engine.new) (D.facts disk.new) }
-        ensures mounts { D.mounts disk.new ≡ D.mounts disk.old }
+        ensures ready { OnOk result (IsReady (state_of engine.new store.new (D.facts disk.new) (D.faults disk.new) (D.mounts disk.new)) self.new.tally.batches) }
+        ensures goes_on { GoesOn (R.choice rule.now) (disk_failed result) (state_of engine.old store.old (D.facts disk.old) (D.faults disk.old) (D.mounts disk.old))
+            (state_of engine.new store.new (D.facts disk.new) (D.faults disk.new) (D.mounts disk.new)) }
+        ensures writes { WritesOn (line_unwritten result) (K.faults out.old) (K.faults out.new) (E.faults err.old) (E.faults err.new) }
     {
         if self.line.is_empty() {
             return Ok(());
@@ -447,40 +350,22 @@ impl Intake {
         chooser: &mut C,
         watch: &mut W,
     ) -> Result<(), LineStop>
-        requires whole { IsWhole (compiled_of engine.old) }
-        requires batch { settings.now.batch ≤ 256 }
-        requires least { 1 ≤ settings.now.parts }
-        requires most { settings.now.parts ≤ 64 }
-        requires few { length (core_of engine.old).pending < 256 }
-        requires fits { CoreFits (tables_of engine.old) (core_of engine.old) }
-        requires storable { IsStorable (core_of engine.old) (fresh_of engine.old) }
-        requires kept { Keeps store.old (source_of engine.old) (logged_of engine.old) (D.facts disk.old) }
-        requires in_cycle { IsInCycle store.old self.old.tally.batches }
+        requires range { IsInRange settings.now }
+        requires ready { IsReady (state_of engine.old store.old (D.facts disk.old) (D.faults disk.old) (D.mounts disk.old)) self.old.tally.batches }
         requires lines { self.old.lines + 1 < 2 ^ 64 }
         ensures finishes { Finishes (service_of engine.old (R.choice rule.now) settings.now.batch settings.now.parts) settings.now.trace result self.old.line
             (point_of engine.old self.old.lines self.old.tally (K.held out.old) (E.held err.old) (C.choices chooser.old) (W.told watch.old))
             (point_of engine.new self.new.lines self.new.tally (K.held out.new) (E.held err.new) (C.choices chooser.new) (W.told watch.new)) }
         ensures none { OnOk result ((core_of engine.new).pending ≡ []) }
-        ensures later { K.faults out.old ≤ K.faults out.new }
-        ensures later_err { E.faults err.old ≤ E.faults err.new }
-        ensures cause { result ≡ Err LineStop.WriteFault → Rose (K.faults out.old) (K.faults out.new) ⊎ Rose (E.faults err.old) (E.faults err.new) }
-        ensures runs { RunsProgram engine.new (compiled_of engine.old) (limit_of engine.old) }
-        ensures core_fits { CoreFits (tables_of engine.old) (core_of engine.new) }
-        ensures sound { IsSoundCore (source_of engine.old) (core_of engine.old) → IsSoundCore (source_of engine.old) (core_of engine.new) }
-        ensures storable { IsStorable (core_of engine.new) (fresh_of engine.new) }
-        ensures kept { KeepsWhere (disk_failed result) store.new (source_of engine.new) (logged_of engine.new)
-            (next_core (R.choice rule.now) (source_of engine.new) (core_of engine.new)) (D.facts disk.new) }
         ensures logs { (part : List ℕ) → IsStart self.old.line part
             → LogsSteps (service_of engine.old (R.choice rule.now) settings.now.batch settings.now.parts)
             (settings_of store.old) (core_of engine.old) self.old.lines (last_steps (service_of engine.old (R.choice rule.now) settings.now.batch settings.now.parts)
             (open_at (core_of engine.old) self.old.lines) (last_line part))
             (logged_of engine.old) (logged_of engine.new) (D.facts disk.old) (D.facts disk.new) }
-        ensures in_cycle { OnOk result (IsInCycle store.new self.new.tally.batches) }
-        ensures settings { settings_of store.new ≡ settings_of store.old }
-        ensures later_disk { D.faults disk.old ≤ D.faults disk.new }
-        ensures disk_cause { disk_failed result ≡ true → Rose (D.faults disk.old) (D.faults disk.new)
-            ⊎ EndsPast (R.choice rule.now) store.new (source_of engine.new) (core_of engine.new) (fresh_of engine.new) (D.facts disk.new) }
-        ensures mounts { D.mounts disk.new ≡ D.mounts disk.old }
+        ensures ready { OnOk result (IsReady (state_of engine.new store.new (D.facts disk.new) (D.faults disk.new) (D.mounts disk.new)) self.new.tally.batches) }
+        ensures goes_on { GoesOn (R.choice rule.now) (disk_failed result) (state_of engine.old store.old (D.facts disk.old) (D.faults disk.old) (D.mounts disk.old))
+            (state_of engine.new store.new (D.facts disk.new) (D.faults disk.new) (D.mounts disk.new)) }
+        ensures writes { WritesOn (line_unwritten result) (K.faults out.old) (K.faults out.new) (E.faults err.old) (E.faults err.new) }
     {
         self.take_last(
             alloc, engine, store, settings, out, err, disk, rule, chooser, watch,

@@ -13,7 +13,8 @@ ghost use Rattle.session_store.specs.Stores.{settings_of, Keeps, EndsPast};
 ghost use Rattle.session_steps.specs.Vocabulary.{service_of};
 ghost use Rattle.session_steps.specs.Traces.{no_batch};
 ghost use Rattle.batch_session.specs.Served.{view_of, Served, LogsServed};
-ghost use Rattle.batch_session.specs.Faults.{fault_of, finished, disk_failed, unflushed, IsFlushed};
+ghost use Rattle.batch_session.specs.SessionStates.{state_of, IsInRange, IsReady, GoesOn, WritesOn};
+ghost use Rattle.batch_session.specs.Faults.{fault_of, finished, disk_failed, write_failed, unflushed, IsFlushed};
 
 use crate::feeding::{InputEnd, Intake};
 use crate::settings::Settings;
@@ -128,42 +129,24 @@ fn answer_all<R: CommitRule, S: Source, K: Sink, E: Sink, D: Disk, C: Chooser, W
     chooser: &mut C,
     watch: &mut W,
 ) -> Result<Tally, SessionFault>
+    requires range { IsInRange settings.now }
+    requires ready { IsReady (state_of engine.old store.old (D.facts disk.old) (D.faults disk.old) (D.mounts disk.old)) 0 }
     requires fresh { intake.old.line ≡ [] }
     requires lines { intake.old.lines ≡ 0 }
     requires tally { intake.old.tally ≡ no_batch }
-    requires whole { IsWhole (compiled_of engine.old) }
-    requires batch { settings.now.batch ≤ 256 }
-    requires least { 1 ≤ settings.now.parts }
-    requires most { settings.now.parts ≤ 64 }
-    requires few { length (core_of engine.old).pending < 256 }
-    requires fits { CoreFits (tables_of engine.old) (core_of engine.old) }
-    requires storable { IsStorable (core_of engine.old) (fresh_of engine.old) }
-    requires kept { Keeps store.old (source_of engine.old) (logged_of engine.old) (D.facts disk.old) }
-    requires in_cycle { IsInCycle store.old 0 }
     requires limit { settings.now.limit ≤ 2 ^ 62 }
     ensures served { Served (service_of engine.old (R.choice rule.now) settings.now.batch settings.now.parts) settings.now.trace settings.now.limit result
         (view_of engine.old (S.left input.old) (K.held out.old) (E.held err.old) (C.choices chooser.old) (W.told watch.old))
         (view_of engine.new (S.left input.new) (K.held out.new) (E.held err.new) (C.choices chooser.new) (W.told watch.new)) }
     ensures read { S.faults input.old ≤ S.faults input.new }
-    ensures later { K.faults out.old ≤ K.faults out.new }
-    ensures later_err { E.faults err.old ≤ E.faults err.new }
     ensures read_cause { result ≡ Err SessionFault.ReadFault → Rose (S.faults input.old) (S.faults input.new) }
-    ensures write_cause { result ≡ Err SessionFault.WriteFault → Rose (K.faults out.old) (K.faults out.new) ⊎ Rose (E.faults err.old) (E.faults err.new) }
-    ensures runs { RunsProgram engine.new (compiled_of engine.old) (limit_of engine.old) }
-    ensures core_fits { CoreFits (tables_of engine.old) (core_of engine.new) }
-    ensures sound { IsSoundCore (source_of engine.old) (core_of engine.old) → IsSoundCore (source_of engine.old) (core_of engine.new) }
-    ensures storable { IsStorable (core_of engine.new) (fresh_of engine.new) }
-    ensures kept { KeepsWhere (disk_failed result) store.new (source_of engine.new) (logged_of engine.new)
-        (next_core (R.choice rule.now) (source_of engine.new) (core_of engine.new)) (D.facts disk.new) }
     ensures logs { LogsServed (service_of engine.old (R.choice rule.now) settings.now.batch settings.now.parts) (settings_of store.old) settings.now.limit
         (core_of engine.old) (S.left input.old) (S.left input.new)
         (logged_of engine.old) (logged_of engine.new) (D.facts disk.old) (D.facts disk.new) }
     ensures in_cycle { IfOk result (λ tally. IsInCycle store.new tally.batches) }
-    ensures settings { settings_of store.new ≡ settings_of store.old }
-    ensures later_disk { D.faults disk.old ≤ D.faults disk.new }
-    ensures disk_cause { disk_failed result ≡ true → Rose (D.faults disk.old) (D.faults disk.new)
-        ⊎ EndsPast (R.choice rule.now) store.new (source_of engine.new) (core_of engine.new) (fresh_of engine.new) (D.facts disk.new) }
-    ensures mounts { D.mounts disk.new ≡ D.mounts disk.old }
+    ensures goes_on { GoesOn (R.choice rule.now) (disk_failed result) (state_of engine.old store.old (D.facts disk.old) (D.faults disk.old) (D.mounts disk.old))
+        (state_of engine.new store.new (D.facts disk.new) (D.faults disk.new) (D.mounts disk.new)) }
+    ensures writes { WritesOn (write_failed result) (K.faults out.old) (K.faults out.new) (E.faults err.old) (E.faults err.new) }
 {
     match intake.take_input(
         alloc, engine, store, settings, input, out, err, disk, rule, chooser, watch,

@@ -40,7 +40,7 @@ pub record IsUncounted (old new : Point) : Type 0 where
   pub traced : new.traced ≡ old.traced
 
 module _ (v : Service) where
-  -- these steps were begun from this core on, behind so many lines: what is logged behind them, and what each moment may leave in the store
+  -- of these steps from this core on, behind so many lines, some may have been done: what is logged behind them, and what each moment since may leave
   abbrev pub LogsSteps : Option StoreSettings → Core → ℕ → List Step → Core → Core → DiskFacts → DiskFacts → Type 0
   LogsSteps settings core lines steps first last old new =
       Logs (program_of v) v.rule settings (ran_on v (open_at core lines) steps) first last old new

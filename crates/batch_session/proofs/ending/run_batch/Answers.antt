@@ -1,9 +1,9 @@
-use Rattle.std.proofs.Common.{◌∙◌, refl, ap, Err}
+use Rattle.std.proofs.Common.{◌∙◌, refl, ap, sym, inr, false, Err, arith}
 use Rattle.engine.specs.EngineViews.{core_of, source_of, limit_of}
 use Rattle.session_store.specs.Stores.{settings_of}
 use Rattle.session_store.specs.Vocabulary.{logged_of}
 use Rattle.session_store.proofs.CycleLaws.{settings_kept}
-use Rattle.session_steps.specs.Vocabulary.{Service, service_of, runs_on}
+use Rattle.session_steps.specs.Vocabulary.{BatchCounts, Service, service_of, runs_on, disk_failed, is_disk_fault}
 use Rattle.session_steps.specs.Steps.{RunWaiting}
 use Rattle.session_steps.specs.Doings.{Point}
 use Rattle.session_steps.proofs.Leaves as leaves
@@ -12,8 +12,10 @@ use Rattle.session_steps.proofs.LoggedSteps.{Logged-batch}
 use Rattle.session_steps.proofs.Vocabulary.{Logs-end}
 use Rattle.batch_session.proofs.LoggedLaws.{ended_logs}
 use Rattle.batch_session.specs.Points.{point_of}
+use Rattle.batch_session.specs.SessionStates.{SessionState, state_of}
 use Rattle.batch_session.proofs.RunLaws.{same_stop, on_ok}
 use Rattle.batch_session.proofs.ReportLaws.{Batch-ended}
+use Rattle.batch_session.proofs.StateLaws.{ran_on, then_ended, ready_behind, fails_alike, stop_alike, unwritten_is}
 use Rattle.batch_session.proofs.ending.run_batch.Goals as goal
 
 pub returns-in-Ok-clause-runs_one : goal.returns-in-Ok-clause-runs_one
@@ -65,3 +67,39 @@ returns-in-Err-clause-logs g c = λ lines.
     let size = c.args.settings.now.batch in
     Logged-batch (service_of e (g.R.CommitRule.choice c.args.rule.now) size c.args.settings.now.parts) (settings_of c.args.store.now) (core_of e) lines (logged_of e) (logged_of c.answer_batch.new.engine)
     (g.D.Disk.facts c.args.disk.now) (g.D.Disk.facts c.answer_batch.new.disk) c.requires.some (c.answer_batch.ensures.logs size)
+
+pub returns-in-Ok-clause-goes_on : goal.returns-in-Ok-clause-goes_on
+returns-in-Ok-clause-goes_on g c =
+    let rule = g.R.CommitRule.choice c.args.rule.now in
+    let old : SessionState = state_of c.args.engine.now c.args.store.now (g.D.Disk.facts c.args.disk.now) (g.D.Disk.faults c.args.disk.now) (g.D.Disk.mounts c.args.disk.now) in
+    let mid : SessionState = state_of c.answer_batch.new.engine c.answer_batch.new.store (g.D.Disk.facts c.answer_batch.new.disk) (g.D.Disk.faults c.answer_batch.new.disk) (g.D.Disk.mounts c.answer_batch.new.disk) in
+    let e = c.in-Ok.ensures in
+    let went = ran_on rule false old mid e.runs e.core_fits e.sound e.storable e.kept e.cycle e.later_disk e.disk_cause e.mounts in
+    let said = c.end_batch.ensures in
+    then_ended rule (disk_failed c.end_batch.result) old mid _ _ _ _ went (said.kept rule) said.settings said.later_disk (said.disk_cause rule) said.mounts
+
+pub returns-in-Ok-clause-ready : goal.returns-in-Ok-clause-ready
+returns-in-Ok-clause-ready g c =
+    let rule = g.R.CommitRule.choice c.args.rule.now in
+    let old : SessionState = state_of c.args.engine.now c.args.store.now (g.D.Disk.facts c.args.disk.now) (g.D.Disk.faults c.args.disk.now) (g.D.Disk.mounts c.args.disk.now) in
+    let mid : SessionState = state_of c.answer_batch.new.engine c.answer_batch.new.store (g.D.Disk.facts c.answer_batch.new.disk) (g.D.Disk.faults c.answer_batch.new.disk) (g.D.Disk.mounts c.answer_batch.new.disk) in
+    let e = c.in-Ok.ensures in
+    let went = ran_on rule false old mid e.runs e.core_fits e.sound e.storable e.kept e.cycle e.later_disk e.disk_cause e.mounts in
+    let said = c.end_batch.ensures in
+    ready_behind rule c.end_batch.result old mid _ _ _ _ _ _ c.requires.ready went (omega (arith, c.requires.ready.few, e.fewer)) (said.kept rule) said.in_cycle
+
+pub returns-in-Ok-clause-writes : goal.returns-in-Ok-clause-writes
+returns-in-Ok-clause-writes g c = record {
+  later = c.answer_batch.ensures.later;
+  later_err = c.end_batch.ensures.later_err;
+  cause = λ is. inr (c.end_batch.ensures.cause (unwritten_is c.end_batch.result is));
+}
+
+pub returns-in-Err-clause-goes_on : goal.returns-in-Err-clause-goes_on
+returns-in-Err-clause-goes_on g c =
+    let rule = g.R.CommitRule.choice c.args.rule.now in
+    let old : SessionState = state_of c.args.engine.now c.args.store.now (g.D.Disk.facts c.args.disk.now) (g.D.Disk.faults c.args.disk.now) (g.D.Disk.mounts c.args.disk.now) in
+    let mid : SessionState = state_of c.answer_batch.new.engine c.answer_batch.new.store (g.D.Disk.facts c.answer_batch.new.disk) (g.D.Disk.faults c.answer_batch.new.disk) (g.D.Disk.mounts c.answer_batch.new.disk) in
+    let e = c.in-Err.ensures in
+    let went = ran_on rule _ old mid e.runs e.core_fits e.sound e.storable e.kept e.cycle e.later_disk e.disk_cause e.mounts in
+    fails_alike rule _ _ old mid (stop_alike BatchCounts c.in-Err.stop ∙ ap is_disk_fault (sym c.stop_of.ensures)) went

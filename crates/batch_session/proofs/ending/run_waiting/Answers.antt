@@ -1,4 +1,4 @@
-use Rattle.std.proofs.Common.{◌∙◌, refl, ap, sym, subst, Ok, Err, arith}
+use Rattle.std.proofs.Common.{false, ◌∙◌, refl, ap, sym, subst, Ok, Err, arith}
 use Rattle.std.proofs.lemmas.Result.{err_from_is_err_and}
 use Rattle.engine.specs.EngineViews.{core_of, source_of}
 use Rattle.session_store.specs.Stores.{settings_of}
@@ -10,9 +10,8 @@ use Rattle.batch_session.proofs.LoggedLaws.{Logged-same, Logged-over, Logged-sto
 use Rattle.session_steps.specs.Doings.{LogsSteps}
 use Rattle.session_steps.proofs.Composing.{Comes-passed, Comes-same}
 use Rattle.session_steps.proofs.Endings.{runs as run_steps, Ending-none, Ending-more, more_count, Ending-over, Ending-stop}
-use Rattle.batch_session.proofs.SameProgram.{fits_back, sound_on, sound_back, runs_on}
 use Rattle.batch_session.proofs.RunLaws.{some_wait}
-use Rattle.batch_session.proofs.KeepLaws.{kept_passed}
+use Rattle.batch_session.proofs.StateLaws.{stays, then_goes, passed_on, unwritten, then_writes, passed_writes}
 use Rattle.batch_session.proofs.ending.run_waiting.Goals as goal
 
 pub loop-alloc-init : goal.loop-alloc-init
@@ -20,20 +19,11 @@ loop-alloc-init g c = record {
   ending = λ lines. (
     Ending-none (service_of c.args.engine.now (g.R.CommitRule.choice c.args.rule.now) c.args.settings.now.batch c.args.settings.now.parts) c.args.settings.now.trace _,
     Logs-still (source_of c.args.engine.now) (g.R.CommitRule.choice c.args.rule.now) c.args.store.now _ (logged_of c.args.engine.now) (logged_of c.args.engine.now) (g.D.Disk.facts c.args.disk.now) refl
-        c.requires.kept,
+        c.requires.ready.kept,
   );
-  later = omega arith;
-  later_err = omega arith;
-  few = c.requires.few;
-  runs = record { compiled_is = refl; limit_is = refl };
-  fits = c.requires.fits;
-  sound = λ s. s;
-  storable = c.requires.storable;
-  kept = c.requires.kept;
-  in_cycle = c.requires.in_cycle;
-  settings = refl;
-  later_disk = omega arith;
-  mounts = refl;
+  ready = c.requires.ready;
+  goes_on = stays (g.R.CommitRule.choice c.args.rule.now) _ _ c.requires.ready;
+  writes = unwritten _ _;
 }
 
 pub loop-alloc-preserved : goal.loop-alloc-preserved
@@ -42,7 +32,7 @@ loop-alloc-preserved g c =
     let v = service_of c.args.engine.now rule c.args.settings.now.batch c.args.settings.now.parts in
     let here = service_of c.loop-alloc.engine rule c.args.settings.now.batch c.args.settings.now.parts in
     let traces = c.args.settings.now.trace in
-    let runs = c.loop-alloc.invariant.runs in
+    let runs = c.loop-alloc.invariant.goes_on.runs in
     let same = same_service c.args.engine.now c.loop-alloc.engine runs rule c.args.settings.now.batch c.args.settings.now.parts in
     record {
       ending = λ lines.
@@ -53,20 +43,11 @@ loop-alloc-preserved g c =
             subst (λ n. LogsSteps v (settings_of c.args.store.now) (core_of c.args.engine.now) lines (run_steps n) (logged_of c.args.engine.now) (logged_of c.run_batch.new.engine) (g.D.Disk.facts c.args.disk.now)
                 (g.D.Disk.facts c.run_batch.new.disk)) (sym (more_count v traces _ _ _ so_far.0 did fewer))
                 (Logged-run v (settings_of c.args.store.now) traces so_far.0.count _ _ _ _ _ _ _ _ so_far.0.did so_far.1
-                (Logged-same v (settings_of c.args.store.now) here _ _ _ _ _ _ _ _ same c.loop-alloc.invariant.settings (c.run_batch.ensures.logs lines))),
+                (Logged-same v (settings_of c.args.store.now) here _ _ _ _ _ _ _ _ same c.loop-alloc.invariant.goes_on.settings (c.run_batch.ensures.logs lines))),
           );
-      later = omega (arith, c.loop-alloc.invariant.later, c.run_batch.ensures.later);
-      later_err = omega (arith, c.loop-alloc.invariant.later_err, c.run_batch.ensures.later_err);
-      few = omega (arith, c.loop-alloc.invariant.few, c.in_ok-run_batch.ensures.fewer);
-      runs = runs_on c.args.engine.now c.loop-alloc.engine runs c.run_batch.new.engine c.run_batch.ensures.runs;
-      fits = fits_back c.args.engine.now c.loop-alloc.engine runs _ c.run_batch.ensures.core_fits;
-      sound = λ s. sound_back c.args.engine.now c.loop-alloc.engine runs _ (c.run_batch.ensures.sound (sound_on c.args.engine.now c.loop-alloc.engine runs _ (c.loop-alloc.invariant.sound s)));
-      storable = c.run_batch.ensures.storable;
-      kept = c.in_ok-run_batch.ensures.kept;
-      in_cycle = c.in_ok-run_batch.ensures.in_cycle;
-      settings = c.run_batch.ensures.settings ∙ c.loop-alloc.invariant.settings;
-      later_disk = omega (arith, c.loop-alloc.invariant.later_disk, c.run_batch.ensures.later_disk);
-      mounts = c.run_batch.ensures.mounts ∙ c.loop-alloc.invariant.mounts;
+      ready = c.in_ok-run_batch.ensures.ready;
+      goes_on = then_goes rule false _ _ _ c.loop-alloc.invariant.goes_on c.in_ok-run_batch.ensures.goes_on;
+      writes = then_writes false _ _ _ _ _ _ c.loop-alloc.invariant.writes c.in_ok-run_batch.ensures.writes;
     }
 
 pub returns-in_err-run_batch-clause-runs_waiting : goal.returns-in_err-run_batch-clause-runs_waiting
@@ -76,7 +57,7 @@ returns-in_err-run_batch-clause-runs_waiting g c = λ lines.
     let v = service_of c.args.engine.now rule c.args.settings.now.batch c.args.settings.now.parts in
     let here = service_of c.loop-alloc.engine rule c.args.settings.now.batch c.args.settings.now.parts in
     let traces = c.args.settings.now.trace in
-    let same = same_service c.args.engine.now c.loop-alloc.engine c.loop-alloc.invariant.runs rule c.args.settings.now.batch c.args.settings.now.parts in
+    let same = same_service c.args.engine.now c.loop-alloc.engine c.loop-alloc.invariant.goes_on.runs rule c.args.settings.now.batch c.args.settings.now.parts in
     let some = some_wait c.is_empty.result c.pending.result.now c.loop-alloc.engine.pending c.is_empty.ensures c.loop-alloc-test.true c.pending.ensures in
     Comes-passed v traces (Unit {0}) _ _ _ _ _ (p.1 ∙ ap Err p.2)
     (Ending-stop v traces {T = Unit {0}} (Err _) _ _ _ refl (c.loop-alloc.invariant.ending lines).0 some (Comes-same {T = Unit {0}} v here traces (Err _) _ _ _ same (c.in_err-run_batch.ensures.runs_one lines)))
@@ -86,10 +67,16 @@ returns-clause-runs_waiting g c = λ lines.
     let v = service_of c.args.engine.now (g.R.CommitRule.choice c.args.rule.now) c.args.settings.now.batch c.args.settings.now.parts in
     Ending-over v c.args.settings.now.trace _ _ (c.loop-alloc.invariant.ending lines).0 (sym c.pending.ensures ∙ c.is_empty.ensures.0 c.loop-alloc-test.false)
 
-pub returns-in_err-run_batch-clause-kept : goal.returns-in_err-run_batch-clause-kept
-returns-in_err-run_batch-clause-kept g c =
+pub returns-in_err-run_batch-clause-goes_on : goal.returns-in_err-run_batch-clause-goes_on
+returns-in_err-run_batch-clause-goes_on g c =
     let p = err_from_is_err_and c.from_residual.result c.from_residual.ensures.1 in
-    kept_passed c.from_residual.result _ _ _ _ _ _ (p.1 ∙ ap Err p.2) c.in_err-run_batch.ensures.kept
+    let rule = g.R.CommitRule.choice c.args.rule.now in
+    passed_on rule c.from_residual.result _ _ _ (p.1 ∙ ap Err p.2) (then_goes rule _ _ _ _ c.loop-alloc.invariant.goes_on c.in_err-run_batch.ensures.goes_on)
+
+pub returns-in_err-run_batch-clause-writes : goal.returns-in_err-run_batch-clause-writes
+returns-in_err-run_batch-clause-writes g c =
+    let p = err_from_is_err_and c.from_residual.result c.from_residual.ensures.1 in
+    passed_writes c.from_residual.result _ _ _ _ _ (p.1 ∙ ap Err p.2) (then_writes _ _ _ _ _ _ _ c.loop-alloc.invariant.writes c.in_err-run_batch.ensures.writes)
 
 pub returns-in_err-run_batch-clause-logs : goal.returns-in_err-run_batch-clause-logs
 returns-in_err-run_batch-clause-logs g c = λ lines.
@@ -97,11 +84,11 @@ returns-in_err-run_batch-clause-logs g c = λ lines.
     let settings = settings_of c.args.store.now in
     let v = service_of c.args.engine.now rule c.args.settings.now.batch c.args.settings.now.parts in
     let here = service_of c.loop-alloc.engine rule c.args.settings.now.batch c.args.settings.now.parts in
-    let same = same_service c.args.engine.now c.loop-alloc.engine c.loop-alloc.invariant.runs rule c.args.settings.now.batch c.args.settings.now.parts in
+    let same = same_service c.args.engine.now c.loop-alloc.engine c.loop-alloc.invariant.goes_on.runs rule c.args.settings.now.batch c.args.settings.now.parts in
     let some = some_wait c.is_empty.result c.pending.result.now c.loop-alloc.engine.pending c.is_empty.ensures c.loop-alloc-test.true c.pending.ensures in
     let so_far = c.loop-alloc.invariant.ending lines in
     Logged-stop v settings c.args.settings.now.trace _ _ _ _ _ _ so_far.0 so_far.1 _ _ some
-    (Logged-same v settings here _ _ _ _ _ _ _ _ same c.loop-alloc.invariant.settings (c.run_batch.ensures.logs lines))
+    (Logged-same v settings here _ _ _ _ _ _ _ _ same c.loop-alloc.invariant.goes_on.settings (c.run_batch.ensures.logs lines))
 
 pub returns-clause-logs : goal.returns-clause-logs
 returns-clause-logs g c = λ lines.

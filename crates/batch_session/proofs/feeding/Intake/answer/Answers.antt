@@ -1,17 +1,19 @@
-use Rattle.std.proofs.Common.{refl, ap, ◌+◌, Ok, Err, Some, None}
+use Rattle.std.proofs.Common.{refl, ap, sym, ◌+◌, true≢false, false, inl, inr, Ok, Err, Some, None, arith}
 use Rattle.engine.specs.EngineViews.{core_of, source_of}
 use Rattle.session_store.specs.Stores.{settings_of}
 use Rattle.session_store.specs.Vocabulary.{logged_of}
-use Rattle.session_store.proofs.CycleLaws.{settings_kept}
-use Rattle.session_steps.specs.Vocabulary.{cut, before, move_at, ran_by, Service, service_of}
+use Rattle.session_store.proofs.CycleLaws.{settings_kept, cycle_kept}
+use Rattle.session_steps.specs.Vocabulary.{cut, before, move_at, ran_by, Service, service_of, disk_failed, is_disk_fault}
 use Rattle.session_steps.specs.Steps.{Answer}
 use Rattle.session_steps.specs.Doings.{Point, moment}
 use Rattle.session_steps.proofs.Leaves.{Does-line, Stops-line, Comes-one}
 use Rattle.session_steps.proofs.Vocabulary.{Logs-end}
 use Rattle.batch_session.specs.Points.{point_of}
+use Rattle.batch_session.specs.SessionStates.{SessionState, state_of}
 use Rattle.batch_session.proofs.LineLaws.{start_answered}
 use Rattle.batch_session.proofs.LoggedLaws.{ended_logs, start_logged}
 use Rattle.batch_session.proofs.ReportLaws.{Line-ended}
+use Rattle.batch_session.proofs.StateLaws.{ran_on, then_ended, ready_behind, unwritten_is, stop_unwritten}
 use Rattle.batch_session.proofs.feeding.Intake.answer.Goals as goal
 
 pub returns-in-Some-clause-answers : goal.returns-in-Some-clause-answers
@@ -87,3 +89,68 @@ returns-in-Err-clause-logs g c = λ line start.
     let v : Service = service_of e (g.R.CommitRule.choice c.args.rule.now) c.args.settings.now.batch c.args.settings.now.parts in
     start_logged v (settings_of c.args.store.now) (core_of e) self.lines c.args.ended c.as_slice.result.now self.line line (logged_of e) (logged_of c.answer_line.new.engine)
     (g.D.Disk.facts c.args.disk.now) (g.D.Disk.facts c.answer_line.new.disk) c.as_slice.ensures start c.answer_line.ensures.logs
+
+pub returns-in-Some-clause-goes_on : goal.returns-in-Some-clause-goes_on
+returns-in-Some-clause-goes_on g c =
+    let rule = g.R.CommitRule.choice c.args.rule.now in
+    let old : SessionState = state_of c.args.engine.now c.args.store.now (g.D.Disk.facts c.args.disk.now) (g.D.Disk.faults c.args.disk.now) (g.D.Disk.mounts c.args.disk.now) in
+    let mid : SessionState = state_of c.answer_line.new.engine c.answer_line.new.store (g.D.Disk.facts c.answer_line.new.disk) (g.D.Disk.faults c.answer_line.new.disk) (g.D.Disk.mounts c.answer_line.new.disk) in
+    let e = c.in-Ok.ensures in
+    let went = ran_on rule false old mid e.runs e.core_fits e.sound e.storable e.kept e.cycle e.later_disk e.disk_cause e.mounts in
+    let said = c.end_batch.ensures in
+    then_ended rule (disk_failed c.end_batch.result) old mid _ _ _ _ went (said.kept rule) said.settings said.later_disk (said.disk_cause rule) said.mounts
+
+pub returns-in-Some-clause-ready : goal.returns-in-Some-clause-ready
+returns-in-Some-clause-ready g c =
+    let rule = g.R.CommitRule.choice c.args.rule.now in
+    let old : SessionState = state_of c.args.engine.now c.args.store.now (g.D.Disk.facts c.args.disk.now) (g.D.Disk.faults c.args.disk.now) (g.D.Disk.mounts c.args.disk.now) in
+    let mid : SessionState = state_of c.answer_line.new.engine c.answer_line.new.store (g.D.Disk.facts c.answer_line.new.disk) (g.D.Disk.faults c.answer_line.new.disk) (g.D.Disk.mounts c.answer_line.new.disk) in
+    let e = c.in-Ok.ensures in
+    let went = ran_on rule false old mid e.runs e.core_fits e.sound e.storable e.kept e.cycle e.later_disk e.disk_cause e.mounts in
+    let said = c.end_batch.ensures in
+    ready_behind rule c.end_batch.result old mid _ _ _ _ _ _ c.requires.ready went e.few (said.kept rule) said.in_cycle
+
+pub returns-in-Some-clause-writes : goal.returns-in-Some-clause-writes
+returns-in-Some-clause-writes g c = record {
+  later = c.answer_line.ensures.later;
+  later_err = c.end_batch.ensures.later_err;
+  cause = λ is. inr (c.end_batch.ensures.cause (unwritten_is c.end_batch.result is));
+}
+
+pub returns-in-None-clause-goes_on : goal.returns-in-None-clause-goes_on
+returns-in-None-clause-goes_on g c =
+    let rule = g.R.CommitRule.choice c.args.rule.now in
+    let old : SessionState = state_of c.args.engine.now c.args.store.now (g.D.Disk.facts c.args.disk.now) (g.D.Disk.faults c.args.disk.now) (g.D.Disk.mounts c.args.disk.now) in
+    let mid : SessionState = state_of c.answer_line.new.engine c.answer_line.new.store (g.D.Disk.facts c.answer_line.new.disk) (g.D.Disk.faults c.answer_line.new.disk) (g.D.Disk.mounts c.answer_line.new.disk) in
+    let e = c.in-Ok.ensures in
+    let went = ran_on rule false old mid e.runs e.core_fits e.sound e.storable e.kept e.cycle e.later_disk e.disk_cause e.mounts in
+    went
+
+pub returns-in-None-clause-ready : goal.returns-in-None-clause-ready
+returns-in-None-clause-ready g c =
+    let rule = g.R.CommitRule.choice c.args.rule.now in
+    let old : SessionState = state_of c.args.engine.now c.args.store.now (g.D.Disk.facts c.args.disk.now) (g.D.Disk.faults c.args.disk.now) (g.D.Disk.mounts c.args.disk.now) in
+    let mid : SessionState = state_of c.answer_line.new.engine c.answer_line.new.store (g.D.Disk.facts c.answer_line.new.disk) (g.D.Disk.faults c.answer_line.new.disk) (g.D.Disk.mounts c.answer_line.new.disk) in
+    let e = c.in-Ok.ensures in
+    let went = ran_on rule false old mid e.runs e.core_fits e.sound e.storable e.kept e.cycle e.later_disk e.disk_cause e.mounts in
+    ready_behind rule {T = Unit {0}} (Ok (tt {0})) old mid mid.store mid.facts mid.faults mid.mounts _ _ c.requires.ready went e.few e.kept
+    (cycle_kept c.args.store.now c.answer_line.new.store _ e.cycle c.requires.ready.in_cycle)
+
+pub returns-in-None-clause-writes : goal.returns-in-None-clause-writes
+returns-in-None-clause-writes g c = record { later = c.answer_line.ensures.later; later_err = omega arith; cause = λ is. absurd (true≢false (sym is)) }
+
+pub returns-in-Err-clause-goes_on : goal.returns-in-Err-clause-goes_on
+returns-in-Err-clause-goes_on g c =
+    let rule = g.R.CommitRule.choice c.args.rule.now in
+    let old : SessionState = state_of c.args.engine.now c.args.store.now (g.D.Disk.facts c.args.disk.now) (g.D.Disk.faults c.args.disk.now) (g.D.Disk.mounts c.args.disk.now) in
+    let mid : SessionState = state_of c.answer_line.new.engine c.answer_line.new.store (g.D.Disk.facts c.answer_line.new.disk) (g.D.Disk.faults c.answer_line.new.disk) (g.D.Disk.mounts c.answer_line.new.disk) in
+    let e = c.in-Err.ensures in
+    let went = ran_on rule (is_disk_fault c.in-Err.stop) old mid e.runs e.core_fits e.sound e.storable e.kept e.cycle e.later_disk e.disk_cause e.mounts in
+    went
+
+pub returns-in-Err-clause-writes : goal.returns-in-Err-clause-writes
+returns-in-Err-clause-writes g c = record {
+  later = c.answer_line.ensures.later;
+  later_err = omega arith;
+  cause = λ is. inl (c.in-Err.ensures.cause (ap Err (stop_unwritten c.in-Err.stop is)));
+}

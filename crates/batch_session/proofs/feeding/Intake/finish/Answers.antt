@@ -10,7 +10,7 @@ use Rattle.session_steps.proofs.LoggedSteps.{Logged-more, Logged-last}
 use Rattle.batch_session.proofs.LoggedLaws.{Logged-same}
 use Rattle.session_steps.proofs.Composing.{Comes-passed, Comes-same}
 use Rattle.session_steps.proofs.Endings.{Last-stop, Last-then}
-use Rattle.batch_session.proofs.KeepLaws.{kept_passed}
+use Rattle.batch_session.proofs.StateLaws.{then_goes, passed_on, then_writes, passed_writes}
 use Rattle.batch_session.proofs.feeding.Intake.finish.Goals as goal
 
 pub returns-in_err-take_last-clause-finishes : goal.returns-in_err-take_last-clause-finishes
@@ -26,13 +26,24 @@ returns-clause-finishes g c = λ part h.
     let v = service_of c.args.engine.now rule c.args.settings.now.batch c.args.settings.now.parts in
     let here = service_of c.take_last.new.engine rule c.args.settings.now.batch c.args.settings.now.parts in
     let traces = c.args.settings.now.trace in
-    let same = same_service c.args.engine.now c.take_last.new.engine c.take_last.ensures.runs rule c.args.settings.now.batch c.args.settings.now.parts in
+    let same = same_service c.args.engine.now c.take_last.new.engine c.take_last.ensures.goes_on.runs rule c.args.settings.now.batch c.args.settings.now.parts in
     Last-then v traces _ (last_line part) _ _ _ (c.in_ok-take_last.ensures.answers part h) (Comes-same v here traces _ _ _ _ same (c.run_waiting.ensures.runs_waiting c.take_last.new.self.lines))
 
-pub returns-in_err-take_last-clause-kept : goal.returns-in_err-take_last-clause-kept
-returns-in_err-take_last-clause-kept g c =
+pub returns-in_err-take_last-clause-goes_on : goal.returns-in_err-take_last-clause-goes_on
+returns-in_err-take_last-clause-goes_on g c =
     let p = err_from_is_err_and c.from_residual.result c.from_residual.ensures.1 in
-    kept_passed c.from_residual.result _ _ _ _ _ _ (p.1 ∙ ap Err p.2) c.in_err-take_last.ensures.kept
+    passed_on (g.R.CommitRule.choice c.args.rule.now) c.from_residual.result _ _ _ (p.1 ∙ ap Err p.2) c.in_err-take_last.ensures.goes_on
+
+pub returns-in_err-take_last-clause-writes : goal.returns-in_err-take_last-clause-writes
+returns-in_err-take_last-clause-writes g c =
+    let p = err_from_is_err_and c.from_residual.result c.from_residual.ensures.1 in
+    passed_writes c.from_residual.result _ _ _ _ _ (p.1 ∙ ap Err p.2) c.in_err-take_last.ensures.writes
+
+pub returns-clause-goes_on : goal.returns-clause-goes_on
+returns-clause-goes_on g c = then_goes (g.R.CommitRule.choice c.args.rule.now) _ _ _ _ c.in_ok-take_last.ensures.goes_on c.run_waiting.ensures.goes_on
+
+pub returns-clause-writes : goal.returns-clause-writes
+returns-clause-writes g c = then_writes _ _ _ _ _ _ _ c.in_ok-take_last.ensures.writes c.run_waiting.ensures.writes
 
 pub returns-in_err-take_last-clause-logs : goal.returns-in_err-take_last-clause-logs
 returns-in_err-take_last-clause-logs g c = λ part h.
@@ -48,6 +59,6 @@ returns-clause-logs g c = λ part h.
     let settings = settings_of c.args.store.now in
     let v = service_of c.args.engine.now rule c.args.settings.now.batch c.args.settings.now.parts in
     let here = service_of c.take_last.new.engine rule c.args.settings.now.batch c.args.settings.now.parts in
-    let same = same_service c.args.engine.now c.take_last.new.engine c.take_last.ensures.runs rule c.args.settings.now.batch c.args.settings.now.parts in
+    let same = same_service c.args.engine.now c.take_last.new.engine c.take_last.ensures.goes_on.runs rule c.args.settings.now.batch c.args.settings.now.parts in
     Logged-last v settings c.args.settings.now.trace (last_line part) _ _ _ _ _ _ _ _ (c.in_ok-take_last.ensures.answers part h) (c.take_last.ensures.logs part h)
-    (Logged-same v settings here _ _ _ _ _ _ _ _ same c.take_last.ensures.settings (c.run_waiting.ensures.logs c.take_last.new.self.lines))
+    (Logged-same v settings here _ _ _ _ _ _ _ _ same c.take_last.ensures.goes_on.settings (c.run_waiting.ensures.logs c.take_last.new.self.lines))

@@ -1,4 +1,4 @@
-use Rattle.std.proofs.Common.{◌≡◌, [], ◌++◌, ◌∙◌, refl, ap, sym, subst, Err, List, ℕ, length, take, drop, arith}
+use Rattle.std.proofs.Common.{false, ◌≡◌, [], ◌++◌, ◌∙◌, refl, ap, sym, subst, Err, List, ℕ, length, take, drop, arith}
 use Rattle.std.proofs.lemmas.List.{length-take}
 use Rattle.std.proofs.lemmas.Result.{err_from_is_err_and}
 use Rattle.std.specs.Io.KnownBytes.{Consumes}
@@ -11,11 +11,10 @@ use Rattle.session_store.specs.Vocabulary.{logged_of}
 use Rattle.session_steps.specs.Vocabulary.{service_of}
 use Rattle.session_steps.proofs.Vocabulary.{same_service, Logs-still}
 use Rattle.batch_session.proofs.LoggedLaws.{Logged-same, Logged-fed}
-use Rattle.batch_session.proofs.SameProgram.{fits_back, sound_on, sound_back, runs_on}
 use Rattle.batch_session.proofs.FeedLaws.{Feeds-same}
 use Rattle.batch_session.specs.declared.feeding.InputEnd.TheVariants.{ReadFault}
 use Rattle.batch_session.proofs.TakeLaws.{Going-none, Going-step, Went-here, Went-over, Takes-end, Takes-stopped, Consumes-none, front_of_buffer}
-use Rattle.batch_session.proofs.KeepLaws.{kept_passed}
+use Rattle.batch_session.proofs.StateLaws.{stays, then_goes, passed_on, unwritten, then_writes, passed_writes}
 use Rattle.batch_session.proofs.feeding.Intake.take_input.Goals as goal
 
 pub loop-taken-init : goal.loop-taken-init
@@ -23,23 +22,14 @@ loop-taken-init g c = record {
   going = (
     Going-none (service_of c.args.engine.now (g.R.CommitRule.choice c.args.rule.now) c.args.settings.now.batch c.args.settings.now.parts) c.args.settings.now.trace _ _ _ c.requires.fresh,
     Logs-still (source_of c.args.engine.now) (g.R.CommitRule.choice c.args.rule.now) c.args.store.now _ (logged_of c.args.engine.now) (logged_of c.args.engine.now) (g.D.Disk.facts c.args.disk.now) refl
-        c.requires.kept,
+        c.requires.ready.kept,
   );
   lines = omega (arith, c.requires.lines);
   within = omega arith;
   read = omega arith;
-  later = omega arith;
-  later_err = omega arith;
-  few = c.requires.few;
-  runs = record { compiled_is = refl; limit_is = refl };
-  fits = c.requires.fits;
-  sound = λ s. s;
-  storable = c.requires.storable;
-  kept = c.requires.kept;
-  in_cycle = c.requires.in_cycle;
-  settings = refl;
-  later_disk = omega arith;
-  mounts = refl;
+  ready = c.requires.ready;
+  goes_on = stays (g.R.CommitRule.choice c.args.rule.now) _ _ c.requires.ready;
+  writes = unwritten _ _;
 }
 
 pub returns-in_err-take_piece-in-Ok-clause-takes : goal.returns-in_err-take_piece-in-Ok-clause-takes
@@ -48,7 +38,7 @@ returns-in_err-take_piece-in-Ok-clause-takes g c =
     let rule = g.R.CommitRule.choice c.args.rule.now in
     let v = service_of c.args.engine.now rule c.args.settings.now.batch c.args.settings.now.parts in
     let here = service_of c.loop-taken.engine rule c.args.settings.now.batch c.args.settings.now.parts in
-    let same = same_service c.args.engine.now c.loop-taken.engine c.loop-taken.invariant.runs rule c.args.settings.now.batch c.args.settings.now.parts in
+    let same = same_service c.args.engine.now c.loop-taken.engine c.loop-taken.invariant.goes_on.runs rule c.args.settings.now.batch c.args.settings.now.parts in
     let so_far = c.loop-taken.invariant.going in
     let w = so_far.0 in
     let bound = c.in-Ok.ensures.bound in
@@ -57,14 +47,14 @@ returns-in_err-take_piece-in-Ok-clause-takes g c =
     (front_of_buffer c.in-Ok.count c.read.new.buf _ bound.0) (omega (arith, bound.0, bound.1, c.read.auto.buf, c.next_piece-room.ensures.value, length-take c.next_piece-room.result c.loop-taken.buf))
     (Feeds-same v here c.args.settings.now.trace _ _ _ _ _ _ same (c.in_err-take_piece-in-Ok.ensures.feeds _ w.fed.start))
     (Logged-fed v (settings_of c.args.store.now) c.args.settings.now.trace [] w.taken (take c.in-Ok.count c.read.new.buf) _ _ _ _ _ _ _ _ w.fed.came so_far.1
-    (Logged-same v (settings_of c.args.store.now) here _ _ _ _ _ _ _ _ same c.loop-taken.invariant.settings (rw e at (c.take_piece.ensures.logs _ w.fed.start))))
+    (Logged-same v (settings_of c.args.store.now) here _ _ _ _ _ _ _ _ same c.loop-taken.invariant.goes_on.settings (rw e at (c.take_piece.ensures.logs _ w.fed.start))))
 
 pub loop-taken-preserved : goal.loop-taken-preserved
 loop-taken-preserved g c =
     let rule = g.R.CommitRule.choice c.args.rule.now in
     let v = service_of c.args.engine.now rule c.args.settings.now.batch c.args.settings.now.parts in
     let here = service_of c.loop-taken.engine rule c.args.settings.now.batch c.args.settings.now.parts in
-    let runs = c.loop-taken.invariant.runs in
+    let runs = c.loop-taken.invariant.goes_on.runs in
     let same = same_service c.args.engine.now c.loop-taken.engine runs rule c.args.settings.now.batch c.args.settings.now.parts in
     let so_far = c.loop-taken.invariant.going in
     let w = so_far.0 in
@@ -76,22 +66,13 @@ loop-taken-preserved g c =
           (logged_of c.take_piece.new.engine) (g.D.Disk.facts c.args.disk.now) (g.D.Disk.facts c.take_piece.new.disk)) c.loop-taken.taken _ _ _ _ _ _ _ _ (take c.in-Ok.count c.read.new.buf) c.in-Ok.count w
           c.in-Ok.ensures.bytes.0 (sym bound.1) (Feeds-same v here c.args.settings.now.trace _ _ _ _ _ _ same (rw e at (c.in_ok-take_piece-in-Ok.ensures.feeds _ w.fed.start)))
           (Logged-fed v (settings_of c.args.store.now) c.args.settings.now.trace [] w.taken (take c.in-Ok.count c.read.new.buf) _ _ _ _ _ _ _ _ w.fed.came so_far.1
-          (Logged-same v (settings_of c.args.store.now) here _ _ _ _ _ _ _ _ same c.loop-taken.invariant.settings (rw e at (c.take_piece.ensures.logs _ w.fed.start))));
+          (Logged-same v (settings_of c.args.store.now) here _ _ _ _ _ _ _ _ same c.loop-taken.invariant.goes_on.settings (rw e at (c.take_piece.ensures.logs _ w.fed.start))));
       lines = omega (arith, c.loop-taken.invariant.lines, c.take_piece.ensures.lines, e, bound.0, bound.1, ap length e);
       within = omega (arith, bound.0, bound.1, c.read.auto.buf, c.next_piece-room.ensures.value, length-take c.next_piece-room.result c.loop-taken.buf);
       read = omega (arith, c.loop-taken.invariant.read, c.read.ensures.cause.later);
-      later = omega (arith, c.loop-taken.invariant.later, c.take_piece.ensures.later);
-      later_err = omega (arith, c.loop-taken.invariant.later_err, c.take_piece.ensures.later_err);
-      few = c.in_ok-take_piece-in-Ok.ensures.few;
-      runs = runs_on c.args.engine.now c.loop-taken.engine runs c.take_piece.new.engine c.take_piece.ensures.runs;
-      fits = fits_back c.args.engine.now c.loop-taken.engine runs _ c.take_piece.ensures.core_fits;
-      sound = λ s. sound_back c.args.engine.now c.loop-taken.engine runs _ (c.take_piece.ensures.sound (sound_on c.args.engine.now c.loop-taken.engine runs _ (c.loop-taken.invariant.sound s)));
-      storable = c.take_piece.ensures.storable;
-      kept = c.in_ok-take_piece-in-Ok.ensures.kept;
-      in_cycle = c.in_ok-take_piece-in-Ok.ensures.in_cycle;
-      settings = c.take_piece.ensures.settings ∙ c.loop-taken.invariant.settings;
-      later_disk = omega (arith, c.loop-taken.invariant.later_disk, c.take_piece.ensures.later_disk);
-      mounts = c.take_piece.ensures.mounts ∙ c.loop-taken.invariant.mounts;
+      ready = c.in_ok-take_piece-in-Ok.ensures.ready;
+      goes_on = then_goes rule false _ _ _ c.loop-taken.invariant.goes_on c.in_ok-take_piece-in-Ok.ensures.goes_on;
+      writes = then_writes false _ _ _ _ _ _ c.loop-taken.invariant.writes c.in_ok-take_piece-in-Ok.ensures.writes;
     }
 
 pub returns-in-Ok-read-clause-takes : goal.returns-in-Ok-read-clause-takes
@@ -104,10 +85,16 @@ returns-in-Ok-read-clause-takes g c =
     Went-over v c.args.settings.now.trace _ _ _ c.loop-taken.taken _ _ _ _ _ _ (take c.in-Ok-read.field-0 c.read-2.new.buf) w (omega (arith, c.loop-taken.invariant.within))
     (omega (arith, bound.0, bound.1, c.in-Ok-read.field-0-test.1, c.read-2.auto.buf, length-take 1 c.loop-taken.buf)) bytes.0 so_far.1
 
-pub returns-in_err-take_piece-in-Ok-clause-kept : goal.returns-in_err-take_piece-in-Ok-clause-kept
-returns-in_err-take_piece-in-Ok-clause-kept g c =
+pub returns-in_err-take_piece-in-Ok-clause-goes_on : goal.returns-in_err-take_piece-in-Ok-clause-goes_on
+returns-in_err-take_piece-in-Ok-clause-goes_on g c =
     let p = err_from_is_err_and c.from_residual.result c.from_residual.ensures.1 in
-    kept_passed c.from_residual.result _ _ _ _ _ _ (p.1 ∙ ap Err p.2) c.in_err-take_piece-in-Ok.ensures.kept
+    let rule = g.R.CommitRule.choice c.args.rule.now in
+    passed_on rule c.from_residual.result _ _ _ (p.1 ∙ ap Err p.2) (then_goes rule _ _ _ _ c.loop-taken.invariant.goes_on c.in_err-take_piece-in-Ok.ensures.goes_on)
+
+pub returns-in_err-take_piece-in-Ok-clause-writes : goal.returns-in_err-take_piece-in-Ok-clause-writes
+returns-in_err-take_piece-in-Ok-clause-writes g c =
+    let p = err_from_is_err_and c.from_residual.result c.from_residual.ensures.1 in
+    passed_writes c.from_residual.result _ _ _ _ _ (p.1 ∙ ap Err p.2) (then_writes _ _ _ _ _ _ _ c.loop-taken.invariant.writes c.in_err-take_piece-in-Ok.ensures.writes)
 
 pub returns-in-Err-clause-takes : goal.returns-in-Err-clause-takes
 returns-in-Err-clause-takes g c =

@@ -11,7 +11,7 @@ use Rattle.session_steps.proofs.Vocabulary.{Logs-still}
 use Rattle.batch_session.specs.Feeds.{fed_of}
 use Rattle.batch_session.proofs.LoggedLaws.{Logged-ends, Logged-first}
 use Rattle.batch_session.proofs.FeedLaws.{Feeds-no_memory, Feeds-line, Feeds-none_whole, Feeds-stop, Feeds-told}
-use Rattle.batch_session.proofs.KeepLaws.{kept_passed}
+use Rattle.batch_session.proofs.StateLaws.{stays, passed_on, unwritten, passed_writes}
 use Rattle.batch_session.proofs.feeding.Intake.take_line.Goals as goal
 
 pub returns-in_err-answer-in-Ok-Some-clause-feeds : goal.returns-in_err-answer-in-Ok-Some-clause-feeds
@@ -41,10 +41,27 @@ returns-in-Err-clause-feeds g c = λ part h.
     let v = service_of c.args.engine.now (g.R.CommitRule.choice c.args.rule.now) c.args.settings.now.batch c.args.settings.now.parts in
     Feeds-no_memory v c.args.settings.now.trace _ _ part _ _ refl
 
-pub returns-in_err-answer-in-Ok-Some-clause-kept : goal.returns-in_err-answer-in-Ok-Some-clause-kept
-returns-in_err-answer-in-Ok-Some-clause-kept g c =
+pub returns-in_err-answer-in-Ok-Some-clause-goes_on : goal.returns-in_err-answer-in-Ok-Some-clause-goes_on
+returns-in_err-answer-in-Ok-Some-clause-goes_on g c =
     let p = err_from_is_err_and c.from_residual.result c.from_residual.ensures.1 in
-    kept_passed c.from_residual.result _ _ _ _ _ _ (p.1 ∙ ap Err p.2) c.in_err-answer-in-Ok-Some.ensures.kept
+    passed_on (g.R.CommitRule.choice c.args.rule.now) c.from_residual.result _ _ _ (p.1 ∙ ap Err p.2) c.in_err-answer-in-Ok-Some.ensures.goes_on
+
+pub returns-in_err-answer-in-Ok-Some-clause-writes : goal.returns-in_err-answer-in-Ok-Some-clause-writes
+returns-in_err-answer-in-Ok-Some-clause-writes g c =
+    let p = err_from_is_err_and c.from_residual.result c.from_residual.ensures.1 in
+    passed_writes c.from_residual.result _ _ _ _ _ (p.1 ∙ ap Err p.2) c.in_err-answer-in-Ok-Some.ensures.writes
+
+pub returns-in-Ok-None-clause-goes_on : goal.returns-in-Ok-None-clause-goes_on
+returns-in-Ok-None-clause-goes_on g c = stays (g.R.CommitRule.choice c.args.rule.now) _ _ c.requires.ready
+
+pub returns-in-Ok-None-clause-writes : goal.returns-in-Ok-None-clause-writes
+returns-in-Ok-None-clause-writes g c = unwritten _ _
+
+pub returns-in-Err-clause-goes_on : goal.returns-in-Err-clause-goes_on
+returns-in-Err-clause-goes_on g c = stays (g.R.CommitRule.choice c.args.rule.now) _ _ c.requires.ready
+
+pub returns-in-Err-clause-writes : goal.returns-in-Err-clause-writes
+returns-in-Err-clause-writes g c = unwritten _ _
 
 pub returns-in_err-answer-in-Ok-Some-clause-logs : goal.returns-in_err-answer-in-Ok-Some-clause-logs
 returns-in_err-answer-in-Ok-Some-clause-logs g c = λ part h.
@@ -74,9 +91,9 @@ returns-in_ok-answer-in-Ok-Some-clause-logs g c = λ part h.
 pub returns-in-Ok-None-clause-logs : goal.returns-in-Ok-None-clause-logs
 returns-in-Ok-None-clause-logs g c = λ part h.
     let e = c.args.engine.now in
-    Logs-still (source_of e) (g.R.CommitRule.choice c.args.rule.now) c.args.store.now _ (logged_of e) (logged_of e) (g.D.Disk.facts c.args.disk.now) refl c.requires.kept
+    Logs-still (source_of e) (g.R.CommitRule.choice c.args.rule.now) c.args.store.now _ (logged_of e) (logged_of e) (g.D.Disk.facts c.args.disk.now) refl c.requires.ready.kept
 
 pub returns-in-Err-clause-logs : goal.returns-in-Err-clause-logs
 returns-in-Err-clause-logs g c = λ part h.
     let e = c.args.engine.now in
-    Logs-still (source_of e) (g.R.CommitRule.choice c.args.rule.now) c.args.store.now _ (logged_of e) (logged_of e) (g.D.Disk.facts c.args.disk.now) refl c.requires.kept
+    Logs-still (source_of e) (g.R.CommitRule.choice c.args.rule.now) c.args.store.now _ (logged_of e) (logged_of e) (g.D.Disk.facts c.args.disk.now) refl c.requires.ready.kept
