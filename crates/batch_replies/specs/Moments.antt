@@ -31,7 +31,7 @@ module _ (src : Source) (rule : List Access → Chosen) where
   LeavesLogged None first ran old new = ⊤
   LeavesLogged (Some settings) first ran old new = LeavesOnly old new (StandsLogged settings.program first ran)
 
-  -- batches on these cores were run, the last of them perhaps in part: what is logged behind them, and what each moment may leave
+  -- of batches on these cores some may have been run: what is logged behind them, and what each moment since may leave
   pub record Logs (settings : Option StoreSettings) (ran : List Core) (first last : Core) (old new : DiskFacts) : Type 0 where
     pub last_is : IsLogged first ran last
     pub moments : LeavesLogged settings first ran old new

@@ -12,11 +12,11 @@ use Rattle.batch_session.specs.declared.serving.SessionFault.{SessionFault}
 use Rattle.batch_session.specs.declared.serving.SessionFault.TheVariants.{ReadFault, WriteFault, DiskFault, InputTooLong, HistoryFull, NoMemory}
 use Rattle.batch_session.specs.Served.{View, first_point, point_at, ServedEnd, StopsServing, Served}
 use Rattle.batch_run.specs.RunViews.{Shown, run_service}
-use Rattle.batch_run.specs.RunEvents.{Starts, CommitsFirst, TellsBatches, TracesBatches, TellsRun, batches_of}
+use Rattle.batch_run.specs.RunEvents.{Starts, EndsAmong, TellsBatches, TracesBatches, TellsRun, batches_of}
 use Rattle.batch_run.specs.declared.running.RunSettings.{RunSettings}
 use Rattle.batch_session.proofs.Vocabulary.{comes_begin}
 use Rattle.batch_run.proofs.SessionTakes.{Took, TookSome, took_whole, took_over, took_stopped, serves_took}
-use Rattle.batch_run.proofs.LastCores.{ends, commits}
+use Rattle.batch_run.proofs.LastCores.{ends, among}
 use Rattle.batch_run.proofs.TextLaws.{whole_is_prefix, at_begin}
 
 -- batches that were run have begun
@@ -53,13 +53,13 @@ module _ (compiled : Compiled) (s : RunSettings) (start : Core) (left held said 
   abbrev Tells : Result Tally SessionFault → Type 0
   Tells result = TellsRun compiled s start new.core result first last
 
-  commits_some : (r : Result (Unit {0}) LineStop) (steps : List Step) (lines : ℕ) (tally : Tally)
-      → Comes (run_service compiled s) s.trace r steps (first_point old) (point_at new lines tally) → CommitsFirst compiled s start steps new.core
-  commits_some r steps lines tally came =
+  ends_among : (r : Result (Unit {0}) LineStop) (steps : List Step) (lines : ℕ) (tally : Tally)
+      → Comes (run_service compiled s) s.trace r steps (first_point old) (point_at new lines tally) → EndsAmong compiled s start steps new.core
+  ends_among r steps lines tally came =
       let c =
-      commits (run_service compiled s) s.trace r steps (first_point old) (point_at new lines tally)
+      among (run_service compiled s) s.trace r steps (first_point old) (point_at new lines tally)
       (ends (run_service compiled s) s.trace r steps (first_point old) (point_at new lines tally) came) in
-      record { first = c.first; rest = c.rest; split = c.split; history = c.committed.history; state = c.committed.state }
+      record { first = c.first; rest = c.rest; split = c.split; core = c.core }
 
   module _ (r : Result (Unit {0}) LineStop) (t : Took (run_service compiled s) s.trace s.limit r old new) where
     tells : (fault : SessionFault)
@@ -81,7 +81,7 @@ module _ (compiled : Compiled) (s : RunSettings) (start : Core) (left held said 
           told = told h.counts h.told;
           traced = traced h.counts h.traced;
           counted = tt;
-          commits = commits_some r t.steps t.lines t.tally t.came;
+          ended = ends_among r t.steps t.lines t.tally t.came;
         }
 
   -- all was served
@@ -99,7 +99,7 @@ module _ (compiled : Compiled) (s : RunSettings) (start : Core) (left held said 
         told = e.all.came.ran;
         traced = e.all.came.traced;
         counted = sym is ∙ e.all.came.tally;
-        commits = commits_some (Ok (tt {0})) steps e.all.lines e.all.tally e.all.came;
+        ended = ends_among (Ok (tt {0})) steps e.all.lines e.all.tally e.all.came;
       }
 
   -- something couldn't be written

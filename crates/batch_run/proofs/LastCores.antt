@@ -13,34 +13,30 @@ use Rattle.engine.specs.Arrivals as engine
 use Rattle.batch_output.specs.BatchOutput.{Standing, taken}
 use Rattle.batch_session.specs.Vocabulary.{Step, Answer, RunWaiting, move_of, behind, standing_after, Point, going, moment, Does, StopsAt, StopsWithin, StopsBetween, Comes, LineStop, Service, program_of, IsUntaken, IsUnplanned, IsUnanswered, IsUnreplied, whole_text, HasPlace, core_behind}
 use Rattle.batch_session.specs.LineStopVariants as stop
+use Rattle.batch_run.specs.RunEvents.{IsAtNext}
 use Rattle.batch_session.proofs.Vocabulary.{prefix_whole, prefix_none, behind_placed, behind_full, standing_over, standing-append, standing-one}
 
 nothing_written : (a b : Option (List ℕ)) (xs : List ℕ) → b ≡ a → AppendsPrefix a b xs
 nothing_written a b xs same = subst (λ c. AppendsPrefix a c xs) (sym same) (prefix_none a xs)
 
--- What a request that arrives leaves as it was
+-- A request that arrives commits nothing
 
--- what was committed, and the state behind it, are those of another core
-pub record HasCommitted (core other : Core) : Type 0 where
-  pub history : core.history ≡ other.history
-  pub state : core.state ≡ other.state
+joined_history : (core : Core) (r : Request) (a : Arrival) → (engine.joined core r a).history ≡ core.history
+joined_history core r arrival.New = refl
+joined_history core r (arrival.Again place) = refl
+joined_history core r arrival.Waiting = refl
+joined_history core r arrival.Reused = refl
 
-joins_committed : (core : Core) (r : Request) (a : Arrival) → HasCommitted (engine.joined core r a) core
-joins_committed core r arrival.New = record { history = refl; state = refl }
-joins_committed core r (arrival.Again place) = record { history = refl; state = refl }
-joins_committed core r arrival.Waiting = record { history = refl; state = refl }
-joins_committed core r arrival.Reused = record { history = refl; state = refl }
-
-taken_committed : (core : Core) (action : Action) → HasCommitted (taken core action) core
-taken_committed core Skip = record { history = refl; state = refl }
-taken_committed core (Refuse cause) = record { history = refl; state = refl }
-taken_committed core (Ask r) = joins_committed core r (engine.arrival_of core r)
+taken_history : (core : Core) (action : Action) → (taken core action).history ≡ core.history
+taken_history core Skip = refl
+taken_history core (Refuse cause) = refl
+taken_history core (Ask r) = joined_history core r (engine.arrival_of core r)
 
 module _ (v : Service) (traces : Bool) where
-  -- before its batch a step commits nothing
-  pub move_committed : (s : Standing) (step : Step) → HasCommitted (move_of v s step).core s.core
-  move_committed s (Answer line) = taken_committed s.core (action_of (program_of v) line)
-  move_committed s RunWaiting = record { history = refl; state = refl }
+  -- nor does a step before its batch
+  pub move_history : (s : Standing) (step : Step) → (move_of v s step).core.history ≡ s.core.history
+  move_history s (Answer line) = taken_history s.core (action_of (program_of v) line)
+  move_history s RunWaiting = refl
 
   -- Where it ends
 
@@ -135,30 +131,21 @@ module _ (v : Service) (traces : Bool) where
   ends (Err stop.DiskFault) steps p q (inr s) = between_steps (Err stop.DiskFault) steps p q s
   ends (Err stop.WriteFault) steps p q s = within stop.WriteFault steps p q s
 
-  -- What was committed
+  -- The core that it ends with
 
   -- the core behind a step whose batch has a place
   pub run_core : (step : Step) (p q : Point) → HasRun step p q → q.core ≡ (behind v (going p) step).core
   run_core step p q h = h.core ∙ sym (ap (λ (t : Standing). t.core) (behind_placed v p.core p.lines step h.due h.place))
 
-  pub record IsCommittedAs (steps : List Step) (p q : Point) : Type 0 where
+  -- it is the one behind some first steps, or has what the next one leaves before its batch
+  pub record IsAmong (steps : List Step) (p q : Point) : Type 0 where
     pub first : List Step
     pub rest : List Step
     pub split : steps ≡ first ++ rest
-    pub committed : HasCommitted q.core (standing_after v (going p) first).core
+    pub core : (q.core ≡ (standing_after v (going p) first).core) ⊎ IsAtNext v (standing_after v (going p) first) rest q.core
 
-  first_committed : (first : List Step) (p between q : Point) → Does v traces first p between → HasCommitted q.core between.core
-      → HasCommitted q.core (standing_after v (going p) first).core
-  first_committed first p between q d h =
-      let core : between.core ≡ (standing_after v (going p) first).core = sym (ap (λ (t : Standing). t.core) d.stands) in
-      record { history = h.history ∙ ap (λ (c : Core). c.history) core; state = h.state ∙ ap (λ (c : Core). c.state) core }
-
-  same_committed : (core other : Core) → core ≡ other → HasCommitted core other
-  same_committed core other same = record { history = ap (λ (c : Core). c.history) same; state = ap (λ (c : Core). c.state) same }
-
-  committed_as : (core middle other : Core) → core ≡ middle → HasCommitted middle other → HasCommitted core other
-  committed_as core middle other same h =
-      record { history = ap (λ (c : Core). c.history) same ∙ h.history; state = ap (λ (c : Core). c.state) same ∙ h.state }
+  did_core : (first : List Step) (p between : Point) → Does v traces first p between → between.core ≡ (standing_after v (going p) first).core
+  did_core first p between d = sym (ap (λ (t : Standing). t.core) d.stands)
 
   -- the core behind the first steps and one more
   one_more : (first : List Step) (step : Step) (p between q : Point) → Does v traces first p between → HasRun step between q
@@ -168,26 +155,23 @@ module _ (v : Service) (traces : Bool) where
       ∙ sym (ap (λ (t : Standing). t.core)
       (standing-append v first (step ∷ []) (going p) ∙ ap (λ t. standing_after v t (step ∷ [])) d.stands ∙ standing-one v (going between) step))
 
-  pub commits : (r : Result (Unit {0}) LineStop) (steps : List Step) (p q : Point) → Ends r steps p q → IsCommittedAs steps p q
-  commits r steps p q (inl e) = record {
-    first = e.first;
-    rest = e.rest;
-    split = e.split;
-    committed = first_committed e.first p q q e.did (record { history = refl; state = refl });
-  }
-  commits r steps p q (inr e) = by e.at
+  pub among : (r : Result (Unit {0}) LineStop) (steps : List Step) (p q : Point) → Ends r steps p q → IsAmong steps p q
+  among r steps p q (inl e) = record { first = e.first; rest = e.rest; split = e.split; core = inl (did_core e.first p q e.did) }
+  among r steps p q (inr e) = by e.at
     where
-      stays : HasCommitted q.core e.between.core → IsCommittedAs steps p q
-      stays h = record { first = e.first; rest = e.step ∷ e.rest; split = e.split; committed = first_committed e.first p e.between q e.did h }
-
-      by : EndsAt r e.step e.between q → IsCommittedAs steps p q
-      by (inl h) = stays (same_committed q.core e.between.core h.core)
-      by (inr (inl h)) = stays (committed_as q.core (move_of v (going e.between) e.step).core e.between.core h.core (move_committed (going e.between) e.step))
+      by : EndsAt r e.step e.between q → IsAmong steps p q
+      by (inl h) = record { first = e.first; rest = e.step ∷ e.rest; split = e.split; core = inl (h.core ∙ did_core e.first p e.between e.did) }
+      by (inr (inl h)) = record {
+        first = e.first;
+        rest = e.step ∷ e.rest;
+        split = e.split;
+        core = inr (h.core ∙ ap (λ (t : Standing). (move_of v t e.step).core) (sym e.did.stands));
+      }
       by (inr (inr h)) = record {
         first = e.first ++ e.step ∷ [];
         rest = e.rest;
         split = e.split ∙ sym (append_assoc e.first (e.step ∷ []) e.rest);
-        committed = same_committed q.core (standing_after v (going p) (e.first ++ e.step ∷ [])).core (one_more e.first e.step p e.between q e.did h.1);
+        core = inl (one_more e.first e.step p e.between q e.did h.1);
       }
 
   -- Where the history is full

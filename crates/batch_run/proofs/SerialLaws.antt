@@ -28,7 +28,7 @@ use Rattle.batch_session.proofs.Vocabulary.{prefix_whole, prefix_after, printed_
 use Rattle.batch_run.specs.RunViews.{run_limits, run_service}
 use Rattle.batch_run.specs.RunTexts.{PrintsOneRun, RepliesAllButOne}
 use Rattle.batch_run.specs.declared.running.RunSettings.{RunSettings}
-use Rattle.batch_run.proofs.LastCores.{HasMoved, HasRun, EndsAt, Ends, ends, move_committed, run_core}
+use Rattle.batch_run.proofs.LastCores.{HasMoved, HasRun, EndsAt, Ends, ends, move_history, run_core}
 
 module _ (compiled : Compiled) (s : RunSettings) (few : s.batch ≤ 256) where
   abbrev src : Source
@@ -109,7 +109,7 @@ module _ (compiled : Compiled) (s : RunSettings) (few : s.batch ≤ 256) where
     sound = (begins step t h).sound;
     added = [];
     printed = [];
-    history = (move_committed v s.trace t step).history ∙ sym (append-nil t.core.history);
+    history = move_history v s.trace t step ∙ sym (append-nil t.core.history);
     counted = refl;
     repeats = tt;
     rises = omega arith;

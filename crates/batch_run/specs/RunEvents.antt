@@ -1,4 +1,4 @@
--- What a run chooses and tells: its start, and then its batches, one after another; what it traces of them; and what it commits.
+-- What a run chooses and tells: its start, and then its batches, one after another; what it traces of them; and the core that it ends with.
 use Rattle.std.specs.Prelude.{◌≡◌, ℕ, ◌≤◌, ◌⊎◌, List, [], ◌∷◌, ◌++◌, length, take, ⊤, Ok, Err}
 use Rattle.std.specs.declared.option.Option.{Option}
 use Rattle.std.specs.declared.result.Result.{Result}
@@ -11,11 +11,16 @@ use Rattle.operator_graph.specs.Telling.{GraphTold, AlsoTold}
 use Rattle.operator_graph.specs.Turns.{Outside}
 use Rattle.engine.specs.Cores.{Core}
 use Rattle.batch_output.specs.BatchOutput.{Standing, begun}
-use Rattle.batch_session.specs.Vocabulary.{Tally, Step, whole_steps, all_steps, standing_after, ran_on, no_batch, tally_after, trace_text, RunBatches, BeginBatches, BatchCounts}
+use Rattle.batch_session.specs.Vocabulary.{Tally, Step, Service, whole_steps, all_steps, standing_after, ran_on, move_of, no_batch, tally_after, trace_text, RunBatches, BeginBatches, BatchCounts}
 use Rattle.batch_session.specs.declared.serving.SessionFault.{SessionFault}
 use Rattle.batch_session.specs.declared.serving.SessionFault.TheVariants.{ReadFault, WriteFault, DiskFault, InputTooLong, HistoryFull, NoMemory}
 use Rattle.batch_run.specs.RunViews.{Shown, run_service}
 use Rattle.batch_run.specs.declared.running.RunSettings.{RunSettings}
+
+-- behind some steps this core has what the next of these leaves before its batch
+abbrev pub IsAtNext : Service → Standing → List Step → Core → Type 0
+IsAtNext v behind [] core = ⊥
+IsAtNext v behind (step ∷ rest) core = core ≡ (move_of v behind step).core
 
 module _ (compiled : Compiled) (s : RunSettings) where
   -- the chooser was started with the number of the schedule, and the watch was told the graph
@@ -40,13 +45,12 @@ module _ (compiled : Compiled) (s : RunSettings) where
     abbrev pub stands_after : List Step → Standing
     stands_after steps = standing_after (run_service compiled s) (begun start) steps
 
-    -- what was committed is what the batches of some first ones of these steps commit
-    pub record CommitsFirst (steps : List Step) (last : Core) : Type 0 where
+    -- this core is the one behind some first ones of these steps, or has the request of the next one besides
+    pub record EndsAmong (steps : List Step) (last : Core) : Type 0 where
       pub first : List Step
       pub rest : List Step
       pub split : steps ≡ first ++ rest
-      pub history : last.history ≡ (stands_after first).core.history
-      pub state : last.state ≡ (stands_after first).core.state
+      pub core : (last ≡ (stands_after first).core) ⊎ IsAtNext (run_service compiled s) (stands_after first) rest last
 
   -- these batches were run and told; where it stopped in their midst, the first of them, and perhaps some events of the next
   abbrev pub TellsBatches : Result Tally SessionFault → List Core → List BatchCounts → Outside → Outside → Type 0
@@ -68,7 +72,7 @@ module _ (compiled : Compiled) (s : RunSettings) where
   CountsBatches (Ok tally) counts = tally ≡ tally_after no_batch counts
   CountsBatches (Err fault) counts = ⊤
 
-  -- it started, and then its batches were told, along the picks made, traced and counted, and its last core has what they committed
+  -- it started, and then its batches were told, along the picks made, traced and counted; and it ended among its steps
   pub record TellsRun (start last : Core) (result : Result Tally SessionFault) (old new : Shown) : Type 0 where
     pub started : Outside
     pub starts : Starts old.outside started
@@ -80,4 +84,4 @@ module _ (compiled : Compiled) (s : RunSettings) where
     pub told : TellsBatches result (batches_of start steps) counts started new.outside
     pub traced : TracesBatches result counts old.said new.said
     pub counted : CountsBatches result counts
-    pub commits : CommitsFirst start steps last
+    pub ended : EndsAmong start steps last

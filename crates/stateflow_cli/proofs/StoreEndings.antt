@@ -375,12 +375,15 @@ module _ (limit : ℕ) (before after : Devices) (was now : DiskFacts) (behind : 
         last = r.last;
         fresh = k.fresh;
         storable = k.storable;
+        failed = disk_failed result;
         sound = k.sound;
         prints = λ sound. (r.runs.serial sound).prints;
         replies = λ sound.
-            replies_by (source_of r.compiled) r.start r.last before.out.held after.out.held (result ≡ Err stop.WriteFault) (status ≡ 4) (unwritten_status result is) (r.runs.serial sound).replies;
+            replies_by (source_of r.compiled) r.start r.last before.out.held after.out.held (result ≡ Err stop.WriteFault) ((disk_failed result ≡ false) × (status ≡ 4))
+            (λ same. (ap disk_failed same, unwritten_status result is same)) (r.runs.serial sound).replies;
         each = kept_each k.store (source_of r.compiled) r.holds.text (ap (λ (x : StoreSettings). x.program) k.settings) (settled r.last k.fresh)
-            (next_core batch_rule (source_of r.compiled) r.last) now (disk_failed result) (MayBeDiskFault status) (failed_status result is) k.kept;
+            (next_core batch_rule (source_of r.compiled) r.last) now (disk_failed result) ((disk_failed result ≡ true) × MayBeDiskFault status)
+            (λ failed. (failed, failed_status result is failed)) k.kept;
         moments = record { compiled = r.compiled; holds = r.holds; moments = moments };
         final = final result r k is;
       }

@@ -1,5 +1,5 @@
 -- What a call leaves of the store that its words name, by its status, and why it doesn't serve on it.
-use Rattle.std.specs.Prelude.{ℕ, ◌≡◌, ◌⊎◌, ◌+◌, ◌-◌, ◌^◌, ◌<◌, ◌/◌, min, List, ⊤, None, Some, IfSome, Err, decimal}
+use Rattle.std.specs.Prelude.{ℕ, ◌≡◌, ◌⊎◌, ◌+◌, ◌-◌, ◌^◌, ◌<◌, ◌/◌, min, List, ⊤, None, Some, IfSome, Err, decimal, Bool, true, false}
 use Rattle.std.specs.Str.{chars}
 use Rattle.std.specs.declared.option.Option.{Option}
 use Rattle.std.specs.Io.KnownBytes.{Appends}
@@ -174,7 +174,7 @@ module _ (limit : ℕ) (file dir : List ℕ) (s : words.RunSettings) (before aft
         after.disk.mounts.moment now
 
   -- A session was served on the store, from the core that was found to another. Each image that a crash now may leave stands for what was logged of
-  -- the last core; or, where the disk failed, perhaps for the core behind the batch that is next there, of which no reply line was begun.
+  -- the last core; or, where the disk failed, perhaps for the core behind the batch that is next there, and then no batch lacks replies.
   pub record LeavesOpened : Type 0 where
     pub mounted_once : MountsOnce dir before after
     pub holds : Holds (before.content file)
@@ -185,14 +185,15 @@ module _ (limit : ℕ) (file dir : List ℕ) (s : words.RunSettings) (before aft
     pub last : Core
     pub fresh : ℕ
     pub storable : IsStorable last fresh
+    pub failed : Bool
     pub sound : IsSoundCore (source_in (before.content file) holds) start → IsSoundCore (source_in (before.content file) holds) last
     pub prints : IsSoundCore (source_in (before.content file) holds) start
         → PrintsOneRun (source_in (before.content file) holds) start last before.out.held after.out.held
     pub replies : IsSoundCore (source_in (before.content file) holds) start
-        → RepliesAllButOne (source_in (before.content file) holds) start last before.out.held after.out.held (status ≡ 4)
+        → RepliesAllButOne (source_in (before.content file) holds) start last before.out.held after.out.held ((failed ≡ false) × (status ≡ 4))
     pub each : (image : Image) → now.may_leave image
         → StandsSomewhere (program_of (source_in (before.content file) holds) holds.holds.text) image (settled last fresh)
-        ⊎ (MayBeDiskFault status × StandsSomewhere (program_of (source_in (before.content file) holds) holds.holds.text) image
+        ⊎ (((failed ≡ true) × MayBeDiskFault status) × StandsSomewhere (program_of (source_in (before.content file) holds) holds.holds.text) image
         (next_core batch_rule (source_in (before.content file) holds) last))
     pub moments : LeavesSince start
     pub final : status ≡ 0 → LeavesFinal (source_in (before.content file) holds) holds.holds.text opened.epoch start last

@@ -48,8 +48,8 @@ abbrev pub settings_by : words.RunSettings → List ℕ → ℕ → StoreSetting
 settings_by s text epoch = record { program = chars text; every = s.every; opened = epoch }
 
 -- A run had a store in this folder, from one core to another: the folder was mounted once; each image that a crash now may leave stands for what
--- was logged of the last core, and where the disk failed perhaps for the core behind the batch that was next; a checkpoint followed behind each
--- so many batches; and a fault of the disk has a cause
+-- was logged of the last core, and where the disk failed perhaps for the core behind the batch that was next; where all was served, a checkpoint
+-- followed behind each so many batches; and a fault of the disk has a cause
 pub record KeepsRun (dir : List ℕ) (s : words.RunSettings) (src : Source) (text : List ℕ) (start last : Core) (before after : StoreDisk) (now : DiskFacts)
     (result : Result Tally SessionFault) : Type 0 where
   pub moment : ℕ

@@ -51,12 +51,18 @@ module _ (compiled : Compiled) (settings : OpenSettings) (made : OpenedStore) (r
 -- ---- an old store
 
 module _ (p : Program) (image : Image) where
-  pub old_found : (result : Result OpenedStore OpenStop) → AnswersOld result p image → AnswersFound result p image
-  old_found (Ok made) stands = (made.store.position, inl refl, stands)
-  old_found (Err (Bad file at)) wrong = inr wrong
-  old_found (Err OtherProgram) other = other
-  old_found (Err DiskFault) none = absurd none
-  old_found (Err NoMemory) free = tt
+  pub old_found : (result : Result OpenedStore OpenStop) → IfOk result (λ made. 1 ≤ made.store.position.epoch) → AnswersOld result p image → AnswersFound result p image
+  old_found (Ok made) begun stands = (made.store.position, inl (begun, refl), stands)
+  old_found (Err (Bad file at)) begun wrong = inr wrong
+  old_found (Err OtherProgram) begun other = other
+  old_found (Err DiskFault) begun none = absurd none
+  old_found (Err NoMemory) begun free = tt
+
+-- an old store is at its position, which is of an epoch
+epoch_begun : (position : Position) → IsEpoch position.epoch → (result : Result OpenedStore OpenStop) → IfOk result (λ made. made.store.position ≡ position)
+    → IfOk result (λ made. 1 ≤ made.store.position.epoch)
+epoch_begun position in_range (Ok made) place = subst (λ (q : Position). 1 ≤ q.epoch) (sym place) in_range.0
+epoch_begun position in_range (Err stop) place = tt
 
 -- what a read gives is an old store
 module _ (compiled : Compiled) (settings : OpenSettings) (position : Position) (kept : Snapshot) (batches : List Placed) (facts : DiskFacts)
@@ -68,8 +74,9 @@ module _ (compiled : Compiled) (settings : OpenSettings) (position : Position) (
   abbrev of_text : Program
   of_text = program_for compiled settings.program
 
-  pub old_seen : IfSome facts.seen (AnswersFound result of_text)
-  old_seen = if_one facts.seen Found (AnswersFound result of_text) (λ now old. old_found of_text now result (answer now old)) found
+  pub old_seen : IfOk result (λ made. made.store.position ≡ position) → IsEpoch position.epoch → IfSome facts.seen (AnswersFound result of_text)
+  old_seen place in_range =
+      if_one facts.seen Found (AnswersFound result of_text) (λ now old. old_found of_text now result (epoch_begun position in_range result place) (answer now old)) found
 
   pub old_kept : IfOk result (IsReady compiled settings) → IfOk result (λ made. made.store.position ≡ position) → IsClean facts → IsEpoch position.epoch → IsShortText settings.program → 1 ≤ settings.every
       → IfOk result (KeepsOpened facts)

@@ -19,9 +19,9 @@ use Rattle.store_opening.specs.declared.stop.OpenStop.TheVariants.{DiskFault, Ba
 
 -- ---- what was found
 
--- a store was found where it is now, or new, and is at the start of its first epoch now
+-- a store was found where it is now, in its first epoch or a later one; or new, and is at the start of its first epoch now
 abbrev pub WasAt : Position → Position → Type 0
-WasAt place position = (place ≡ position) ⊎ ((place ≡ new_position) × (position ≡ start_of 1))
+WasAt place position = ((1 ≤ position.epoch) × (place ≡ position)) ⊎ ((place ≡ new_position) × (position ≡ start_of 1))
 
 -- what was found stands for the core of the engine, or is bad at exactly this place, or is of another program
 abbrev pub AnswersFound : Result OpenedStore OpenStop → Program → Image → Type 0

@@ -10,7 +10,8 @@ returns-in-Old-clause-answer g c =
     let facts = g.D.Disk.facts c.args.disk.now in
     let position : Position = record { epoch = c.in-Old.epoch; at = c.in-Old.at } in
     let found = subst (λ o. IfSome facts.seen (λ now. Answers now (Ok o))) c.in-Old.is c.requires.found in
-    old_seen c.args.compiled c.args.settings position c.in-Old.kept c.in-Old.batches facts found c.go_on.result c.go_on.ensures.answer
+    let placed = subst (λ o. IsPlaced (Ok o)) c.in-Old.is c.requires.placed in
+    old_seen c.args.compiled c.args.settings position c.in-Old.kept c.in-Old.batches facts found c.go_on.result c.go_on.ensures.answer c.go_on.ensures.position placed.0
 
 pub returns-in-Old-clause-kept : goal.returns-in-Old-clause-kept
 returns-in-Old-clause-kept g c =
