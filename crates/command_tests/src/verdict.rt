@@ -91,7 +91,7 @@ fn verdict(alloc: Global, text: &[u8]) -> Result<Vec<u8>, AllocError> {
 
 /// The label of the first row of which something else is said, or nothing where a table of so many
 /// rows has none.
-fn other(
+pub fn other(
     alloc: Global,
     setting: Setting,
     table: &str,
@@ -110,15 +110,9 @@ fn other(
     Ok(String::new(alloc))
 }
 
-/// Asserts that each row is as it says.
-pub fn hold(
-    rt: &impl Abort,
-    alloc: Global,
-    setting: Setting,
-    table: &str,
-    count: usize,
-) -> Result<(), Fail> {
-    let other = other(alloc, setting, table, count)?;
+/// Asserts that no row is another one than it says.
+pub fn hold(rt: &impl Abort, other: Result<String, AllocError>) -> Result<(), Fail> {
+    let other = other?;
     assert_eq!(rt; other.as_str(), "");
     Ok(())
 }
