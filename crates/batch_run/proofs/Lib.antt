@@ -2,6 +2,7 @@ pub mod SessionTakes
 pub mod TextLaws
 pub mod LastCores
 pub mod SerialLaws
+pub mod GrowthLaws
 pub mod EventLaws
 pub mod FullLaws
 pub mod RunLaws

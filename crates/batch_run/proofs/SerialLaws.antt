@@ -37,15 +37,15 @@ module _ (compiled : Compiled) (s : RunSettings) (few : s.batch ≤ 256) where
   abbrev v : Service
   v = run_service compiled s
 
-  lawful : IsLawfulRule batch_rule
+  pub lawful : IsLawfulRule batch_rule
   lawful batch few = batch_rule_is_lawful batch
 
-  abbrev Stands : Standing → Type 0
+  abbrev pub Stands : Standing → Type 0
   Stands t = Holds src batch_rule (run_limits s) lawful t
 
   -- What each step prints
 
-  abbrev Prints : Standing → Standing → List (List ℕ) → Type 0
+  abbrev pub Prints : Standing → Standing → List (List ℕ) → Type 0
   Prints t next texts = Steps src batch_rule (run_limits s) lawful t next texts
 
   -- the batch that runs where a request waits, or the end where the history is full
@@ -77,11 +77,11 @@ module _ (compiled : Compiled) (s : RunSettings) (few : s.batch ≤ 256) where
     few = (settled_holds src batch_rule (run_limits s) lawful few t h is waiting).few;
   }
 
-  one : (step : Step) (t : Standing) → Stands t → Prints t (behind v t step) (printed_at v t step)
+  pub one : (step : Step) (t : Standing) → Stands t → Prints t (behind v t step) (printed_at v t step)
   one (Answer line) t h = stepped src batch_rule (run_limits s) lawful few t line h
   one RunWaiting t h = waited_by t.is_full (waits t.core) t refl refl h
 
-  next_stands : (t next : Standing) (texts : List (List ℕ)) → Prints t next texts → Stands next
+  pub next_stands : (t next : Standing) (texts : List (List ℕ)) → Prints t next texts → Stands next
   next_stands t next texts p = record { sound = p.goes.sound; few = p.few }
 
   all : (steps : List Step) (t : Standing) → Stands t → Prints t (standing_after v t steps) (printed v t steps)
@@ -98,7 +98,7 @@ module _ (compiled : Compiled) (s : RunSettings) (few : s.batch ≤ 256) where
       }
 
   -- what is written of a step at once, and that nothing is committed by it
-  begins : (step : Step) (t : Standing) → Stands t → Goes src t.core (move_of v t step).core t.lines (t.lines + 1) (move_of v t step).answer
+  pub begins : (step : Step) (t : Standing) → Stands t → Goes src t.core (move_of v t step).core t.lines (t.lines + 1) (move_of v t step).answer
   begins (Answer line) t h =
       answered src t.core h.sound t.lines (action_of src line)
       (λ (r : Request) is. subst (ActionFits (tables_of src.names src.program)) is (line_fits src line))

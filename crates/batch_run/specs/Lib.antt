@@ -2,5 +2,6 @@ pub mod RunViews
 pub mod RunTexts
 pub mod RunEvents
 pub mod Runs
+pub mod GrownCores
 pub mod Vocabulary
 pub mod SessionFaultVariants

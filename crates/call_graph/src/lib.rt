@@ -8,7 +8,5 @@ mod program;
 mod sites;
 mod stmts;
 mod suspending;
-#[cfg(test)]
-mod tests;
 
 pub use program::{CallGraph, graph};

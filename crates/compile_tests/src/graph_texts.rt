@@ -48,6 +48,29 @@ class A:
     tail: "",
 };
 
+/// A row has the methods of a class, beside another one.
+const METHODS: Setting = Setting {
+    head: "from stateflow import entity
+@entity
+class B:
+    def __init__(self, k: str, n: int):
+        self.k: str = k
+        self.n: int = n
+    def __key__(self):
+        return self.k
+    def get(self) -> int:
+        return self.n
+@entity
+class A:
+    def __init__(self, k: str):
+        self.k: str = k
+    def __key__(self):
+        return self.k
+",
+    indent: "    ",
+    tail: "",
+};
+
 const SHOP_GRAPH: &str = "class Item: key name; 3 fields; 2 methods
 method Item.price: 1 blocks
   block 0: 0 vars, leave
@@ -167,6 +190,54 @@ fn methods_have_their_own_blocks(rt: HostRuntime) -> Result<(), Fail> {
         let line = in_one_line(rt.alloc(), told.as_str())?;
         let own = own_blocks(line.as_str());
         assert_eq!(rt; own, row.wanted, "{}", row.label);
+    }
+    Ok(())
+}
+
+/// Which methods of class `A` have one block, and which are cut into more.
+fn kinds(alloc: Global, text: &str) -> Result<String, AllocError> {
+    let mut kinds = String::new(alloc);
+    for line in text.lines() {
+        if let Some((_, method)) = line.split_once("method A.") {
+            match method.split_once(": 1 blocks") {
+                Some((name, _)) => kinds.push_str(name)?,
+                None => {
+                    kinds.push_str("cut ")?;
+                    kinds.push_str(method.split_once(':').map_or(method, |(name, _)| name))?;
+                }
+            }
+            kinds.push(';')?;
+        }
+    }
+    Ok(kinds)
+}
+
+#[test]
+fn a_method_that_may_leave_its_entity_is_cut(rt: HostRuntime) -> Result<(), Fail> {
+    let rows = rows(
+        rt.alloc(),
+        "
+        calls on self         | def a(self) -> int:↵    return self.c()↵def c(self) -> int:↵    return 1                              | a;c;
+        a call of itself      | def a(self) -> int:↵    return self.a()                                                               | a;
+        another entity        | def a(self, b: B) -> int:↵    return b.get()                                                          | cut a;
+        one of the same class | def a(self, o: A) -> int:↵    return o.c()↵def c(self) -> int:↵    return 1                           | cut a;c;
+        a caller's caller     | def a(self, b: B) -> int:↵    return self.c(b)↵def c(self, b: B) -> int:↵    return self.d(b)↵def d(self, b: B) -> int:↵    return b.get() | cut a;cut c;cut d;
+        a creation            | def a(self) -> int:↵    B('k', 1)↵    return 1                                                        | cut a;
+        a function            | def a(self) -> int:↵    return len('k')                                                               | a;
+        an argument           | def a(self) -> int:↵    return self.c(B('k', 1))↵def c(self, b: B) -> int:↵    return 1               | cut a;c;
+        one of a function     | def a(self, b: B) -> int:↵    return len(str(b.get()))                                                | cut a;
+        behind a return       | def a(self, b: B) -> int:↵    return 1↵    return b.get()                                             | a;
+        behind a loop         | def a(self, b: B) -> int:↵    while True:↵        pass↵    return b.get()                             | a;
+        behind a branch       | def a(self, b: B) -> int:↵    if True:↵        return 1↵    return b.get()                            | cut a;
+        in a test             | def a(self, b: B) -> int:↵    if b.get() == 1:↵        return 1↵    return 2                          | cut a;
+        behind a false part   | def a(self, b: B) -> bool:↵    return False and b.get() == 1                                          | cut a;
+    ",
+    )?;
+    for row in &rows {
+        let text = text_in(rt.alloc(), METHODS, row.text.as_str())?;
+        let told = told(rt.alloc(), text.as_str())?;
+        let kinds = kinds(rt.alloc(), told.as_str())?;
+        assert_eq!(rt; kinds.as_str(), row.wanted, "{}", row.label);
     }
     Ok(())
 }

@@ -1,5 +1,5 @@
 -- From what was loaded, opened and run to how a run ends the call.
-use Rattle.std.proofs.Common.{◌≡◌, ℕ, ◌≤◌, ◌⊎◌, inl, inr, true, false, true≢false, List, None, Some, Ok, Err, refl, sym, ap, ◌∙◌, subst, Bor}
+use Rattle.std.proofs.Common.{◌≡◌, ℕ, ◌≤◌, ◌<◌, ◌⊎◌, inl, inr, true, false, true≢false, List, length, None, Some, Ok, Err, refl, sym, ap, ◌∙◌, subst, arith, Bor}
 use Rattle.std.proofs.KnownBytes.{Keeps-refl}
 use Rattle.std.specs.Prelude.{IfSome, IfOk, IsErrOf, option_map}
 use Rattle.std.specs.Str.{chars}
@@ -31,8 +31,9 @@ use Rattle.session_store.specs.Vocabulary.{IsStorable}
 use Rattle.batch_run.specs.Vocabulary.{Tally, SessionFault, disk_failed, LogsServed}
 use Rattle.batch_run.specs.SessionFaultVariants.{ReadFault, WriteFault}
 use Rattle.batch_run.specs.declared.running.RunSettings.{RunSettings}
-use Rattle.batch_run.specs.RunViews.{Shown, run_service}
+use Rattle.batch_run.specs.RunViews.{Shown, CanServe, run_service}
 use Rattle.batch_run.specs.Runs.{Runs}
+use Rattle.batch_run.proofs.GrowthLaws.{logged_grows}
 use Rattle.store_opening.specs.declared.opened_store.OpenSettings.{OpenSettings}
 use Rattle.store_opening.specs.declared.opened_store.OpenedStore.{OpenedStore}
 use Rattle.store_opening.specs.declared.stop.OpenStop.{OpenStop}
@@ -254,7 +255,7 @@ module _ (limit : ℕ) (file dir : List ℕ) (w : words.RunSettings) (before aft
         ∙ ap (λ t. record { program = t; every = settings.every; opened = opened.store.position.epoch }) (program ∙ holds.is.characters)
         ∙ ap (λ n. record { program = chars holds.text; every = n; opened = opened.store.position.epoch }) every
 
-    module _ (s : RunSettings) (is : s ≡ settings_for limit w) (result : Result Tally SessionFault) (faults : ℕ) (later : before.disk.faults ≤ faults) (moment : ℕ)
+    module _ (s : RunSettings) (is : s ≡ settings_for limit w) (serves : CanServe s) (result : Result Tally SessionFault) (faults : ℕ) (later : before.disk.faults ≤ faults) (moment : ℕ)
         (mounts : after.disk.mounts ≡ mounted before.disk.mounts dir moment) (mid : DiskFacts) (within : moment ≤ mid.moment)
         (earlier : (image : Image) → mid.left_since moment image → LeavesFound (program_for made.compiled made.text) (before.disk.found dir) image)
         (ran : RanOpened opened s result (shown_of before) (shown_of after) faults after.disk.faults mid now) where
@@ -269,9 +270,19 @@ module _ (limit : ℕ) (file dir : List ℕ) (w : words.RunSettings) (before aft
           by (inl rose) = inl (inl (Rose-earlier before.disk.faults faults after.disk.faults later rose))
           by (inr past) = inr (subst (λ src. EndsPast batch_rule (Some ran.store) src ran.last ran.fresh now) source_so past)
 
+      -- what was logged, in this run's own terms
+      abbrev Logged : Compiled → RunSettings → StoreSettings → Type 0
+      Logged c t kept = LogsServed (run_service c t) (Some kept) t.limit start before.input.left after.input.left start (settled ran.last ran.fresh) mid now
+
+      logs_so : Logged made.compiled (settings_for limit w) (settings_by w holds.text opened.store.position.epoch)
+      logs_so =
+          subst (Logged made.compiled (settings_for limit w)) same_settings
+          (subst (λ t. Logged made.compiled t opened.store.settings) is (subst (λ c. Logged c s opened.store.settings) ready.runs.compiled_is ran.logs))
+
       keeps_run : KeepsRun dir w (source_of made.compiled) holds.text start ran.last before.disk after.disk now result
       keeps_run = record {
         moment = moment;
+        within = let later : mid.moment ≤ now.moment = logs_so.logs.moments.later in omega (arith, within, later);
         mounts = mounts;
         opened = opened.store.position;
         found = found_so;
@@ -285,14 +296,11 @@ module _ (limit : ℕ) (file dir : List ℕ) (w : words.RunSettings) (before aft
         cause = cause_so;
       }
 
-      -- what was logged, in this run's own terms
-      abbrev Logged : Compiled → RunSettings → StoreSettings → Type 0
-      Logged c t kept = LogsServed (run_service c t) (Some kept) t.limit start before.input.left after.input.left start (settled ran.last ran.fresh) mid now
+      few_so : (settings_for limit w).batch ≤ 256
+      few_so = subst (λ (t : RunSettings). t.batch ≤ 256) is serves.few
 
-      logs_so : Logged made.compiled (settings_for limit w) (settings_by w holds.text opened.store.position.epoch)
-      logs_so =
-          subst (Logged made.compiled (settings_for limit w)) same_settings
-          (subst (λ t. Logged made.compiled t opened.store.settings) is (subst (λ c. Logged c s opened.store.settings) ready.runs.compiled_is ran.logs))
+      few_wait : length start.pending < 256
+      few_wait = let few : length start.pending ≤ 255 = ready.few in omega (arith, few)
 
       moments_run : RunMoments made.compiled (settings_for limit w) holds.text start before.input.left after.input.left (before.disk.found dir) after.disk.mounts.moment now
       moments_run = record {
@@ -305,6 +313,7 @@ module _ (limit : ℕ) (file dir : List ℕ) (w : words.RunSettings) (before aft
               | inl before_run ↦ inl (subst (λ t. LeavesFound (program_for made.compiled t) (before.disk.found dir) image) holds.is.characters (earlier image before_run))
               | inr stands ↦ inr stands
             ];
+        grow = λ sound. logged_grows made.compiled (settings_for limit w) few_so start sound few_wait logs_so.steps;
       }
 
       pub ran_stored : (result ≡ Err ReadFault → Rose before.input.faults after.input.faults)

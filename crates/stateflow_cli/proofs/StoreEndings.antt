@@ -223,7 +223,7 @@ module _ (limit : ℕ) (before after : Devices) (was now : DiskFacts) (behind : 
           → (status ≡ 4) ⊎ ((status ≡ 5) ⊎ ((status ≡ 6) ⊎ ((status ≡ 7) ⊎ (status ≡ 8)))) → Leaves (Some u.dir)
       mounted_leaves m unchanged why =
           inr (inl (record {
-            mounted_once = record { moment = m.moment; mounts = m.mounts };
+            mounted_once = record { moment = m.moment; within = m.within; mounts = m.mounts };
             idle = still_idle before after behind u.still;
             moments =
                 of_stored (λ p. (image : Image) → now.left_since after.disk.mounts.moment image → LeavesFound p (before.disk.found u.dir) image) u.compiled u.holds
@@ -324,6 +324,7 @@ module _ (limit : ℕ) (before after : Devices) (was now : DiskFacts) (behind : 
         final_told t = record {
           answers = r.runs.prints;
           tells = tells limit before after was now behind file s status e own (Ok tally) r is t;
+          from = refl;
           keeps = record { position = k.store.position; each = last_each; epoch = epoch_told (tally_after no_batch t.counts) t.counted };
         }
 
@@ -367,7 +368,7 @@ module _ (limit : ℕ) (before after : Devices) (was now : DiskFacts) (behind : 
           → RunMoments r.compiled (settings_for limit s) r.holds.text r.start before.input.left after.input.left (before.disk.found dir) after.disk.mounts.moment now
           → status_of e ≡ status_of (run_ending result) → LeavesOpened limit file dir s before after now status
       opened_leaves result r k moments is = record {
-        mounted_once = record { moment = k.moment; mounts = k.mounts };
+        mounted_once = record { moment = k.moment; within = k.within; mounts = k.mounts };
         holds = holds_compiled (before.content file) r.compiled r.holds;
         opened = k.opened;
         start = r.start;

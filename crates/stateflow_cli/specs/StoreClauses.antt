@@ -1,5 +1,5 @@
 -- What a call leaves of the store that its words name, by its status, and why it doesn't serve on it.
-use Rattle.std.specs.Prelude.{ℕ, ◌≡◌, ◌⊎◌, ◌+◌, ◌-◌, ◌^◌, ◌<◌, ◌/◌, min, List, ⊤, None, Some, IfSome, Err, decimal, Bool, true, false}
+use Rattle.std.specs.Prelude.{ℕ, ◌≡◌, ◌≤◌, ◌⊎◌, ◌+◌, ◌-◌, ◌^◌, ◌<◌, ◌/◌, min, List, ⊤, None, Some, IfSome, Err, decimal, Bool, true, false}
 use Rattle.std.specs.Str.{chars}
 use Rattle.std.specs.declared.option.Option.{Option}
 use Rattle.std.specs.Io.KnownBytes.{Appends}
@@ -123,9 +123,10 @@ DiskFails limit (Some (Gen s)) before after now = ⊥
 
 -- ---- what is left
 
--- the folder was mounted, once
-pub record MountsOnce (dir : List ℕ) (before after : Devices) : Type 0 where
+-- the folder was mounted, once, at a moment that is over
+pub record MountsOnce (dir : List ℕ) (before after : Devices) (now : DiskFacts) : Type 0 where
   pub moment : ℕ
+  pub within : moment ≤ now.moment
   pub mounts : after.disk.mounts ≡ mounted before.disk.mounts dir moment
 
 -- with these statuses it may not have been: with that of a fault of the disk only where its mount was refused
@@ -143,7 +144,7 @@ pub record IsUnmounted (dir : List ℕ) (before after : Devices) (was now : Disk
 -- It was mounted, and no session began. Each image that a crash may have left since is what was found, or stands for nothing committed where a new
 -- store was found; where the store is bad, or of another program, it is as it was found.
 pub record LeavesUnopened (file dir : List ℕ) (before after : Devices) (now : DiskFacts) (status : ℕ) : Type 0 where
-  pub mounted_once : MountsOnce dir before after
+  pub mounted_once : MountsOnce dir before after now
   pub idle : IsIdle before after
   pub moments : OfStored file before (λ p. (image : Image) → now.left_since after.disk.mounts.moment image → LeavesFound p (before.disk.found dir) image)
   pub unchanged : (status ≡ 6) ⊎ (status ≡ 7) → IsClean now × (now.seen ≡ before.disk.found dir)
@@ -160,10 +161,11 @@ pub record KeepsLast (p : Program) (last : Core) (now : DiskFacts) (opened every
   pub epoch : batches < 2 ^ 64 - 1 → position.epoch ≡ min (opened + batches / every) (2 ^ 63 - 1)
 
 module _ (limit : ℕ) (file dir : List ℕ) (s : words.RunSettings) (before after : Devices) (now : DiskFacts) (status : ℕ) where
-  -- the whole input was served: it was answered, its batches were told, and the last core is kept behind them
+  -- the whole input was served from this core on: it was answered, its batches were told, and the last core is kept behind them
   pub record LeavesFinal (src : Source) (text : List ℕ) (opened : ℕ) (start last : Core) : Type 0 where
     pub answers : AnswersAll src (settings_for limit s) start before.input.left after.input.left before.out.held after.out.held last
     pub tells : TellsByStatus limit file s before after status
+    pub from : tells.start ≡ start
     pub keeps : KeepsLast (program_of src text) last now opened s.every (tally_after no_batch tells.counts).batches
 
   -- at each moment since the mount
@@ -176,7 +178,7 @@ module _ (limit : ℕ) (file dir : List ℕ) (s : words.RunSettings) (before aft
   -- A session was served on the store, from the core that was found to another. Each image that a crash now may leave stands for what was logged of
   -- the last core; or, where the disk failed, perhaps for the core behind the batch that is next there, and then no batch lacks replies.
   pub record LeavesOpened : Type 0 where
-    pub mounted_once : MountsOnce dir before after
+    pub mounted_once : MountsOnce dir before after now
     pub holds : Holds (before.content file)
     pub opened : Position
     pub start : Core

@@ -1,5 +1,5 @@
 -- What a run leaves of the store in the folder that its words name.
-use Rattle.std.specs.Prelude.{ℕ, ◌≡◌, ◌⊎◌, ⊤, true, List, Some, None, IfOk, IfSome, Err}
+use Rattle.std.specs.Prelude.{ℕ, ◌≡◌, ◌≤◌, ◌⊎◌, ⊤, true, List, Some, None, IfOk, IfSome, Err}
 use Rattle.std.specs.Str.{chars}
 use Rattle.std.specs.declared.option.Option.{Option}
 use Rattle.std.specs.declared.result.Result.{Result}
@@ -21,11 +21,12 @@ use Rattle.session_store.specs.Cycles.{IsInCycle}
 use Rattle.session_store.specs.Endings.{KeepsWhere, next_core}
 use Rattle.session_store.specs.Stores.{HasSnapshotPast, EndsPast}
 use Rattle.session_store.specs.Vocabulary.{IsStorable}
-use Rattle.batch_run.specs.Vocabulary.{Tally, Step, SessionFault, disk_failed, LogsServed, StandsLogged}
+use Rattle.batch_run.specs.Vocabulary.{Tally, Step, SessionFault, disk_failed, LogsServed, IsLogged, StandsLogged}
 use Rattle.batch_run.specs.declared.running.RunSettings.{RunSettings}
 use Rattle.batch_run.specs.RunViews.{Shown, run_service}
 use Rattle.batch_run.specs.RunEvents.{AreStepsOf, batches_of}
 use Rattle.batch_run.specs.Runs.{Runs}
+use Rattle.batch_run.specs.GrownCores.{GrowsFrom}
 use Rattle.store_opening.specs.declared.opened_store.OpenedStore.{OpenedStore}
 use Rattle.store_opening.specs.declared.stop.OpenStop.{OpenStop}
 use Rattle.store_opening.specs.declared.stop.OpenStop.TheVariants as of_store
@@ -53,6 +54,7 @@ settings_by s text epoch = record { program = chars text; every = s.every; opene
 pub record KeepsRun (dir : List ℕ) (s : words.RunSettings) (src : Source) (text : List ℕ) (start last : Core) (before after : StoreDisk) (now : DiskFacts)
     (result : Result Tally SessionFault) : Type 0 where
   pub moment : ℕ
+  pub within : moment ≤ now.moment
   pub mounts : after.mounts ≡ mounted before.mounts dir moment
   pub opened : Position
   pub found : IfSome (before.found dir) (λ image. (place : Position) × WasAt place opened × StandsFor (program_of src text) image start place)
@@ -82,7 +84,8 @@ pub record RanOpened (opened : OpenedStore) (s : RunSettings) (result : Result T
   pub cause : disk_failed result ≡ true → Rose faults faults' ⊎ EndsPast batch_rule (Some store) (source_of opened.engine) last fresh now
 
 -- Each image that a crash may have left at some moment since the store was mounted is what was found, or stands for nothing committed where a new
--- store was found; or it stands for the core that the run began with, or for the one behind one of the batches of what was taken.
+-- store was found; or it stands for the core that the run began with, or for the one behind one of the batches of what was taken. Where the first of
+-- these cores is sound so is each, and its history begins with that of the first.
 pub record RunMoments (compiled : Compiled) (s : RunSettings) (text : List ℕ) (start : Core) (left left' : Option (List ℕ)) (found : Option Image)
     (moment : ℕ) (now : DiskFacts) : Type 0 where
   pub taken : List ℕ
@@ -91,6 +94,8 @@ pub record RunMoments (compiled : Compiled) (s : RunSettings) (text : List ℕ) 
   pub of_taken : AreStepsOf compiled s start taken left' steps
   pub each : (image : Image) → now.left_since moment image → LeavesFound (program_of (batch.source_of compiled) text) found image
       ⊎ StandsLogged (batch.source_of compiled) batch_rule (chars text) start (batches_of compiled s start steps) image
+  pub grow : IsSoundCore (batch.source_of compiled) start → (core : Core)
+      → IsLogged (batch.source_of compiled) batch_rule start (batches_of compiled s start steps) core → GrowsFrom (batch.source_of compiled) start core
 
 -- where the words name a store, the last that was mounted
 abbrev pub MomentsIn : Option (List ℕ) → Compiled → RunSettings → List ℕ → Core → Option (List ℕ) → Option (List ℕ) → StoreDisk → StoreDisk → DiskFacts → Type 0

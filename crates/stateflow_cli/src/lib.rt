@@ -12,10 +12,12 @@ mod printing;
 mod real_devices;
 mod running;
 mod serving;
+mod showing;
 mod telling;
 mod top_call;
 mod words;
 
 pub use generator::Generator;
 pub use real_devices::{NamedFiles, Reading, Writing};
+pub use showing::{Call, Shows};
 pub use top_call::stateflow;

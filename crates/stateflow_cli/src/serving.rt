@@ -10,7 +10,7 @@ ghost use Rattle.session_store.specs.Vocabulary.{IsStorable};
 ghost use Rattle.store_opening.specs.OpenedStores.{KeepsOpened};
 ghost use Rattle.batch_run.specs.RunViews.{CanServe, shown};
 ghost use Rattle.command_words.specs.Commands.{settings_by};
-ghost use Rattle.stateflow_cli.specs.Devices.{StoreDisk, devices, source, sink, outside, store_disk};
+ghost use Rattle.stateflow_cli.specs.Devices.{StoreDisk, devices, source, sink, outside};
 ghost use Rattle.stateflow_cli.specs.Endings.{RunEnds, longest_input, settings_for, run_ending};
 ghost use Rattle.stateflow_cli.specs.StoredRuns.{RanOpened};
 ghost use Rattle.stateflow_cli.specs.Words.{AreInRange};
@@ -18,6 +18,7 @@ ghost use Rattle.stateflow_cli.specs.Words.{AreInRange};
 use crate::ending::Ending;
 use crate::loading::{CompiledText, LoadStop, load_compiled, load_with_text};
 use crate::running::LONGEST_INPUT;
+use crate::showing::{Call, Shows};
 use batch_run::{RunSettings, SessionFault, Tally, run_opened, run_program};
 use command_words::RunWords;
 use operator_graph::Watch;
@@ -157,10 +158,8 @@ fn run_stored<F: Files, S: Source, K: Sink, E: Sink, D: Disk, C: Chooser, W: Wat
     requires in_range { AreInRange (settings_by words) }
     requires named { (settings_by words).store ≡ Some name.now }
     ensures { RunEnds longest_input file.now (settings_by words.entry)
-        (devices (F.content files.old) (F.faults files.old) (source (S.left input.old) (S.faults input.old)) (sink (K.held out.old) (K.faults out.old))
-        (sink (E.held err.old) (E.faults err.old)) (outside (C.choices chooser.old) (W.told watch.old)) (store_disk (D.found disk.old) (D.faults disk.old) (D.mounts disk.old)))
-        (devices (F.content files.new) (F.faults files.new) (source (S.left input.new) (S.faults input.new)) (sink (K.held out.new) (K.faults out.new))
-        (sink (E.held err.new) (E.faults err.new)) (outside (C.choices chooser.new) (W.told watch.new)) (store_disk (D.found disk.new) (D.faults disk.new) (D.mounts disk.new)))
+        (⟦<Call as Shows<F, S, K, E, D, C, W>>⟧.shown files.old input.old out.old err.old disk.old chooser.old watch.old)
+        (⟦<Call as Shows<F, S, K, E, D, C, W>>⟧.shown files.new input.new out.new err.new disk.new chooser.new watch.new)
         (D.facts disk.old) (D.facts disk.new) result }
 {
     let CompiledText { compiled, text } = match load_with_text(alloc, files, file) {
@@ -206,10 +205,8 @@ pub(crate) fn run_file<F: Files, S: Source, K: Sink, E: Sink, D: Disk, C: Choose
 ) -> Ending
     requires in_range { AreInRange (settings_by words) }
     ensures ends { RunEnds longest_input file.now (settings_by words.entry)
-        (devices (F.content files.old) (F.faults files.old) (source (S.left input.old) (S.faults input.old)) (sink (K.held out.old) (K.faults out.old))
-        (sink (E.held err.old) (E.faults err.old)) (outside (C.choices chooser.old) (W.told watch.old)) (store_disk (D.found disk.old) (D.faults disk.old) (D.mounts disk.old)))
-        (devices (F.content files.new) (F.faults files.new) (source (S.left input.new) (S.faults input.new)) (sink (K.held out.new) (K.faults out.new))
-        (sink (E.held err.new) (E.faults err.new)) (outside (C.choices chooser.new) (W.told watch.new)) (store_disk (D.found disk.new) (D.faults disk.new) (D.mounts disk.new)))
+        (⟦<Call as Shows<F, S, K, E, D, C, W>>⟧.shown files.old input.old out.old err.old disk.old chooser.old watch.old)
+        (⟦<Call as Shows<F, S, K, E, D, C, W>>⟧.shown files.new input.new out.new err.new disk.new chooser.new watch.new)
         (D.facts disk.old) (D.facts disk.new) result }
     ensures untouched { (settings_by words.entry).store ≡ None → disk.new ≡ disk.old }
 {

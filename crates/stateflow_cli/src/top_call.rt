@@ -4,7 +4,6 @@ ghost use Rattle.std.specs.Prelude.{◌≡◌, None, Some, map, string_bytes};
 ghost use Rattle.command_words.specs.CommandReading.{asked};
 ghost use Rattle.command_words.specs.Commands.{asked_by};
 ghost use Rattle.stateflow_cli.specs.Words.{IsInRange};
-ghost use Rattle.stateflow_cli.specs.Devices.{devices, source, sink, outside, store_disk};
 ghost use Rattle.stateflow_cli.specs.Endings.{EndsOn, longest_input};
 ghost use Rattle.stateflow_cli.specs.Answers.{
   Answers,
@@ -29,6 +28,7 @@ use crate::ending::Ending;
 use crate::generating::serve_generated;
 use crate::running::interpret_file;
 use crate::serving::run_file;
+use crate::showing::{Call, Shows};
 use crate::telling::tell;
 use crate::words::{command_of, program_name};
 use command_words::{Command, WordsError};
@@ -50,12 +50,8 @@ fn perform<F: Files, S: Source, K: Sink, E: Sink, D: Disk, C: Chooser, W: Watch>
 ) -> Ending
     requires in_range { IsInRange (asked_by command) }
     ensures ends { EndsOn longest_input (asked_by command.entry)
-        (devices (F.content files.old) (F.faults files.old) (source (S.left input.old) (S.faults input.old)) (sink (K.held out.old) (K.faults out.old))
-        (sink (E.held err.old) (E.faults err.old)) (outside (C.choices chooser.old) (W.told watch.old))
-        (store_disk (D.found disk.old) (D.faults disk.old) (D.mounts disk.old)))
-        (devices (F.content files.new) (F.faults files.new) (source (S.left input.new) (S.faults input.new)) (sink (K.held out.new) (K.faults out.new))
-        (sink (E.held err.new) (E.faults err.new)) (outside (C.choices chooser.new) (W.told watch.new))
-        (store_disk (D.found disk.new) (D.faults disk.new) (D.mounts disk.new)))
+        (⟦<Call as Shows<F, S, K, E, D, C, W>>⟧.shown files.old input.old out.old err.old disk.old chooser.old watch.old)
+        (⟦<Call as Shows<F, S, K, E, D, C, W>>⟧.shown files.new input.new out.new err.new disk.new chooser.new watch.new)
         (D.facts disk.old) (D.facts disk.new) result }
     ensures untouched { store_in (Some (asked_by command.entry)) ≡ None → disk.new ≡ disk.old }
 {
@@ -83,12 +79,8 @@ fn run_words<F: Files, S: Source, K: Sink, E: Sink, D: Disk, C: Chooser, W: Watc
     watch: &mut W,
 ) -> u8
     ensures answers { Answers longest_input (asked (map string_bytes words.now))
-        (devices (F.content files.old) (F.faults files.old) (source (S.left input.old) (S.faults input.old)) (sink (K.held out.old) (K.faults out.old))
-        (sink (E.held err.old) (E.faults err.old)) (outside (C.choices chooser.old) (W.told watch.old))
-        (store_disk (D.found disk.old) (D.faults disk.old) (D.mounts disk.old)))
-        (devices (F.content files.new) (F.faults files.new) (source (S.left input.new) (S.faults input.new)) (sink (K.held out.new) (K.faults out.new))
-        (sink (E.held err.new) (E.faults err.new)) (outside (C.choices chooser.new) (W.told watch.new))
-        (store_disk (D.found disk.new) (D.faults disk.new) (D.mounts disk.new)))
+        (⟦<Call as Shows<F, S, K, E, D, C, W>>⟧.shown files.old input.old out.old err.old disk.old chooser.old watch.old)
+        (⟦<Call as Shows<F, S, K, E, D, C, W>>⟧.shown files.new input.new out.new err.new disk.new chooser.new watch.new)
         (D.facts disk.old) (D.facts disk.new) result }
     ensures untouched { store_in (asked (map string_bytes words.now)) ≡ None → disk.new ≡ disk.old }
 {
@@ -118,105 +110,49 @@ pub fn stateflow<F: Files, S: Source, K: Sink, E: Sink, D: Disk, C: Chooser, W: 
     watch: &mut W,
 ) -> u8
     ensures answers { Answers longest_input (asked (map string_bytes words.now))
-        (devices (F.content files.old) (F.faults files.old) (source (S.left input.old) (S.faults input.old)) (sink (K.held out.old) (K.faults out.old))
-        (sink (E.held err.old) (E.faults err.old)) (outside (C.choices chooser.old) (W.told watch.old))
-        (store_disk (D.found disk.old) (D.faults disk.old) (D.mounts disk.old)))
-        (devices (F.content files.new) (F.faults files.new) (source (S.left input.new) (S.faults input.new)) (sink (K.held out.new) (K.faults out.new))
-        (sink (E.held err.new) (E.faults err.new)) (outside (C.choices chooser.new) (W.told watch.new))
-        (store_disk (D.found disk.new) (D.faults disk.new) (D.mounts disk.new)))
+        (⟦<Call as Shows<F, S, K, E, D, C, W>>⟧.shown files.old input.old out.old err.old disk.old chooser.old watch.old)
+        (⟦<Call as Shows<F, S, K, E, D, C, W>>⟧.shown files.new input.new out.new err.new disk.new chooser.new watch.new)
         (D.facts disk.old) (D.facts disk.new) result }
     ensures text { result ≡ 0 → Completes longest_input (asked (map string_bytes words.now))
-        (devices (F.content files.old) (F.faults files.old) (source (S.left input.old) (S.faults input.old)) (sink (K.held out.old) (K.faults out.old))
-        (sink (E.held err.old) (E.faults err.old)) (outside (C.choices chooser.old) (W.told watch.old))
-        (store_disk (D.found disk.old) (D.faults disk.old) (D.mounts disk.old)))
-        (devices (F.content files.new) (F.faults files.new) (source (S.left input.new) (S.faults input.new)) (sink (K.held out.new) (K.faults out.new))
-        (sink (E.held err.new) (E.faults err.new)) (outside (C.choices chooser.new) (W.told watch.new))
-        (store_disk (D.found disk.new) (D.faults disk.new) (D.mounts disk.new))) }
+        (⟦<Call as Shows<F, S, K, E, D, C, W>>⟧.shown files.old input.old out.old err.old disk.old chooser.old watch.old)
+        (⟦<Call as Shows<F, S, K, E, D, C, W>>⟧.shown files.new input.new out.new err.new disk.new chooser.new watch.new) }
     ensures check_text { ChecksText (asked (map string_bytes words.now))
-        (devices (F.content files.old) (F.faults files.old) (source (S.left input.old) (S.faults input.old)) (sink (K.held out.old) (K.faults out.old))
-        (sink (E.held err.old) (E.faults err.old)) (outside (C.choices chooser.old) (W.told watch.old))
-        (store_disk (D.found disk.old) (D.faults disk.old) (D.mounts disk.old)))
-        (devices (F.content files.new) (F.faults files.new) (source (S.left input.new) (S.faults input.new)) (sink (K.held out.new) (K.faults out.new))
-        (sink (E.held err.new) (E.faults err.new)) (outside (C.choices chooser.new) (W.told watch.new))
-        (store_disk (D.found disk.new) (D.faults disk.new) (D.mounts disk.new))) result }
+        (⟦<Call as Shows<F, S, K, E, D, C, W>>⟧.shown files.old input.old out.old err.old disk.old chooser.old watch.old)
+        (⟦<Call as Shows<F, S, K, E, D, C, W>>⟧.shown files.new input.new out.new err.new disk.new chooser.new watch.new) result }
     ensures compile_text { CompilesText (asked (map string_bytes words.now))
-        (devices (F.content files.old) (F.faults files.old) (source (S.left input.old) (S.faults input.old)) (sink (K.held out.old) (K.faults out.old))
-        (sink (E.held err.old) (E.faults err.old)) (outside (C.choices chooser.old) (W.told watch.old))
-        (store_disk (D.found disk.old) (D.faults disk.old) (D.mounts disk.old)))
-        (devices (F.content files.new) (F.faults files.new) (source (S.left input.new) (S.faults input.new)) (sink (K.held out.new) (K.faults out.new))
-        (sink (E.held err.new) (E.faults err.new)) (outside (C.choices chooser.new) (W.told watch.new))
-        (store_disk (D.found disk.new) (D.faults disk.new) (D.mounts disk.new))) result }
+        (⟦<Call as Shows<F, S, K, E, D, C, W>>⟧.shown files.old input.old out.old err.old disk.old chooser.old watch.old)
+        (⟦<Call as Shows<F, S, K, E, D, C, W>>⟧.shown files.new input.new out.new err.new disk.new chooser.new watch.new) result }
     ensures local_text { result ≡ 0 → GivesText (asked (map string_bytes words.now))
-        (devices (F.content files.old) (F.faults files.old) (source (S.left input.old) (S.faults input.old)) (sink (K.held out.old) (K.faults out.old))
-        (sink (E.held err.old) (E.faults err.old)) (outside (C.choices chooser.old) (W.told watch.old))
-        (store_disk (D.found disk.old) (D.faults disk.old) (D.mounts disk.old)))
-        (devices (F.content files.new) (F.faults files.new) (source (S.left input.new) (S.faults input.new)) (sink (K.held out.new) (K.faults out.new))
-        (sink (E.held err.new) (E.faults err.new)) (outside (C.choices chooser.new) (W.told watch.new))
-        (store_disk (D.found disk.new) (D.faults disk.new) (D.mounts disk.new))) }
+        (⟦<Call as Shows<F, S, K, E, D, C, W>>⟧.shown files.old input.old out.old err.old disk.old chooser.old watch.old)
+        (⟦<Call as Shows<F, S, K, E, D, C, W>>⟧.shown files.new input.new out.new err.new disk.new chooser.new watch.new) }
     ensures run_text { RunsText longest_input (asked (map string_bytes words.now))
-        (devices (F.content files.old) (F.faults files.old) (source (S.left input.old) (S.faults input.old)) (sink (K.held out.old) (K.faults out.old))
-        (sink (E.held err.old) (E.faults err.old)) (outside (C.choices chooser.old) (W.told watch.old))
-        (store_disk (D.found disk.old) (D.faults disk.old) (D.mounts disk.old)))
-        (devices (F.content files.new) (F.faults files.new) (source (S.left input.new) (S.faults input.new)) (sink (K.held out.new) (K.faults out.new))
-        (sink (E.held err.new) (E.faults err.new)) (outside (C.choices chooser.new) (W.told watch.new))
-        (store_disk (D.found disk.new) (D.faults disk.new) (D.mounts disk.new))) result }
+        (⟦<Call as Shows<F, S, K, E, D, C, W>>⟧.shown files.old input.old out.old err.old disk.old chooser.old watch.old)
+        (⟦<Call as Shows<F, S, K, E, D, C, W>>⟧.shown files.new input.new out.new err.new disk.new chooser.new watch.new) result }
     ensures gen_text { SumsText (asked (map string_bytes words.now))
-        (devices (F.content files.old) (F.faults files.old) (source (S.left input.old) (S.faults input.old)) (sink (K.held out.old) (K.faults out.old))
-        (sink (E.held err.old) (E.faults err.old)) (outside (C.choices chooser.old) (W.told watch.old))
-        (store_disk (D.found disk.old) (D.faults disk.old) (D.mounts disk.old)))
-        (devices (F.content files.new) (F.faults files.new) (source (S.left input.new) (S.faults input.new)) (sink (K.held out.new) (K.faults out.new))
-        (sink (E.held err.new) (E.faults err.new)) (outside (C.choices chooser.new) (W.told watch.new))
-        (store_disk (D.found disk.new) (D.faults disk.new) (D.mounts disk.new))) result }
+        (⟦<Call as Shows<F, S, K, E, D, C, W>>⟧.shown files.old input.old out.old err.old disk.old chooser.old watch.old)
+        (⟦<Call as Shows<F, S, K, E, D, C, W>>⟧.shown files.new input.new out.new err.new disk.new chooser.new watch.new) result }
     ensures serial { PrintsSerially (asked (map string_bytes words.now))
-        (devices (F.content files.old) (F.faults files.old) (source (S.left input.old) (S.faults input.old)) (sink (K.held out.old) (K.faults out.old))
-        (sink (E.held err.old) (E.faults err.old)) (outside (C.choices chooser.old) (W.told watch.old))
-        (store_disk (D.found disk.old) (D.faults disk.old) (D.mounts disk.old)))
-        (devices (F.content files.new) (F.faults files.new) (source (S.left input.new) (S.faults input.new)) (sink (K.held out.new) (K.faults out.new))
-        (sink (E.held err.new) (E.faults err.new)) (outside (C.choices chooser.new) (W.told watch.new))
-        (store_disk (D.found disk.new) (D.faults disk.new) (D.mounts disk.new))) }
+        (⟦<Call as Shows<F, S, K, E, D, C, W>>⟧.shown files.old input.old out.old err.old disk.old chooser.old watch.old)
+        (⟦<Call as Shows<F, S, K, E, D, C, W>>⟧.shown files.new input.new out.new err.new disk.new chooser.new watch.new) }
     ensures taken { TakesInput longest_input (asked (map string_bytes words.now))
-        (devices (F.content files.old) (F.faults files.old) (source (S.left input.old) (S.faults input.old)) (sink (K.held out.old) (K.faults out.old))
-        (sink (E.held err.old) (E.faults err.old)) (outside (C.choices chooser.old) (W.told watch.old))
-        (store_disk (D.found disk.old) (D.faults disk.old) (D.mounts disk.old)))
-        (devices (F.content files.new) (F.faults files.new) (source (S.left input.new) (S.faults input.new)) (sink (K.held out.new) (K.faults out.new))
-        (sink (E.held err.new) (E.faults err.new)) (outside (C.choices chooser.new) (W.told watch.new))
-        (store_disk (D.found disk.new) (D.faults disk.new) (D.mounts disk.new))) }
+        (⟦<Call as Shows<F, S, K, E, D, C, W>>⟧.shown files.old input.old out.old err.old disk.old chooser.old watch.old)
+        (⟦<Call as Shows<F, S, K, E, D, C, W>>⟧.shown files.new input.new out.new err.new disk.new chooser.new watch.new) }
     ensures events { TellsEvents longest_input (asked (map string_bytes words.now))
-        (devices (F.content files.old) (F.faults files.old) (source (S.left input.old) (S.faults input.old)) (sink (K.held out.old) (K.faults out.old))
-        (sink (E.held err.old) (E.faults err.old)) (outside (C.choices chooser.old) (W.told watch.old))
-        (store_disk (D.found disk.old) (D.faults disk.old) (D.mounts disk.old)))
-        (devices (F.content files.new) (F.faults files.new) (source (S.left input.new) (S.faults input.new)) (sink (K.held out.new) (K.faults out.new))
-        (sink (E.held err.new) (E.faults err.new)) (outside (C.choices chooser.new) (W.told watch.new))
-        (store_disk (D.found disk.new) (D.faults disk.new) (D.mounts disk.new))) result }
+        (⟦<Call as Shows<F, S, K, E, D, C, W>>⟧.shown files.old input.old out.old err.old disk.old chooser.old watch.old)
+        (⟦<Call as Shows<F, S, K, E, D, C, W>>⟧.shown files.new input.new out.new err.new disk.new chooser.new watch.new) result }
     ensures trace { TellsLines longest_input (asked (map string_bytes words.now))
-        (devices (F.content files.old) (F.faults files.old) (source (S.left input.old) (S.faults input.old)) (sink (K.held out.old) (K.faults out.old))
-        (sink (E.held err.old) (E.faults err.old)) (outside (C.choices chooser.old) (W.told watch.old))
-        (store_disk (D.found disk.old) (D.faults disk.old) (D.mounts disk.old)))
-        (devices (F.content files.new) (F.faults files.new) (source (S.left input.new) (S.faults input.new)) (sink (K.held out.new) (K.faults out.new))
-        (sink (E.held err.new) (E.faults err.new)) (outside (C.choices chooser.new) (W.told watch.new))
-        (store_disk (D.found disk.new) (D.faults disk.new) (D.mounts disk.new))) result }
+        (⟦<Call as Shows<F, S, K, E, D, C, W>>⟧.shown files.old input.old out.old err.old disk.old chooser.old watch.old)
+        (⟦<Call as Shows<F, S, K, E, D, C, W>>⟧.shown files.new input.new out.new err.new disk.new chooser.new watch.new) result }
     ensures causes { HasCauses longest_input (asked (map string_bytes words.now))
-        (devices (F.content files.old) (F.faults files.old) (source (S.left input.old) (S.faults input.old)) (sink (K.held out.old) (K.faults out.old))
-        (sink (E.held err.old) (E.faults err.old)) (outside (C.choices chooser.old) (W.told watch.old))
-        (store_disk (D.found disk.old) (D.faults disk.old) (D.mounts disk.old)))
-        (devices (F.content files.new) (F.faults files.new) (source (S.left input.new) (S.faults input.new)) (sink (K.held out.new) (K.faults out.new))
-        (sink (E.held err.new) (E.faults err.new)) (outside (C.choices chooser.new) (W.told watch.new))
-        (store_disk (D.found disk.new) (D.faults disk.new) (D.mounts disk.new)))
+        (⟦<Call as Shows<F, S, K, E, D, C, W>>⟧.shown files.old input.old out.old err.old disk.old chooser.old watch.old)
+        (⟦<Call as Shows<F, S, K, E, D, C, W>>⟧.shown files.new input.new out.new err.new disk.new chooser.new watch.new)
         (D.facts disk.new) result }
     ensures complete { IsComplete (asked (map string_bytes words.now))
-        (devices (F.content files.old) (F.faults files.old) (source (S.left input.old) (S.faults input.old)) (sink (K.held out.old) (K.faults out.old))
-        (sink (E.held err.old) (E.faults err.old)) (outside (C.choices chooser.old) (W.told watch.old))
-        (store_disk (D.found disk.old) (D.faults disk.old) (D.mounts disk.old)))
-        (devices (F.content files.new) (F.faults files.new) (source (S.left input.new) (S.faults input.new)) (sink (K.held out.new) (K.faults out.new))
-        (sink (E.held err.new) (E.faults err.new)) (outside (C.choices chooser.new) (W.told watch.new))
-        (store_disk (D.found disk.new) (D.faults disk.new) (D.mounts disk.new))) result }
+        (⟦<Call as Shows<F, S, K, E, D, C, W>>⟧.shown files.old input.old out.old err.old disk.old chooser.old watch.old)
+        (⟦<Call as Shows<F, S, K, E, D, C, W>>⟧.shown files.new input.new out.new err.new disk.new chooser.new watch.new) result }
     ensures store { StoreEnds longest_input (asked (map string_bytes words.now))
-        (devices (F.content files.old) (F.faults files.old) (source (S.left input.old) (S.faults input.old)) (sink (K.held out.old) (K.faults out.old))
-        (sink (E.held err.old) (E.faults err.old)) (outside (C.choices chooser.old) (W.told watch.old))
-        (store_disk (D.found disk.old) (D.faults disk.old) (D.mounts disk.old)))
-        (devices (F.content files.new) (F.faults files.new) (source (S.left input.new) (S.faults input.new)) (sink (K.held out.new) (K.faults out.new))
-        (sink (E.held err.new) (E.faults err.new)) (outside (C.choices chooser.new) (W.told watch.new))
-        (store_disk (D.found disk.new) (D.faults disk.new) (D.mounts disk.new)))
+        (⟦<Call as Shows<F, S, K, E, D, C, W>>⟧.shown files.old input.old out.old err.old disk.old chooser.old watch.old)
+        (⟦<Call as Shows<F, S, K, E, D, C, W>>⟧.shown files.new input.new out.new err.new disk.new chooser.new watch.new)
         (D.facts disk.old) (D.facts disk.new) result }
     ensures untouched { store_in (asked (map string_bytes words.now)) ≡ None → disk.new ≡ disk.old }
 {

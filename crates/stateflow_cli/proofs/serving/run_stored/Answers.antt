@@ -55,7 +55,7 @@ returns-in-Ok-open_store g c =
     run_ends longest_input c.args.file.now w old new was now c.run_on.result c.ending_of.result c.ending_of.ensures
     (ran_stored longest_input c.args.file.now c.args.name.now w old new was now c.requires.named c.in-Ok.loaded c.in-Ok.ensures.gives
     c.in-Ok-open_store.opened _ c.in-Ok-open_store.ensures.ready refl refl c.in-Ok-open_store.ensures.answer
-    c.settings_of.result c.settings_of.ensures c.run_on.result (g.D.Disk.faults c.open_store.new.disk) c.in-Ok-open_store.ensures.later
+    c.settings_of.result c.settings_of.ensures (can_serve (settings_by c.args.words) c.settings_of.result c.settings_of.ensures c.requires.in_range) c.run_on.result (g.D.Disk.faults c.open_store.new.disk) c.in-Ok-open_store.ensures.later
     c.in-Ok-open_store.ensures.mounts.moment (c.run_on.ensures.mounts ∙ c.in-Ok-open_store.ensures.mounts.mounts) (g.D.Disk.facts c.open_store.new.disk) c.in-Ok-open_store.ensures.mounts.within
     c.in-Ok-open_store.ensures.mounts.each c.run_on.ensures.ran
     c.run_on.ensures.read_cause c.run_on.ensures.write_cause c.run_on.ensures.later_err)
