@@ -1,5 +1,5 @@
 -- A batch under way: what was told so far, and what it comes to.
-use Rattle.std.proofs.Common.{◌≡◌, ◌∙◌, ℕ, arith, ◌+◌, ◌<◌, Bool, true, false, true≢false, Ok, Err, Some, None, List, [], ◌∷◌, ◌++◌, length, sym, ap, subst}
+use Rattle.std.proofs.Common.{◌≡◌, ◌∙◌, ℕ, arith, ◌+◌, ◌<◌, Bool, true, false, true≢false, Ok, Err, Some, None, List, [], ◌∷◌, ◌++◌, length, length-append, sym, ap, subst}
 use Rattle.std.specs.Prelude.{IsErr}
 use Rattle.std.specs.declared.result.Result.{Result}
 use Rattle.std.specs.declared.alloc.AllocError.{AllocError}
@@ -52,6 +52,7 @@ module _ (c : Compiled) (snapshot : State) (requests : List Request) (parts : �
   pub record PickedSoFar (events : ℕ) (old new : Outside) (picks : List ℕ) : Type 0 where
     pub picked : AlsoPicked old.choices new.choices picks
     pub told_of_them : AlsoTold old.told new.told (along m picks begun)
+    pub one_each : length picks ≡ length (along m picks begun)
     pub counted : events ≡ length (along m picks begun)
 
   -- and the transactions are what these picks have made of them
@@ -64,6 +65,7 @@ module _ (c : Compiled) (snapshot : State) (requests : List Request) (parts : �
   nothing_yet o = record {
     picked = none_picked o.choices;
     told_of_them = subst (AlsoTold o.told o.told) (sym (nothing_picked m begun).1) (none_told o.told);
+    one_each = sym (ap length (nothing_picked m begun).1);
     counted = sym (ap length (nothing_picked m begun).1);
   }
 
@@ -76,12 +78,16 @@ module _ (c : Compiled) (snapshot : State) (requests : List Request) (parts : �
     told_of_them =
         subst (AlsoTold old.told new.told) (sym (along_one_more m picks p.pick begun))
         (more_told old.told mid.told new.told (along m picks begun) (told m p.pick (after m picks begun)) s.told_of_them p.told_of_it);
-    counted = ap (λ n. n + 1) s.counted ∙ sym (one_more_note m picks p.pick begun (positive (running m (after m picks begun)) p.runs));
+    one_each = length-append picks (p.pick ∷ []) ∙ ap (λ n. n + 1) s.one_each ∙ sym one_note;
+    counted = ap (λ n. n + 1) s.counted ∙ sym one_note;
   }
+    where
+      one_note : length (along m (picks ++ p.pick ∷ []) begun) ≡ length (along m picks begun) + 1
+      one_note = one_more_note m picks p.pick begun (positive (running m (after m picks begun)) p.runs)
 
   -- nothing was told yet
   pub nothing_told : (o : Outside) → IsToldAlong (batch_of c snapshot requests) parts None o o
-  nothing_told o = let s : PickedSoFar 0 o o [] = nothing_yet o in record { picks = []; picked = s.picked; told_of_them = s.told_of_them; ended = tt; counted_all = tt }
+  nothing_told o = let s : PickedSoFar 0 o o [] = nothing_yet o in record { picks = []; picked = s.picked; told_of_them = s.told_of_them; one_each = s.one_each; ended = tt; counted_all = tt }
 
 -- A turn, by what it answers
 
@@ -108,7 +114,7 @@ module _ {c : Compiled} {snapshot : State} {requests : List Request} {parts : �
   stops e is =
       let t : PicksOne (turns_of c parts) before mid new = by_answer (Err e) is in
       let p : PickedSoFar c snapshot requests parts (events + 1) old new (s.picks ++ t.pick ∷ []) = one_more c snapshot requests parts events old mid new s.picks s.so_far t in
-      record { picks = s.picks ++ t.pick ∷ []; picked = p.picked; told_of_them = p.told_of_them; ended = tt; counted_all = tt }
+      record { picks = s.picks ++ t.pick ∷ []; picked = p.picked; told_of_them = p.told_of_them; one_each = p.one_each; ended = tt; counted_all = tt }
 
   -- Where all are over
 
@@ -121,7 +127,7 @@ module _ {c : Compiled} {snapshot : State} {requests : List Request} {parts : �
 
     pub all_told : IsToldAlong (batch_of c snapshot requests) parts (Some events) old new
     all_told = subst (λ o. IsToldAlong (batch_of c snapshot requests) parts (Some events) old o) (sym (by_answer (Ok false) is).2)
-        (record { picks = s.picks; picked = s.so_far.picked; told_of_them = s.so_far.told_of_them; ended = none_runs; counted_all = s.so_far.counted })
+        (record { picks = s.picks; picked = s.so_far.picked; told_of_them = s.so_far.told_of_them; one_each = s.so_far.one_each; ended = none_runs; counted_all = s.so_far.counted })
 
     module _ (whole : IsWhole c) (state : StateFits (compiled_tables c) snapshot) (fit : AllByRecursion (ActFits (compiled_tables c)) (acts_of requests)) where
       -- they have come to their requests' runs

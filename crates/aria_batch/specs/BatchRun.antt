@@ -54,11 +54,12 @@ module _ (b : Batch) (parts : ℕ) where
   abbrev pub running_along : List ℕ → ℕ
   running_along picks = batch_running b.src b.tables b.graph b.snapshot b.asked parts picks
 
-  -- along some picks: they are told besides, and so are the events along them. Where events were counted the batch was run to its end, and
-  -- they are as many as were told
+  -- along some picks: they are told besides, and so are the events along them, one for each pick. Where events were counted the batch was run to its
+  -- end, and they are as many as were told
   pub record IsToldAlong (counted : Option ℕ) (old new : Outside) : Type 0 where
     pub picks : List ℕ
     pub picked : AlsoPicked old.choices new.choices picks
     pub told_of_them : AlsoTold old.told new.told (told_along picks)
+    pub one_each : length picks ≡ length (told_along picks)
     pub ended : IfSome counted (λ n. running_along picks ≡ 0)
     pub counted_all : IfSome counted (λ n. n ≡ length (told_along picks))

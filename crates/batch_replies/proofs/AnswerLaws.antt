@@ -77,6 +77,6 @@ pub tells_planned : (batch : Batch) (parts events : ℕ) (result : Result BatchC
     → IsToldAlong batch parts (Some events) old new → TellsBatch batch parts result old new
 tells_planned batch parts events (Ok counts) old new placed same told = subst (λ n. IsToldAlong batch parts (Some n) old new) (sym same) told
 tells_planned batch parts events (Err HistoryFull) old new placed same told = absurd (placed refl)
-tells_planned batch parts events (Err NoMemory) old new placed same told = record { picks = told.picks; picked = told.picked; told_of_them = told.told_of_them; ended = tt; counted_all = tt }
+tells_planned batch parts events (Err NoMemory) old new placed same told = record { picks = told.picks; picked = told.picked; told_of_them = told.told_of_them; one_each = told.one_each; ended = tt; counted_all = tt }
 tells_planned batch parts events (Err DiskFault) old new placed same told = (events, told)
 tells_planned batch parts events (Err WriteFault) old new placed same told = (events, told)

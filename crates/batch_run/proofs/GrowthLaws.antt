@@ -1,5 +1,6 @@
--- Each core behind the batches of a run is sound, and has the history of the core that the run began with in front.
+-- Where a run begins with a sound core, so is each that its batches run on, and each behind them, which has the history of the first in front.
 use Rattle.std.proofs.Common.{◌≡◌, ℕ, ◌≤◌, ◌<◌, ◌^◌, ◌⊎◌, inl, inr, Bool, true, false, List, [], ◌∷◌, ◌++◌, length, if◌then◌else◌, refl, sym, ap, ◌∙◌, subst, append_assoc, append-nil, arith}
+use Rattle.std.specs.List.{AllByRecursion}
 use Rattle.program_meaning.specs.ClassTables.{Source}
 use Rattle.reservations.specs.BatchRule.{batch_rule}
 use Rattle.request_json.specs.Actions.{action_of}
@@ -34,6 +35,29 @@ module _ (compiled : Compiled) (s : RunSettings) (few : s.batch ≤ 256) where
   behind_either [] ys core at = inr at
   behind_either (x ∷ xs) ys core (inl here) = inl (inl here)
   behind_either (x ∷ xs) ys core (inr later) = elim (behind_either xs ys core later) [ inl near ↦ inl (inr near) | inr far ↦ inr far ]
+
+  -- what holds of the cores that batches run on, where it holds of each that is sound
+
+  module _ (P : Core → Type 0) (each : (core : Core) → IsSoundCore src core → P core) where
+    joined : (xs ys : List Core) → AllByRecursion P xs → AllByRecursion P ys → AllByRecursion P (xs ++ ys)
+    joined [] ys all more = more
+    joined (x ∷ xs) ys all more = (all.0, joined xs ys all.1 more)
+
+    at_most_one : (full due none : Bool) (moved : Core) → P moved → AllByRecursion P (if full then [] else (if due then (if none then [] else moved ∷ []) else []))
+    at_most_one true due none moved here = tt
+    at_most_one false false none moved here = tt
+    at_most_one false true true moved here = tt
+    at_most_one false true false moved here = (here, tt)
+
+    each_ran : (steps : List Step) (t : Standing) → Stands compiled s few t → AllByRecursion P (ran_on v t steps)
+    unfolding ran_on
+    each_ran [] t h = tt
+    each_ran (step ∷ steps) t h =
+        let next : Standing = behind v t step in
+        let moved : Core = (move_of v t step).core in
+        joined (ran_at v t step) (ran_on v next steps)
+        (at_most_one t.is_full (move_of v t step).is_due (has_no_place src batch_rule (run_limits s) moved) moved (each moved (begins compiled s few step t h).sound))
+        (each_ran steps next (next_stands compiled s few t next (printed_at v t step) (one compiled s few step t h)))
 
   -- a step has one batch at most, on the core behind its move
   only_one : (full due none : Bool) (moved core : Core)
@@ -83,7 +107,12 @@ module _ (compiled : Compiled) (s : RunSettings) (few : s.batch ≤ 256) where
         | inr there ↦ grows_on t next texts core first (later there)
       ]
 
-  -- of a sound core, of which fewer than 256 requests wait
+  -- From a sound core, of which fewer than 256 requests wait
+
+  pub each_batch : (P : Core → Type 0) → ((core : Core) → IsSoundCore src core → P core) → (start : Core) → IsSoundCore src start → length start.pending < 256 → (steps : List Step)
+      → AllByRecursion P (ran_on v (begun start) steps)
+  each_batch P each start sound wait steps = each_ran P each steps (begun start) (record { sound = sound; few = λ goes. wait })
+
   pub logged_grows : (start : Core) → IsSoundCore src start → length start.pending < 256 → (steps : List Step) (core : Core)
       → IsLogged src batch_rule start (ran_on v (begun start) steps) core → Grows start core
   logged_grows start sound wait steps core (inl same) =

@@ -13,7 +13,6 @@ use Rattle.engine.specs.Arrivals as engine
 use Rattle.batch_output.specs.BatchOutput.{Standing, taken}
 use Rattle.batch_session.specs.Vocabulary.{Step, Answer, RunWaiting, move_of, behind, standing_after, Point, going, moment, Does, StopsAt, StopsWithin, StopsBetween, Comes, LineStop, Service, program_of, IsUntaken, IsUnplanned, IsUnanswered, IsUnreplied, whole_text, HasPlace, core_behind}
 use Rattle.batch_session.specs.LineStopVariants as stop
-use Rattle.batch_run.specs.RunEvents.{IsAtNext}
 use Rattle.batch_session.proofs.Vocabulary.{prefix_whole, prefix_none, behind_placed, behind_full, standing_over, standing-append, standing-one}
 
 nothing_written : (a b : Option (List ℕ)) (xs : List ℕ) → b ≡ a → AppendsPrefix a b xs
@@ -131,48 +130,9 @@ module _ (v : Service) (traces : Bool) where
   ends (Err stop.DiskFault) steps p q (inr s) = between_steps (Err stop.DiskFault) steps p q s
   ends (Err stop.WriteFault) steps p q s = within stop.WriteFault steps p q s
 
-  -- The core that it ends with
-
   -- the core behind a step whose batch has a place
   pub run_core : (step : Step) (p q : Point) → HasRun step p q → q.core ≡ (behind v (going p) step).core
   run_core step p q h = h.core ∙ sym (ap (λ (t : Standing). t.core) (behind_placed v p.core p.lines step h.due h.place))
-
-  -- it is the one behind some first steps, or has what the next one leaves before its batch
-  pub record IsAmong (steps : List Step) (p q : Point) : Type 0 where
-    pub first : List Step
-    pub rest : List Step
-    pub split : steps ≡ first ++ rest
-    pub core : (q.core ≡ (standing_after v (going p) first).core) ⊎ IsAtNext v (standing_after v (going p) first) rest q.core
-
-  did_core : (first : List Step) (p between : Point) → Does v traces first p between → between.core ≡ (standing_after v (going p) first).core
-  did_core first p between d = sym (ap (λ (t : Standing). t.core) d.stands)
-
-  -- the core behind the first steps and one more
-  one_more : (first : List Step) (step : Step) (p between q : Point) → Does v traces first p between → HasRun step between q
-      → q.core ≡ (standing_after v (going p) (first ++ step ∷ [])).core
-  one_more first step p between q d h =
-      run_core step between q h
-      ∙ sym (ap (λ (t : Standing). t.core)
-      (standing-append v first (step ∷ []) (going p) ∙ ap (λ t. standing_after v t (step ∷ [])) d.stands ∙ standing-one v (going between) step))
-
-  pub among : (r : Result (Unit {0}) LineStop) (steps : List Step) (p q : Point) → Ends r steps p q → IsAmong steps p q
-  among r steps p q (inl e) = record { first = e.first; rest = e.rest; split = e.split; core = inl (did_core e.first p q e.did) }
-  among r steps p q (inr e) = by e.at
-    where
-      by : EndsAt r e.step e.between q → IsAmong steps p q
-      by (inl h) = record { first = e.first; rest = e.step ∷ e.rest; split = e.split; core = inl (h.core ∙ did_core e.first p e.between e.did) }
-      by (inr (inl h)) = record {
-        first = e.first;
-        rest = e.step ∷ e.rest;
-        split = e.split;
-        core = inr (h.core ∙ ap (λ (t : Standing). (move_of v t e.step).core) (sym e.did.stands));
-      }
-      by (inr (inr h)) = record {
-        first = e.first ++ e.step ∷ [];
-        rest = e.rest;
-        split = e.split ∙ sym (append_assoc e.first (e.step ∷ []) e.rest);
-        core = inl (one_more e.first e.step p e.between q e.did h.1);
-      }
 
   -- Where the history is full
 

@@ -3,6 +3,7 @@ pub mod TextLaws
 pub mod LastCores
 pub mod SerialLaws
 pub mod GrowthLaws
+pub mod OutcomeLaws
 pub mod EventLaws
 pub mod FullLaws
 pub mod RunLaws

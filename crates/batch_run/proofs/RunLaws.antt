@@ -7,6 +7,7 @@ use Rattle.std.proofs.KnownBytes.{Consumes-nil, Appends-nil}
 use Rattle.sf_outside.proofs.GainLaws.{joined-nil}
 use Rattle.reservations.specs.BatchRule.{batch_rule}
 use Rattle.block_step.specs.declared.compiled.Compiled.{Compiled}
+use Rattle.block_step.specs.CompiledViews.{IsWhole}
 use Rattle.operator_graph.specs.Turns.{Outside}
 use Rattle.aria_batch.specs.BatchRun as batch
 use Rattle.engine.specs.declared.engine.Engine.{Engine}
@@ -53,7 +54,7 @@ module _ (compiled : Compiled) (s : RunSettings) (result : Result Tally SessionF
         tells = inl (refl, refl, refl);
       }
 
-  module _ (few : s.batch ≤ 256) (start : Core) (waiting : length start.pending < 256) (left held said : Option (List ℕ)) (before started : Outside) (new : View) where
+  module _ (whole : IsWhole compiled) (few : s.batch ≤ 256) (start : Core) (waiting : length start.pending < 256) (left held said : Option (List ℕ)) (before started : Outside) (new : View) where
     abbrev old : View
     old = at_begin start left held said started
 
@@ -76,20 +77,20 @@ module _ (compiled : Compiled) (s : RunSettings) (result : Result Tally SessionF
       prints = served_prints compiled s start left held said started new result served;
       answers = served_in_part compiled s start left held said started new result served;
       serial = serial served;
-      tells = inr (served_tells compiled s start left held said before started starts new result served);
+      tells = inr (served_tells compiled whole s few start waiting left held said before started starts new result served);
     }
 
 -- an engine with this core, of this program
-pub runs_so : (compiled : Compiled) (s : RunSettings) (result : Result Tally SessionFault) → s.batch ≤ 256 → (e : Engine) → RunsProgram e compiled s.history
+pub runs_so : (compiled : Compiled) → IsWhole compiled → (s : RunSettings) (result : Result Tally SessionFault) → s.batch ≤ 256 → (e : Engine) → RunsProgram e compiled s.history
     → length (core_of e).pending < 256 → (left held said : Option (List ℕ)) (before started : Outside) (new : View) → Starts compiled s before started
     → Served (service_of e batch_rule s.batch s.partitions) s.trace s.limit result (at_begin (core_of e) left held said started) new
     → Runs compiled s (core_of e) new.core result (record { left = left; held = held; said = said; outside = before }) (shown_by new)
-runs_so compiled s result few e runs waiting left held said before started new starts served =
+runs_so compiled whole s result few e runs waiting left held said before started new starts served =
     let of_compiled = subst (λ (c : Compiled). Served (record { compiled = c; parts = s.partitions; rule = batch_rule; limits = limits_of s.batch (limit_of e) })
     s.trace s.limit result (at_begin (core_of e) left held said started) new) runs.compiled_is served in
     let of_limit = subst (λ (n : ℕ). Served (record { compiled = compiled; parts = s.partitions; rule = batch_rule; limits = limits_of s.batch n })
     s.trace s.limit result (at_begin (core_of e) left held said started) new) runs.limit_is of_compiled in
-    begun_so compiled s result few (core_of e) waiting left held said before started new starts of_limit
+    begun_so compiled s result whole few (core_of e) waiting left held said before started new starts of_limit
 
 -- the same program, from the same core
 pub runs_from : (compiled made : Compiled) (s : RunSettings) (start core last : Core) (result : Result Tally SessionFault) (old new : Shown) → made ≡ compiled

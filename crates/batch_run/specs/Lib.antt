@@ -3,5 +3,6 @@ pub mod RunTexts
 pub mod RunEvents
 pub mod Runs
 pub mod GrownCores
+pub mod BatchOutcomes
 pub mod Vocabulary
 pub mod SessionFaultVariants

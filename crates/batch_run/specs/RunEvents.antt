@@ -1,5 +1,6 @@
 -- What a run chooses and tells: its start, and then its batches, one after another; what it traces of them; and the core that it ends with.
-use Rattle.std.specs.Prelude.{◌≡◌, ℕ, ◌≤◌, ◌⊎◌, List, [], ◌∷◌, ◌++◌, length, take, ⊤, Ok, Err}
+use Rattle.std.specs.Prelude.{◌≡◌, ℕ, ◌+◌, ◌≤◌, ◌⊎◌, List, [], ◌∷◌, length, take, ⊤, Ok, Err}
+use Rattle.std.specs.List.{AllByRecursion}
 use Rattle.std.specs.declared.option.Option.{Option}
 use Rattle.std.specs.declared.result.Result.{Result}
 use Rattle.std.specs.Io.KnownBytes.{Appends, Consumes, IsAtEnd}
@@ -9,18 +10,25 @@ use Rattle.block_step.specs.declared.compiled.Compiled.{Compiled}
 use Rattle.block_step.specs.CompiledViews.{compiled_tables, compiled_blocks}
 use Rattle.operator_graph.specs.Telling.{GraphTold, AlsoTold}
 use Rattle.operator_graph.specs.Turns.{Outside}
-use Rattle.engine.specs.Cores.{Core}
-use Rattle.batch_output.specs.BatchOutput.{Standing, begun}
-use Rattle.batch_session.specs.Vocabulary.{Tally, Step, Service, whole_steps, all_steps, standing_after, ran_on, move_of, no_batch, tally_after, trace_text, RunBatches, BeginBatches, BatchCounts}
+use Rattle.aria_batch.specs.BatchRun.{source_of}
+use Rattle.engine.specs.Cores.{Core, IsSoundCore}
+use Rattle.batch_output.specs.BatchOutput.{begun}
+use Rattle.batch_session.specs.Vocabulary.{Tally, Step, EndsAmong, whole_steps, all_steps, ran_on, no_batch, tally_after, trace_text, RunBatches, BeginBatches, BatchCounts}
 use Rattle.batch_session.specs.declared.serving.SessionFault.{SessionFault}
 use Rattle.batch_session.specs.declared.serving.SessionFault.TheVariants.{ReadFault, WriteFault, DiskFault, InputTooLong, HistoryFull, NoMemory}
 use Rattle.batch_run.specs.RunViews.{Shown, run_service}
+use Rattle.batch_run.specs.BatchOutcomes.{CommitsWhatEnded}
 use Rattle.batch_run.specs.declared.running.RunSettings.{RunSettings}
 
--- behind some steps this core has what the next of these leaves before its batch
-abbrev pub IsAtNext : Service → Standing → List Step → Core → Type 0
-IsAtNext v behind [] core = ⊥
-IsAtNext v behind (step ∷ rest) core = core ≡ (move_of v behind step).core
+-- so many batches were told of as many as were committed; where something couldn't be written perhaps one less
+abbrev pub AreTold : Result Tally SessionFault → ℕ → ℕ → Type 0
+AreTold (Ok tally) told ran = told ≡ ran
+AreTold (Err ReadFault) told ran = told ≡ ran
+AreTold (Err InputTooLong) told ran = told ≡ ran
+AreTold (Err HistoryFull) told ran = told ≡ ran
+AreTold (Err NoMemory) told ran = told ≡ ran
+AreTold (Err DiskFault) told ran = told ≡ ran
+AreTold (Err WriteFault) told ran = (told ≡ ran) ⊎ (told + 1 ≡ ran)
 
 module _ (compiled : Compiled) (s : RunSettings) where
   -- the chooser was started with the number of the schedule, and the watch was told the graph
@@ -40,17 +48,6 @@ module _ (compiled : Compiled) (s : RunSettings) where
     -- the cores that the batches of steps run on
     abbrev pub batches_of : List Step → List Core
     batches_of steps = ran_on (run_service compiled s) (begun start) steps
-
-    -- where a run stands behind steps
-    abbrev pub stands_after : List Step → Standing
-    stands_after steps = standing_after (run_service compiled s) (begun start) steps
-
-    -- this core is the one behind some first ones of these steps, or has the request of the next one besides
-    pub record EndsAmong (steps : List Step) (last : Core) : Type 0 where
-      pub first : List Step
-      pub rest : List Step
-      pub split : steps ≡ first ++ rest
-      pub core : (last ≡ (stands_after first).core) ⊎ IsAtNext (run_service compiled s) (stands_after first) rest last
 
   -- these batches were run and told; where it stopped in their midst, the first of them, and perhaps some events of the next
   abbrev pub TellsBatches : Result Tally SessionFault → List Core → List BatchCounts → Outside → Outside → Type 0
@@ -72,7 +69,8 @@ module _ (compiled : Compiled) (s : RunSettings) where
   CountsBatches (Ok tally) counts = tally ≡ tally_after no_batch counts
   CountsBatches (Err fault) counts = ⊤
 
-  -- it started, and then its batches were told, along the picks made, traced and counted; and it ended among its steps
+  -- it started, and then its batches were told, along the picks made, traced and counted, each of which commits what its events ended with; and it
+  -- ended behind the steps of those that were told
   pub record TellsRun (start last : Core) (result : Result Tally SessionFault) (old new : Shown) : Type 0 where
     pub started : Outside
     pub starts : Starts old.outside started
@@ -84,4 +82,5 @@ module _ (compiled : Compiled) (s : RunSettings) where
     pub told : TellsBatches result (batches_of start steps) counts started new.outside
     pub traced : TracesBatches result counts old.said new.said
     pub counted : CountsBatches result counts
-    pub ended : EndsAmong start steps last
+    pub ended : EndsAmong (run_service compiled s) steps (begun start) last (AreTold result (length counts))
+    pub outcomes : IsSoundCore (source_of compiled) start → AllByRecursion (CommitsWhatEnded compiled s.partitions) (batches_of start steps)

@@ -1,5 +1,5 @@
 -- The lemmas of lower crates that the crates above this one name from here.
-pub use Rattle.session_steps.proofs.BeginLaws.{comes_begin}
+pub use Rattle.session_steps.proofs.BeginLaws.{comes_begin, counts_of_each}
 pub use Rattle.session_steps.proofs.PieceLaws.{prefix_after, prefix_none, prefix_whole}
 pub use Rattle.session_steps.proofs.PrintLaws.{steps_print}
 pub use Rattle.session_steps.proofs.StepFacts.{behind_full, behind_placed, printed_placed, ran-append, standing-append, standing-one, standing_over}

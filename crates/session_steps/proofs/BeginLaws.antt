@@ -1,5 +1,5 @@
 -- What a session has come to, wherever it stopped.
-use Rattle.std.proofs.Common.{◌≡◌, ℕ, ◌⊎◌, inl, inr, Bool, true, Option, Some, None, List, [], ◌∷◌, ◌++◌, take, Ok, Err, refl, sym, ap, ◌∙◌, subst, append-nil}
+use Rattle.std.proofs.Common.{◌≡◌, ℕ, suc, ◌⊎◌, inl, inr, Bool, true, Option, Some, None, List, [], ◌∷◌, ◌++◌, length, length-append, take, Ok, Err, refl, sym, ap, ◌∙◌, subst, append-nil, append_assoc, ◌+◌, arith}
 use Rattle.std.specs.declared.result.Result.{Result}
 use Rattle.std.specs.Io.KnownBytes.{Appends}
 use Rattle.std.proofs.KnownBytes.{Appends-nil, Appends-trans}
@@ -9,7 +9,7 @@ use Rattle.sf_outside.specs.declared.gains.WriteStop.TheVariants as write
 use Rattle.sf_outside.proofs.GainLaws.{joined-nil, joined-append, Wrote-more, Wrote-after, Wrote-no_memory}
 use Rattle.operator_graph.specs.Turns.{Outside}
 use Rattle.batch_output.specs.BatchOutput.{Standing, batch_lines, lines_if}
-use Rattle.line_answers.specs.Vocabulary.{Batch, IsToldAlong, Core, BatchCounts, HasPlace}
+use Rattle.line_answers.specs.Vocabulary.{Batch, IsToldAlong, Core, BatchCounts, HasPlace, core_behind}
 use Rattle.line_answers.specs.declared.answering.LineStop.{LineStop}
 use Rattle.line_answers.specs.declared.answering.LineStop.TheVariants.{HistoryFull, NoMemory, DiskFault, WriteFault}
 use Rattle.line_answers.specs.Services.{Service, program_of}
@@ -17,14 +17,14 @@ use Rattle.line_answers.specs.LineAnswers.{Move, IsUntaken, FindsFull, IsUnplann
 use Rattle.session_steps.specs.Steps.{Step, move_of, behind, standing_after, printed, ran_on}
 use Rattle.session_steps.specs.Traces.{trace_text}
 use Rattle.session_steps.specs.Doings.{Point, going, moment, IsUncounted, RunBatches, BeginBatches, Does, IsUntraced, StopsAt, StopsWithin, Comes}
-use Rattle.session_steps.specs.StepLaws.{WroteAs, WholeAs, ToldAs, TracedAs, StandsAs, HasBegun, ComesBegin}
+use Rattle.session_steps.specs.StepLaws.{WroteAs, WholeAs, ToldAs, TracedAs, StandsAs, IsAtNext, AreCounted, EndsAmong, HasBegun, ComesBegin}
 use Rattle.session_steps.proofs.PieceLaws.{prefix_whole, prefix_none, prefix_after}
-use Rattle.session_steps.proofs.StepFacts.{printed_is, printed_placed, printed_full, behind_full, ran_placed, ran_full, standing_over, all_printed_over, all_ran_over, standing-append, printed-append, ran-append, printed-cons, ran-cons}
+use Rattle.session_steps.proofs.StepFacts.{printed_is, printed_placed, printed_full, behind_full, behind_placed, ran_placed, ran_full, standing_over, all_printed_over, all_ran_over, standing-append, standing-one, printed-append, ran-append, printed-cons, ran-cons}
 use Rattle.session_steps.proofs.Composing.{trace-append, trace-nil, Ran-then, Begin-then, Begin-none}
 
 -- a whole run of a batch is a beginning of one
 run_begins : (batch : Batch) (parts events : ℕ) (old new : Outside) → IsToldAlong batch parts (Some events) old new → IsToldAlong batch parts None old new
-run_begins batch parts events old new t = record { picks = t.picks; picked = t.picked; told_of_them = t.told_of_them; ended = tt; counted_all = tt }
+run_begins batch parts events old new t = record { picks = t.picks; picked = t.picked; told_of_them = t.told_of_them; one_each = t.one_each; ended = tt; counted_all = tt }
 
 -- what was written behind a whole text
 wrote_after : (r : Result (Unit {0}) LineStop) (a b c : Option (List ℕ)) (xs ys : List ℕ) → Appends a b xs → WroteAs r b c ys → WroteAs r a c (xs ++ ys)
@@ -59,6 +59,22 @@ traced_after (Err NoMemory) a b c xs ys first rest = Appends-trans a b c xs ys f
 traced_after (Err DiskFault) a b c xs ys first rest = Appends-trans a b c xs ys first rest
 traced_after (Err WriteFault) a b c xs ys first rest = prefix_after a b c xs ys first rest
 
+-- batches that were run have a count each
+pub counts_of_each : (v : Service) (cores : List Core) (counts : List BatchCounts) (a b : Outside) → RunBatches v cores counts a b → length counts ≡ length cores
+counts_of_each v [] [] a b ran = refl
+counts_of_each v [] (c ∷ counts) a b ran = absurd ran
+counts_of_each v (core ∷ cores) [] a b ran = absurd ran
+counts_of_each v (core ∷ cores) (c ∷ counts) a b ran = ap suc (counts_of_each v cores counts ran.0 b ran.2)
+
+-- so many more were counted, and committed
+counted_after : (r : Result (Unit {0}) LineStop) (before counted ran : ℕ) → AreCounted r counted ran → AreCounted r (before + counted) (before + ran)
+counted_after (Ok value) before counted ran same = ap (λ n. before + n) same
+counted_after (Err HistoryFull) before counted ran same = ap (λ n. before + n) same
+counted_after (Err NoMemory) before counted ran same = ap (λ n. before + n) same
+counted_after (Err DiskFault) before counted ran same = ap (λ n. before + n) same
+counted_after (Err WriteFault) before counted ran (inl same) = inl (ap (λ n. before + n) same)
+counted_after (Err WriteFault) before counted ran (inr less) = inr (omega (arith, less))
+
 -- a part of the first lines is one of them all
 part_more : (a b : Option (List ℕ)) (first rest : List (List ℕ)) → AppendsPrefix a b (joined first) → AppendsPrefix a b (joined (first ++ rest))
 part_more a b first rest part = Wrote-more {T = Unit {0}} (Err write.WriteFault) a b first rest refl part
@@ -77,6 +93,28 @@ unchanged a b xs same = subst (λ c. AppendsPrefix a c xs) (sym same) (prefix_no
 module _ (v : Service) (traces : Bool) where
   abbrev Begun : Result (Unit {0}) LineStop → List Step → Point → Point → Type 0
   Begun r steps p q = HasBegun v traces r steps p q
+
+  ended_after : (r : Result (Unit {0}) LineStop) (xs ys : List Step) (p q z : Point) → (d : Does v traces xs p q) → (counts : List BatchCounts)
+      → EndsAmong v ys (going q) z.core (AreCounted r (length counts)) → EndsAmong v (xs ++ ys) (going p) z.core (AreCounted r (length (d.counts ++ counts)))
+  ended_after r xs ys p q z d counts e =
+      let there : standing_after v (going p) (xs ++ e.first) ≡ standing_after v (going q) e.first = standing-append v xs e.first (going p)
+      ∙ ap (λ s. standing_after v s e.first) d.stands in
+      let cores : ran_on v (going p) (xs ++ e.first) ≡ ran_on v (going p) xs ++ ran_on v (going q) e.first = ran-append v xs e.first (going p)
+      ∙ ap (λ s. ran_on v (going p) xs ++ ran_on v s e.first) d.stands in
+      let ran : length (ran_on v (going p) (xs ++ e.first)) ≡ length (ran_on v (going p) xs) + length (ran_on v (going q) e.first) = ap length cores
+      ∙ length-append (ran_on v (going p) xs) (ran_on v (going q) e.first) in
+      let counted : length (d.counts ++ counts) ≡ length (ran_on v (going p) xs) + length counts = length-append d.counts counts
+      ∙ ap (λ n. n + length counts) (counts_of_each v (ran_on v (going p) xs) d.counts p.outside q.outside d.ran) in
+      record {
+        first = xs ++ e.first;
+        rest = e.rest;
+        split = ap (λ l. xs ++ l) e.split ∙ sym (append_assoc xs e.first e.rest);
+        core = subst (λ s. (z.core ≡ s.core) ⊎ IsAtNext v s e.rest z.core) (sym there) e.core;
+        ran =
+            subst (λ n. AreCounted r n (length (ran_on v (going p) (xs ++ e.first)))) (sym counted)
+            (subst (AreCounted r (length (ran_on v (going p) xs) + length counts)) (sym ran)
+            (counted_after r (length (ran_on v (going p) xs)) (length counts) (length (ran_on v (going q) e.first)) e.ran));
+      }
 
   -- the first steps were done, and this was begun of the rest
   begun_after : (r : Result (Unit {0}) LineStop) (xs ys : List Step) (p q z : Point) → Does v traces xs p q → Begun r ys q z → Begun r (xs ++ ys) p z
@@ -102,6 +140,7 @@ module _ (v : Service) (traces : Bool) where
         traced =
             subst (TracedAs r p.traced z.traced) (sym trace)
             (traced_after r p.traced q.traced z.traced (trace_text traces p.tally d.counts) (trace_text traces q.tally h.counts) d.traced h.traced);
+        ended = ended_after r xs ys p q z d h.counts h.ended;
       }
 
   none_traced : (p q : Point) → q.traced ≡ p.traced → Appends p.traced q.traced (trace_text traces p.tally [])
@@ -110,7 +149,13 @@ module _ (v : Service) (traces : Bool) where
 
   -- where the disk failed as much was begun as for want of memory
   as_disk : (steps : List Step) (p q : Point) → Begun (Err NoMemory) steps p q → Begun (Err DiskFault) steps p q
-  as_disk steps p q h = record { stands = tt; wrote = h.wrote; whole = h.whole; counts = h.counts; told = h.told; traced = h.traced }
+  as_disk steps p q h = record { stands = tt; wrote = h.wrote; whole = h.whole; counts = h.counts; told = h.told; traced = h.traced; ended = h.ended }
+
+  -- no step was done: the core is the same, or has the request of the first one besides
+  ended_before : (r : Result (Unit {0}) LineStop) → AreCounted r 0 0 → (steps : List Step) (p q : Point) → (q.core ≡ p.core) ⊎ IsAtNext v (going p) steps q.core
+      → EndsAmong v steps (going p) q.core (AreCounted r 0)
+  unfolding standing_after ran_on
+  ended_before r none steps p q core = record { first = []; rest = steps; split = refl; core = core; ran = none }
 
   -- nothing was begun
   begun_none : (steps : List Step) (p : Point) → Begun (Err NoMemory) steps p p
@@ -121,7 +166,12 @@ module _ (v : Service) (traces : Bool) where
     counts = [];
     told = Begin-none v (ran_on v (going p) steps) p.outside p.outside refl;
     traced = none_traced p p refl;
+    ended = ended_before (Err NoMemory) refl steps p p (inl refl);
   }
+
+  none_ran : (s : Standing) → ran_on v s [] ≡ []
+  unfolding ran_on
+  none_ran s = refl
 
   module _ (step : Step) (rest : List Step) (p q : Point) where
     abbrev move : Move
@@ -169,6 +219,20 @@ module _ (v : Service) (traces : Bool) where
         → IsToldAlong (batch_on v.compiled move.core) v.parts None p.outside q.outside → BeginBatches v cores [] p.outside q.outside
     batch_begun due place t = subst (λ l. BeginBatches v l [] p.outside q.outside) (sym (cores_are due place)) (inr t)
 
+    -- the batch was committed, and something of it couldn't be written
+    ended_behind : (counted : ℕ) → AreCounted {T = Unit {0}} (Err WriteFault) counted 1 → move.is_due ≡ true → HasPlace (program_of v) v.rule v.limits move.core
+        → q.core ≡ core_behind (program_of v) v.rule v.limits move.core → EndsAmong v (step ∷ rest) (going p) q.core (AreCounted {T = Unit {0}} (Err WriteFault) counted)
+    ended_behind counted many due place core =
+        let one : ran_on v (going p) (step ∷ []) ≡ move.core ∷ [] = ran-cons v (going p) step [] ∙ ap (λ l. l ++ ran_on v (behind v (going p) step) []) (ran_placed v p.core p.lines step due place)
+        ∙ ap (λ l. move.core ∷ l) (none_ran (behind v (going p) step)) in
+        record {
+          first = step ∷ [];
+          rest = rest;
+          split = refl;
+          core = inl (core ∙ sym (ap (λ (s : Standing). s.core) (standing-one v (going p) step ∙ behind_placed v p.core p.lines step due place)));
+          ran = subst (λ l. AreCounted {T = Unit {0}} (Err WriteFault) counted (length l)) (sym one) many;
+        }
+
     -- The stops
 
     untraced : IsUncounted p q → Appends p.traced q.traced (trace_text traces p.tally [])
@@ -197,6 +261,7 @@ module _ (v : Service) (traces : Bool) where
           counts = [];
           told = subst (λ l. RunBatches v l [] p.outside q.outside) (sym none) a.untold;
           traced = untraced u;
+          ended = ended_before (Err HistoryFull) refl (step ∷ rest) p q (inr a.core);
         }
 
     at_untaken : IsUntaken (going p) move (moment p) (moment q) → IsUncounted p q → Begun (Err NoMemory) (step ∷ rest) p q
@@ -207,6 +272,7 @@ module _ (v : Service) (traces : Bool) where
       counts = [];
       told = Begin-none v cores p.outside q.outside a.untold;
       traced = untraced u;
+      ended = ended_before (Err NoMemory) refl (step ∷ rest) p q a.core;
     }
 
     at_unplanned : IsUnplanned v move (moment p) (moment q) → IsUncounted p q → Begun (Err NoMemory) (step ∷ rest) p q
@@ -217,6 +283,7 @@ module _ (v : Service) (traces : Bool) where
       counts = [];
       told = batch_begun a.due a.place a.begun;
       traced = untraced u;
+      ended = ended_before (Err NoMemory) refl (step ∷ rest) p q (inr a.core);
     }
 
     -- all events of its batch are some first ones
@@ -233,6 +300,7 @@ module _ (v : Service) (traces : Bool) where
       counts = [];
       told = Begin-none v cores p.outside q.outside a.untold;
       traced = untraced_part u;
+      ended = ended_before (Err WriteFault) (inl refl) (step ∷ rest) p q (inr a.core);
     }
 
     at_unreplied : IsUnreplied v move (moment p) (moment q) → IsUncounted p q → Begun (Err WriteFault) (step ∷ rest) p q
@@ -243,6 +311,7 @@ module _ (v : Service) (traces : Bool) where
       counts = [];
       told = batch_begun a.due a.place (run_begins (batch_on v.compiled move.core) v.parts a.events p.outside q.outside a.told);
       traced = untraced_part u;
+      ended = ended_behind 0 (inr refl) a.due a.place a.core;
     }
 
     at_untraced : IsUntraced v traces step p q → Begun (Err WriteFault) (step ∷ rest) p q
@@ -257,6 +326,7 @@ module _ (v : Service) (traces : Bool) where
               subst (λ l. BeginBatches v l (a.counts ∷ []) p.outside q.outside) (sym (cores_are c.due c.place))
               (q.outside, c.ran, Begin-none v (ran_on v (behind v (going p) step) rest) q.outside q.outside refl);
           traced = a.part;
+          ended = ended_behind 1 (inl refl) c.due c.place c.core;
         }
 
     at_stop : (stop : LineStop) → StopsAt v traces stop step p q → Begun (Err stop) (step ∷ rest) p q
@@ -280,7 +350,21 @@ module _ (v : Service) (traces : Bool) where
       (at_stop s.step s.rest s.between q stop s.stopped))
 
   begins : (r : Result (Unit {0}) LineStop) (steps : List Step) (p q : Point) → Comes v traces r steps p q → Begun r steps p q
-  begins (Ok value) steps p q d = record { stands = d.stands; wrote = d.wrote; whole = tt; counts = d.counts; told = d.ran; traced = d.traced }
+  begins (Ok value) steps p q d = record {
+    stands = d.stands;
+    wrote = d.wrote;
+    whole = tt;
+    counts = d.counts;
+    told = d.ran;
+    traced = d.traced;
+    ended = record {
+      first = steps;
+      rest = [];
+      split = sym (append-nil steps);
+      core = inl (sym (ap (λ (s : Standing). s.core) d.stands));
+      ran = counts_of_each v (ran_on v (going p) steps) d.counts p.outside q.outside d.ran;
+    };
+  }
   begins (Err HistoryFull) steps p q s = within HistoryFull steps p q s
   begins (Err NoMemory) steps p q (inl s) = within NoMemory steps p q s
   begins (Err NoMemory) steps p q (inr s) = subst (λ l. Begun (Err NoMemory) l p q) (sym s.split)

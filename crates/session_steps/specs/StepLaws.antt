@@ -1,5 +1,5 @@
 -- What steps print is what a session in batches prints; and what a session has come to, wherever it stopped.
-use Rattle.std.specs.Prelude.{◌≡◌, ℕ, Bool, true, List, take, Ok, Err, ⊤}
+use Rattle.std.specs.Prelude.{◌≡◌, ℕ, ◌+◌, ◌⊎◌, Bool, true, List, [], ◌∷◌, ◌++◌, length, take, Ok, Err, ⊤}
 use Rattle.std.specs.declared.option.Option.{Option}
 use Rattle.std.specs.declared.result.Result.{Result}
 use Rattle.std.specs.Io.KnownBytes.{Appends}
@@ -12,7 +12,7 @@ use Rattle.line_answers.specs.Vocabulary.{Core, BatchCounts}
 use Rattle.line_answers.specs.declared.answering.LineStop.{LineStop}
 use Rattle.line_answers.specs.declared.answering.LineStop.TheVariants.{HistoryFull, NoMemory, DiskFault, WriteFault}
 use Rattle.line_answers.specs.Services.{Service, program_of}
-use Rattle.session_steps.specs.Steps.{Step, answers, all_steps, standing_after, printed, ran_on}
+use Rattle.session_steps.specs.Steps.{Step, answers, all_steps, move_of, standing_after, printed, ran_on}
 use Rattle.session_steps.specs.Traces.{trace_text}
 use Rattle.session_steps.specs.Doings.{Point, going, RunBatches, BeginBatches, Comes}
 
@@ -74,6 +74,28 @@ StandsAs (Err NoMemory) stands new = ⊤
 StandsAs (Err DiskFault) stands new = ⊤
 StandsAs (Err WriteFault) stands new = ⊤
 
+-- behind some steps this core has what the next of these leaves before its batch
+abbrev pub IsAtNext : Service → Standing → List Step → Core → Type 0
+IsAtNext v behind [] core = ⊥
+IsAtNext v behind (step ∷ rest) core = core ≡ (move_of v behind step).core
+
+-- so many batches were counted of as many as were committed; where something couldn't be written perhaps one less
+abbrev pub AreCounted : {T : Type 0} → Result T LineStop → ℕ → ℕ → Type 0
+AreCounted (Ok value) counted ran = counted ≡ ran
+AreCounted (Err HistoryFull) counted ran = counted ≡ ran
+AreCounted (Err NoMemory) counted ran = counted ≡ ran
+AreCounted (Err DiskFault) counted ran = counted ≡ ran
+AreCounted (Err WriteFault) counted ran = (counted ≡ ran) ⊎ (counted + 1 ≡ ran)
+
+-- the last core is the one behind some first ones of these steps, or has the request of the next one besides; and this holds of how many batches the
+-- first ones ran
+pub record EndsAmong (v : Service) (steps : List Step) (old : Standing) (last : Core) (Ran : ℕ → Type 0) : Type 0 where
+  pub first : List Step
+  pub rest : List Step
+  pub split : steps ≡ first ++ rest
+  pub core : (last ≡ (standing_after v old first).core) ⊎ IsAtNext v (standing_after v old first) rest last
+  pub ran : Ran (length (ran_on v old first))
+
 -- a first part of what the steps print was printed, and of their batches some first ones were run, told, counted and traced; all of it where the
 -- steps were done or the history was full
 pub record HasBegun {T : Type 0} (v : Service) (traces : Bool) (result : Result T LineStop) (steps : List Step) (old new : Point) : Type 0 where
@@ -83,6 +105,7 @@ pub record HasBegun {T : Type 0} (v : Service) (traces : Bool) (result : Result 
   pub counts : List BatchCounts
   pub told : ToldAs v result (ran_on v (going old) steps) counts old.outside new.outside
   pub traced : TracedAs result old.traced new.traced (trace_text traces old.tally counts)
+  pub ended : EndsAmong v steps (going old) new.core (AreCounted result (length counts))
 
 abbrev pub ComesBegin : Type 0
 ComesBegin = (v : Service) (traces : Bool) (result : Result (Unit {0}) LineStop) (steps : List Step) (old new : Point)

@@ -83,6 +83,3 @@ module _ (rule : List Access → Chosen) (store : Option Store) (src : Source) (
     where
       same : batch ≡ next_record rule src core fresh
       same = λ i. record { news = news i; committed = committed i }
-
-  pub snapshot_ends : SnapshotEndsPast store core → EndsPast rule store src core fresh facts
-  snapshot_ends past = inr past

@@ -84,7 +84,7 @@ abbrev pub SnapshotEndsPast : Option Store → Core → Type 0
 SnapshotEndsPast None core = ⊥
 SnapshotEndsPast (Some store) core = HasSnapshotPast store.settings.program core
 
--- one of the two, for a core of which so many requests came since the last batch
+-- one of the two: the record of the next batch of a core, or a snapshot of what is logged of it, where so many requests came since the last batch
 abbrev pub EndsPast : (List Access → Chosen) → Option Store → Source → Core → ℕ → DiskFacts → Type 0
 EndsPast rule store src core fresh facts =
-    (RecordEndsPast store (next_record rule src core fresh) × Keeps store src (settled core fresh) facts) ⊎ SnapshotEndsPast store core
+    (RecordEndsPast store (next_record rule src core fresh) × Keeps store src (settled core fresh) facts) ⊎ SnapshotEndsPast store (settled core fresh)

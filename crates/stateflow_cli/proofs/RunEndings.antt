@@ -349,6 +349,7 @@ module _ (limit : ℕ) (before after : Devices) (was now : DiskFacts) (behind : 
         begun = begun_of r.compiled (settings_for limit s) (batches_of r.compiled (settings_for limit s) r.start t.steps) t.counts t.started after.outside result t.told;
         whole = λ p q m. whole_of r.compiled (settings_for limit s) (batches_of r.compiled (settings_for limit s) r.start t.steps) t.counts t.started after.outside result
             (not_unwritten p) (not_as 5 p q) (not_as 8 p m) t.told;
+        outcomes = t.outcomes;
       }
 
       tells_either : RunTells limit file s before after status

@@ -1,11 +1,12 @@
 -- What a call did that was asked to run a program, by its status: what it printed, told and traced.
 use Rattle.std.specs.Prelude.{ℕ, ◌≡◌, ◌⊎◌, List}
+use Rattle.std.specs.List.{AllByRecursion}
 use Rattle.std.specs.Io.KnownBytes.{Appends, Consumes}
 use Rattle.sf_outside.specs.Bytes.{AppendsPrefix}
 use Rattle.program_meaning.specs.ClassTables.{Source}
 use Rattle.aria_batch.specs.BatchRun.{source_of}
 use Rattle.block_step.specs.declared.compiled.Compiled.{Compiled}
-use Rattle.engine.specs.Cores.{Core}
+use Rattle.engine.specs.Cores.{Core, IsSoundCore}
 use Rattle.block_step.specs.CompiledViews.{compiled_program, compiled_names, compiled_tables, compiled_blocks}
 use Rattle.entity_compiler.specs.Compiling.{IsCompiledOf, IsGraphOf}
 use Rattle.operator_graph.specs.Turns.{Outside}
@@ -14,6 +15,7 @@ use Rattle.command_words.specs.Commands as words
 use Rattle.batch_run.specs.RunViews.{run_service}
 use Rattle.batch_run.specs.RunTexts.{AnswersAll, AnswersWhole, AnswersFirst, FillsAtLine, FillsAtEnd, AnswersSome, AnswersInPart}
 use Rattle.batch_run.specs.RunEvents.{Starts, AreStepsOf, batches_of}
+use Rattle.batch_run.specs.BatchOutcomes.{CommitsWhatEnded}
 use Rattle.stateflow_cli.specs.Devices.{Devices, Output, IsIdle}
 use Rattle.stateflow_cli.specs.Loading.{Holds, HoldsOne, source_in}
 use Rattle.stateflow_cli.specs.Endings.{settings_for}
@@ -54,7 +56,7 @@ module _ (limit : ℕ) (file : List ℕ) (s : words.RunSettings) (before after :
 
   -- The chooser was started once, and the watch was told one graph, which is one of the file's program; then the batches of what was taken were
   -- told, each along the picks made for it. Only with the status of a write fault, of a disk's fault or of want of memory
-  -- may the last one have been told in part.
+  -- may the last one have been told in part. What each batch commits has the outcomes that its events ended with.
   pub record TellsByStatus (status : ℕ) : Type 0 where
     pub compiled : Compiled
     pub holds : HoldsOne (λ text. IsCompiledOf text compiled) (before.content file)
@@ -71,6 +73,7 @@ module _ (limit : ℕ) (file : List ℕ) (s : words.RunSettings) (before after :
     pub begun : BeginBatches (run_service compiled (settings_for limit s)) (batches_of compiled (settings_for limit s) start steps) counts started after.outside
     pub whole : (status ≡ 4 → ⊥) → (status ≡ 5 → ⊥) → (status ≡ 8 → ⊥)
         → RunBatches (run_service compiled (settings_for limit s)) (batches_of compiled (settings_for limit s) start steps) counts started after.outside
+    pub outcomes : IsSoundCore (source_of compiled) start → AllByRecursion (CommitsWhatEnded compiled s.partitions) (batches_of compiled (settings_for limit s) start steps)
 
   -- The error stream gained the lines of the batches that were told, where they are to be traced, and then a line of the status. With that of a
   -- write fault a part of those lines.

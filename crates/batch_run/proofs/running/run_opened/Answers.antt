@@ -34,7 +34,7 @@ returns-clause-runs g c =
           graph_told before.told started.told _ _ _ _ (c.graph.ensures.tables ∙ ap compiled_tables c.compiled.ensures)
           (c.graph.ensures.blocks ∙ ap compiled_blocks c.compiled.ensures) c.graph-2.ensures;
     } in
-    runs_so (compiled_of e) c.args.settings.now c.serve.result c.requires.serves.few e (record { compiled_is = refl; limit_is = c.requires.history })
+    runs_so (compiled_of e) c.requires.whole c.args.settings.now c.serve.result c.requires.serves.few e (record { compiled_is = refl; limit_is = c.requires.history })
     c.requires.few left held said before started new starts
     (subst (λ (t : Settings). Served (service_of e batch_rule t.batch t.parts) t.trace t.limit c.serve.result old new) c.session.ensures c.serve.ensures.served)
 

@@ -1,8 +1,8 @@
-use Rattle.std.proofs.Common.{[], refl, sym, subst}
+use Rattle.std.proofs.Common.{[], inl, inr, refl, sym, subst}
 use Rattle.engine.specs.EngineViews.{core_of, source_of}
 use Rattle.session_store.specs.Vocabulary.{logged_of}
 use Rattle.session_store.specs.Endings.{next_core}
-use Rattle.session_store.specs.Stores.{settings_of}
+use Rattle.session_store.specs.Stores.{SnapshotEndsPast, settings_of}
 use Rattle.session_store.proofs.StoreLaws.{all_logged}
 use Rattle.session_steps.specs.Vocabulary.{Logs}
 use Rattle.session_steps.proofs.Vocabulary.{Logs-still, Logs-checkpoint}
@@ -48,3 +48,11 @@ returns-in-Err-NoMemory-clause-logs g c = λ rule.
 pub returns-in-Err-clause-logs : goal.returns-in-Err-clause-logs
 returns-in-Err-clause-logs g c = λ rule.
     let e = c.args.engine.now in Logs-still (source_of e) rule c.args.store.now [] (logged_of e) (logged_of e) (g.D.Disk.facts c.args.disk.now) refl c.requires.kept
+
+pub returns-in-Err-DiskFault-clause-disk_cause : goal.returns-in-Err-DiskFault-clause-disk_cause
+returns-in-Err-DiskFault-clause-disk_cause g c = λ rule failed.
+    let e = c.args.engine.now in
+    elim (c.batch_ended.ensures.cause c.in-Err-DiskFault.field-0-is) [
+      | inl rose ↦ inl rose
+      | inr past ↦ inr (inr (subst (SnapshotEndsPast c.batch_ended.new.store) (sym (all_logged e c.requires.fresh)) past))
+    ]
