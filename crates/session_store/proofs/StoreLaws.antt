@@ -15,7 +15,7 @@ use Rattle.store_meaning.proofs.Arrivals.{none_unlogged}
 use Rattle.storable_cores.specs.Storable.{news_of}
 use Rattle.session_store.specs.declared.store.Store.{Store}
 use Rattle.session_store.specs.Endings.{KeepsWhere, LeavesMeanwhile}
-use Rattle.session_store.specs.Stores.{program_with, Keeps, StandsSomewhere, LeavesEither, next_record, RecordEndsPast, SnapshotEndsPast, EndsPast}
+use Rattle.session_store.specs.Stores.{program_with, Keeps, StandsSomewhere, LeavesEither, next_record, RecordEndsPast, EndsPast}
 
 -- ---- of the same core
 
