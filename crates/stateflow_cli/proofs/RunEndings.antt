@@ -1,5 +1,5 @@
 -- How a run in batches ends, by its status.
-use Rattle.std.proofs.Common.{◌≡◌, ℕ, ◌≤◌, ◌<◌, ◌⊎◌, inl, inr, List, None, Some, Ok, Err, refl, sym, ap, ◌∙◌, subst, arith}
+use Rattle.std.proofs.Common.{◌≡◌, ℕ, ◌+◌, ◌≤◌, ◌<◌, ◌⊎◌, inl, inr, List, length, None, Some, Ok, Err, refl, sym, ap, ◌∙◌, subst, arith}
 use Rattle.std.proofs.KnownBytes.{Keeps-refl}
 use Rattle.std.specs.declared.option.Option.{Option}
 use Rattle.std.specs.declared.result.Result.{Result}
@@ -19,7 +19,7 @@ use Rattle.batch_run.specs.SessionFaultVariants as stop
 use Rattle.batch_run.specs.declared.running.RunSettings.{RunSettings}
 use Rattle.batch_run.specs.RunViews.{Shown, run_service, CanServe}
 use Rattle.batch_run.specs.RunTexts.{AnswersAll, AnswersWhole, AnswersFirst, FillsAtLine, FillsAtEnd, AnswersSome, AnswersInPart, PrintsOneRun}
-use Rattle.batch_run.specs.RunEvents.{TellsBatches, TracesBatches, TellsRun, batches_of}
+use Rattle.batch_run.specs.RunEvents.{AreTold, TellsBatches, TracesBatches, TellsRun, batches_of}
 use Rattle.batch_run.specs.Runs.{IsUnbegun}
 use Rattle.batch_run.proofs.EventLaws.{run_have_begun}
 use Rattle.batch_run.proofs.FullLaws.{run_fits, run_exceeds, run_fills}
@@ -35,7 +35,7 @@ use Rattle.stateflow_cli.specs.Words.{Run, AreInRange}
 use Rattle.stateflow_cli.specs.Devices.{Devices, Output, with_err, IsIdle}
 use Rattle.program_text.specs.Readings.{IsAcceptedText, HasFault}
 use Rattle.stateflow_cli.specs.Endings.{RunEnds, RunsFile, longest_input, shown_of, settings_for, run_ending}
-use Rattle.stateflow_cli.specs.RunClauses.{TellsByStatus, TracesByStatus, RunTells, RunTraces}
+use Rattle.stateflow_cli.specs.RunClauses.{AreToldBy, TellsByStatus, TracesByStatus, RunTells, RunTraces}
 use Rattle.stateflow_cli.specs.Starts.{OfRun}
 use Rattle.stateflow_cli.specs.StoredRuns.{KeepsIn}
 use Rattle.stateflow_cli.specs.StatusLines.{status_of, line_of}
@@ -58,6 +58,26 @@ module _ (limit : ℕ) (file : List ℕ) (w : words.RunSettings) (before after :
 -- settings in range can be served
 pub can_serve : (w : words.RunSettings) (s : RunSettings) → s ≡ settings_for longest_input w → AreInRange w → CanServe s
 can_serve w s is r = subst CanServe (sym is) (record { some = r.some; few = r.few; least = r.least; most = r.most; limit = omega arith })
+
+-- How many batches were told, by the result
+
+all_told : (result : Result Tally SessionFault) (told ran : ℕ) → (status_of (run_ending result) ≡ 4 → ⊥) → AreTold result told ran → told ≡ ran
+all_told (Ok tally) told ran p h = h
+all_told (Err stop.ReadFault) told ran p h = h
+all_told (Err stop.InputTooLong) told ran p h = h
+all_told (Err stop.HistoryFull) told ran p h = h
+all_told (Err stop.NoMemory) told ran p h = h
+all_told (Err stop.DiskFault) told ran p h = h
+all_told (Err stop.WriteFault) told ran p h = absurd (p refl)
+
+most_told : (result : Result Tally SessionFault) (told ran : ℕ) → AreTold result told ran → (told ≡ ran) ⊎ (told + 1 ≡ ran)
+most_told (Ok tally) told ran h = inl h
+most_told (Err stop.ReadFault) told ran h = inl h
+most_told (Err stop.InputTooLong) told ran h = inl h
+most_told (Err stop.HistoryFull) told ran h = inl h
+most_told (Err stop.NoMemory) told ran h = inl h
+most_told (Err stop.DiskFault) told ran h = inl h
+most_told (Err stop.WriteFault) told ran h = h
 
 -- Batches that were told and traced, by the result
 
@@ -332,6 +352,9 @@ module _ (limit : ℕ) (before after : Devices) (was now : DiskFacts) (behind : 
       pub not_as : (n : ℕ) → (status ≡ 4 → ⊥) → (status ≡ n → ⊥) → status_of (run_ending result) ≡ n → ⊥
       not_as n p q m = q (own p ∙ is ∙ m)
 
+      told_by : (t : RunTold) (ran : ℕ) → AreTold result (length t.counts) ran → AreToldBy status (length t.counts) ran
+      told_by t ran told = record { all = λ p. all_told result (length t.counts) ran (not_unwritten p) told; most = most_told result (length t.counts) ran told }
+
       abbrev pub tells : RunTold → TellsByStatus limit file s before after status
       tells t = record {
         compiled = r.compiled;
@@ -349,6 +372,14 @@ module _ (limit : ℕ) (before after : Devices) (was now : DiskFacts) (behind : 
         begun = begun_of r.compiled (settings_for limit s) (batches_of r.compiled (settings_for limit s) r.start t.steps) t.counts t.started after.outside result t.told;
         whole = λ p q m. whole_of r.compiled (settings_for limit s) (batches_of r.compiled (settings_for limit s) r.start t.steps) t.counts t.started after.outside result
             (not_unwritten p) (not_as 5 p q) (not_as 8 p m) t.told;
+        last = r.last;
+        ended = record {
+          first = t.ended.first;
+          rest = t.ended.rest;
+          split = t.ended.split;
+          core = t.ended.core;
+          ran = told_by t (length (batches_of r.compiled (settings_for limit s) r.start t.ended.first)) t.ended.ran;
+        };
         outcomes = t.outcomes;
       }
 

@@ -325,6 +325,7 @@ module _ (limit : ℕ) (before after : Devices) (was now : DiskFacts) (behind : 
           answers = r.runs.prints;
           tells = tells limit before after was now behind file s status e own (Ok tally) r is t;
           from = refl;
+          to = refl;
           keeps = record { position = k.store.position; each = last_each; epoch = epoch_told (tally_after no_batch t.counts) t.counted };
         }
 

@@ -1,5 +1,5 @@
 -- What a call did that was asked to run a program, by its status: what it printed, told and traced.
-use Rattle.std.specs.Prelude.{ℕ, ◌≡◌, ◌⊎◌, List}
+use Rattle.std.specs.Prelude.{ℕ, ◌+◌, ◌≡◌, ◌⊎◌, List, length}
 use Rattle.std.specs.List.{AllByRecursion}
 use Rattle.std.specs.Io.KnownBytes.{Appends, Consumes}
 use Rattle.sf_outside.specs.Bytes.{AppendsPrefix}
@@ -10,7 +10,7 @@ use Rattle.engine.specs.Cores.{Core, IsSoundCore}
 use Rattle.block_step.specs.CompiledViews.{compiled_program, compiled_names, compiled_tables, compiled_blocks}
 use Rattle.entity_compiler.specs.Compiling.{IsCompiledOf, IsGraphOf}
 use Rattle.operator_graph.specs.Turns.{Outside}
-use Rattle.batch_run.specs.Vocabulary.{Step, no_batch, trace_text, RunBatches, BeginBatches, BatchCounts}
+use Rattle.batch_run.specs.Vocabulary.{begun, Step, EndsAmong, no_batch, trace_text, RunBatches, BeginBatches, BatchCounts}
 use Rattle.command_words.specs.Commands as words
 use Rattle.batch_run.specs.RunViews.{run_service}
 use Rattle.batch_run.specs.RunTexts.{AnswersAll, AnswersWhole, AnswersFirst, FillsAtLine, FillsAtEnd, AnswersSome, AnswersInPart}
@@ -34,6 +34,11 @@ pub record TellsStatus (file : List ℕ) (behind after : Output) (status : ℕ) 
   pub ending : Ending
   pub told : Told (line_of file ending) (status_of ending) behind.held after.held behind.faults after.faults status
 
+-- so many batches were told of as many as were committed; with the status of a write fault perhaps one less
+pub record AreToldBy (status told ran : ℕ) : Type 0 where
+  pub all : (status ≡ 4 → ⊥) → told ≡ ran
+  pub most : (told ≡ ran) ⊎ (told + 1 ≡ ran)
+
 module _ (limit : ℕ) (file : List ℕ) (s : words.RunSettings) (before after : Devices) where
   -- the first status says that all of the input was answered; that of a read fault, and of too long an input, that exactly its whole lines were,
   -- as far as they were taken; that of a full history that all was up to there; those of want of memory and of a disk's fault that some first
@@ -56,7 +61,8 @@ module _ (limit : ℕ) (file : List ℕ) (s : words.RunSettings) (before after :
 
   -- The chooser was started once, and the watch was told one graph, which is one of the file's program; then the batches of what was taken were
   -- told, each along the picks made for it. Only with the status of a write fault, of a disk's fault or of want of memory
-  -- may the last one have been told in part. What each batch commits has the outcomes that its events ended with.
+  -- may the last one have been told in part. The run ended behind the steps of those that were told. What each batch commits has the outcomes that its
+  -- events ended with.
   pub record TellsByStatus (status : ℕ) : Type 0 where
     pub compiled : Compiled
     pub holds : HoldsOne (λ text. IsCompiledOf text compiled) (before.content file)
@@ -73,6 +79,8 @@ module _ (limit : ℕ) (file : List ℕ) (s : words.RunSettings) (before after :
     pub begun : BeginBatches (run_service compiled (settings_for limit s)) (batches_of compiled (settings_for limit s) start steps) counts started after.outside
     pub whole : (status ≡ 4 → ⊥) → (status ≡ 5 → ⊥) → (status ≡ 8 → ⊥)
         → RunBatches (run_service compiled (settings_for limit s)) (batches_of compiled (settings_for limit s) start steps) counts started after.outside
+    pub last : Core
+    pub ended : EndsAmong (run_service compiled (settings_for limit s)) steps (begun start) last (AreToldBy status (length counts))
     pub outcomes : IsSoundCore (source_of compiled) start → AllByRecursion (CommitsWhatEnded compiled s.partitions) (batches_of compiled (settings_for limit s) start steps)
 
   -- The error stream gained the lines of the batches that were told, where they are to be traced, and then a line of the status. With that of a

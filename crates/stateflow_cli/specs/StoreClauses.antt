@@ -166,6 +166,7 @@ module _ (limit : ℕ) (file dir : List ℕ) (s : words.RunSettings) (before aft
     pub answers : AnswersAll src (settings_for limit s) start before.input.left after.input.left before.out.held after.out.held last
     pub tells : TellsByStatus limit file s before after status
     pub from : tells.start ≡ start
+    pub to : tells.last ≡ last
     pub keeps : KeepsLast (program_of src text) last now opened s.every (tally_after no_batch tells.counts).batches
 
   -- at each moment since the mount
