@@ -64,7 +64,7 @@ pub counts_of_each : (v : Service) (cores : List Core) (counts : List BatchCount
 counts_of_each v [] [] a b ran = refl
 counts_of_each v [] (c ∷ counts) a b ran = absurd ran
 counts_of_each v (core ∷ cores) [] a b ran = absurd ran
-counts_of_each v (core ∷ cores) (c ∷ counts) a b ran = ap suc (counts_of_each v cores counts ran.0 b ran.2)
+counts_of_each v (core ∷ cores) (c ∷ counts) a b ran = ap (λ n. suc n) (counts_of_each v cores counts ran.0 b ran.2)
 
 -- so many more were counted, and committed
 counted_after : (r : Result (Unit {0}) LineStop) (before counted ran : ℕ) → AreCounted r counted ran → AreCounted r (before + counted) (before + ran)
@@ -149,7 +149,15 @@ module _ (v : Service) (traces : Bool) where
 
   -- where the disk failed as much was begun as for want of memory
   as_disk : (steps : List Step) (p q : Point) → Begun (Err NoMemory) steps p q → Begun (Err DiskFault) steps p q
-  as_disk steps p q h = record { stands = tt; wrote = h.wrote; whole = h.whole; counts = h.counts; told = h.told; traced = h.traced; ended = h.ended }
+  as_disk steps p q h = record {
+    stands = tt;
+    wrote = h.wrote;
+    whole = h.whole;
+    counts = h.counts;
+    told = h.told;
+    traced = h.traced;
+    ended = record { first = h.ended.first; rest = h.ended.rest; split = h.ended.split; core = h.ended.core; ran = h.ended.ran };
+  }
 
   -- no step was done: the core is the same, or has the request of the first one besides
   ended_before : (r : Result (Unit {0}) LineStop) → AreCounted r 0 0 → (steps : List Step) (p q : Point) → (q.core ≡ p.core) ⊎ IsAtNext v (going p) steps q.core
