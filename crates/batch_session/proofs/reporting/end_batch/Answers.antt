@@ -1,4 +1,4 @@
-use Rattle.std.proofs.Common.{[], inl, inr, refl, sym, subst}
+use Rattle.std.proofs.Common.{[], inl, inr, Err, refl, sym, ap, subst}
 use Rattle.engine.specs.EngineViews.{core_of, source_of}
 use Rattle.session_store.specs.Vocabulary.{logged_of}
 use Rattle.session_store.specs.Endings.{next_core}
@@ -52,7 +52,7 @@ returns-in-Err-clause-logs g c = λ rule.
 pub returns-in-Err-DiskFault-clause-disk_cause : goal.returns-in-Err-DiskFault-clause-disk_cause
 returns-in-Err-DiskFault-clause-disk_cause g c = λ rule failed.
     let e = c.args.engine.now in
-    elim (c.batch_ended.ensures.cause c.in-Err-DiskFault.field-0-is) [
+    elim (c.in-Err-DiskFault.ensures.cause (ap (λ e. Err e) c.in-Err-DiskFault.field-0-is)) [
       | inl rose ↦ inl rose
       | inr past ↦ inr (inr (subst (SnapshotEndsPast c.batch_ended.new.store) (sym (all_logged e c.requires.fresh)) past))
     ]
