@@ -352,7 +352,7 @@ module _ (limit : ℕ) (before after : Devices) (was now : DiskFacts) (behind : 
       pub not_as : (n : ℕ) → (status ≡ 4 → ⊥) → (status ≡ n → ⊥) → status_of (run_ending result) ≡ n → ⊥
       not_as n p q m = q (own p ∙ is ∙ m)
 
-      told_by : (t : RunTold) (ran : ℕ) → AreTold result (length t.counts) ran → AreToldBy status (length t.counts) ran
+      pub told_by : (t : RunTold) (ran : ℕ) → AreTold result (length t.counts) ran → AreToldBy status (length t.counts) ran
       told_by t ran told = record { all = λ p. all_told result (length t.counts) ran (not_unwritten p) told; most = most_told result (length t.counts) ran told }
 
       abbrev pub tells : RunTold → TellsByStatus limit file s before after status

@@ -76,11 +76,11 @@ module _ (limit : ℕ) (file : List ℕ) (s : words.RunSettings) (before after :
     pub steps : List Step
     pub of_taken : AreStepsOf compiled (settings_for limit s) start taken after.input.left steps
     pub counts : List BatchCounts
+    pub last : Core
+    pub ended : EndsAmong (run_service compiled (settings_for limit s)) steps (begun start) last (AreToldBy status (length counts))
     pub begun : BeginBatches (run_service compiled (settings_for limit s)) (batches_of compiled (settings_for limit s) start steps) counts started after.outside
     pub whole : (status ≡ 4 → ⊥) → (status ≡ 5 → ⊥) → (status ≡ 8 → ⊥)
         → RunBatches (run_service compiled (settings_for limit s)) (batches_of compiled (settings_for limit s) start steps) counts started after.outside
-    pub last : Core
-    pub ended : EndsAmong (run_service compiled (settings_for limit s)) steps (begun start) last (AreToldBy status (length counts))
     pub outcomes : IsSoundCore (source_of compiled) start → AllByRecursion (CommitsWhatEnded compiled s.partitions) (batches_of compiled (settings_for limit s) start steps)
 
   -- The error stream gained the lines of the batches that were told, where they are to be traced, and then a line of the status. With that of a
