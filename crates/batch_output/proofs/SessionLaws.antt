@@ -1,12 +1,11 @@
 -- A session that serves in batches: its lines, and the end of its input.
-use Rattle.std.proofs.Common.{◌≡◌, ℕ, zero, suc, ◌+◌, ◌<◌, ◌≤◌, ◌^◌, Bool, true, false, true≢false, not, ◌||◌, nat_le, Option, None, Some, List, [], ◌∷◌, ◌++◌, length, Ok, Err, if◌then◌else◌, refl, sym, ap, ◌∙◌, subst, append-nil, arith}
+use Rattle.std.proofs.Common.{◌≡◌, ℕ, zero, suc, ◌+◌, ◌<◌, ◌≤◌, ◌^◌, Bool, true, false, true≢false, not, ◌||◌, Option, None, Some, List, [], ◌∷◌, ◌++◌, length, if◌then◌else◌, refl, sym, ap, ◌∙◌, subst, append-nil, arith}
 use Rattle.std.specs.List.{slice_get}
 use Rattle.std.specs.Option.{option_map}
-use Rattle.std.specs.declared.result.Result.{Result}
 use Rattle.std.proofs.lemmas.Bool.{ltb-true, ltb-false, leb-false}
 use Rattle.std.proofs.lemmas.List.{length-append}
 use Rattle.std.proofs.lemmas.Option.{none-some}
-use Rattle.py_tree.specs.ClassRules.{PlainTable, tables_of}
+use Rattle.py_tree.specs.ClassRules.{tables_of}
 use Rattle.sf_value.specs.declared.Entry.{Entry}
 use Rattle.sf_value.specs.declared.Request.{Request}
 use Rattle.program_meaning.specs.ClassTables.{Source}
@@ -14,11 +13,9 @@ use Rattle.serial_order.specs.ConflictFree.{Access}
 use Rattle.reservations.specs.CommitRules.{Chosen}
 use Rattle.request_history.specs.Repeats.{placed, entry_at}
 use Rattle.request_history.specs.SoundHistory.{RequestFits}
-use Rattle.request_json.specs.declared.fault.LineFault.{LineFault}
-use Rattle.request_json.specs.RequestLines.{longest, reading_of}
-use Rattle.request_json.specs.Actions.{Line, Action, Skip, Refuse, Ask, LineTooLong, cause_text, asking, used, content_of, action_of}
+use Rattle.request_json.specs.Actions.{Line, Action, Skip, Refuse, Ask, cause_text, action_of}
 use Rattle.request_json.specs.ReplyLines.{bad_line}
-use Rattle.request_json.proofs.RequestFits.{reading_fits}
+use Rattle.request_json.proofs.LinesFit.{ask_fits}
 use Rattle.engine.specs.declared.arrival.Arrival.{Arrival}
 use Rattle.engine.specs.declared.arrival.Arrival.TheVariants as arrival
 use Rattle.engine.specs.Cores.{Core, IsSoundCore}
@@ -30,25 +27,6 @@ use Rattle.batch_output.specs.SerialBatches.{Refused, Again, text_of_entry, IsLa
 use Rattle.batch_output.specs.BatchesEnd.{BatchesEnd}
 use Rattle.batch_output.proofs.LawfulBatches.{stays_sound, fewer_wait}
 use Rattle.batch_output.proofs.ReportLaws.{Goes, Goes-none, Goes-then, Goes-batch, numbered_later}
-
--- What a line asks fits
-
-module _ (src : Source) where
-  abbrev tables : List PlainTable
-  tables = tables_of src.names src.program
-
-  ask_fits : (line : Line) (r : Request) → action_of src line ≡ Ask r → RequestFits tables r
-  unfolding action_of
-  ask_fits line r = by (nat_le _ longest) (content_of line)
-    where
-      asks : (text : List ℕ) (told : Result Request LineFault) → reading_of src text ≡ told → asking told ≡ Ask r → RequestFits tables r
-      asks text (Err fault) told is = absurd cc
-      asks text (Ok q) told is = let same : q ≡ r = cc in subst (RequestFits tables) same (reading_fits src.names src.program text q told)
-
-      by : (short : Bool) (text : List ℕ) → (if short then used src text else Refuse LineTooLong) ≡ Ask r → RequestFits tables r
-      by true [] is = absurd cc
-      by true (b ∷ bs) is = asks (b ∷ bs) (reading_of src (b ∷ bs)) refl is
-      by false text is = absurd cc
 
 -- An answer
 

@@ -12,6 +12,7 @@ use Rattle.batch_output.specs.BatchOutput.{Standing, begun, committed, has_no_pl
 use Rattle.batch_output.proofs.LawfulBatches.{stays_sound}
 use Rattle.batch_output.proofs.SessionLaws.{at_most_one_more}
 use Rattle.batch_session.specs.Vocabulary.{next_core, Step, Answer, RunWaiting, move_of, behind, printed_at, ran_at, ran_on, IsBehindOne, IsLogged, Service}
+use Rattle.batch_session.proofs.Vocabulary.{each_joined}
 use Rattle.batch_run.specs.RunViews.{run_limits, run_service}
 use Rattle.batch_run.specs.GrownCores.{GrowsFrom}
 use Rattle.batch_run.specs.declared.running.RunSettings.{RunSettings}
@@ -39,10 +40,6 @@ module _ (compiled : Compiled) (s : RunSettings) (few : s.batch ≤ 256) where
   -- what holds of the cores that batches run on, where it holds of each that is sound
 
   module _ (P : Core → Type 0) (each : (core : Core) → IsSoundCore src core → P core) where
-    joined : (xs ys : List Core) → AllByRecursion P xs → AllByRecursion P ys → AllByRecursion P (xs ++ ys)
-    joined [] ys all more = more
-    joined (x ∷ xs) ys all more = (all.0, joined xs ys all.1 more)
-
     at_most_one : (full due none : Bool) (moved : Core) → P moved → AllByRecursion P (if full then [] else (if due then (if none then [] else moved ∷ []) else []))
     at_most_one true due none moved here = tt
     at_most_one false false none moved here = tt
@@ -55,7 +52,7 @@ module _ (compiled : Compiled) (s : RunSettings) (few : s.batch ≤ 256) where
     each_ran (step ∷ steps) t h =
         let next : Standing = behind v t step in
         let moved : Core = (move_of v t step).core in
-        joined (ran_at v t step) (ran_on v next steps)
+        each_joined P (ran_at v t step) (ran_on v next steps)
         (at_most_one t.is_full (move_of v t step).is_due (has_no_place src batch_rule (run_limits s) moved) moved (each moved (begins compiled s few step t h).sound))
         (each_ran steps next (next_stands compiled s few t next (printed_at v t step) (one compiled s few step t h)))
 

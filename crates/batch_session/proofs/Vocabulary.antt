@@ -5,4 +5,4 @@ pub use Rattle.session_steps.proofs.PrintLaws.{steps_print}
 pub use Rattle.session_steps.proofs.StepFacts.{behind_full, behind_placed, printed_placed, ran-append, standing-append, standing-one, standing_over}
 pub use Rattle.session_steps.proofs.Vocabulary.{line_fits}
 pub use Rattle.session_store.proofs.NoStore.{never_failed}
-pub use Rattle.session_store.proofs.Vocabulary.{empty_storable}
+pub use Rattle.session_store.proofs.Vocabulary.{each_joined, empty_storable}

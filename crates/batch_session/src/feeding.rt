@@ -88,8 +88,10 @@ impl Intake {
             → LogsSteps (service_of engine.old (R.choice rule.now) settings.now.batch settings.now.parts)
             (settings_of store.old) (core_of engine.old) self.old.lines (Answer (cut ended line) ∷ [])
             (logged_of engine.old) (logged_of engine.new) (D.facts disk.old) (D.facts disk.new) }
-        ensures ready { OnOk result (IsReady (state_of engine.new store.new (D.facts disk.new) (D.faults disk.new) (D.mounts disk.new)) self.new.tally.batches) }
-        ensures goes_on { GoesOn (R.choice rule.now) (disk_failed result) (state_of engine.old store.old (D.facts disk.old) (D.faults disk.old) (D.mounts disk.old))
+        ensures ready { OnOk result (IsReady
+            (state_of engine.new store.new (D.facts disk.new) (D.faults disk.new) (D.mounts disk.new)) self.new.tally.batches) }
+        ensures goes_on { GoesOn (R.choice rule.now) (disk_failed result)
+            (state_of engine.old store.old (D.facts disk.old) (D.faults disk.old) (D.mounts disk.old))
             (state_of engine.new store.new (D.facts disk.new) (D.faults disk.new) (D.mounts disk.new)) }
         ensures writes { WritesOn (line_unwritten result) (K.faults out.old) (K.faults out.new) (E.faults err.old) (E.faults err.new) }
     {
@@ -155,8 +157,10 @@ impl Intake {
             → LogsSteps (service_of engine.old (R.choice rule.now) settings.now.batch settings.now.parts)
             (settings_of store.old) (core_of engine.old) self.old.lines (answers (whole_from part (fed_of result piece.now)))
             (logged_of engine.old) (logged_of engine.new) (D.facts disk.old) (D.facts disk.new) }
-        ensures ready { OnOk result (IsReady (state_of engine.new store.new (D.facts disk.new) (D.faults disk.new) (D.mounts disk.new)) self.new.tally.batches) }
-        ensures goes_on { GoesOn (R.choice rule.now) (disk_failed result) (state_of engine.old store.old (D.facts disk.old) (D.faults disk.old) (D.mounts disk.old))
+        ensures ready { OnOk result (IsReady
+            (state_of engine.new store.new (D.facts disk.new) (D.faults disk.new) (D.mounts disk.new)) self.new.tally.batches) }
+        ensures goes_on { GoesOn (R.choice rule.now) (disk_failed result)
+            (state_of engine.old store.old (D.facts disk.old) (D.faults disk.old) (D.mounts disk.old))
             (state_of engine.new store.new (D.facts disk.new) (D.faults disk.new) (D.mounts disk.new)) }
         ensures writes { WritesOn (line_unwritten result) (K.faults out.old) (K.faults out.new) (E.faults err.old) (E.faults err.new) }
     {
@@ -199,8 +203,10 @@ impl Intake {
             → LogsSteps (service_of engine.old (R.choice rule.now) settings.now.batch settings.now.parts)
             (settings_of store.old) (core_of engine.old) self.old.lines (answers (whole_from part piece.now))
             (logged_of engine.old) (logged_of engine.new) (D.facts disk.old) (D.facts disk.new) }
-        ensures ready { OnOk result (IsReady (state_of engine.new store.new (D.facts disk.new) (D.faults disk.new) (D.mounts disk.new)) self.new.tally.batches) }
-        ensures goes_on { GoesOn (R.choice rule.now) (disk_failed result) (state_of engine.old store.old (D.facts disk.old) (D.faults disk.old) (D.mounts disk.old))
+        ensures ready { OnOk result (IsReady
+            (state_of engine.new store.new (D.facts disk.new) (D.faults disk.new) (D.mounts disk.new)) self.new.tally.batches) }
+        ensures goes_on { GoesOn (R.choice rule.now) (disk_failed result)
+            (state_of engine.old store.old (D.facts disk.old) (D.faults disk.old) (D.mounts disk.old))
             (state_of engine.new store.new (D.facts disk.new) (D.faults disk.new) (D.mounts disk.new)) }
         ensures writes { WritesOn (line_unwritten result) (K.faults out.old) (K.faults out.new) (E.faults err.old) (E.faults err.new) }
     {
@@ -262,8 +268,10 @@ impl Intake {
             result self.new.line (S.left input.old) (S.left input.new)
             (point_of engine.old self.old.lines self.old.tally (K.held out.old) (E.held err.old) (C.choices chooser.old) (W.told watch.old))
             (point_of engine.new self.new.lines self.new.tally (K.held out.new) (E.held err.new) (C.choices chooser.new) (W.told watch.new)) }
-        ensures ready { OnOk result (IsReady (state_of engine.new store.new (D.facts disk.new) (D.faults disk.new) (D.mounts disk.new)) self.new.tally.batches) }
-        ensures goes_on { GoesOn (R.choice rule.now) (disk_failed result) (state_of engine.old store.old (D.facts disk.old) (D.faults disk.old) (D.mounts disk.old))
+        ensures ready { OnOk result (IsReady
+            (state_of engine.new store.new (D.facts disk.new) (D.faults disk.new) (D.mounts disk.new)) self.new.tally.batches) }
+        ensures goes_on { GoesOn (R.choice rule.now) (disk_failed result)
+            (state_of engine.old store.old (D.facts disk.old) (D.faults disk.old) (D.mounts disk.old))
             (state_of engine.new store.new (D.facts disk.new) (D.faults disk.new) (D.mounts disk.new)) }
         ensures writes { WritesOn (line_unwritten result) (K.faults out.old) (K.faults out.new) (E.faults err.old) (E.faults err.new) }
     {
@@ -323,8 +331,10 @@ impl Intake {
             → LogsSteps (service_of engine.old (R.choice rule.now) settings.now.batch settings.now.parts)
             (settings_of store.old) (core_of engine.old) self.old.lines (answers (last_line part))
             (logged_of engine.old) (logged_of engine.new) (D.facts disk.old) (D.facts disk.new) }
-        ensures ready { OnOk result (IsReady (state_of engine.new store.new (D.facts disk.new) (D.faults disk.new) (D.mounts disk.new)) self.new.tally.batches) }
-        ensures goes_on { GoesOn (R.choice rule.now) (disk_failed result) (state_of engine.old store.old (D.facts disk.old) (D.faults disk.old) (D.mounts disk.old))
+        ensures ready { OnOk result (IsReady
+            (state_of engine.new store.new (D.facts disk.new) (D.faults disk.new) (D.mounts disk.new)) self.new.tally.batches) }
+        ensures goes_on { GoesOn (R.choice rule.now) (disk_failed result)
+            (state_of engine.old store.old (D.facts disk.old) (D.faults disk.old) (D.mounts disk.old))
             (state_of engine.new store.new (D.facts disk.new) (D.faults disk.new) (D.mounts disk.new)) }
         ensures writes { WritesOn (line_unwritten result) (K.faults out.old) (K.faults out.new) (E.faults err.old) (E.faults err.new) }
     {
@@ -359,11 +369,14 @@ impl Intake {
         ensures none { OnOk result ((core_of engine.new).pending ≡ []) }
         ensures logs { (part : List ℕ) → IsStart self.old.line part
             → LogsSteps (service_of engine.old (R.choice rule.now) settings.now.batch settings.now.parts)
-            (settings_of store.old) (core_of engine.old) self.old.lines (last_steps (service_of engine.old (R.choice rule.now) settings.now.batch settings.now.parts)
+            (settings_of store.old) (core_of engine.old) self.old.lines
+            (last_steps (service_of engine.old (R.choice rule.now) settings.now.batch settings.now.parts)
             (open_at (core_of engine.old) self.old.lines) (last_line part))
             (logged_of engine.old) (logged_of engine.new) (D.facts disk.old) (D.facts disk.new) }
-        ensures ready { OnOk result (IsReady (state_of engine.new store.new (D.facts disk.new) (D.faults disk.new) (D.mounts disk.new)) self.new.tally.batches) }
-        ensures goes_on { GoesOn (R.choice rule.now) (disk_failed result) (state_of engine.old store.old (D.facts disk.old) (D.faults disk.old) (D.mounts disk.old))
+        ensures ready { OnOk result (IsReady
+            (state_of engine.new store.new (D.facts disk.new) (D.faults disk.new) (D.mounts disk.new)) self.new.tally.batches) }
+        ensures goes_on { GoesOn (R.choice rule.now) (disk_failed result)
+            (state_of engine.old store.old (D.facts disk.old) (D.faults disk.old) (D.mounts disk.old))
             (state_of engine.new store.new (D.facts disk.new) (D.faults disk.new) (D.mounts disk.new)) }
         ensures writes { WritesOn (line_unwritten result) (K.faults out.old) (K.faults out.new) (E.faults err.old) (E.faults err.new) }
     {

@@ -1,9 +1,6 @@
--- Texts that are added in pieces, and lines behind lines.
-use Rattle.std.proofs.Common.{◌≡◌, ℕ, arith, ◌+◌, ◌≤◌, ◌<◌, List, [], ◌∷◌, ◌++◌, length, map, take, drop, get_or, append_assoc, append-nil, sym, ap, ◌∙◌}
+-- Lines behind lines.
+use Rattle.std.proofs.Common.{◌≡◌, ℕ, arith, ◌+◌, ◌≤◌, ◌<◌, List, [], ◌++◌, length, map, drop, get_or, append_assoc, append-nil, sym, ap, ◌∙◌}
 use Rattle.std.specs.Prelude.{slice_index_or}
-use Rattle.std.specs.List.{concat}
-use Rattle.std.specs.Borrow.{Bor}
-use Rattle.std.proofs.lemmas.List.{take_more, map-append}
 use Rattle.std.proofs.Math.ListN.{drop_of_length-le}
 use Rattle.py_tree.specs.ClassRules.{PlainTable}
 use Rattle.py_tree.proofs.ListWalks.{map_from}
@@ -13,20 +10,6 @@ use Rattle.entity_tables.specs.Views.{plain_sig, plain_table, plain_tables}
 use Rattle.block_code.specs.declared.block.Block.{Block}
 use Rattle.block_code.specs.PlainBlocks.{PlainBlock, plain_block, plain_blocks}
 use Rattle.block_code.specs.GraphText.{block_line, block_lines, method_line, method_lines, lines_of_class, class_lines}
-
-concat_more : (xs : List (List ℕ)) (x : List ℕ) → concat (xs ++ x ∷ []) ≡ concat xs ++ x
-concat_more [] x = append-nil x
-concat_more (y ∷ ys) x = ap (λ rest. y ++ rest) (concat_more ys x) ∙ sym (append_assoc y (concat ys) x)
-
--- one piece more
-pub pieces_more : (before old new : List ℕ) (pieces : List (Bor (List ℕ))) (i : ℕ) (d : Bor (List ℕ)) → i < length pieces
-    → old ≡ before ++ concat (map (λ p. p.now) (take i pieces)) → new ≡ old ++ (get_or pieces i d).now → new ≡ before ++ concat (map (λ p. p.now) (take (i + 1) pieces))
-pieces_more before old new pieces i d within so_far more =
-    let piece = get_or pieces i d in
-    let cut : map (λ (p : Bor (List ℕ)). p.now) (take (i + 1) pieces) ≡ map (λ p. p.now) (take i pieces) ++ piece.now ∷ [] =
-    ap (map (λ p. p.now)) (take_more pieces i d within) ∙ map-append (λ p. p.now) (take i pieces) (piece ∷ []) in
-    more ∙ ap (λ text. text ++ piece.now) so_far ∙ append_assoc before (concat (map (λ p. p.now) (take i pieces))) piece.now
-    ∙ ap (λ rest. before ++ rest) (sym (ap concat cut ∙ concat_more (map (λ p. p.now) (take i pieces)) piece.now))
 
 -- the line of one block more
 pub block_more : (names : List (List ℕ)) (tables : List PlainTable) (bs : List Block) (i : ℕ) (b : Block) (old new all : List ℕ) → i < length bs → b ≡ get_or bs i b

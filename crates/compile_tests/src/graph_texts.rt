@@ -48,7 +48,7 @@ class A:
     tail: "",
 };
 
-/// A row has the methods of a class, beside another one.
+/// A row has the methods of a class, behind one whose first method is cut.
 const METHODS: Setting = Setting {
     head: "from stateflow import entity
 @entity
@@ -58,6 +58,8 @@ class B:
         self.n: int = n
     def __key__(self):
         return self.k
+    def twin(self, other: B) -> int:
+        return other.get()
     def get(self) -> int:
         return self.n
 @entity

@@ -46,7 +46,8 @@ fn method_blocks(
 ) -> Result<Blocks, AllocError>
     requires tables { HasTables marked.now }
     requires method { IsSome (method_at marked.now class method) }
-    ensures { (m : PlainMethod) → method_at marked.now class method ≡ Some m → IfOk result (λ made. plain_blocks made ≡ blocks_at marked.now class method m) }
+    ensures { (m : PlainMethod) → method_at marked.now class method ≡ Some m
+        → IfOk result (λ made. plain_blocks made ≡ blocks_at marked.now class method m) }
 {
     let flat = hoist(
         alloc,

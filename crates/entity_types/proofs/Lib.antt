@@ -2,4 +2,3 @@ pub mod EnvLaws
 pub mod ShownLaws
 pub mod ScopeLaws
 pub mod WalkLaws
-pub mod Sizes

@@ -28,7 +28,7 @@ use std::alloc::Global;
 
 /// The type of an expression within a scope, or the first rule that it breaks.
 #[cycle(walk)]
-#[tactic(auto, using(py_tree::proofs::TypeRules::type_rules, py_tree::proofs::Views::ty_views, crate::proofs::ScopeLaws::scope_class, crate::proofs::Sizes::sizes))]
+#[tactic(auto, using(py_tree::proofs::TypeRules::type_rules, py_tree::proofs::Views::ty_views, crate::proofs::ScopeLaws::scope_class, py_tree::proofs::Sizes::expr_sizes))]
 pub fn type_in(
     alloc: Global,
     tables: &[ClassTable],

@@ -67,7 +67,7 @@ fn finish_apply(
 
 /// An expression as a value. Nothing else reads what is known at the spot while it is hoisted.
 #[cycle(hoist)]
-#[tactic(auto, using(entity_types::proofs::Sizes::sizes))]
+#[tactic(auto, using(py_tree::proofs::Sizes::expr_sizes))]
 pub fn value(
     alloc: Global,
     setting: &Setting<'_>,
@@ -414,7 +414,7 @@ fn way(
 
 /// An expression as a test.
 #[cycle(hoist)]
-#[tactic(auto, using(entity_types::proofs::Sizes::sizes))]
+#[tactic(auto, using(py_tree::proofs::Sizes::expr_sizes))]
 pub fn test(
     alloc: Global,
     setting: &Setting<'_>,

@@ -16,8 +16,8 @@ use Rattle.block_step.specs.declared.compiled.Compiled.{Compiled}
 use Rattle.block_step.specs.CompiledViews.{compiled_program, compiled_names}
 use Rattle.request_json.specs.declared.fault.LineFault.{LineFault}
 use Rattle.request_json.specs.RequestLines.{longest, reading_of}
-use Rattle.request_json.specs.Actions.{Line, Ended, Left, Refuse, LineTooLong, asking, used, without_cr, content_of, bytes_of, action_of}
-use Rattle.request_json.proofs.RequestFits.{reading_fits}
+use Rattle.request_json.specs.Actions.{Line, Ended, Left, Action, Skip, Refuse, Ask, LineTooLong, asking, used, without_cr, content_of, bytes_of, action_of}
+use Rattle.request_json.proofs.LinesFit.{ask_fits}
 use Rattle.request_json.proofs.RequestSpellings.{reading_spelt}
 use Rattle.batch_replies.proofs.Vocabulary.{line_is_short}
 use Rattle.line_answers.specs.LineViews.{ActionFits, ActionIsSpelt}
@@ -26,22 +26,14 @@ module _ (src : Source) where
   abbrev tables : List PlainTable
   tables = tables_of src.names src.program
 
-  asking_fits : (text : List ℕ) (told : Result Request LineFault) → reading_of src text ≡ told → ActionFits tables (asking told)
-  asking_fits text (Ok r) is = reading_fits src.names src.program text r is
-  asking_fits text (Err fault) is = tt
-
-  used_fits : (text : List ℕ) → ActionFits tables (used src text)
-  used_fits [] = tt
-  used_fits (b ∷ bs) = asking_fits (b ∷ bs) (reading_of src (b ∷ bs)) refl
-
   -- what a line asks fits the program
   pub line_fits : (line : Line) → ActionFits tables (action_of src line)
-  unfolding action_of
-  line_fits line = by (nat_le (length (bytes_of line)) longest)
+  line_fits line = by (action_of src line) refl
     where
-      by : (short : Bool) → ActionFits tables (if short then used src (content_of line) else Refuse LineTooLong)
-      by true = used_fits (content_of line)
-      by false = tt
+      by : (action : Action) → action_of src line ≡ action → ActionFits tables action
+      by Skip is = tt
+      by (Refuse cause) is = tt
+      by (Ask r) is = ask_fits src line r is
 
   -- ---- spellings
 

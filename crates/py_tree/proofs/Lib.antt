@@ -3,6 +3,7 @@ pub mod CopyLaws
 pub mod NameLaws
 pub mod ProgramCopies
 pub mod Views
+pub mod Sizes
 pub mod Places
 pub mod TypeLaws
 pub mod TypeRules

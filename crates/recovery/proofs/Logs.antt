@@ -1,7 +1,7 @@
 -- A log as it is read, record by record.
 use Rattle.std.proofs.Common.{◌≡◌, ℕ, List, [], ◌∷◌, ◌++◌, length, refl, sym, ap, ◌∙◌, subst, IfSome, Err}
 use Rattle.std.specs.declared.option.Option.{Option}
-use Rattle.std.specs.List.{AllByRecursion}
+use Rattle.sf_bytes.proofs.Lists.{all_push}
 use Rattle.sf_bytes.specs.Gates.{ClosedAt}
 use Rattle.sf_outside.specs.DiskModel.{Image, of_file}
 use Rattle.sf_outside.specs.declared.store_disk.StoreFile.{StoreFile}
@@ -54,11 +54,6 @@ placed_more : (at : ℕ) (batches : List Placed) (middle : ℕ) (placed : Placed
 placed_more at [] middle placed body so_far here is = (body, here ∙ sym so_far, is, ap (λ place. gate_behind place (length body)) so_far)
 placed_more at (first ∷ batches) middle placed body so_far here is = (so_far.0, so_far.1, so_far.2, placed_more (gate_behind at (length so_far.0)) batches middle placed body so_far.3 here is)
 
--- what holds of each, and of one more
-all_more : {A : Type 0} (P : A → Type 0) (xs : List A) (x : A) → AllByRecursion P xs → P x → AllByRecursion P (xs ++ x ∷ [])
-all_more P [] x each here = (here, tt)
-all_more P (first ∷ xs) x each here = (each.0, all_more P xs x each.1 here)
-
 -- a batch, a spelling of it, and where the gate behind that is
 abbrev pub Spelt : ℕ → BatchRecord → ℕ → Type 0
 Spelt at batch next = (body : List ℕ) × IsBatch body batch × (next ≡ gate_behind at (length body))
@@ -67,7 +62,7 @@ pub logged_next : (batches : List Placed) (at : ℕ) (batch : BatchRecord) (next
 logged_next batches at batch next after more is logged =
     let placed : Placed = record { at = at; batch = batch } in
     let so_far : AreLogged (batches ++ placed ∷ []) (gate_behind at (length is.0)) = record {
-      read = all_more _ batches placed logged.read is.1.0;
+      read = all_push _ batches placed logged.read is.1.0;
       places = placed_more 0 batches at placed is.0 logged.places refl is.1;
     } in
     let there : AreLogged after (gate_behind at (length is.0)) = subst (λ bs. AreLogged bs (gate_behind at (length is.0))) (sym more) so_far in

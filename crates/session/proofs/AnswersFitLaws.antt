@@ -14,7 +14,7 @@ use Rattle.request_json.specs.Actions.{Line}
 use Rattle.session.specs.SerialOutput.{Printed, Nothing, Refused, Reply, Again, Fits}
 use Rattle.session.specs.AnswersFit.{AnswersFit}
 use Rattle.request_history.specs.SoundHistory.{EntriesFit}
-use Rattle.session.proofs.RequestLaws.{ask_fits}
+use Rattle.request_json.proofs.LinesFit.{ask_fits}
 
 module _ (names : List (List ℕ)) (program : PlainProgram) where
   abbrev src : Source

@@ -12,7 +12,8 @@ one_more all i x lt is = take_more all i x lt ∙ ap (λ y. take i all ++ y ∷ 
 pub flat_step : {A : Type 0} (f : A → Items ℕ) (all : Items A) (i : ℕ) (x : A) → i < length all → x ≡ get_or all i x → flat_map f (take (i + 1) all) ≡ flat_map f (take i all) ++ f x
 flat_step f all i x lt is = ap (λ xs. flat_map f xs) (one_more all i x lt is) ∙ flat_map-append f (take i all) (x ∷ []) ∙ ap (λ bytes. flat_map f (take i all) ++ bytes) (append-nil (f x))
 
-all_push : {A : Type 0} (P : A → Type 0) (xs : Items A) (x : A) → AllByRecursion P xs → P x → AllByRecursion P (xs ++ x ∷ [])
+-- what holds of each, and of one more
+pub all_push : {A : Type 0} (P : A → Type 0) (xs : Items A) (x : A) → AllByRecursion P xs → P x → AllByRecursion P (xs ++ x ∷ [])
 all_push P [] x h p = (p, tt)
 all_push P (y ∷ ys) x h p = (h.0, all_push P ys x h.1 p)
 

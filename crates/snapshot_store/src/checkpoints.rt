@@ -104,7 +104,8 @@ pub fn clear_log<D: Disk>(disk: &mut D, epoch: u64) -> Result<(), Failed>
 pub fn fill_slot<D: Disk>(disk: &mut D, epoch: u64, body: &[u8]) -> Result<(), Failed>
     requires epoch { IsEpoch epoch }
     requires body { (kept : Snapshot) × IsSnapshot body.now kept }
-    ensures now { OnOk result ((image : Image) → (D.facts disk.new).may_leave image → ComesBy (slot_of epoch) (Fills epoch body.now) (D.facts disk.old) image) }
+    ensures now { OnOk result ((image : Image) → (D.facts disk.new).may_leave image
+        → ComesBy (slot_of epoch) (Fills epoch body.now) (D.facts disk.old) image) }
     ensures durable { OnOk result (IsDurable (slot_of epoch) (D.facts disk.new)) }
     ensures seen { OnOk result (SeenWritten (slot_of epoch) 1 (behind_gate epoch body.now) (D.facts disk.old) (D.facts disk.new)) }
     ensures moments { LeavesOnly (D.facts disk.old) (D.facts disk.new) (ComesBy (slot_of epoch) KeepsGate (D.facts disk.old)) }

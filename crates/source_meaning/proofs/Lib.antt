@@ -6,7 +6,6 @@ pub mod OperationLaws
 pub mod TransactionLaws
 pub mod TrailerViews
 pub mod InPlaceLaws
-pub mod SizeLaws
 pub mod ClosedSites
 pub mod Measures
 pub mod RangeLaws

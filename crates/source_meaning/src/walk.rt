@@ -98,7 +98,7 @@ pub(crate) fn evaluate(
 
 /// The value of an expression by its form.
 #[cycle(walk)]
-#[tactic(auto, using(program_meaning::proofs::EvalLaws::eval_is, crate::proofs::SizeLaws::expr_sizes))]
+#[tactic(auto, using(program_meaning::proofs::EvalLaws::eval_is, py_tree::proofs::Sizes::expr_sizes))]
 fn evaluate_form(site: &Site<'_>, expr: &Expr, vars: &Vars, run: &mut Run) -> Result<Value, Stop>
     ensures { Agrees result site.now run.old run.new (value_of site.now expr.now vars.now) }
 {
@@ -834,7 +834,7 @@ fn execute(site: &Site<'_>, stmt: &Stmt, vars: &mut Vars, run: &mut Run) -> Resu
 
 /// What a statement does after its step, by its form.
 #[cycle(walk)]
-#[tactic(auto, using(program_meaning::proofs::ActLaws::act_is, crate::proofs::SizeLaws::stmt_sizes))]
+#[tactic(auto, using(program_meaning::proofs::ActLaws::act_is, py_tree::proofs::Sizes::stmt_sizes))]
 fn execute_form(site: &Site<'_>, stmt: &Stmt, vars: &mut Vars, run: &mut Run) -> Result<Flow, Stop>
     ensures { EndsAs result vars.new site.now run.old run.new (λ w n. does site.now stmt.now vars.old w (n + 1)) }
 {

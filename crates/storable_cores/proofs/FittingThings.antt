@@ -19,7 +19,8 @@ use Rattle.program_meaning.specs.NothingGoesWrong.{IsKnownAccepted}
 use Rattle.short_runs.specs.ShortRuns.{OutcomeIsShort, StateIsShort}
 use Rattle.request_json.proofs.FittingSpellings.{fits_nest}
 use Rattle.storable_cores.specs.Storable.{StateIsSpelt}
-use Rattle.storable_cores.proofs.FlatTypes.{AreFlat, fields_flat, few_fields, result_flat}
+use Rattle.request_json.proofs.FlatTypes.{AreFlat, fields_flat, result_flat}
+use Rattle.storable_cores.proofs.FewFields.{few_fields}
 
 each_nests : {tables : List PlainTable} {types : List PlainTy} {vs : List Value} → EachFits tables types vs → AreFlat types
     → AllByRecursion (λ v. NestsWithin v (64 - 1)) vs

@@ -1,5 +1,5 @@
 pub mod Lists
-pub mod FlatTypes
+pub mod FewFields
 pub mod FittingThings
 pub mod RunLaws
 pub mod CoreLaws

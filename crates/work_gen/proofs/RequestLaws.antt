@@ -1,26 +1,9 @@
--- Lines that are added in pieces, and lines behind lines.
-use Rattle.std.proofs.Common.{◌≡◌, ℕ, suc, arith, ◌+◌, ◌-◌, ◌<◌, ◌≤◌, true, false, List, [], ◌∷◌, ◌++◌, length, map, take, get_or, append_assoc, append-nil, Ok, Err, OnOk, sym, ap, ◌∙◌}
+-- Lines behind lines.
+use Rattle.std.proofs.Common.{◌≡◌, ℕ, suc, arith, ◌+◌, ◌-◌, ◌<◌, ◌≤◌, true, false, List, ◌++◌, append_assoc, append-nil, Ok, Err, OnOk, sym, ap, ◌∙◌}
 use Rattle.std.specs.declared.result.Result.{Result}
-use Rattle.std.specs.List.{concat}
 use Rattle.std.specs.Prelude.{nat_lt, if◌then◌else◌}
 use Rattle.std.proofs.lemmas.Bool.{lt-ltb, le-ltb}
-use Rattle.std.proofs.lemmas.List.{take_more, map-append}
-use Rattle.std.specs.Borrow.{Bor}
 use Rattle.work_gen.specs.Requests as spec
-
-concat_more : (xs : List (List ℕ)) (x : List ℕ) → concat (xs ++ x ∷ []) ≡ concat xs ++ x
-concat_more [] x = append-nil x
-concat_more (y ∷ ys) x = ap (λ rest. y ++ rest) (concat_more ys x) ∙ sym (append_assoc y (concat ys) x)
-
--- one piece more
-pub pieces_more : (before old new : List ℕ) (pieces : List (Bor (List ℕ))) (i : ℕ) (d : Bor (List ℕ)) → i < length pieces
-    → old ≡ before ++ concat (map (λ p. p.now) (take i pieces)) → new ≡ old ++ (get_or pieces i d).now → new ≡ before ++ concat (map (λ p. p.now) (take (i + 1) pieces))
-pieces_more before old new pieces i d within so_far more =
-    let piece = get_or pieces i d in
-    let cut : map (λ (p : Bor (List ℕ)). p.now) (take (i + 1) pieces) ≡ map (λ p. p.now) (take i pieces) ++ piece.now ∷ [] =
-    ap (map (λ p. p.now)) (take_more pieces i d within) ∙ map-append (λ p. p.now) (take i pieces) (piece ∷ []) in
-    more ∙ ap (λ bytes. bytes ++ piece.now) so_far ∙ append_assoc before (concat (map (λ p. p.now) (take i pieces))) piece.now
-    ∙ ap (λ rest. before ++ rest) (sym (ap concat cut ∙ concat_more (map (λ p. p.now) (take i pieces)) piece.now))
 
 pub on_ok : {T E : Type 0} (r : Result T E) (P Q : Type 0) → (P → Q) → OnOk r P → OnOk r Q
 on_ok (Ok x) P Q f p = f p

@@ -1,5 +1,5 @@
 use Rattle.std.proofs.Common.{string_bytes}
-use Rattle.block_code.proofs.TextLaws.{pieces_more}
+use Rattle.sf_list.proofs.Pieces.{pieces_more}
 use Rattle.block_code.proofs.text.add_pieces.Goals as goal
 
 pub loop-piece-preserved : goal.loop-piece-preserved

@@ -14,7 +14,7 @@ use Rattle.entity_types.specs.Scopes.{plain_scope}
 use Rattle.entity_types.specs.Views.{plain_wanted}
 use Rattle.py_tree.proofs.ListWalks.{rest}
 use Rattle.py_tree.specs.Bounded.{expr_size, exprs_size}
-use Rattle.entity_types.proofs.Sizes.{item_size, right_size, rest_size, size-Call}
+use Rattle.py_tree.proofs.Sizes.{item_size, link_part, rest_size, size-Call}
 use Rattle.entity_types.proofs.WalkLaws.{function_is, creation_typed, argument_stops, list_none, list_from}
 use Rattle.entity_types.proofs.walk.+walk.Goals as goal
 
@@ -33,7 +33,7 @@ arguments_in-returns-in_err-value_in t c =
     grind (arith, stops)
 
 pub chain_in-type_in-requires : goal.chain_in-type_in-requires
-chain_in-type_in-requires t c = let h = right_size c.args.links.now c.loop-link.link-index c.link-item.result c.loop-link-test.true c.link-item.is in omega arith
+chain_in-type_in-requires t c = let h = link_part c.args.links.now c.loop-link.link-index c.link-item.result c.loop-link-test.true c.link-item.is in omega arith
 
 pub conditions_in-condition_in-requires : goal.conditions_in-condition_in-requires
 conditions_in-condition_in-requires t c = let h = item_size c.args.operands.now c.loop-operand.operand-index c.operand-item.result c.loop-operand-test.true c.operand-item.is in omega arith

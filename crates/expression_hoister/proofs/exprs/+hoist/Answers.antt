@@ -10,7 +10,7 @@ use Rattle.py_tree.specs.ExpressionTypes.{function_of, place_of}
 use Rattle.py_tree.proofs.TypeRules.{place-expr}
 use Rattle.py_tree.proofs.ListWalks.{exprs_from, exprs_end, links_from, links_end}
 use Rattle.entity_types.specs.Views.{plain_locals, plain_wanted}
-use Rattle.entity_types.proofs.Sizes.{item_size, right_size, size-Call}
+use Rattle.py_tree.proofs.Sizes.{item_size, link_part, size-Call}
 use Rattle.flat_tree.specs.PlainFlat.{FNot, FAnd, FOr, plain_flat_test, plain_flat_stmt, plain_flat_stmts, plain_operand, plain_operands}
 use Rattle.hoisting.specs.HoistExpressions.{still, built, so_far, chain_of, made_of, truth_of, settled, lasts, with_args, by_function, apply_of, taken_each, taken_links, taken_operands, forms}
 use Rattle.hoisting.specs.Views.{plain_spot, context_of, leaves_of, ty_in, hoisted_at, each_at, call_at}
@@ -81,7 +81,7 @@ kept_value-returns t c =
     ok_as c.settle.result (λ made. hoisted_at made c.settle.new.spot) _ _ (known ∙ kept_settled c.args.later (lasts leaves e) (place_of e) (ty_in c.args.setting.now start.locals wanted e) ((forms leaves here e).value wanted start) c.if-not-later.false off) c.settle.ensures
 
 pub linked-link_on-requires : goal.linked-link_on-requires
-linked-link_on-requires t c = let h = right_size c.args.links.now c.loop-link.link-index c.link-item.result c.loop-link-test.true c.link-item.is in omega (arith, h)
+linked-link_on-requires t c = let h = link_part c.args.links.now c.loop-link.link-index c.link-item.result c.loop-link-test.true c.link-item.is in omega (arith, h)
 
 pub linked-loop-link-preserved : goal.linked-loop-link-preserved
 linked-loop-link-preserved t c =

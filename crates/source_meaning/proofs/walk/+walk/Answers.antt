@@ -7,7 +7,7 @@ use Rattle.source_meaning.specs.Sites.{site_of}
 use Rattle.source_meaning.specs.Transactions.{world_of}
 use Rattle.program_meaning.proofs.EvalLaws.{all_next, all_end, link_next, link_end, each_next, each_end}
 use Rattle.program_meaning.proofs.ActLaws.{stmts_next, stmts_end, arms_next, arms_end, while_over, items_end, numbers_over}
-use Rattle.source_meaning.proofs.SizeLaws.{item_size, link_part, stmt_part, arm_part}
+use Rattle.py_tree.proofs.Sizes.{item_size, link_part, stmt_part, arm_part}
 use Rattle.std.proofs.Common.{◌≡◌, true, false, inl, inr, option_map, drop, ◌∷◌, ◌++◌}
 use Rattle.std.specs.Prelude.{is_some}
 use Rattle.std.specs.FinMap.{get}
@@ -64,7 +64,7 @@ use Rattle.source_meaning.proofs.ClosedSites.{made_eval, made_message}
 use Rattle.program_meaning.proofs.TrailerLaws.{trailer-Call, eval_along, trailers_within}
 use Rattle.source_meaning.proofs.TrailerViews.{sizes_last, follow_last, chain_falls, follow_ended}
 use Rattle.py_tree.specs.Bounded.{of_option, stmt_size}
-use Rattle.source_meaning.proofs.SizeLaws.{stmt_size-Assign, stmt_size-Assert}
+use Rattle.py_tree.proofs.Sizes.{stmt_size-Assign, stmt_size-Assert}
 use Rattle.source_meaning.proofs.walk.+walk.Goals as goal
 
 pub evaluate_all-evaluate-requires : goal.evaluate_all-evaluate-requires

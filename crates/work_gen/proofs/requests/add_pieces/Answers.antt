@@ -1,4 +1,4 @@
-use Rattle.work_gen.proofs.RequestLaws.{pieces_more}
+use Rattle.sf_list.proofs.Pieces.{pieces_more}
 use Rattle.work_gen.proofs.requests.add_pieces.Goals as goal
 
 pub loop-piece-preserved : goal.loop-piece-preserved

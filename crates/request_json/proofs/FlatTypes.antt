@@ -1,4 +1,4 @@
--- The types that an accepted program declares nest no deeper than what is written may, and its classes have few fields.
+-- The types that an accepted program declares nest no deeper than what is written may.
 use Rattle.std.proofs.Common.{◌≡◌, ℕ, ◌≤◌, List, [], ◌∷◌, length, map as over, Option, Some, None, ap, ◌∙◌, subst, arith}
 use Rattle.std.proofs.Math.Bridge.{le_prop}
 use Rattle.std.proofs.Math.Logic.{∥∥₁_elim}
@@ -10,9 +10,7 @@ use Rattle.py_tree.specs.declared.stmt.Target.TheVariants.{Local, Field}
 use Rattle.py_tree.specs.PlainStatements.{PlainStmt, PPass, PBreak, PContinue, PDo, PReturn, PRaise, PAssert, PAssign, PAugment, PIf, PWhile, PFor, stmts_of}
 use Rattle.py_tree.specs.PlainProgram.{PlainMethod, PlainClass, PlainProgram}
 use Rattle.py_tree.specs.Bounded.{nesting, EachStmt, EachOfStmts, DeclaresFlat, IsBoundedMethod}
-use Rattle.py_tree.specs.ClassRules.{PlainField, PlainTable, PlainSig, Declaration, body_of, declaration, field_declared, fields_of, sig_of, table_of, tables_of, init_of as init_among, methods_of as methods_among, written_or_none, first_in, member_fault, whole_fault, class_fault}
-use Rattle.py_tree.proofs.ClassRuleLaws.{head_none, class_kept}
-use Rattle.entity_tables.proofs.SmallLaws.{small}
+use Rattle.py_tree.specs.ClassRules.{PlainField, PlainTable, PlainSig, Declaration, body_of, declaration, field_declared, fields_of, sig_of, table_of, tables_of, init_of as init_among, methods_of as methods_among, written_or_none}
 use Rattle.program_meaning.specs.ClassTables.{members_of}
 use Rattle.program_meaning.specs.Fits.{HasTable, field_types}
 use Rattle.program_meaning.specs.NothingGoesWrong.{IsKnownAccepted}
@@ -80,17 +78,6 @@ module _ (names : List (List ℕ)) (program : PlainProgram) (accepted : IsKnownA
   fields_flat class t has =
       let c = class_at names program accepted.rules.classes class t has in
       subst (λ (u : PlainTable). AreFlat (field_types u)) c.2 (class_flat class c.0 c.1)
-
-  class_few : (class : ℕ) (c : PlainClass) → slice_get program class ≡ Some c → length (table_of names c).fields ≤ 256
-  unfolding class_fault table_of
-  class_few class c is =
-      let members = first_in (member_fault names program c.members) c.members in
-      (small names program c.members (head_none members (whole_fault names c ∷ []) (class_kept names program class c accepted.rules.classes is))).fields
-
-  pub few_fields : (class : ℕ) (t : PlainTable) → HasTable tables class t → length t.fields ≤ 256
-  few_fields class t has =
-      let c = class_at names program accepted.rules.classes class t has in
-      subst (λ (u : PlainTable). length u.fields ≤ 256) c.2 (class_few class c.0 c.1)
 
   -- the method of what a caller knows of it
   method_of_sig : (c : PlainClass) (method : ℕ) (sig : PlainSig) → slice_get (table_of names c).methods method ≡ Some sig

@@ -1,5 +1,5 @@
--- How large the parts of trees are, by which the walk ends.
-use Rattle.std.proofs.Common.{◌≡◌, ◌<◌, ◌≤◌, ◌+◌, ℕ, ℤ, zero, suc, Bool, List, [], ◌∷◌, Option, get_or, length, ap, arith}
+-- How large the parts of trees are, by which walks over them end.
+use Rattle.std.proofs.Common.{◌≡◌, ◌<◌, ◌≤◌, ◌+◌, ◌-◌, ℕ, ℤ, zero, suc, Bool, List, [], ◌∷◌, Option, get_or, length, take, drop, ap, arith}
 use Rattle.std.specs.declared.alloc.Global.{Global}
 use Rattle.std.specs.declared.boxed.Box.{Box}
 use Rattle.py_tree.specs.declared.names.Name.{Name}
@@ -19,6 +19,7 @@ use Rattle.py_tree.specs.declared.stmt.StmtKind as s
 use Rattle.py_tree.specs.PlainExpressions.{plain_kind, plain_expr, plain_exprs, exprs_of, plain_links, links_of}
 use Rattle.py_tree.specs.PlainStatements.{plain_option, plain_over, plain_stmt_kind, plain_stmt, plain_stmts, stmts_of, plain_arms, arms_of}
 use Rattle.py_tree.specs.Bounded.{of_option, expr_size, exprs_size, link_size, links_size, stmt_size, stmts_size, arm_size, arms_size, over_size}
+use Rattle.py_tree.proofs.ListWalks.{rest}
 use Rattle.py_tree.proofs.Views.{plain-Int, plain-Bool, plain-Str, plain-Nil, plain-Var, plain-SelfRef, plain-Attr, plain-Call, plain-Apply, plain-Index, plain-List, plain-Neg, plain-Pos, plain-Not, plain-Chain, plain-And, plain-Or, plain-Compare, plain-IsNone, plain-Cond, stmt-Pass, stmt-Break, stmt-Continue, stmt-Expr, stmt-Return, stmt-Raise, stmt-Assert, stmt-Assign, stmt-Augment, stmt-If, stmt-While, stmt-For}
 
 module _ (at : Place) where
@@ -160,6 +161,12 @@ unfolding exprs_size
 item_size [] i x lt is = absurd (omega arith)
 item_size (y ∷ es) zero x lt is = let e : expr_size (plain_expr x) ≡ expr_size (plain_expr y) = ap (λ z. expr_size (plain_expr z)) is in omega arith
 item_size (y ∷ es) (suc i) x lt is = let h = item_size es i x (omega arith) is in omega arith
+
+-- what stands behind the first item
+pub rest_size : (xs : List Expr) → exprs_size (exprs_of (plain_exprs (take (length xs - 1) (drop 1 xs)))) ≤ exprs_size (exprs_of (plain_exprs xs))
+unfolding expr_size
+rest_size [] = omega arith
+rest_size (x ∷ xs) = let same = ap (λ ys. exprs_size (exprs_of (plain_exprs ys))) (rest (x ∷ xs)) in omega (arith, same)
 
 pub link_part : (ls : List Link) (i : ℕ) (l : Link) → i < length ls → l ≡ get_or ls i l → expr_size (plain_expr l.right) < links_size (links_of (plain_links ls))
 unfolding links_size link_size
