@@ -1,0 +1,1 @@
+"""Programs and requests that are drawn, and a second reading of what is said of them."""
