@@ -24,7 +24,7 @@ use Rattle.batch_events.specs.BatchRuns.{come_to, ComesToRuns}
 use Rattle.batch_events.proofs.OwnRuns.{batches_come_to_their_runs}
 use Rattle.aria_batch.specs.BatchRun.{source_of, batch_of, running_along}
 use Rattle.engine.specs.Cores.{Core, IsSoundCore}
-use Rattle.engine.specs.Batches.{entry_on, batch_entries}
+use Rattle.engine.specs.Batches.{entry_on}
 use Rattle.batch_run.specs.BatchOutcomes.{ended_with, CommitsWhatEnded}
 
 -- What fits

@@ -1,4 +1,4 @@
-use Rattle.std.proofs.Common.{false, ◌∙◌, refl, ap, sym, subst, Ok, Err, arith}
+use Rattle.std.proofs.Common.{false, ◌∙◌, refl, ap, sym, subst, Ok, Err}
 use Rattle.std.proofs.lemmas.Result.{err_from_is_err_and}
 use Rattle.engine.specs.EngineViews.{core_of, source_of}
 use Rattle.session_store.specs.Stores.{settings_of}
