@@ -1,5 +1,5 @@
 -- A run on generated work, from its start to its sums.
-use Rattle.std.proofs.Common.{◌≡◌, ℕ, inl, inr, Option, Ok, Err, List, [], ◌∷◌, IfOk, subst}
+use Rattle.std.proofs.Common.{◌≡◌, ℕ, ◌≤◌, false, inl, inr, Option, Ok, Err, List, [], ◌∷◌, IfOk, subst, arith}
 use Rattle.std.specs.declared.result.Result.{Result}
 use Rattle.std.specs.declared.alloc.AllocError.{AllocError}
 use Rattle.py_tree.specs.ClassRules.{PlainTable}
@@ -7,15 +7,22 @@ use Rattle.work_gen.specs.Requests as work
 use Rattle.entity_compiler.specs.Compiling.{IsCompiledOf}
 use Rattle.block_code.specs.PlainBlocks.{PlainBlock}
 use Rattle.block_step.specs.declared.compiled.Compiled.{Compiled}
+use Rattle.block_step.specs.CompiledViews.{IsWhole}
 use Rattle.operator_graph.specs.Telling.{Told, AlsoTold, GraphTold}
 use Rattle.operator_graph.specs.Turns.{Outside}
-use Rattle.engine.specs.Cores.{Core}
-use Rattle.batch_session.specs.Vocabulary.{Tally, RunBatches, BeginBatches, Service, BatchCounts}
+use Rattle.engine.specs.Cores.{Core, empty_core}
+use Rattle.engine.proofs.EmptyLaws.{empty_sound}
+use Rattle.batch_session.specs.Vocabulary.{Tally, Service, program_of, all_steps}
+use Rattle.batch_run.specs.BatchOutcomes.{CommitsWhatEnded}
+use Rattle.batch_run.specs.declared.running.RunSettings.{RunSettings}
+use Rattle.batch_run.proofs.EventLaws.{run_have_begun}
+use Rattle.batch_run.proofs.GrowthLaws.{each_batch}
+use Rattle.batch_run.proofs.OutcomeLaws.{commits_what_ended}
 use Rattle.generated_run.specs.declared.running.GenSettings.{GenSettings}
 use Rattle.generated_run.specs.declared.running.GenStop.TheVariants.{NoMemory}
 use Rattle.generated_run.specs.declared.summing.Summary.{Summary}
 use Rattle.generated_run.specs.Summaries.{IsSummary}
-use Rattle.generated_run.specs.Generated.{service_by, input_of, batch_cores, ServesAll, ServesSome, Starts, Comes, Gives}
+use Rattle.generated_run.specs.Generated.{service_by, input_of, history_limit, batch_cores, ServesAll, ServesSome, EachCommitsWhatEnded, Starts, Comes, Gives}
 
 -- the graph that was told is the one of these tables and blocks
 pub told_as : (old new : Option (List Told)) (tables tables' : List PlainTable) (blocks blocks' : List (List PlainBlock)) → tables ≡ tables' → blocks ≡ blocks'
@@ -23,16 +30,18 @@ pub told_as : (old new : Option (List Told)) (tables tables' : List PlainTable) 
 told_as old new tables tables' blocks blocks' same_tables same_blocks told =
     subst (λ t. AlsoTold old new (GraphTold t blocks' ∷ [])) same_tables (subst (λ b. AlsoTold old new (GraphTold tables b ∷ [])) same_blocks told)
 
--- batches that were run were begun
-all_begun : (v : Service) (cores : List Core) (counts : List BatchCounts) (old new : Outside) → RunBatches v cores counts old new
-    → BeginBatches v cores counts old new
-all_begun v [] [] old new ran = ran
-all_begun v [] (c ∷ counts) old new ran = ran
-all_begun v (core ∷ cores) [] old new ran = absurd ran
-all_begun v (core ∷ cores) (c ∷ counts) old new ran = (ran.0, ran.1, all_begun v cores counts ran.0 new ran.2)
+-- the settings of a run that serves the work
+abbrev run_of : GenSettings → RunSettings
+run_of s = record { batch = s.batch; partitions = s.parts; schedule = s.number; history = history_limit; limit = 0; trace = false }
 
-module _ (s : GenSettings) (compiled made : Compiled) (same : made ≡ compiled) (input : List ℕ) (is : input ≡ input_of s) (old started new : Outside)
-    (starts : Starts s compiled old started) where
+-- nothing waits where the work begins, so each of its batches runs on a sound core
+each_commits : (s : GenSettings) (compiled : Compiled) → IsWhole compiled → s.batch ≤ 256 → EachCommitsWhatEnded s compiled
+each_commits s compiled whole few =
+    each_batch compiled (run_of s) few (CommitsWhatEnded compiled s.parts) (λ core sound. commits_what_ended compiled whole core sound s.parts)
+    empty_core (empty_sound (program_of (service_by s compiled))) (omega arith) (all_steps (service_by s compiled) empty_core (input_of s))
+
+module _ (s : GenSettings) (compiled made : Compiled) (same : made ≡ compiled) (whole : IsWhole compiled) (few : s.batch ≤ 256) (input : List ℕ) (is : input ≡ input_of s)
+    (old started new : Outside) (starts : Starts s compiled old started) where
   -- the session wanted memory
   pub came_short : ServesSome (service_by s made) input started new → (error : AllocError) → Comes s compiled (Err error) old new
   came_short some error = inr record {
@@ -41,6 +50,7 @@ module _ (s : GenSettings) (compiled made : Compiled) (same : made ≡ compiled)
     served =
         subst (λ c. ServesSome (service_by s c) (input_of s) started new) same
         (subst (λ bytes. ServesSome (service_by s made) bytes started new) is some);
+    outcomes = each_commits s compiled whole few;
   }
 
   -- it served all, and that was summed up, or memory was wanted for the sum
@@ -55,10 +65,11 @@ module _ (s : GenSettings) (compiled made : Compiled) (same : made ≡ compiled)
         subst (λ c. ServesAll (service_by s c) (input_of s) core tally started new) same
         (subst (λ bytes. ServesAll (service_by s made) bytes core tally started new) is all);
     summed = sums;
+    outcomes = each_commits s compiled whole few;
   }
   came core tally all (Err error) sums =
       let v : Service = service_by s made in
-      came_short (record { counts = all.counts; begun_on = all_begun v (batch_cores v input) all.counts started new all.ran }) error
+      came_short (record { counts = all.counts; begun_on = run_have_begun v (batch_cores v input) all.counts started new all.ran }) error
 
 -- so it is for the bank's program
 pub gives_up : (s : GenSettings) (compiled : Compiled) (old new : Outside) (error : AllocError) → IsCompiledOf work.program compiled

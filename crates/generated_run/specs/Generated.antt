@@ -1,5 +1,6 @@
--- What a run on generated work has done: the bank's program served the requests of the work, in batches, and its events were told.
+-- What a run on generated work has done: the bank's program served the requests of the work, in batches, its events were told, and what is committed has their outcomes.
 use Rattle.std.specs.Prelude.{◌≡◌, ℕ, ◌⊎◌, false, List, [], ◌∷◌, Ok, Err, alloc_error}
+use Rattle.std.specs.List.{AllByRecursion}
 use Rattle.std.specs.declared.result.Result.{Result}
 use Rattle.std.specs.declared.alloc.AllocError.{AllocError}
 use Rattle.sf_outside.specs.Choices.{Begins}
@@ -20,6 +21,7 @@ use Rattle.batch_output.specs.BatchOutput.{Standing, begun}
 use Rattle.batch_session.specs.Vocabulary.{Tally, all_steps, ran_on, no_batch, tally_after, RunBatches, BeginBatches, Service, program_of, limits_of, BatchCounts}
 use Rattle.batch_session.specs.declared.serving.SessionFault.{SessionFault}
 use Rattle.batch_session.specs.declared.serving.SessionFault.TheVariants as session
+use Rattle.batch_run.specs.BatchOutcomes.{CommitsWhatEnded}
 use Rattle.generated_run.specs.declared.running.GenSettings.{GenSettings}
 use Rattle.generated_run.specs.declared.running.GenStop.{GenStop}
 use Rattle.generated_run.specs.declared.running.GenStop.TheVariants.{Refused, NoMemory}
@@ -93,6 +95,10 @@ pub record Starts (s : GenSettings) (compiled : Compiled) (old new : Outside) : 
   pub graph : AlsoTold old.told new.told (GraphTold (compiled_tables compiled) (compiled_blocks compiled) ∷ [])
 
 module _ (s : GenSettings) (compiled : Compiled) where
+  -- what each batch of the work commits has the outcomes that its events end with, whatever was picked
+  abbrev pub EachCommitsWhatEnded : Type 0
+  EachCommitsWhatEnded = AllByRecursion (CommitsWhatEnded compiled s.parts) (batch_cores (service_by s compiled) (input_of s))
+
   -- the work was served, and this is what it came to
   pub record SumsUp (summary : Summary) (old new : Outside) : Type 0 where
     pub started : Outside
@@ -101,12 +107,14 @@ module _ (s : GenSettings) (compiled : Compiled) where
     pub tally : Tally
     pub served : ServesAll (service_by s compiled) (input_of s) core tally started new
     pub summed : IsSummary s.size core tally summary
+    pub outcomes : EachCommitsWhatEnded
 
   -- the work was served in part
   pub record GivesUp (old new : Outside) : Type 0 where
     pub started : Outside
     pub starts : Starts s compiled old started
     pub served : ServesSome (service_by s compiled) (input_of s) started new
+    pub outcomes : EachCommitsWhatEnded
 
   -- where memory was wanted nothing may have been begun either
   abbrev pub Comes : Result Summary AllocError → Outside → Outside → Type 0

@@ -155,6 +155,7 @@ module _ (s : words.GenSettings) (before after : Devices) (behind : Output) wher
           counts = t.served.counts;
           begun = run_have_begun v (batch_cores v (input_of (work_for s))) t.served.counts t.started after.outside t.served.ran;
           whole = λ n. t.served.ran;
+          outcomes = t.outcomes;
         }
 
     given_up_told : (status ≡ 0 → ⊥) → (compiled : Compiled) → IsCompiledOf work.program compiled
@@ -168,6 +169,7 @@ module _ (s : words.GenSettings) (before after : Devices) (behind : Output) wher
       counts = t.served.counts;
       begun = t.served.begun_on;
       whole = λ n. absurd (not n);
+      outcomes = t.outcomes;
     }
 
     -- memory was wanted before anything was begun, or behind that

@@ -7,7 +7,7 @@ use Rattle.block_step.specs.CompiledViews.{compiled_program, compiled_names, com
 use Rattle.entity_compiler.specs.Compiling.{IsCompiledOf, IsGraphOf}
 use Rattle.operator_graph.specs.Turns.{Outside}
 use Rattle.batch_run.specs.Vocabulary.{RunBatches, BeginBatches, BatchCounts}
-use Rattle.generated_run.specs.Generated.{Starts, service_by, input_of, batch_cores}
+use Rattle.generated_run.specs.Generated.{Starts, service_by, input_of, batch_cores, EachCommitsWhatEnded}
 use Rattle.command_words.specs.Commands as words
 use Rattle.program_text.specs.Readings.{HasFault}
 use Rattle.program_text.specs.declared.fault.ProgramFault.{ProgramFault}
@@ -43,7 +43,7 @@ module _ (s : words.GenSettings) (before after : Devices) where
 
   -- The chooser was started once, with the number of the work, and the watch was told one graph, which is one of the generated program; then the
   -- batches of the generated requests were told, each along the picks made for it: with the first status all of them, with that of a write fault,
-  -- or of want of memory, some first ones, and perhaps a part of the next.
+  -- or of want of memory, some first ones, and perhaps a part of the next. What each batch commits has the outcomes that its events ended with.
   pub record TellsWork (status : ℕ) : Type 0 where
     pub compiled : Compiled
     pub is : IsCompiledOf work.program compiled
@@ -53,6 +53,7 @@ module _ (s : words.GenSettings) (before after : Devices) where
     pub counts : List BatchCounts
     pub begun : BeginsWork s compiled counts started after.outside
     pub whole : status ≡ 0 → RunsWork s compiled counts started after.outside
+    pub outcomes : EachCommitsWhatEnded (work_for s) compiled
 
   -- or nothing was begun
   abbrev pub WorkTells : ℕ → Type 0
