@@ -31,7 +31,7 @@ use Rattle.block_runs.proofs.FuelLaws.{steps_are_one}
 use Rattle.block_runs.proofs.Frames.{lasts_fit}
 use Rattle.block_runs.proofs.NamesApart.{IsMethod, method_is}
 use Rattle.block_runs.proofs.WellSteps.{events_step_well}
-use Rattle.event_step.specs.declared.handling.Code.{Code}
+use Rattle.event_step.specs.declared.entered.Code.{Code}
 use Rattle.event_step.specs.Turns.{RankFalls, RanksFall}
 use Rattle.event_step.specs.Steps.{source_in, tables_in, blocks_in, step_in, ComesTo, RanksFor, IsDue, FitsAt, TargetFits}
 

@@ -29,8 +29,8 @@ use Rattle.event_step.specs.declared.method.Running.{Running}
 use Rattle.event_step.specs.declared.method.Part.{Part}
 use Rattle.event_step.specs.declared.method.Part.TheVariants as part
 use Rattle.event_step.specs.declared.handling.Handled.{Handled}
-use Rattle.event_step.specs.declared.handling.Code.{Code}
-use Rattle.event_step.specs.declared.handling.Entered.{Entered}
+use Rattle.event_step.specs.declared.entered.Code.{Code}
+use Rattle.event_step.specs.declared.entered.Entered.{Entered}
 use Rattle.event_step.specs.Running.{held_of}
 use Rattle.event_step.specs.Turns.{ComesAs, Runs, CanRun}
 use Rattle.event_step.specs.Steps.{as_step, source_in, tables_in, blocks_in, frame_in, handled_waiting, Meant, from_in, finish_in, going_on_in, catching_in, resuming_in, ComesTo, Due, DueToResume, CallsThere, FinishFits, FinishesAs}

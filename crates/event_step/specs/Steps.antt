@@ -29,8 +29,8 @@ use Rattle.block_runs.specs.StepFits.{HeldFits}
 use Rattle.event_step.specs.declared.method.Running.{Running}
 use Rattle.event_step.specs.declared.method.Part.{Part}
 use Rattle.event_step.specs.declared.handling.Handled.{Handled}
-use Rattle.event_step.specs.declared.handling.Code.{Code}
-use Rattle.event_step.specs.declared.handling.Entered.{Entered}
+use Rattle.event_step.specs.declared.entered.Code.{Code}
+use Rattle.event_step.specs.declared.entered.Entered.{Entered}
 use Rattle.event_step.specs.Turns.{ComesAs, RanksFall}
 use Rattle.event_step.specs.Frames.{staying}
 

@@ -7,11 +7,15 @@
 
 mod blocks;
 mod ends;
+mod entered;
+mod entering;
+mod finishing;
 mod frames;
 mod handling;
 mod items;
 mod method;
 mod parts;
+mod resuming;
 mod values;
 
 pub use handling::{Handled, handle, target};

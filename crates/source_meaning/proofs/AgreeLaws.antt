@@ -7,8 +7,8 @@ use Rattle.sf_value.specs.declared.Failure.{Failure}
 use Rattle.source_meaning.specs.declared.Stop.{Stop}
 use Rattle.source_meaning.specs.declared.Stop.TheVariants as stop
 use Rattle.program_meaning.specs.declared.vars.Var.{Var}
-use Rattle.source_meaning.specs.declared.walk.Flow.{Flow}
-use Rattle.source_meaning.specs.declared.walk.Flow.TheVariants as flow
+use Rattle.source_meaning.specs.declared.statements.Flow.{Flow}
+use Rattle.source_meaning.specs.declared.statements.Flow.TheVariants as flow
 use Rattle.program_meaning.specs.World.{World, Gives, Got, Fell, ◌>>=◌, Ends, Fails, told, with_given, next_turn, result_of}
 use Rattle.program_meaning.specs.Calls.{made}
 use Rattle.source_meaning.specs.Agrees.{FailsAs, FallsIn, FailsIn, AgreesIn, EndsIn, FallsWith}

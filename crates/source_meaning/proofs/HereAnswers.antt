@@ -13,8 +13,8 @@ use Rattle.source_meaning.specs.declared.Stop.TheVariants as stop
 use Rattle.source_meaning.specs.declared.here.Ended.{Ended}
 use Rattle.source_meaning.specs.declared.here.Made.{Made}
 use Rattle.program_meaning.specs.declared.vars.Var.{Var}
-use Rattle.source_meaning.specs.declared.walk.Flow.{Flow}
-use Rattle.source_meaning.specs.declared.walk.Flow.TheVariants as flow
+use Rattle.source_meaning.specs.declared.statements.Flow.{Flow}
+use Rattle.source_meaning.specs.declared.statements.Flow.TheVariants as flow
 use Rattle.program_meaning.specs.ClassTables.{Source}
 use Rattle.program_meaning.specs.World.{World, Gives, Got, Fell, Ends, Goes, Returns, Fails, record_at}
 use Rattle.program_meaning.specs.Evaluation.{eval}

@@ -6,8 +6,8 @@ use Rattle.sf_value.specs.declared.value.Value.TheVariants as value
 use Rattle.sf_value.specs.declared.Failure.{Failure}
 use Rattle.source_meaning.specs.declared.Stop.{Stop}
 use Rattle.source_meaning.specs.declared.Stop.TheVariants as stop
-use Rattle.source_meaning.specs.declared.walk.Flow.{Flow}
-use Rattle.source_meaning.specs.declared.walk.Flow.TheVariants as flow
+use Rattle.source_meaning.specs.declared.statements.Flow.{Flow}
+use Rattle.source_meaning.specs.declared.statements.Flow.TheVariants as flow
 use Rattle.program_meaning.specs.declared.vars.Var.{Var}
 use Rattle.program_meaning.specs.World.{World, Gives, Got, Fell, Ends, Goes, Returns, Breaks, Continues, Fails, told}
 

@@ -7,8 +7,8 @@ use Rattle.sf_value.specs.declared.Outcome.{Outcome}
 use Rattle.sf_value.specs.declared.Outcome.TheVariants as outcome
 use Rattle.source_meaning.specs.declared.Stop.{Stop}
 use Rattle.source_meaning.specs.declared.Stop.TheVariants as stop
-use Rattle.source_meaning.specs.declared.walk.Flow.{Flow}
-use Rattle.source_meaning.specs.declared.walk.Flow.TheVariants as flow
+use Rattle.source_meaning.specs.declared.statements.Flow.{Flow}
+use Rattle.source_meaning.specs.declared.statements.Flow.TheVariants as flow
 use Rattle.source_meaning.specs.declared.here.Ended.{Ended}
 use Rattle.source_meaning.specs.declared.here.Ended.TheVariants as ended
 use Rattle.source_meaning.specs.declared.here.Made.{Made}

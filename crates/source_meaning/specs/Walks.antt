@@ -24,8 +24,8 @@ use Rattle.source_meaning.specs.declared.Stop.{Stop}
 use Rattle.source_meaning.specs.declared.run.Run.{Run}
 use Rattle.source_meaning.specs.declared.site.Site.{Site}
 use Rattle.program_meaning.specs.declared.vars.Var.{Var}
-use Rattle.source_meaning.specs.declared.walk.Flow.{Flow}
-use Rattle.source_meaning.specs.declared.walk.Turn.{Turn}
+use Rattle.source_meaning.specs.declared.statements.Flow.{Flow}
+use Rattle.source_meaning.specs.declared.loops.Turn.{Turn}
 use Rattle.program_meaning.specs.ClassTables.{Source, init_of}
 use Rattle.program_meaning.specs.World.{World, Calls, Gives, Got, Fell, ◌>>=◌, told, Ends, Goes, Returns, Fails, with_given, assertion_error, record_at}
 use Rattle.program_meaning.specs.Operations.{in_range, weighed, int_of, is_true, is_nil, items_of, element, holds}

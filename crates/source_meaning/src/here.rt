@@ -15,12 +15,14 @@ ghost use Rattle.program_meaning.specs.Here.{held as the_held, GivesHere};
 ghost use Rattle.source_meaning.specs.HereAnswers.{EndsHere, EndedAs, ComesTo, MakesHere, MadeAs};
 
 use crate::Stop;
+use crate::creations::make_record;
+use crate::expressions::evaluate;
 use crate::local::Local;
 use crate::records::Records;
 use crate::run::Run;
 use crate::site::{DEPTH_LIMIT, Room, Site};
+use crate::statements::{Flow, execute_all};
 use crate::transaction::begin;
-use crate::walk::{Flow, evaluate, execute_all, make_record};
 use program_meaning::Vars;
 use py_tree::{Checked, Expr, Stmts};
 use sf_value::{Failure, Outcome, Record, Ref, Value, Values};

@@ -1,22 +1,34 @@
 //! The interpreter: requests run on the state of all entities, and code on one record, exactly as
 //! the meaning says.
+//!
+//! Expressions, calls, creations, statements and loops lead to one another. Each of their functions is the
+//! definition of the same part of the meaning, on the records that the run sees. What a call may do, and how
+//! many more may be open, stands in the site.
+//!
+//! The stack is spared. A chain of receivers and a run of operators are gone along in a loop, so that
+//! code nests no deeper than its levels and its calls. A level takes few and small frames: each form
+//! is a function of its own, never put in line, and owns no large value while it runs other code.
 #![tactic(auto)]
 
+mod calls;
+mod creations;
 mod direct;
+mod expressions;
 mod failures;
 mod here;
 mod in_place;
 mod local;
+mod loops;
 mod operations;
 mod purity;
 mod records;
 mod run;
 mod site;
+mod statements;
 mod tables;
 mod trailers;
 mod transaction;
 mod vars;
-mod walk;
 
 pub use direct::target_entity;
 pub use failures::{

@@ -15,12 +15,13 @@ ghost use Rattle.source_meaning.specs.Transactions.{world_of, with_records};
 ghost use Rattle.source_meaning.specs.Walks.{seen, program_of};
 
 use crate::Stop;
+use crate::calls::call_entity;
+use crate::creations::make_entity;
 use crate::failures::{SIZE_LIMIT, empty_text};
 use crate::records::Records;
 use crate::run::Run;
 use crate::site::{DEPTH_LIMIT, Room, Site};
 use crate::transaction::begin;
-use crate::walk::{call_entity, make_entity};
 use indexmap::{IndexMap, IndexSet};
 use py_tree::Checked;
 use sf_list::TryClone;

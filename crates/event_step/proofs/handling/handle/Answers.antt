@@ -2,7 +2,7 @@ use Rattle.std.proofs.Common.{sym, subst}
 use Rattle.block_code.specs.GraphViews.{graph_tables, graph_blocks}
 use Rattle.block_code.specs.EventsFit.{EventFits}
 use Rattle.source_meaning.proofs.HereAnswers.{mapped_ok}
-use Rattle.event_step.specs.declared.handling.Code.{Code}
+use Rattle.event_step.specs.declared.entered.Code.{Code}
 use Rattle.event_step.specs.Steps.{as_step, fields_of, lent, step_in, ComesTo, IsDue, TargetFits}
 use Rattle.event_step.proofs.HandleLaws.{is_due, next_fits, target_fits}
 use Rattle.event_step.proofs.handling.handle.Goals as goal

@@ -1,7 +1,7 @@
 use Rattle.block_code.specs.declared.event.EventKind.TheVariants as kind
 use Rattle.event_step.specs.Steps.{fields_of, step_in}
 use Rattle.event_step.proofs.StepLaws.{ok_comes_as}
-use Rattle.event_step.proofs.handling.enter_taken.Goals as goal
+use Rattle.event_step.proofs.entering.enter_taken.Goals as goal
 
 pub returns-in-Ok : goal.returns-in-Ok
 returns-in-Ok c =

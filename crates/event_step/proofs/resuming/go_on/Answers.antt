@@ -1,7 +1,7 @@
 use Rattle.event_step.proofs.StepLaws.{goes_on_from, ok_comes_as}
 use Rattle.block_code.specs.PlainBlocks.{plain_block}
 use Rattle.event_step.specs.Frames.{plain_awaits}
-use Rattle.event_step.proofs.handling.go_on.Goals as goal
+use Rattle.event_step.proofs.resuming.go_on.Goals as goal
 
 pub returns-in-Ok : goal.returns-in-Ok
 returns-in-Ok c =

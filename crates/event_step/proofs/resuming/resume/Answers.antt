@@ -1,6 +1,6 @@
 use Rattle.std.proofs.Common.{sym}
 use Rattle.event_step.proofs.StepLaws.{resumes_value, resumes_failure, last_is_due, ok_comes_as}
-use Rattle.event_step.proofs.handling.resume.Goals as goal
+use Rattle.event_step.proofs.resuming.resume.Goals as goal
 
 pub go_on-requires : goal.go_on-requires
 go_on-requires c = last_is_due c.args.code.now c.in-Some.last c.args.tx c.pop_frame.new.frames c.args.steps c.args.held c.args.outcome c.args.frames c.in-Some.ensures _ (resumes_value c.args.code.now c.in-Some.last c.args.tx c.pop_frame.new.frames c.args.steps c.args.held c.args.outcome c.args.frames c.in-Some.ensures c.in-Value.value c.in-Value.is) c.requires

@@ -2,7 +2,7 @@ use Rattle.std.proofs.Common.{ap, ◌∙◌}
 use Rattle.block_code.specs.PlainBlocks.{plain_block, plain_catches}
 use Rattle.block_code.specs.EventsFit.{catch_of}
 use Rattle.event_step.proofs.StepLaws.{caught_from, ok_comes_as}
-use Rattle.event_step.proofs.handling.go_on_failed.Goals as goal
+use Rattle.event_step.proofs.resuming.go_on_failed.Goals as goal
 
 pub returns : goal.returns
 returns c =
