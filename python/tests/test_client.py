@@ -19,6 +19,8 @@ from stateflow import client
 from stateflow.client import Client, Failed, Refused, Reply, Stopped, StoreBusy, Value, creation, find_program, method_call
 from stateflow.pytest_plugin import served
 
+MOST_KILLS = 40
+
 BANK = """
 from stateflow import entity
 
@@ -295,7 +297,9 @@ def kill(bank: Client) -> None:
 
 
 def kill_again_and_again(bank: Client, done: threading.Event) -> None:
-    while not done.wait(0.1):
+    for _ in range(MOST_KILLS):
+        if done.wait(0.1):
+            return
         if bank.is_ready:
             kill(bank)
 
