@@ -8,9 +8,10 @@ if [ ! -x "$program" ]; then
     exit 2
 fi
 failed=0
-for folder in "$here"/examples/*/; do
+for requests in "$here"/examples/*/requests.jsonl; do
+    folder=$(dirname "$requests")
     name=$(basename "$folder")
-    if "$program" run "$folder$name.py" --batch 1 <"$folder/requests.jsonl" | cmp -s - "$folder/replies.jsonl"; then
+    if "$program" run "$folder/$name.py" --batch 1 <"$requests" | cmp -s - "$folder/replies.jsonl"; then
         echo "ok: $name"
     else
         echo "FAILED: $name"
