@@ -4,19 +4,20 @@ Where `stateflow.testing` is imported the marked classes act as the service does
 
 from collections.abc import Callable
 from typing import TypeVar
+from weakref import WeakSet
 
 __all__ = ["entity", "transactional"]
 
 _Class = TypeVar("_Class", bound=type)
 _Method = TypeVar("_Method", bound=Callable[..., object])
 
-_marked: list[type] = []
+_marked: WeakSet[type] = WeakSet()
 _watchers: list[Callable[[type], None]] = []
 
 
 def entity(cls: _Class) -> _Class:
     """Marks a class whose instances are entities, each with a key."""
-    _marked.append(cls)
+    _marked.add(cls)
     for watcher in _watchers:
         watcher(cls)
     return cls
@@ -30,5 +31,5 @@ def transactional(method: _Method) -> _Method:
 def _watch(watcher: Callable[[type], None]) -> None:
     """Tells of each class that is marked, whether before or behind this call."""
     _watchers.append(watcher)
-    for cls in _marked:
+    for cls in list(_marked):
         watcher(cls)
