@@ -1,15 +1,16 @@
 #!/usr/bin/env python3
 """Tries the examples under plain Python: python3 tools/check_python.py
 
-Each program is loaded by CPython and each of its tests is run, with the marks of python/stateflow. mypy looks at the marks, the programs and the
-tests, where it is installed. The program at the head of docs/LANGUAGE.md has to be that of examples/offer. Prints one line a case, and fails where
-one is wrong.
+Each program is loaded by CPython and each of its tests is run, with the marks of python/stateflow, and so are the tests of that package. mypy looks at
+the package, the programs and the tests, where it is installed for this Python or stands on the path. The program at the head of docs/LANGUAGE.md has to be
+that of examples/offer. Prints one line a case, and fails where one is wrong.
 """
 
 import glob
 import importlib.util
 import os
 import re
+import shutil
 import subprocess
 import sys
 
@@ -17,10 +18,10 @@ HERE = os.path.dirname(os.path.dirname(os.path.abspath(__file__)))
 MARKS = os.path.join(HERE, "python")
 
 
-def calls(*words):
-    """Whether a call of Python ends well; what it said is printed where it doesn't."""
+def calls(*words, folder=HERE):
+    """Whether a call ends well; what it said is printed where it doesn't."""
     more = {"PYTHONPATH": MARKS, "MYPYPATH": MARKS, "PYTHONDONTWRITEBYTECODE": "1"}
-    ended = subprocess.run([sys.executable, *words], env={**os.environ, **more}, cwd=HERE, capture_output=True, text=True)
+    ended = subprocess.run(words, env={**os.environ, **more}, cwd=folder, capture_output=True, text=True)
     if ended.returncode != 0:
         print(ended.stdout + ended.stderr, end="")
     return ended.returncode == 0
@@ -36,19 +37,30 @@ def first_program(page):
     return re.search(r"```python\n(.*?)```", read(page), re.S).group(1)
 
 
-def with_mypy(folder):
-    """mypy's answer on the files of an example; a folder at a time, since each has a module of the name of its program."""
-    return calls("-m", "mypy", "--check-untyped-defs", "--cache-dir", os.devnull, *sorted(glob.glob(os.path.join(folder, "*.py"))))
+def mypy_words():
+    """The words that call mypy: as a module of this Python, else as a program on the path; none where it isn't installed."""
+    if importlib.util.find_spec("mypy") is not None:
+        return [sys.executable, "-m", "mypy"]
+    program = shutil.which("mypy")
+    return [program] if program else None
+
+
+def with_mypy(words, *given, folder=HERE):
+    """mypy's answer, or none where it isn't installed."""
+    return calls(*words, "--cache-dir", os.devnull, *given, folder=folder) if words else None
 
 
 def cases():
     """What is tried, by name, and whether it holds; none where it was skipped."""
-    has_mypy = importlib.util.find_spec("mypy") is not None
+    mypy = mypy_words()
     for folder in sorted(glob.glob(os.path.join(HERE, "examples/*"))):
-        for file in sorted(glob.glob(os.path.join(folder, "*.py"))):
-            yield os.path.relpath(file, HERE), calls(file)
-        yield f"mypy, {os.path.relpath(folder, HERE)}", with_mypy(folder) if has_mypy else None
-    yield "mypy, python/stateflow", with_mypy(os.path.join(MARKS, "stateflow")) if has_mypy else None
+        files = sorted(glob.glob(os.path.join(folder, "*.py")))
+        for file in files:
+            yield os.path.relpath(file, HERE), calls(sys.executable, file)
+        # a folder at a time, since each has a module of the name of its program
+        yield f"mypy, {os.path.relpath(folder, HERE)}", with_mypy(mypy, "--check-untyped-defs", *files)
+    yield "tests of python", calls(sys.executable, "-m", "unittest", folder=MARKS)
+    yield "mypy, python", with_mypy(mypy, "--strict", "stateflow", "tests", "build_wheel_file.py", folder=MARKS)
     yield "the first program of docs/LANGUAGE.md", first_program("docs/LANGUAGE.md") == read("examples/offer/offer.py")
 
 

@@ -10,7 +10,7 @@ class Item:
         self.stock: int = 0
         assert price >= 0, "a price below nothing"
 
-    def __key__(self):
+    def __key__(self) -> str:
         return self.name
 
     def cost(self, amount: int) -> int:
@@ -30,7 +30,7 @@ class Shop:
         self.money: int = money
         self.item: Optional[Item] = None
 
-    def __key__(self):
+    def __key__(self) -> str:
         return self.name
 
     def offer(self, price: int) -> int:

@@ -9,7 +9,7 @@ class Item:
         self.cost: int = cost
         self.stock: int = 0
 
-    def __key__(self):
+    def __key__(self) -> str:
         return self.name
 
     def price(self) -> int:
@@ -28,7 +28,7 @@ class User:
         self.username: str = username
         self.balance: int = 10
 
-    def __key__(self):
+    def __key__(self) -> str:
         return self.username
 
     @transactional
@@ -51,7 +51,7 @@ class Cart:
     def __init__(self, k: str):
         self.k: str = k
 
-    def __key__(self):
+    def __key__(self) -> str:
         return self.k
 
     def first_dear(self, items: List[Item], least: int) -> int:

@@ -3,9 +3,10 @@
 import unittest
 
 from shop import Item, User
+from stateflow.testing import TestCase
 
 
-class Buying(unittest.TestCase):
+class Buying(TestCase):
     def test_two_apples_are_bought_and_a_third_is_not(self) -> None:
         apple, ann = Item("apple", 3), User("ann")
         self.assertTrue(apple.update_stock(2))

@@ -1,0 +1,1 @@
+"""How marked classes act as the service does: the world of entities, counted code, and classes that act."""

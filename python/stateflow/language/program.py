@@ -1,0 +1,55 @@
+"""A text as a program: its tree, its tables, and its faults."""
+
+import contextlib
+import sys
+from collections.abc import Iterator
+from dataclasses import dataclass
+
+from stateflow.language import tree
+from stateflow.language.class_rules import Tables, look_at_classes
+from stateflow.language.faults import Fault, Report
+from stateflow.language.grammar import program_of
+from stateflow.language.tokens import tokens_of
+from stateflow.language.type_rules import look_at_methods
+
+DEEPEST_STACK = 60_000
+"""Frames that the deepest program may take: each level of a text takes some twenty, and each dot behind a bracket some more."""
+LAYOUT = frozenset(["TooLong", "NotUtf8", "TabIndent", "BadDedent", "OpenString", "OpenBracket"])
+"""Faults of lines behind which nothing is known of what stands on them."""
+
+
+@dataclass(frozen=True, slots=True)
+class Reading:
+    """What a text is read as. The faults stand in the order in which they are told: those of words, of the grammar, of classes, and of types."""
+
+    tree: tree.Program
+    tables: Tables
+    faults: list[Fault]
+
+    def in_text_order(self) -> list[Fault]:
+        return sorted(self.faults, key=lambda fault: fault.place)
+
+
+@contextlib.contextmanager
+def deep_stack() -> Iterator[None]:
+    before = sys.getrecursionlimit()
+    sys.setrecursionlimit(max(before, DEEPEST_STACK))
+    try:
+        yield
+    finally:
+        sys.setrecursionlimit(before)
+
+
+def read(content: bytes) -> Reading:
+    """Reads a text. Where its lines can't be told the grammar isn't looked at, and where a word can't no grammar is on its line."""
+    lexical, grammatical, ruled = Report(), Report(), Report()
+    with deep_stack():
+        tokens = tokens_of(content, lexical)
+        if any(fault.kind in LAYOUT for fault in lexical.faults):
+            return Reading(tree.Program(), {}, lexical.faults)
+        program = program_of(tokens, grammatical)
+        lines = {fault.place.line for fault in lexical.faults}
+        told = [*lexical.faults, *[fault for fault in grammatical.faults if fault.place.line not in lines]]
+        tables = look_at_classes(program, ruled)
+        look_at_methods(program, tables, ruled)
+    return Reading(program, tables, [*told, *[fault for fault in ruled.faults if fault.place.line not in lines]])

@@ -1,0 +1,154 @@
+"""What the marks do where `stateflow.testing` is imported: what a test says is what the service answers."""
+
+import subprocess
+import sys
+import unittest
+from pathlib import Path
+
+from tests.calendar_program import Account, Product, Room, Work
+
+from stateflow import entity
+from stateflow.testing import AlreadyExists, NoEntity, SizeLimit, StepLimit, TestCase, Unusable, exists, fresh, named
+
+FOLDER = Path(__file__).resolve().parent.parent
+GREATEST = 2**127 - 1
+
+
+class WhatTheServiceDoes(TestCase):
+    def test_a_series_that_fails_leaves_no_booking_behind(self) -> None:
+        blue, red = Room("blue"), Room("red")
+        red.book(12)
+        with self.assertRaisesRegex(ValueError, "^already booked$"):
+            blue.series(red, 10, 5)
+        self.assertEqual((blue.hours, red.hours), ([], [12]))
+        self.assertEqual(blue.series(red, 13, 2), 2)
+
+    def test_an_account_takes_no_more_than_an_int_holds(self) -> None:
+        ann = Account("ann", GREATEST)
+        with self.assertRaises(OverflowError) as failed:
+            ann.deposit(1)
+        self.assertEqual((str(failed.exception), ann.balance), ("", GREATEST))
+
+    def test_a_second_product_of_a_name_is_refused(self) -> None:
+        pen = Product("pen", 3)
+        with self.assertRaises(AlreadyExists):
+            Product("pen", 5)
+        self.assertEqual(pen.left(), 3)
+
+
+class Entities(TestCase):
+    def test_an_entity_is_one_object_a_class_and_key(self) -> None:
+        pen = Product("pen", 3)
+        self.assertIs(named(Product, "pen"), pen)
+        self.assertIsNot(named(Product, "ink"), pen)
+        self.assertNotEqual(named(Account, "pen"), pen)
+        self.assertEqual(repr(pen), "Product('pen')")
+
+    def test_what_is_not_made_is_not_called(self) -> None:
+        pear = named(Product, "pear")
+        self.assertFalse(exists(pear))
+        with self.assertRaises(NoEntity):
+            pear.left()
+        Product("pear", 1)
+        self.assertEqual(pear.left(), 1)
+
+    def test_fresh_forgets_all(self) -> None:
+        pen = Product("pen", 3)
+        fresh()
+        with self.assertRaises(NoEntity):
+            pen.left()
+        self.assertEqual(Product(name="pen", stock=4).left(), 4)
+
+    def test_a_creation_is_taken_back_with_its_request(self) -> None:
+        ann = Account("ann", 0)
+        with self.assertRaisesRegex(ValueError, "^unlucky$"):
+            ann.open_other("bob", 13)
+        self.assertFalse(exists(named(Account, "bob")))
+        self.assertIs(ann.open_other("bob", 1), named(Account, "bob"))
+
+    def test_a_creation_that_fails_makes_nothing(self) -> None:
+        with self.assertRaisesRegex(AssertionError, "^less than nothing$"):
+            Account("ann", -1)
+        self.assertEqual(Account("ann", 1).balance, 1)
+
+
+class Limits(TestCase):
+    def test_the_100001st_step_is_not_there(self) -> None:
+        work = Work("w")
+        self.assertEqual(work.turns(49_998), 49_998)
+        with self.assertRaises(StepLimit):
+            work.turns(49_999)
+
+    def test_an_elif_takes_no_step(self) -> None:
+        work = Work("w")
+        self.assertEqual([work.which(n) for n in (0, 1, 2)], ["none", "one", "more"])
+
+    def test_the_65th_call_is_too_deep(self) -> None:
+        work = Work("w")
+        self.assertEqual(work.down(64), 64)
+        with self.assertRaises(RecursionError) as failed:
+            work.down(65)
+        self.assertEqual(str(failed.exception), "")
+
+    def test_a_text_of_65536_bytes_is_too_heavy(self) -> None:
+        work = Work("w")
+        self.assertEqual(work.grow(14), 32_768)
+        with self.assertRaises(SizeLimit):
+            work.grow(15)
+        with self.assertRaises(SizeLimit):
+            Work("x" * 65_536)
+        self.assertEqual(Work("x" * 65_535).down(1), 1)
+
+    def test_failures_of_python_have_no_message(self) -> None:
+        work, blue = Work("w"), Room("blue")
+        with self.assertRaises(ZeroDivisionError) as division:
+            work.divide(1, 0)
+        with self.assertRaises(IndexError) as place:
+            blue.first(0)
+        self.assertEqual((str(division.exception), str(place.exception)), ("", ""))
+
+    def test_an_argument_that_the_service_refuses_is_a_type_error(self) -> None:
+        ann = Account("ann", 0)
+        for amount in (2**127, True, "1", 1.0, None):
+            with self.assertRaisesRegex(TypeError, "argument type: amount is int"):
+                ann.deposit(amount)  # type: ignore[arg-type]
+        with self.assertRaises(TypeError):
+            ann.deposit()  # type: ignore[call-arg]
+        with self.assertRaisesRegex(TypeError, "argument type"):
+            Room("blue").series(ann, 1, 1)  # type: ignore[arg-type]
+        self.assertEqual(ann.balance, 0)
+
+
+class Marks(unittest.TestCase):
+    def test_a_class_that_is_no_entity_is_told(self) -> None:
+        with self.assertRaisesRegex(Unusable, "`__init__` and `__key__`"):
+
+            @entity
+            class Nothing:
+                pass
+
+    def test_what_is_no_part_of_the_language_is_told(self) -> None:
+        with self.assertRaisesRegex(Unusable, "`try:` is no part of the language"):
+
+            @entity
+            class Trying:
+                def __init__(self, name: str):
+                    self.name: str = name
+
+                def __key__(self) -> str:
+                    return self.name
+
+                def m(self) -> int:
+                    try:
+                        return 1
+                    finally:
+                        pass
+
+    def test_a_plain_import_changes_nothing(self) -> None:
+        program = "from tests.calendar_program import Product; print(Product('pen', 1) is Product('pen', 1), Product('pen', 2).left())"
+        ended = subprocess.run([sys.executable, "-c", program], cwd=FOLDER, capture_output=True, text=True, check=True)
+        self.assertEqual(ended.stdout, "False 2\n")
+
+
+if __name__ == "__main__":
+    unittest.main()
