@@ -2,7 +2,7 @@
 
 use crate::item::Items;
 use crate::vars::VarTypes;
-use py_tree::{Expr, Exprs, Name};
+use py_tree::{Expr, Exprs, Kinds, Name};
 use sf_list::Sequence;
 
 /// A block of a method.
@@ -82,9 +82,6 @@ impl Drop for End {
         }
     }
 }
-
-/// The numbers of kinds of failures.
-pub type Kinds = Sequence<u8>;
 
 /// Where failures of some kinds go on.
 #[derive(Drop)]

@@ -13,8 +13,9 @@ mod item;
 mod text;
 mod vars;
 
-pub use block::{Block, Blocks, Catch, Catches, End, Kinds, MethodBlocks};
+pub use block::{Block, Blocks, Catch, Catches, End, MethodBlocks};
 pub use event::{Event, EventKind, Frame, Frames};
 pub use graph::Graph;
 pub use item::{Item, Items};
+pub use py_tree::Kinds;
 pub use vars::{VarType, VarTypes};

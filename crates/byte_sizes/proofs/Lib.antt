@@ -2,3 +2,4 @@ pub mod Layers
 pub mod Small
 pub mod Light
 mod SizeExamples
+mod EraExamples

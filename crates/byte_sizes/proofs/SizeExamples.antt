@@ -5,8 +5,9 @@ use Rattle.std.specs.Char.{encode_utf8}
 use Rattle.sf_value.specs.declared.Act.TheVariants.{Call, New}
 use Rattle.sf_value.specs.declared.Outcome.TheVariants as outcomes
 use Rattle.sf_value.specs.declared.Request.{Request}
+use Rattle.sf_value.specs.declared.heads.Era.{Era}
 use Rattle.sf_value.specs.declared.value.Value.{Int, Bool as Truth, Str, Nil, List, Entity}
-use Rattle.byte_sizes.specs.Sizes.{text_size, ref_size, value_size, act_size, request_size, failure_size, outcome_size, batch_size}
+use Rattle.byte_sizes.specs.Sizes.{text_size, ref_size, value_size, act_size, request_size, failure_size, outcome_size, batch_size, held_size, head_size, era_size, eras_size}
 use Rattle.byte_sizes.proofs.Layers.{size-List}
 
 int_takes : value_size (Int (pos 7)) ≡ 17
@@ -49,3 +50,24 @@ failure_takes = refl
 batch_takes : batch_size (record { news = call ∷ []; committed = 0 ∷ 1 ∷ [] }) ≡ 44
 unfolding batch_size call request_size act_size value_size text_size encode_utf8
 batch_takes = refl
+
+-- the head of a history of one entry in 56 bytes, with the record of one entity
+head_takes : head_size (record {
+  program = codes "p";
+  kept = 1;
+  bytes = 56;
+  records = record {
+    at = record { class = 0; key = codes "apple" };
+    fields = record { fields = Str (codes "apple") ∷ Int (pos 3) ∷ Int (pos 0) ∷ [] };
+  } ∷ [];
+  pending = [];
+}) ≡ 90
+unfolding head_size held_size ref_size value_size text_size encode_utf8
+head_takes = refl
+
+era : Era
+era = record { program = codes "p"; from = 1 }
+
+eras_take : eras_size (era ∷ era ∷ []) ≡ 22
+unfolding era era_size text_size encode_utf8
+eras_take = refl

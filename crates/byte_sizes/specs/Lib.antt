@@ -1,3 +1,4 @@
 pub mod Sizes
 pub mod Spelt
 pub mod LightThings
+pub mod EraLists

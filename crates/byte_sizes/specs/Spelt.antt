@@ -14,6 +14,8 @@ use Rattle.sf_value.specs.declared.Outcome.{Outcome}
 use Rattle.sf_value.specs.declared.Outcome.TheVariants as outcomes
 use Rattle.sf_value.specs.declared.Request.{Request}
 use Rattle.sf_value.specs.declared.Snapshot.{Snapshot}
+use Rattle.sf_value.specs.declared.heads.Era.{Era}
+use Rattle.sf_value.specs.declared.heads.Head.{Head}
 use Rattle.sf_value.specs.declared.value.Ref.{Ref}
 use Rattle.sf_value.specs.declared.value.Value.{Value, Int, Bool as Truth, Str, Nil, List', Entity, Row_of-Value, end_of-Value, more_of-Value}
 
@@ -115,6 +117,14 @@ IsRealBatch batch = AllByRecursion IsRealRequest batch.news × AllByRecursion (�
 abbrev pub IsRealSnapshot : Snapshot → Type 0
 IsRealSnapshot snapshot = IsRealText snapshot.program × (AllByRecursion IsRealEntry snapshot.history × (((length snapshot.records < 2 ^ 64) × AllByRecursion IsRealHeld snapshot.records) × AllByRecursion IsRealRequest snapshot.pending))
 
+abbrev pub IsRealHead : Head → Type 0
+IsRealHead head =
+    IsRealText head.program × ((head.kept < 2 ^ 32) × ((head.bytes < 2 ^ 64)
+    × (((length head.records < 2 ^ 64) × AllByRecursion IsRealHeld head.records) × AllByRecursion IsRealRequest head.pending)))
+
+abbrev pub IsRealEra : Era → Type 0
+IsRealEra era = IsRealText era.program × (era.from < 2 ^ 32)
+
 -- ---- what may be written
 
 -- a value whose lists nest at most 64 deep
@@ -156,6 +166,12 @@ IsSpeltBatch batch = IsSpeltList IsSpeltRequest batch.news × (length batch.comm
 abbrev pub IsSpeltSnapshot : Snapshot → Type 0
 IsSpeltSnapshot snapshot = IsShortText snapshot.program × (IsSpeltList IsSpeltEntry snapshot.history × (AllByRecursion IsSpeltHeld snapshot.records × IsSpeltList IsSpeltRequest snapshot.pending))
 
+abbrev pub IsSpeltHead : Head → Type 0
+IsSpeltHead head = IsShortText head.program × (AllByRecursion IsSpeltHeld head.records × IsSpeltList IsSpeltRequest head.pending)
+
+abbrev pub IsSpeltEra : Era → Type 0
+IsSpeltEra era = IsShortText era.program
+
 -- ---- what has a spelling, and so is read: what may be written, and what a program can hold
 
 abbrev pub IsReadValue : Value → Type 0
@@ -175,3 +191,12 @@ IsReadBatch batch = IsSpeltBatch batch × IsRealBatch batch
 
 abbrev pub IsReadSnapshot : Snapshot → Type 0
 IsReadSnapshot snapshot = IsSpeltSnapshot snapshot × IsRealSnapshot snapshot
+
+abbrev pub IsReadEntry : Entry → Type 0
+IsReadEntry entry = IsSpeltEntry entry × IsRealEntry entry
+
+abbrev pub IsReadHead : Head → Type 0
+IsReadHead head = IsSpeltHead head × IsRealHead head
+
+abbrev pub IsReadEra : Era → Type 0
+IsReadEra era = IsSpeltEra era × IsRealEra era

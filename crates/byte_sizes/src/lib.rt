@@ -1,5 +1,5 @@
-//! How many bytes values, requests, outcomes, batches and snapshots take as a store keeps them, and which of them have a
-//! spelling there.
+//! How many bytes values, requests, outcomes, batches, snapshots, heads and eras take as a store keeps them, and which of
+//! them have a spelling there.
 //!
 //! Both are definitions, and nothing here runs: what can't be spelled is known without its bytes.
 #![tactic(auto)]

@@ -9,7 +9,7 @@ use Rattle.py_tree.specs.ExpressionTypes.{place_of}
 use Rattle.py_tree.specs.Flow.{Context}
 use Rattle.call_graph.specs.SuspendingCode.{Leaving, expr_suspends, exprs_suspend}
 use Rattle.flat_tree.specs.PlainFlat.{PlainFlatStmt, PlainOperand, PlainOperands, FNoOperand, FMoreOperands, operands_of}
-use Rattle.hoisting.specs.Spots.{Spot, ty_at}
+use Rattle.hoisting.specs.Stages.{Stage, ty_at}
 use Rattle.hoisting.specs.HoistExpressions.{Hoisted, Tested, still, if_suspends, in_turn, kept, lasts, first_wanted, others_wanted, ChainPart, forms_if, taken, taken_each, taken_links, taken_operands}
 use Rattle.py_tree.specs.declared.ty.Ty.{Ty}
 use Rattle.expression_hoister.specs.ExpressionViews.{plain_each_wanted}
@@ -44,7 +44,7 @@ operands_all (o ∷ os) = ap (FMoreOperands o) (operands_all os)
 
 -- behind what was hoisted so far
 abbrev pub after_each : List PlainFlatStmt → List PlainExpr → Hoisted PlainExprs → Hoisted PlainExprs
-after_each before rest a = record { before = before ++ a.before; rest = exprs_before rest a.rest; spot = a.spot }
+after_each before rest a = record { before = before ++ a.before; rest = exprs_before rest a.rest; stage = a.stage }
 
 abbrev pub after_operands : List PlainOperand → Tested PlainOperands → Tested PlainOperands
 after_operands os t = record { test = operands_before os t.test; next = t.next }
@@ -52,7 +52,7 @@ after_operands os t = record { test = operands_before os t.test; next = t.next }
 module _ (leaves : Leaving) (c : Context) where
   -- Expressions
 
-  each_still : (ws : List (Option PlainTy)) (es : PlainExprs) (h : Spot) → exprs_suspend leaves es ≡ false → taken_each leaves c ws es h ≡ still es h
+  each_still : (ws : List (Option PlainTy)) (es : PlainExprs) (h : Stage) → exprs_suspend leaves es ≡ false → taken_each leaves c ws es h ≡ still es h
   unfolding taken expr_suspends
   each_still ws PNoExpr h stays = refl
   each_still ws (PExpr x xs) h stays =
@@ -60,30 +60,30 @@ module _ (leaves : Leaving) (c : Context) where
       λ i. in_turn PExpr (kept (off.1 i) (lasts leaves x) (place_of x) (ty_at c (first_wanted ws) h.locals x) ((forms_if (off.0 i) x (taken leaves c x)).value (first_wanted ws) h))
       (λ g. if_suspends (off.1 i) xs g (taken_each leaves c (others_wanted ws) xs g))
 
-  pub each_taken : (ws : List (Option PlainTy)) (es : PlainExprs) (h : Spot) → each_form leaves c ws es h ≡ taken_each leaves c ws es h
+  pub each_taken : (ws : List (Option PlainTy)) (es : PlainExprs) (h : Stage) → each_form leaves c ws es h ≡ taken_each leaves c ws es h
   each_taken ws es h = by (exprs_suspend leaves es) refl where
     by : (b : Bool) → exprs_suspend leaves es ≡ b → if_suspends b es h (taken_each leaves c ws es h) ≡ taken_each leaves c ws es h
     by true is = refl
     by false is = sym (each_still ws es h is)
 
-  each_first : (ws : List (Option PlainTy)) (x : PlainExpr) (xs : PlainExprs) (h : Spot)
+  each_first : (ws : List (Option PlainTy)) (x : PlainExpr) (xs : PlainExprs) (h : Stage)
       → taken_each leaves c ws (PExpr x xs) h ≡ in_turn PExpr (kept_form leaves c (exprs_suspend leaves xs) (first_wanted ws) x h) (λ g. each_form leaves c (others_wanted ws) xs g)
   unfolding taken
   each_first ws x xs h = refl
 
   module _ (all : Hoisted PlainExprs) (ws : List (Option Ty)) (i : ℕ) (before : List PlainFlatStmt) (rest : List PlainExpr) where
     -- one expression more
-    pub each_more : (h : Spot) (x : PlainExpr) (xs es : PlainExprs) (later : Bool) (wanted : Option PlainTy) → es ≡ PExpr x xs → exprs_suspend leaves xs ≡ later → wanted ≡ first_wanted (plain_each_wanted (drop i ws))
+    pub each_more : (h : Stage) (x : PlainExpr) (xs es : PlainExprs) (later : Bool) (wanted : Option PlainTy) → es ≡ PExpr x xs → exprs_suspend leaves xs ≡ later → wanted ≡ first_wanted (plain_each_wanted (drop i ws))
         → (made : Hoisted PlainExpr) → made ≡ kept_form leaves c later wanted x h
         → after_each before rest (taken_each leaves c (plain_each_wanted (drop i ws)) es h) ≡ all
-        → after_each (before ++ made.before) (rest ++ made.rest ∷ []) (taken_each leaves c (plain_each_wanted (drop (i + 1) ws)) xs made.spot) ≡ all
+        → after_each (before ++ made.before) (rest ++ made.rest ∷ []) (taken_each leaves c (plain_each_wanted (drop (i + 1) ws)) xs made.stage) ≡ all
     each_more h x xs es later wanted is last want made known so_far =
         let kept_so : made ≡ kept_form leaves c (exprs_suspend leaves xs) (first_wanted (plain_each_wanted (drop i ws))) x h = known ∙ (λ j. kept_form leaves c (sym last j) (want j) x h) in
-        (λ j. after_each (before ++ made.before) (rest ++ made.rest ∷ []) (taken_each leaves c (sym (others_from ws i) j) xs made.spot))
+        (λ j. after_each (before ++ made.before) (rest ++ made.rest ∷ []) (taken_each leaves c (sym (others_from ws i) j) xs made.stage))
         ∙ (λ j. record {
-          before = append_assoc before made.before (taken_each leaves c (others_wanted (plain_each_wanted (drop i ws))) xs made.spot).before j;
-          rest = exprs_on rest made.rest (taken_each leaves c (others_wanted (plain_each_wanted (drop i ws))) xs made.spot).rest j;
-          spot = (taken_each leaves c (others_wanted (plain_each_wanted (drop i ws))) xs made.spot).spot;
+          before = append_assoc before made.before (taken_each leaves c (others_wanted (plain_each_wanted (drop i ws))) xs made.stage).before j;
+          rest = exprs_on rest made.rest (taken_each leaves c (others_wanted (plain_each_wanted (drop i ws))) xs made.stage).rest j;
+          stage = (taken_each leaves c (others_wanted (plain_each_wanted (drop i ws))) xs made.stage).stage;
         })
         ∙ (λ j. after_each before rest (in_turn PExpr made (λ g. sym (each_taken (others_wanted (plain_each_wanted (drop i ws))) xs g) j)))
         ∙ (λ j. after_each before rest (in_turn PExpr (kept_so j) (λ g. each_form leaves c (others_wanted (plain_each_wanted (drop i ws))) xs g)))
@@ -91,10 +91,10 @@ module _ (leaves : Leaving) (c : Context) where
         ∙ so_far
 
     -- no more
-    pub each_done : (h : Spot) (es : PlainExprs) → es ≡ PNoExpr → after_each before rest (taken_each leaves c (plain_each_wanted (drop i ws)) es h) ≡ all → record { before = before; rest = exprs_of rest; spot = h } ≡ all
+    pub each_done : (h : Stage) (es : PlainExprs) → es ≡ PNoExpr → after_each before rest (taken_each leaves c (plain_each_wanted (drop i ws)) es h) ≡ all → record { before = before; rest = exprs_of rest; stage = h } ≡ all
     unfolding taken
     each_done h es none so_far =
-        (λ j. record { before = sym (append-nil before) j; rest = sym (exprs_all rest) j; spot = h }) ∙ sym (ap (λ y. after_each before rest (taken_each leaves c (plain_each_wanted (drop i ws)) y h)) none) ∙ so_far
+        (λ j. record { before = sym (append-nil before) j; rest = sym (exprs_all rest) j; stage = h }) ∙ sym (ap (λ y. after_each before rest (taken_each leaves c (plain_each_wanted (drop i ws)) y h)) none) ∙ so_far
 
   -- Links
 
@@ -108,13 +108,13 @@ module _ (leaves : Leaving) (c : Context) where
 
   -- Operands
 
-  operands_first : (truth : Bool) (x : PlainExpr) (xs : PlainExprs) (h : Spot)
+  operands_first : (truth : Bool) (x : PlainExpr) (xs : PlainExprs) (h : Stage)
       → taken_operands leaves c truth (PExpr x xs) h ≡ after_operands (operand_of leaves c truth x h ∷ []) (taken_operands leaves c truth xs (behind_operand leaves c truth x h))
   unfolding taken
   operands_first truth x xs h = refl
 
   module _ (all : Tested PlainOperands) (truth : Bool) (os : List PlainOperand) where
-    pub operands_more : (h : Spot) (x : PlainExpr) (xs es : PlainExprs) → es ≡ PExpr x xs → (o : PlainOperand) (g : Spot) → o ≡ operand_of leaves c truth x h → g ≡ behind_operand leaves c truth x h
+    pub operands_more : (h : Stage) (x : PlainExpr) (xs es : PlainExprs) → es ≡ PExpr x xs → (o : PlainOperand) (g : Stage) → o ≡ operand_of leaves c truth x h → g ≡ behind_operand leaves c truth x h
         → after_operands os (taken_operands leaves c truth es h) ≡ all → after_operands (os ++ o ∷ []) (taken_operands leaves c truth xs g) ≡ all
     operands_more h x xs es is o g operand behind so_far =
         (λ j. after_operands (os ++ operand j ∷ []) (taken_operands leaves c truth xs (behind j)))
@@ -124,7 +124,7 @@ module _ (leaves : Leaving) (c : Context) where
         })
         ∙ sym (ap (after_operands os) (ap (λ y. taken_operands leaves c truth y h) is ∙ operands_first truth x xs h)) ∙ so_far
 
-    pub operands_done : (h : Spot) (es : PlainExprs) → es ≡ PNoExpr → after_operands os (taken_operands leaves c truth es h) ≡ all → record { test = operands_of os; next = h.next } ≡ all
+    pub operands_done : (h : Stage) (es : PlainExprs) → es ≡ PNoExpr → after_operands os (taken_operands leaves c truth es h) ≡ all → record { test = operands_of os; next = h.next } ≡ all
     unfolding taken
     operands_done h es none so_far =
         (λ j. record { test = sym (operands_all os) j; next = h.next }) ∙ sym (ap (λ y. after_operands os (taken_operands leaves c truth y h)) none) ∙ so_far

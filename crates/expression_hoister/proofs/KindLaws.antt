@@ -9,19 +9,19 @@ use Rattle.py_tree.specs.PlainExpressions.{PlainExpr, PInt, PBool, PStr, PNil, P
 use Rattle.py_tree.specs.Flow.{Context}
 use Rattle.call_graph.specs.SuspendingCode.{Leaving, expr_suspends}
 use Rattle.flat_tree.specs.PlainFlat.{PlainFlatTest, FNot, FAnd, FOr}
-use Rattle.hoisting.specs.Spots.{Spot, ty_at}
+use Rattle.hoisting.specs.Stages.{Stage, ty_at}
 use Rattle.hoisting.specs.HoistExpressions.{Hoisted, Tested, still, built, in_turn, settled, kept, lasts, so_far, chain_of, leaf, made_of, forms_if, chosen, taken, taken_links, taken_operands, forms}
 use Rattle.expression_hoister.specs.Ways.{PlainWay, way_where, choice_of, two_forms, call_value, apply_value, list_value, run_value, truth_value, cond_value}
 
 -- two parts that were made one after another
-pub turned : {R S T : Type 0} (f : R → S → T) (a k : Hoisted R) (b : Hoisted S) (g : Spot → Hoisted S) → a ≡ k → b ≡ g a.spot → in_turn f a (λ h. b) ≡ in_turn f k g
-turned f a k b g first second = ap (λ y. in_turn f a (λ h. y)) second ∙ ap (λ x. in_turn f x (λ h. g x.spot)) first
+pub turned : {R S T : Type 0} (f : R → S → T) (a k : Hoisted R) (b : Hoisted S) (g : Stage → Hoisted S) → a ≡ k → b ≡ g a.stage → in_turn f a (λ h. b) ≡ in_turn f k g
+turned f a k b g first second = ap (λ y. in_turn f a (λ h. y)) second ∙ ap (λ x. in_turn f x (λ h. g x.stage)) first
 
 pub kept_settled : (later lasting : Bool) (at : Place) (ty : PlainTy) (a : Hoisted PlainExpr) → later ≡ true → lasting ≡ false → settled at ty a ≡ kept later lasting at ty a
 kept_settled later lasting at ty a on off = sym (λ j. kept (on j) (off j) at ty a)
 
 -- a run with links
-pub run_so_far : (leaves : Leaving) (c : Context) (at : Place) (first : PlainExpr) (links : List Link) (h : Spot) → (links ≡ [] → ⊥)
+pub run_so_far : (leaves : Leaving) (c : Context) (at : Place) (first : PlainExpr) (links : List Link) (h : Stage) → (links ≡ [] → ⊥)
     → so_far at (taken_links leaves c at (ty_at c None h.locals first) (links_of (plain_links links)) (chain_of (lasts leaves first) ((forms leaves c first).value None h))) ≡ run_value leaves c at first (links_of (plain_links links)) h
 run_so_far leaves c at first [] h some = absurd (some refl)
 run_so_far leaves c at first (l ∷ links) h some = refl
@@ -48,22 +48,22 @@ is_junction (POr at items) = true
 is_junction _ = false
 
 -- the value of one of two ways
-pub chosen_is : (at : Place) (ty : PlainTy) (locals : List PlainLocal) (e : PlainExpr) (t : Tested PlainFlatTest) (holds fails : PlainWay) (first second : Spot → Hoisted PlainExpr) → holds ≡ way_where true e locals t.next first → fails ≡ way_where false e locals holds.next second
+pub chosen_is : (at : Place) (ty : PlainTy) (locals : List PlainLocal) (e : PlainExpr) (t : Tested PlainFlatTest) (holds fails : PlainWay) (first second : Stage → Hoisted PlainExpr) → holds ≡ way_where true e locals t.next first → fails ≡ way_where false e locals holds.next second
     → choice_of at ty locals t.test holds fails ≡ chosen at ty locals e t first second
 chosen_is at ty locals e t holds fails first second holds_is fails_is =
     ap (choice_of at ty locals t.test holds) fails_is ∙ ap (λ (w : PlainWay). choice_of at ty locals t.test w (way_where false e locals w.next second)) holds_is
 
 module _ (leaves : Leaving) (c : Context) where
-  pub value_still : (e : PlainExpr) (wanted : Option PlainTy) (h : Spot) → expr_suspends leaves e ≡ false → still e h ≡ (forms leaves c e).value wanted h
+  pub value_still : (e : PlainExpr) (wanted : Option PlainTy) (h : Stage) → expr_suspends leaves e ≡ false → still e h ≡ (forms leaves c e).value wanted h
   value_still e wanted h stays = sym (ap (λ b. (forms_if b e (taken leaves c e)).value wanted h) stays)
 
-  value_taken : (e : PlainExpr) (wanted : Option PlainTy) (h : Spot) → expr_suspends leaves e ≡ true → (taken leaves c e).value wanted h ≡ (forms leaves c e).value wanted h
+  value_taken : (e : PlainExpr) (wanted : Option PlainTy) (h : Stage) → expr_suspends leaves e ≡ true → (taken leaves c e).value wanted h ≡ (forms leaves c e).value wanted h
   value_taken e wanted h asks = sym (ap (λ b. (forms_if b e (taken leaves c e)).value wanted h) asks)
 
-  test_taken : (e : PlainExpr) (h : Spot) → expr_suspends leaves e ≡ true → (taken leaves c e).test h ≡ (forms leaves c e).test h
+  test_taken : (e : PlainExpr) (h : Stage) → expr_suspends leaves e ≡ true → (taken leaves c e).test h ≡ (forms leaves c e).test h
   test_taken e h asks = sym (ap (λ b. (forms_if b e (taken leaves c e)).test h) asks)
 
-  module _ (wanted : Option PlainTy) (h : Spot) (at : Place) where
+  module _ (wanted : Option PlainTy) (h : Stage) (at : Place) where
     pub value-Neg : (a e : PlainExpr) → e ≡ PNeg at a → expr_suspends leaves e ≡ true → built (PNeg at) ((forms leaves c a).value None h) ≡ (forms leaves c e).value wanted h
     unfolding taken
     value-Neg a e is asks = ap (λ x. (taken leaves c x).value wanted h) (sym is) ∙ value_taken e wanted h asks
@@ -151,15 +151,15 @@ module _ (leaves : Leaving) (c : Context) where
   leaf_stays (PIsNone at a positive) is = absurd (true≢false (sym is))
   leaf_stays (PCond at test a b) is = absurd (true≢false (sym is))
 
-  pub value_leaf : (e : PlainExpr) (wanted : Option PlainTy) (h : Spot) → is_leaf e ≡ true → still e h ≡ (forms leaves c e).value wanted h
+  pub value_leaf : (e : PlainExpr) (wanted : Option PlainTy) (h : Stage) → is_leaf e ≡ true → still e h ≡ (forms leaves c e).value wanted h
   value_leaf e wanted h is = value_still e wanted h (leaf_stays e is)
 
   -- Tests
 
-  pub test_still : (e : PlainExpr) (h : Spot) → expr_suspends leaves e ≡ false → leaf ((forms leaves c e).value None h) ≡ (forms leaves c e).test h
+  pub test_still : (e : PlainExpr) (h : Stage) → expr_suspends leaves e ≡ false → leaf ((forms leaves c e).value None h) ≡ (forms leaves c e).test h
   test_still e h stays = ap (λ b. leaf ((forms_if b e (taken leaves c e)).value None h)) stays ∙ sym (ap (λ b. (forms_if b e (taken leaves c e)).test h) stays)
 
-  by_value_taken : (e : PlainExpr) (h : Spot) → is_junction e ≡ false → leaf ((taken leaves c e).value None h) ≡ (taken leaves c e).test h
+  by_value_taken : (e : PlainExpr) (h : Stage) → is_junction e ≡ false → leaf ((taken leaves c e).value None h) ≡ (taken leaves c e).test h
   unfolding taken
   by_value_taken (PInt at z) h is = refl
   by_value_taken (PBool at b) h is = refl
@@ -183,13 +183,13 @@ module _ (leaves : Leaving) (c : Context) where
   by_value_taken (PAnd at items) h is = absurd (true≢false is)
   by_value_taken (POr at items) h is = absurd (true≢false is)
 
-  pub test_by_value : (e : PlainExpr) (h : Spot) → is_junction e ≡ false → leaf ((forms leaves c e).value None h) ≡ (forms leaves c e).test h
+  pub test_by_value : (e : PlainExpr) (h : Stage) → is_junction e ≡ false → leaf ((forms leaves c e).value None h) ≡ (forms leaves c e).test h
   test_by_value e h is = forms_by (expr_suspends leaves e) where
     forms_by : (b : Bool) → leaf ((forms_if b e (taken leaves c e)).value None h) ≡ (forms_if b e (taken leaves c e)).test h
     forms_by true = by_value_taken e h is
     forms_by false = refl
 
-  module _ (h : Spot) (at : Place) where
+  module _ (h : Stage) (at : Place) where
     pub test-Not : (a e : PlainExpr) → e ≡ PNot at a → expr_suspends leaves e ≡ true → made_of FNot ((forms leaves c a).test h) ≡ (forms leaves c e).test h
     unfolding taken
     test-Not a e is asks = ap (λ x. (taken leaves c x).test h) (sym is) ∙ test_taken e h asks

@@ -17,7 +17,7 @@ use block_code::VarTypes;
 use flat_tree::{FlatArm, FlatStmt, FlatStmts, FlatTest, Operands};
 use flow_types::Locals;
 use hoisting::parts::{Hoisted, with_set};
-use hoisting::{Spot, surely, where_shown};
+use hoisting::{Stage, surely, where_shown};
 use py_tree::nodes::{bool_of, var_of};
 use py_tree::{Expr, Place, Ty};
 use sf_list::Sequence;
@@ -51,12 +51,12 @@ pub struct Way {
 
 /// A test by what is left of an expression.
 #[tactic(auto, using(flat_tree::proofs::FlatViews::flat_views))]
-pub fn leaf(spot: &Spot, hoisted: Hoisted) -> Tested
-    ensures { plain_tested result ≡ spec.leaf (hoisted_at hoisted spot.now) }
+pub fn leaf(stage: &Stage, hoisted: Hoisted) -> Tested
+    ensures { plain_tested result ≡ spec.leaf (hoisted_at hoisted stage.now) }
 {
     Tested {
         test: FlatTest::Leaf(hoisted.before, hoisted.rest),
-        next: spot.next,
+        next: stage.next,
     }
 }
 
@@ -100,13 +100,13 @@ pub fn literal_way(
 ) -> Result<Way, AllocError>
     ensures { IfOk result (λ made. plain_way made ≡ way_where truth (plain_expr test.now) (plain_locals locals.now) next (spec.still (PBool place truth))) }
 {
-    let spot = where_shown(alloc, locals, test, truth, next)?;
-    let start = surely(alloc, &spot.locals)?;
+    let stage = where_shown(alloc, locals, test, truth, next)?;
+    let start = surely(alloc, &stage.locals)?;
     Ok(Way {
         start,
         before: Sequence::new(alloc),
         rest: bool_of(place, truth),
-        next: spot.next,
+        next: stage.next,
     })
 }
 
@@ -132,18 +132,18 @@ pub fn if_stmt(
 /// The value of one of two ways, in the next temporary behind both, which has this type.
 pub fn choose(
     alloc: Global,
-    spot: &mut Spot,
+    stage: &mut Stage,
     place: Place,
     ty: Ty,
     test: FlatTest,
     holds: Way,
     fails: Way,
 ) -> Result<Hoisted, AllocError>
-    ensures { IfOk result (λ made. hoisted_at made spot.new ≡ gives.choice_in place ty spot.old test holds fails) }
+    ensures { IfOk result (λ made. hoisted_at made stage.new ≡ gives.choice_in place ty stage.old test holds fails) }
 {
-    spot.next = fails.next;
-    let into = spot.add_temporary(alloc, ty)?;
-    let after = surely(alloc, &spot.locals)?;
+    stage.next = fails.next;
+    let into = stage.add_temporary(alloc, ty)?;
+    let after = surely(alloc, &stage.locals)?;
     let body = with_set(alloc, holds.before, into, holds.rest)?;
     let other = with_set(alloc, fails.before, into, fails.rest)?;
     let arm = FlatArm {

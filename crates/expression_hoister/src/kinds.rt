@@ -6,7 +6,7 @@ ghost use Rattle.hoisting.specs.HoistExpressions as spec;
 ghost use Rattle.hoisting.specs.HoistExpressions.{built};
 ghost use Rattle.hoisting.specs.Views.{hoisted_at, each_at, call_at, two_at};
 
-use hoisting::Spot;
+use hoisting::Stage;
 use hoisting::parts::{Hoisted, HoistedCall, HoistedEach, HoistedTwo};
 use py_tree::nodes::{
     apply_of, call_of, chain, comparison_of, index_of, is_none_of, list_of, neg_of, not_of, pos_of,
@@ -15,8 +15,13 @@ use py_tree::{Cmp, Name, Place, PlacedName};
 use sf_list::Sequence;
 use std::alloc::{AllocError, Global};
 
-pub fn negated(alloc: Global, spot: &Spot, place: Place, a: Hoisted) -> Result<Hoisted, AllocError>
-    ensures { IfOk result (λ made. hoisted_at made spot.now ≡ built (PNeg place) (hoisted_at a spot.now)) }
+pub fn negated(
+    alloc: Global,
+    stage: &Stage,
+    place: Place,
+    a: Hoisted,
+) -> Result<Hoisted, AllocError>
+    ensures { IfOk result (λ made. hoisted_at made stage.now ≡ built (PNeg place) (hoisted_at a stage.now)) }
 {
     let rest = neg_of(alloc, place, a.rest)?;
     Ok(Hoisted {
@@ -25,8 +30,8 @@ pub fn negated(alloc: Global, spot: &Spot, place: Place, a: Hoisted) -> Result<H
     })
 }
 
-pub fn posed(alloc: Global, spot: &Spot, place: Place, a: Hoisted) -> Result<Hoisted, AllocError>
-    ensures { IfOk result (λ made. hoisted_at made spot.now ≡ built (PPos place) (hoisted_at a spot.now)) }
+pub fn posed(alloc: Global, stage: &Stage, place: Place, a: Hoisted) -> Result<Hoisted, AllocError>
+    ensures { IfOk result (λ made. hoisted_at made stage.now ≡ built (PPos place) (hoisted_at a stage.now)) }
 {
     let rest = pos_of(alloc, place, a.rest)?;
     Ok(Hoisted {
@@ -35,8 +40,13 @@ pub fn posed(alloc: Global, spot: &Spot, place: Place, a: Hoisted) -> Result<Hoi
     })
 }
 
-pub fn inverted(alloc: Global, spot: &Spot, place: Place, a: Hoisted) -> Result<Hoisted, AllocError>
-    ensures { IfOk result (λ made. hoisted_at made spot.now ≡ built (PNot place) (hoisted_at a spot.now)) }
+pub fn inverted(
+    alloc: Global,
+    stage: &Stage,
+    place: Place,
+    a: Hoisted,
+) -> Result<Hoisted, AllocError>
+    ensures { IfOk result (λ made. hoisted_at made stage.now ≡ built (PNot place) (hoisted_at a stage.now)) }
 {
     let rest = not_of(alloc, place, a.rest)?;
     Ok(Hoisted {
@@ -48,12 +58,12 @@ pub fn inverted(alloc: Global, spot: &Spot, place: Place, a: Hoisted) -> Result<
 /// `a is None`, or `a is not None`.
 pub fn none_test(
     alloc: Global,
-    spot: &Spot,
+    stage: &Stage,
     place: Place,
     a: Hoisted,
     positive: bool,
 ) -> Result<Hoisted, AllocError>
-    ensures { IfOk result (λ made. hoisted_at made spot.now ≡ built (λ r. PIsNone place r positive) (hoisted_at a spot.now)) }
+    ensures { IfOk result (λ made. hoisted_at made stage.now ≡ built (λ r. PIsNone place r positive) (hoisted_at a stage.now)) }
 {
     let rest = is_none_of(alloc, place, a.rest, positive)?;
     Ok(Hoisted {
@@ -63,8 +73,8 @@ pub fn none_test(
 }
 
 /// A run without links.
-pub fn alone(alloc: Global, spot: &Spot, place: Place, a: Hoisted) -> Result<Hoisted, AllocError>
-    ensures { IfOk result (λ made. hoisted_at made spot.now ≡ built (λ r. PChain place r PNoLink) (hoisted_at a spot.now)) }
+pub fn alone(alloc: Global, stage: &Stage, place: Place, a: Hoisted) -> Result<Hoisted, AllocError>
+    ensures { IfOk result (λ made. hoisted_at made stage.now ≡ built (λ r. PChain place r PNoLink) (hoisted_at a stage.now)) }
 {
     let rest = chain(alloc, place, a.rest, Sequence::new(alloc))?;
     Ok(Hoisted {
@@ -73,8 +83,8 @@ pub fn alone(alloc: Global, spot: &Spot, place: Place, a: Hoisted) -> Result<Hoi
     })
 }
 
-pub fn listed(spot: &Spot, place: Place, items: HoistedEach) -> Hoisted
-    ensures { hoisted_at result spot.now ≡ built (PList place) (each_at items spot.now) }
+pub fn listed(stage: &Stage, place: Place, items: HoistedEach) -> Hoisted
+    ensures { hoisted_at result stage.now ≡ built (PList place) (each_at items stage.now) }
 {
     Hoisted {
         before: items.before,
@@ -84,11 +94,11 @@ pub fn listed(spot: &Spot, place: Place, items: HoistedEach) -> Hoisted
 
 pub fn indexed(
     alloc: Global,
-    spot: &Spot,
+    stage: &Stage,
     place: Place,
     two: HoistedTwo,
 ) -> Result<Hoisted, AllocError>
-    ensures { IfOk result (λ made. hoisted_at made spot.now ≡ built (λ r. PIndex place r.0 r.1) (two_at two spot.now)) }
+    ensures { IfOk result (λ made. hoisted_at made stage.now ≡ built (λ r. PIndex place r.0 r.1) (two_at two stage.now)) }
 {
     let rest = index_of(alloc, place, two.first, two.second)?;
     Ok(Hoisted {
@@ -99,13 +109,13 @@ pub fn indexed(
 
 pub fn compared(
     alloc: Global,
-    spot: &Spot,
+    stage: &Stage,
     place: Place,
     op: Cmp,
     op_place: Place,
     two: HoistedTwo,
 ) -> Result<Hoisted, AllocError>
-    ensures { IfOk result (λ made. hoisted_at made spot.now ≡ built (λ r. PCompare place op op_place r.0 r.1) (two_at two spot.now)) }
+    ensures { IfOk result (λ made. hoisted_at made stage.now ≡ built (λ r. PCompare place op op_place r.0 r.1) (two_at two stage.now)) }
 {
     let rest = comparison_of(alloc, place, op, op_place, two.first, two.second)?;
     Ok(Hoisted {
@@ -117,12 +127,12 @@ pub fn compared(
 /// A call that doesn't suspend, over what is left of its parts.
 pub fn called(
     alloc: Global,
-    spot: &Spot,
+    stage: &Stage,
     place: Place,
     name: PlacedName,
     parts: HoistedCall,
 ) -> Result<Hoisted, AllocError>
-    ensures { IfOk result (λ made. hoisted_at made spot.now ≡ built (λ r. PCall place r.0 name.name.0 name.place r.1) (call_at parts spot.now)) }
+    ensures { IfOk result (λ made. hoisted_at made stage.now ≡ built (λ r. PCall place r.0 name.name.0 name.place r.1) (call_at parts stage.now)) }
 {
     let rest = call_of(alloc, place, parts.on, name, parts.args)?;
     Ok(Hoisted {
@@ -132,8 +142,8 @@ pub fn called(
 }
 
 /// A function, over what is left of its arguments.
-pub fn applied(spot: &Spot, place: Place, name: Name, args: HoistedEach) -> Hoisted
-    ensures { hoisted_at result spot.now ≡ built (PApply place name.0) (each_at args spot.now) }
+pub fn applied(stage: &Stage, place: Place, name: Name, args: HoistedEach) -> Hoisted
+    ensures { hoisted_at result stage.now ≡ built (PApply place name.0) (each_at args stage.now) }
 {
     Hoisted {
         before: args.before,
@@ -144,11 +154,11 @@ pub fn applied(spot: &Spot, place: Place, name: Name, args: HoistedEach) -> Hois
 /// Two expressions, one after another.
 pub fn two_of(
     alloc: Global,
-    spot: &Spot,
+    stage: &Stage,
     first: Hoisted,
     second: Hoisted,
 ) -> Result<HoistedTwo, AllocError>
-    ensures { IfOk result (λ made. two_at made spot.now ≡ spec.in_turn (λ a b. (a, b)) (hoisted_at first spot.now) (λ g. hoisted_at second spot.now)) }
+    ensures { IfOk result (λ made. two_at made stage.now ≡ spec.in_turn (λ a b. (a, b)) (hoisted_at first stage.now) (λ g. hoisted_at second stage.now)) }
 {
     let mut before = first.before;
     before.append(alloc, second.before)?;
@@ -162,11 +172,11 @@ pub fn two_of(
 /// A receiver, and arguments after it.
 pub fn call_with(
     alloc: Global,
-    spot: &Spot,
+    stage: &Stage,
     on: Hoisted,
     args: HoistedEach,
 ) -> Result<HoistedCall, AllocError>
-    ensures { IfOk result (λ made. call_at made spot.now ≡ spec.in_turn spec.with_args (hoisted_at on spot.now) (λ g. each_at args spot.now)) }
+    ensures { IfOk result (λ made. call_at made stage.now ≡ spec.in_turn spec.with_args (hoisted_at on stage.now) (λ g. each_at args stage.now)) }
 {
     let mut before = on.before;
     before.append(alloc, args.before)?;

@@ -8,7 +8,7 @@ ghost use Rattle.expression_hoister.specs.ExpressionViews as gives;
 ghost use Rattle.expression_hoister.specs.ExpressionViews.{run_at};
 
 use flat_tree::FlatStmts;
-use hoisting::Spot;
+use hoisting::Stage;
 use hoisting::parts::{Hoisted, settle};
 use py_tree::nodes::chain;
 use py_tree::{Expr, Link, Links, Place, Ty};
@@ -27,8 +27,8 @@ pub struct Run {
 }
 
 /// A run that begins with an operand.
-pub fn run_of(alloc: Global, spot: &Spot, lasting: bool, first: Hoisted) -> Run
-    ensures { run_at result spot.now ≡ spec.chain_of lasting (hoisted_at first spot.now) }
+pub fn run_of(alloc: Global, stage: &Stage, lasting: bool, first: Hoisted) -> Run
+    ensures { run_at result stage.now ≡ spec.chain_of lasting (hoisted_at first stage.now) }
 {
     Run {
         before: first.before,
@@ -50,8 +50,8 @@ fn chained(alloc: Global, place: Place, left: Expr, links: Links) -> Result<Expr
 }
 
 /// A run so far, as an expression.
-pub fn so_far(alloc: Global, spot: &Spot, place: Place, run: Run) -> Result<Hoisted, AllocError>
-    ensures { IfOk result (λ made. hoisted_at made spot.now ≡ spec.so_far place (run_at run spot.now)) }
+pub fn so_far(alloc: Global, stage: &Stage, place: Place, run: Run) -> Result<Hoisted, AllocError>
+    ensures { IfOk result (λ made. hoisted_at made stage.now ≡ spec.so_far place (run_at run stage.now)) }
 {
     let rest = chained(alloc, place, run.left, run.links)?;
     Ok(Hoisted {
@@ -72,8 +72,8 @@ fn copy_link(alloc: Global, link: &Link) -> Result<Link, AllocError>
 }
 
 /// One more link, of which nothing suspends.
-pub fn add_link(alloc: Global, spot: &Spot, run: Run, link: &Link) -> Result<Run, AllocError>
-    ensures { IfOk result (λ made. run_at made spot.now ≡ spec.linked_on (run_at run spot.now) (plain_link link.now)) }
+pub fn add_link(alloc: Global, stage: &Stage, run: Run, link: &Link) -> Result<Run, AllocError>
+    ensures { IfOk result (λ made. run_at made stage.now ≡ spec.linked_on (run_at run stage.now) (plain_link link.now)) }
 {
     let mut links = run.links;
     links.push(alloc, copy_link(alloc, link)?)?;
@@ -88,31 +88,31 @@ pub fn add_link(alloc: Global, spot: &Spot, run: Run, link: &Link) -> Result<Run
 /// The run so far where a link behind it suspends.
 pub fn settle_run(
     alloc: Global,
-    spot: &mut Spot,
+    stage: &mut Stage,
     place: Place,
     ty: &Ty,
     run: Run,
 ) -> Result<Hoisted, AllocError>
-    ensures { IfOk result (λ made. hoisted_at made spot.new ≡ gives.settled_run place ty.now run spot.old) }
+    ensures { IfOk result (λ made. hoisted_at made stage.new ≡ gives.settled_run place ty.now run stage.old) }
 {
     let lasting = run.lasting;
-    let left = so_far(alloc, spot, place, run)?;
+    let left = so_far(alloc, stage, place, run)?;
     if lasting {
         return Ok(left);
     }
     let ty = ty.try_clone(alloc)?;
-    settle(alloc, spot, place, ty, left)
+    settle(alloc, stage, place, ty, left)
 }
 
 /// The run so far, and a link behind it whose right side was hoisted.
 pub fn begin_anew(
     alloc: Global,
-    spot: &Spot,
+    stage: &Stage,
     left: Hoisted,
     link: &Link,
     right: Hoisted,
 ) -> Result<Run, AllocError>
-    ensures { IfOk result (λ made. run_at made spot.now ≡ gives.anew_at left link.now right spot.now) }
+    ensures { IfOk result (λ made. run_at made stage.now ≡ gives.anew_at left link.now right stage.now) }
 {
     let mut before = left.before;
     before.append(alloc, right.before)?;

@@ -32,7 +32,7 @@ use Rattle.flat_tree.specs.declared.tree.Callee.{Callee}
 use Rattle.flat_tree.specs.declared.tree.Created.{Created}
 use Rattle.flat_tree.specs.PlainFlat.{flat_stmts_of}
 use Rattle.method_splitter.specs.Callees.{EachInAll, CalleeIsNamed, CreatedIsNamed, CalleeIsThere, CreatedIsThere}
-use Rattle.hoisting.specs.Spots.{Spot, class_place, method_place, callee_of, created_of}
+use Rattle.hoisting.specs.Stages.{Stage, class_place, method_place, callee_of, created_of}
 use Rattle.hoisting.specs.HoistMethods.{flat_body}
 use Rattle.typed_hoisting.specs.KnownLocals.{seen}
 use Rattle.typed_hoisting.proofs.LocalLaws.{kept_same}
@@ -131,7 +131,7 @@ module _ (names : List (List ℕ)) (program : PlainProgram) where
             typed = λ x t i. ap (λ ss. type_in ss x) (shapes_settled end.locals (known_at first)) ∙ i;
             kept = λ x. kept_same (seen first x) (seen start x) (sym (known_before first end.locals x grows));
           } in
-          let h : Spot = record { locals = start; next = limit } in
+          let h : Stage = record { locals = start; next = limit } in
           subst (λ r. EachInAll P Q (flat_stmts_of (flat_body leaves c (found_locals r) limit (Some m)))) (sym found)
           (∥∥₁_elim accepted.bounded (all_once P Q one_callee one_class _) (λ (bounded : IsBounded names program).
           all_named P Q c leaves limit all stand (stmts_of m.body) (names_below class number m d bounded) false (begun first) end h b.goes early_end ahead))

@@ -20,7 +20,7 @@ use Rattle.flat_tree.specs.declared.tree.Callee.{Callee}
 use Rattle.flat_tree.specs.declared.tree.Created.{Created}
 use Rattle.flat_tree.specs.PlainFlat.{FCall, FMake, PlainFlatTest, FAnd, FOr}
 use Rattle.method_splitter.specs.Callees.{Each, EachInOperands}
-use Rattle.hoisting.specs.Spots.{Spot, surely, with_temporary, where_shown, ty_at, found_ty, callee_of, created_of, method_params}
+use Rattle.hoisting.specs.Stages.{Stage, surely, with_temporary, where_shown, ty_at, found_ty, callee_of, created_of, method_params}
 use Rattle.hoisting.specs.HoistExpressions.{Hoisted, Tested, if_suspends, in_turn, kept, settled_unless, lasts, made_of, with_args, call_of, apply_of, by_params, by_function, by_elements, first_wanted, others_wanted, chain_of, ChainPart, so_far, linked_on, begun_anew, either, chosen, taken, taken_each, taken_links, taken_operands, forms}
 use Rattle.typed_hoisting.proofs.TypedLists.{TypedEach, from_arguments, from_each, from_elements}
 use Rattle.typed_hoisting.proofs.TypedKinds.{not_parts, condition_parts, and_parts, or_parts_of, link_parts}
@@ -43,7 +43,7 @@ module _ (P : Callee → Type 0) (Q : Created → Type 0) (c : Context) (leaves 
   RightsTyped locals PNoLink = ⊤
   RightsTyped locals (PMoreLinks (PLink o at right) more) = IsTyped c locals right × RightsTyped locals more
 
-  each_behind : (h g : Spot) (es : PlainExprs) → ExprsNames limit es → Behind h g → EachTyped h.locals es → EachTyped g.locals es
+  each_behind : (h g : Stage) (es : PlainExprs) → ExprsNames limit es → Behind h g → EachTyped h.locals es → EachTyped g.locals es
   unfolding ExprNames
   each_behind h g PNoExpr named b t = tt
   each_behind h g (PExpr x xs) named b t = (typed_behind c limit h g x named.0 b t.0, each_behind h g xs named.1 b t.1)
@@ -99,13 +99,13 @@ module _ (P : Callee → Type 0) (Q : Created → Type 0) (c : Context) (leaves 
           record { args_typed = from_typed (by_params p.0.init) q.0 locals args q.1; class_there = λ none. (p.0, p.1) }
 
   module _ (stand : Stand) where
-    abbrev N : {R : Type 0} → Spot → Hoisted R → Type 0
+    abbrev N : {R : Type 0} → Stage → Hoisted R → Type 0
     N h a = Named P Q h a
 
-    abbrev part : PlainExpr → Option PlainTy → Spot → Hoisted PlainExpr
+    abbrev part : PlainExpr → Option PlainTy → Stage → Hoisted PlainExpr
     part e wanted h = (forms leaves c e).value wanted h
 
-    abbrev parts : List (Option PlainTy) → PlainExprs → Spot → Hoisted PlainExprs
+    abbrev parts : List (Option PlainTy) → PlainExprs → Stage → Hoisted PlainExprs
     parts wanted es h = if_suspends (exprs_suspend leaves es) es h (taken_each leaves c wanted es h)
 
     abbrev pub NamedExpr : PlainExpr → Type 0
@@ -115,17 +115,17 @@ module _ (P : Callee → Type 0) (Q : Created → Type 0) (c : Context) (leaves 
     NamedTaken e = NamedForms P Q c e (taken leaves c e)
 
     abbrev NamedEach : PlainExprs → Type 0
-    NamedEach es = (wanted : List (Option PlainTy)) (h : Spot) → EachTyped h.locals es → N h (taken_each leaves c wanted es h)
+    NamedEach es = (wanted : List (Option PlainTy)) (h : Stage) → EachTyped h.locals es → N h (taken_each leaves c wanted es h)
 
-    abbrev NamedRun : Spot → ChainPart → Type 0
+    abbrev NamedRun : Stage → ChainPart → Type 0
     NamedRun h r = N h (run_of c leaves limit r)
 
     abbrev NamedLinks : PlainLinks → Type 0
-    NamedLinks ls = (at : Place) (ty : PlainTy) (h : Spot) (r : ChainPart) → RightsTyped h.locals ls → NamedRun h r → NamedRun h (taken_links leaves c at ty ls r)
+    NamedLinks ls = (at : Place) (ty : PlainTy) (h : Stage) (r : ChainPart) → RightsTyped h.locals ls → NamedRun h r → NamedRun h (taken_links leaves c at ty ls r)
 
     abbrev NamedOperands : PlainExprs → Type 0
     NamedOperands items =
-        (truth : Bool) (h : Spot) → conditions c.tables (env_of c h.locals) truth items ≡ Ok TBool
+        (truth : Bool) (h : Stage) → conditions c.tables (env_of c h.locals) truth items ≡ Ok TBool
         → EachInOperands P Q (taken_operands leaves c truth items h).test
 
     -- Lists
@@ -134,7 +134,7 @@ module _ (P : Callee → Type 0) (Q : Created → Type 0) (c : Context) (leaves 
     unfolding taken
     no_expr wanted h t = still_named P Q h PNoExpr
 
-    parts_named : (es : PlainExprs) → NamedEach es → (wanted : List (Option PlainTy)) (h : Spot) → EachTyped h.locals es → N h (parts wanted es h)
+    parts_named : (es : PlainExprs) → NamedEach es → (wanted : List (Option PlainTy)) (h : Stage) → EachTyped h.locals es → N h (parts wanted es h)
     parts_named es named wanted h t = if_named P Q (exprs_suspend leaves es) h es (taken_each leaves c wanted es h) (named wanted h t)
 
     more_exprs : (x : PlainExpr) (xs : PlainExprs) → ExprsNames limit xs → NamedExpr x → NamedEach xs → NamedEach (PExpr x xs)
@@ -143,25 +143,25 @@ module _ (P : Callee → Type 0) (Q : Created → Type 0) (c : Context) (leaves 
         let w : Option PlainTy = first_wanted wanted in
         let k : Hoisted PlainExpr = kept (exprs_suspend leaves xs) (lasts leaves x) (place_of x) (ty_at c w h.locals x) (part x w h) in
         let nk : N h k = kept_named P Q (exprs_suspend leaves xs) (lasts leaves x) h (part x w h) (place_of x) (ty_at c w h.locals x) (first.value w h t.0) in
-        turn_named P Q h PExpr k (λ g. parts (others_wanted wanted) xs g) nk (parts_named xs rest (others_wanted wanted) k.spot (each_behind h k.spot xs names nk.behind t.1))
+        turn_named P Q h PExpr k (λ g. parts (others_wanted wanted) xs g) nk (parts_named xs rest (others_wanted wanted) k.stage (each_behind h k.stage xs names nk.behind t.1))
 
     -- Two parts
 
-    two_parts : (h : Spot) → (a b : PlainExpr) → ExprNames limit b → NamedExpr a → NamedExpr b → IsTyped c h.locals a → IsTyped c h.locals b → (f : PlainExpr → PlainExpr → PlainExpr)
+    two_parts : (h : Stage) → (a b : PlainExpr) → ExprNames limit b → NamedExpr a → NamedExpr b → IsTyped c h.locals a → IsTyped c h.locals b → (f : PlainExpr → PlainExpr → PlainExpr)
         → N h (in_turn f (kept (expr_suspends leaves b) (lasts leaves a) (place_of a) (ty_at c None h.locals a) (part a None h)) (λ g. part b None g))
     two_parts h a b names first second is_a is_b f =
         let k : Hoisted PlainExpr = kept (expr_suspends leaves b) (lasts leaves a) (place_of a) (ty_at c None h.locals a) (part a None h) in
         let nk : N h k = kept_named P Q (expr_suspends leaves b) (lasts leaves a) h (part a None h) (place_of a) (ty_at c None h.locals a) (first.value None h is_a) in
-        turn_named P Q h f k (λ g. part b None g) nk (second.value None k.spot (typed_behind c limit h k.spot b names nk.behind is_b))
+        turn_named P Q h f k (λ g. part b None g) nk (second.value None k.stage (typed_behind c limit h k.stage b names nk.behind is_b))
 
     -- Calls and creations
 
-    call_named : (b : Bool) (h : Spot) (at : Place) (ty on_ty : PlainTy) (name : ℕ) (name_at : Place) (a : Hoisted (PlainExpr × PlainExprs)) → N h a → P (callee_of c on_ty name) → N h (call_of c b at ty on_ty name name_at a)
+    call_named : (b : Bool) (h : Stage) (at : Place) (ty on_ty : PlainTy) (name : ℕ) (name_at : Place) (a : Hoisted (PlainExpr × PlainExprs)) → N h a → P (callee_of c on_ty name) → N h (call_of c b at ty on_ty name name_at a)
     unfolding Each
-    call_named true h at ty on_ty name name_at a n p = taken_named P Q h a at ty (λ r t. FCall r.0 (callee_of c on_ty name) r.1 t (surely (with_temporary ty a.spot).locals)) n p
+    call_named true h at ty on_ty name name_at a n p = taken_named P Q h a at ty (λ r t. FCall r.0 (callee_of c on_ty name) r.1 t (surely (with_temporary ty a.stage).locals)) n p
     call_named false h at ty on_ty name name_at a n p = built_named P Q h a (λ r. PCall at r.0 name name_at r.1) n
 
-    call_step : (at : Place) (on : PlainExpr) (name : ℕ) (name_at : Place) (args : PlainExprs) → ExprsNames limit args → NamedExpr on → NamedEach args → (wanted : Option PlainTy) (h : Spot) → IsTyped c h.locals (PCall at on name name_at args)
+    call_step : (at : Place) (on : PlainExpr) (name : ℕ) (name_at : Place) (args : PlainExprs) → ExprsNames limit args → NamedExpr on → NamedEach args → (wanted : Option PlainTy) (h : Stage) → IsTyped c h.locals (PCall at on name name_at args)
         → N h (call_of c (leaves on name) at (ty_at c wanted h.locals (PCall at on name name_at args)) (ty_at c None h.locals on) name name_at
         (in_turn with_args (kept (exprs_suspend leaves args) (lasts leaves on) (place_of on) (ty_at c None h.locals on) (part on None h)) (λ g. parts (by_params (method_params c (ty_at c None h.locals on) name)) args g)))
     call_step at on name name_at args names named_on named_args wanted h t =
@@ -171,17 +171,17 @@ module _ (P : Callee → Type 0) (Q : Created → Type 0) (c : Context) (leaves 
         let a : Hoisted PlainExpr = kept (exprs_suspend leaves args) (lasts leaves on) (place_of on) on_ty (part on None h) in
         let na : N h a = kept_named P Q (exprs_suspend leaves args) (lasts leaves on) h (part on None h) (place_of on) on_ty (named_on.value None h (has_type c h.locals on None (TEntity p.0) p.2)) in
         let wants : List (Option PlainTy) = by_params (method_params c on_ty name) in
-        let nb : N a.spot (parts wants args a.spot) =
-        parts_named args named_args wants a.spot (each_behind h a.spot args names na.behind (from_typed (by_params p.1.params) q.0 h.locals args q.1)) in
+        let nb : N a.stage (parts wants args a.stage) =
+        parts_named args named_args wants a.stage (each_behind h a.stage args names na.behind (from_typed (by_params p.1.params) q.0 h.locals args q.1)) in
         let callee : P (callee_of c on_ty name) = subst (λ u. P (callee_of c u name)) (sym (ap found_ty p.2)) (stand.called p.0 name p.1 p.3) in
         call_named (leaves on name) h at _ on_ty name name_at (in_turn with_args a (λ g. parts wants args g)) (turn_named P Q h with_args a (λ g. parts wants args g) na nb) callee
 
-    apply_named : (b : Bool) (h : Spot) (at : Place) (ty : PlainTy) (name : ℕ) (a : Hoisted PlainExprs) → N h a → (b ≡ true → Q (created_of c name)) → N h (apply_of c b at ty name a)
+    apply_named : (b : Bool) (h : Stage) (at : Place) (ty : PlainTy) (name : ℕ) (a : Hoisted PlainExprs) → N h a → (b ≡ true → Q (created_of c name)) → N h (apply_of c b at ty name a)
     unfolding Each
-    apply_named true h at ty name a n q = taken_named P Q h a at ty (λ r t. FMake (created_of c name) r t (surely (with_temporary ty a.spot).locals)) n (q refl)
+    apply_named true h at ty name a n q = taken_named P Q h a at ty (λ r t. FMake (created_of c name) r t (surely (with_temporary ty a.stage).locals)) n (q refl)
     apply_named false h at ty name a n q = built_named P Q h a (PApply at name) n
 
-    apply_step : (at : Place) (name : ℕ) (args : PlainExprs) → NamedEach args → (wanted : Option PlainTy) (h : Spot) → IsTyped c h.locals (PApply at name args)
+    apply_step : (at : Place) (name : ℕ) (args : PlainExprs) → NamedEach args → (wanted : Option PlainTy) (h : Stage) → IsTyped c h.locals (PApply at name args)
         → N h (apply_of c (is_none (function_of name)) at (ty_at c wanted h.locals (PApply at name args)) name (parts (by_function c (function_of name) name) args h))
     apply_step at name args named_args wanted h t =
         let p : Applies h.locals name (function_of name) args = applies h.locals t.wanted at name args t.ty t.typed in
@@ -191,7 +191,7 @@ module _ (P : Callee → Type 0) (Q : Created → Type 0) (c : Context) (leaves 
 
     -- Runs of operators
 
-    run_so_far : (h : Spot) (at : Place) (r : ChainPart) → NamedRun h r → N h (so_far at r)
+    run_so_far : (h : Stage) (at : Place) (r : ChainPart) → NamedRun h r → N h (so_far at r)
     run_so_far h at r n = record { each = n.each; behind = n.behind }
 
     no_link : NamedLinks PNoLink
@@ -209,16 +209,16 @@ module _ (P : Callee → Type 0) (Q : Created → Type 0) (c : Context) (leaves 
         na = settled_unless_named P Q r.lasting h (so_far at r) at ty (run_so_far h at r n)
 
         b : Hoisted PlainExpr
-        b = part right (right_wanted o ty) a.spot
+        b = part right (right_wanted o ty) a.stage
 
-        nb : N a.spot b
-        nb = named.value (right_wanted o ty) a.spot (typed_behind c limit h a.spot right names na.behind t.0)
+        nb : N a.stage b
+        nb = named.value (right_wanted o ty) a.stage (typed_behind c limit h a.stage right names na.behind t.0)
 
         by : (s : Bool) → NamedRun h (either s (begun_anew a (PLink o op_at) b) (linked_on r (PLink o op_at right)))
         by true = let both = turn_named P Q h (λ x y. x) a (λ g. part right (right_wanted o ty) g) na nb in record { each = both.each; behind = both.behind }
         by false = record { each = n.each; behind = n.behind }
 
-    chain_step : (at : Place) (first : PlainExpr) (l : PlainLink) (more : PlainLinks) → NamedExpr first → NamedLinks (PMoreLinks l more) → (wanted : Option PlainTy) (h : Spot) → IsTyped c h.locals (PChain at first (PMoreLinks l more))
+    chain_step : (at : Place) (first : PlainExpr) (l : PlainLink) (more : PlainLinks) → NamedExpr first → NamedLinks (PMoreLinks l more) → (wanted : Option PlainTy) (h : Stage) → IsTyped c h.locals (PChain at first (PMoreLinks l more))
         → N h (so_far at (taken_links leaves c at (ty_at c None h.locals first) (PMoreLinks l more) (chain_of (lasts leaves first) (part first None h))))
     chain_step at first l more named links wanted h t =
         let p = typed_chain c.tables (env_of c h.locals) t.wanted at t.ty first (PMoreLinks l more) t.typed in
@@ -249,7 +249,7 @@ module _ (P : Callee → Type 0) (Q : Created → Type 0) (c : Context) (leaves 
       test = λ h t. operands h t;
     }
       where
-        operands : (h : Spot) → IsTyped c h.locals (PAnd at items) → EachInOperands P Q (taken_operands leaves c true items h).test
+        operands : (h : Stage) → IsTyped c h.locals (PAnd at items) → EachInOperands P Q (taken_operands leaves c true items h).test
         operands h t =
             let p = and_parts c leaves h.locals t.wanted at items t.ty t.typed in
             named true h (p ∙ ap Ok (sym (conditions_result c.tables (env_of c h.locals) true items t.ty p)))
@@ -261,7 +261,7 @@ module _ (P : Callee → Type 0) (Q : Created → Type 0) (c : Context) (leaves 
       test = λ h t. operands h t;
     }
       where
-        operands : (h : Spot) → IsTyped c h.locals (POr at items) → EachInOperands P Q (taken_operands leaves c false items h).test
+        operands : (h : Stage) → IsTyped c h.locals (POr at items) → EachInOperands P Q (taken_operands leaves c false items h).test
         operands h t =
             let p = or_parts_of c leaves h.locals t.wanted at items t.ty t.typed in
             named false h (p ∙ ap Ok (sym (conditions_result c.tables (env_of c h.locals) false items t.ty p)))
@@ -276,7 +276,7 @@ module _ (P : Callee → Type 0) (Q : Created → Type 0) (c : Context) (leaves 
     unfolding type_of
     plus_numbered locals wanted at a ty h = has_type c locals a None _ (typed_number c.tables (env_of c locals) wanted at ty a h).0
 
-    not_typed : (h : Spot) (at : Place) (a : PlainExpr) → IsTyped c h.locals (PNot at a) → IsTyped c h.locals a
+    not_typed : (h : Stage) (at : Place) (a : PlainExpr) → IsTyped c h.locals (PNot at a) → IsTyped c h.locals a
     not_typed h at a t = has_type c h.locals a None TBool (not_parts c leaves h.locals t.wanted at a t.ty t.typed).0
 
     not_named : (at : Place) (a : PlainExpr) → NamedExpr a → NamedTaken (PNot at a)
@@ -295,15 +295,15 @@ module _ (P : Callee → Type 0) (Q : Created → Type 0) (c : Context) (leaves 
         let p = typed_cond c.tables (env_of c locals) wanted at ty test a b is in
         (has_type c locals test None TBool p.2, has_type c _ a wanted p.0 p.3, has_type c _ b wanted p.1 p.4)
 
-    cond_step : (at : Place) (test a b : PlainExpr) → NamedExpr test → NamedExpr a → NamedExpr b → (wanted : Option PlainTy) (h : Spot) → IsTyped c h.locals (PCond at test a b)
+    cond_step : (at : Place) (test a b : PlainExpr) → NamedExpr test → NamedExpr a → NamedExpr b → (wanted : Option PlainTy) (h : Stage) → IsTyped c h.locals (PCond at test a b)
         → N h (chosen at (ty_at c wanted h.locals (PCond at test a b)) h.locals test ((forms leaves c test).test h) (λ g. part a wanted g) (λ g. part b wanted g))
     cond_step at test a b named_test named_a named_b wanted h t =
         let p = cond_parts h.locals t.wanted at test a b t.ty t.typed in
         let tested : Tested PlainFlatTest = (forms leaves c test).test h in
         let n = named_test.test h p.0 in
-        let yes' : Spot = where_shown true test h.locals tested.next in
+        let yes' : Stage = where_shown true test h.locals tested.next in
         let na : N yes' (part a wanted yes') = named_a.value wanted yes' p.1 in
-        let no' : Spot = where_shown false test h.locals (part a wanted yes').spot.next in
+        let no' : Stage = where_shown false test h.locals (part a wanted yes').stage.next in
         let nb : N no' (part b wanted no') = named_b.value wanted no' p.2 in
         chosen_named P Q h at _ test tested (λ g. part a wanted g) (λ g. part b wanted g) n na nb
 

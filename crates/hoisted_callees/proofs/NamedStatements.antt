@@ -1,6 +1,6 @@
 -- Callees and created classes of the flat code of statements have what is asked of them, where the statements break no rule.
 --
--- The walk goes along the rules on statements from where a method begins, with the locals that they find on the way. At the spots where
+-- The walk goes along the rules on statements from where a method begins, with the locals that they find on the way. At the stages where
 -- code is hoisted all locals have their types beforehand, and what the rules know of them is known so.
 use Rattle.std.proofs.Common.{◌≡◌, ℕ, pos, Bool, true, false, cond, Option, Some, None, Ok, List, [], ◌∷◌, ◌++◌, refl, sym, ap, ◌∙◌, subst}
 use Rattle.std.specs.Prelude.{IfSome}
@@ -28,9 +28,9 @@ use Rattle.flat_tree.specs.declared.tree.Callee.{Callee}
 use Rattle.flat_tree.specs.declared.tree.Created.{Created}
 use Rattle.flat_tree.specs.PlainFlat.{PlainFlatStmt, FMark, FGive, FFail, flat_stmts_of}
 use Rattle.method_splitter.specs.Callees.{Each, EachInAll, EachInArms, EachInTest}
-use Rattle.hoisting.specs.Spots.{Spot, where_shown, ty_at, found_ty, with_temporary, item_ty, locals_of, locals_behind}
+use Rattle.hoisting.specs.Stages.{Stage, where_shown, ty_at, found_ty, with_temporary, item_ty, locals_of, locals_behind}
 use Rattle.hoisting.specs.HoistExpressions.{Hoisted, still, built, settled, lasts, forms}
-use Rattle.hoisting.specs.HoistStatements.{Flattened, stays, code_if, followed, stored, read_of, target_ty, marked, value_or_nil, body_spot, optional, combination, range_start, range_end, opened, flat_all, flat_arms, other_spot}
+use Rattle.hoisting.specs.HoistStatements.{Flattened, stays, code_if, followed, stored, read_of, target_ty, marked, value_or_nil, body_stage, optional, combination, range_start, range_end, opened, flat_all, flat_arms, other_stage}
 use Rattle.typed_hoisting.specs.KnownLocals.{seen}
 use Rattle.typed_hoisting.proofs.LocalLaws.{kept_on}
 use Rattle.typed_methods.proofs.KeptParts.{in_loop_if}
@@ -48,8 +48,8 @@ for_end_shapes : (head : List PlainLocal) (end : Way) → shapes (after_for head
 unfolding after_for
 for_end_shapes head end = shapes_behind end.locals _
 
--- the spot where all tests were False doesn't depend on temporaries
-same_other : (leaves : Leaving) (c : Context) (arms : PlainArms) (locals : List PlainLocal) (m n : ℕ) → (other_spot leaves c arms (record { locals = locals; next = m })).locals ≡ (other_spot leaves c arms (record { locals = locals; next = n })).locals
+-- the stage where all tests were False doesn't depend on temporaries
+same_other : (leaves : Leaving) (c : Context) (arms : PlainArms) (locals : List PlainLocal) (m n : ℕ) → (other_stage leaves c arms (record { locals = locals; next = m })).locals ≡ (other_stage leaves c arms (record { locals = locals; next = n })).locals
 unfolding opened
 same_other leaves c PNoArm locals m n = refl
 same_other leaves c (PMoreArms (PArm test body) more) locals m n = same_other leaves c more (narrowed (shown false test) locals) m n
@@ -64,22 +64,22 @@ module _ (P : Callee → Type 0) (Q : Created → Type 0) (c : Context) (leaves 
   abbrev E : List PlainLocal → Type 0
   E locals = Early all locals
 
-  abbrev N : {R : Type 0} → Spot → Hoisted R → Type 0
+  abbrev N : {R : Type 0} → Stage → Hoisted R → Type 0
   N h a = Named P Q h a
 
   -- flat code
   abbrev pub NamedCode : Flattened (List PlainFlatStmt) → Type 0
   NamedCode f = EachInAll P Q (flat_stmts_of f.code)
 
-  -- what is typed here is typed at the spot
-  spot_typed : (here : List PlainLocal) (h : Spot) (wanted : Option PlainTy) (e : PlainExpr) (ty : PlainTy) → A here h.locals → ExprNames limit e → type_at c here wanted e ≡ Ok ty → IsTyped c h.locals e
-  spot_typed here h wanted e ty a names typed = has_type c h.locals e wanted ty (typed_there c limit here h.locals wanted e ty names a.kept typed)
+  -- what is typed here is typed at the stage
+  stage_typed : (here : List PlainLocal) (h : Stage) (wanted : Option PlainTy) (e : PlainExpr) (ty : PlainTy) → A here h.locals → ExprNames limit e → type_at c here wanted e ≡ Ok ty → IsTyped c h.locals e
+  stage_typed here h wanted e ty a names typed = has_type c h.locals e wanted ty (typed_there c limit here h.locals wanted e ty names a.kept typed)
 
   -- expressions there, as values and as tests
-  value_named : (e : PlainExpr) → ExprNames limit e → (wanted : Option PlainTy) (h : Spot) → IsTyped c h.locals e → N h ((forms leaves c e).value wanted h)
+  value_named : (e : PlainExpr) → ExprNames limit e → (wanted : Option PlainTy) (h : Stage) → IsTyped c h.locals e → N h ((forms leaves c e).value wanted h)
   value_named e names wanted h t = (expression_named P Q c leaves limit stand e names).value wanted h t
 
-  test_named : (e : PlainExpr) → ExprNames limit e → (h : Spot) → IsTyped c h.locals e → EachInTest P Q ((forms leaves c e).test h).test
+  test_named : (e : PlainExpr) → ExprNames limit e → (h : Stage) → IsTyped c h.locals e → EachInTest P Q ((forms leaves c e).test h).test
   test_named e names h t = (expression_named P Q c leaves limit stand e names).test h t
 
   -- Parts
@@ -89,22 +89,22 @@ module _ (P : Callee → Type 0) (Q : Created → Type 0) (c : Context) (leaves 
   stored_each (Local x) e = tt
   stored_each (Field f) e = tt
 
-  marked_named : {R : Type 0} (h : Spot) (f : R → PlainFlatStmt) (a : Hoisted R) → N h a → Each P Q (f a.rest) → NamedCode (marked f a)
+  marked_named : {R : Type 0} (h : Stage) (f : R → PlainFlatStmt) (a : Hoisted R) → N h a → Each P Q (f a.rest) → NamedCode (marked f a)
   unfolding Each
   marked_named h f a n e = each_then P Q FMark (a.before ++ f a.rest ∷ []) tt (each_more P Q a.before (f a.rest ∷ []) n.each (each_one P Q (f a.rest) e))
 
-  optional_named : (wanted : Option PlainTy) (e : Option PlainExpr) (h : Spot) → IfSome e (ExprNames limit) → IfSome e (IsTyped c h.locals) → N h (optional leaves c wanted e h)
+  optional_named : (wanted : Option PlainTy) (e : Option PlainExpr) (h : Stage) → IfSome e (ExprNames limit) → IfSome e (IsTyped c h.locals) → N h (optional leaves c wanted e h)
   optional_named wanted None h names t = still_named P Q h None
   optional_named wanted (Some e) h names t = built_named P Q h _ Some (value_named e names wanted h t)
 
   -- a result and a message have types there
-  returned : (b : Bool) (here : List PlainLocal) (h : Spot) (at : Place) (e : Option PlainExpr) → IfSome e (ExprNames limit) → A here h.locals → return_fault (at_loop b) here at e ≡ None → IfSome e (IsTyped c h.locals)
+  returned : (b : Bool) (here : List PlainLocal) (h : Stage) (at : Place) (e : Option PlainExpr) → IfSome e (ExprNames limit) → A here h.locals → return_fault (at_loop b) here at e ≡ None → IfSome e (IsTyped c h.locals)
   returned b here h at None names a none = tt
-  returned b here h at (Some e) names a none = let p = return_ok (at_loop b) here at e none in spot_typed here h _ e p.0 a names p.1
+  returned b here h at (Some e) names a none = let p = return_ok (at_loop b) here at e none in stage_typed here h _ e p.0 a names p.1
 
-  told : (b : Bool) (here : List PlainLocal) (h : Spot) (e : Option PlainExpr) → IfSome e (ExprNames limit) → A here h.locals → message_fault (at_loop b) here e ≡ None → IfSome e (IsTyped c h.locals)
+  told : (b : Bool) (here : List PlainLocal) (h : Stage) (e : Option PlainExpr) → IfSome e (ExprNames limit) → A here h.locals → message_fault (at_loop b) here e ≡ None → IfSome e (IsTyped c h.locals)
   told b here h None names a none = tt
-  told b here h (Some e) names a none = let p = message_ok (at_loop b) here e none in spot_typed here h None e p.0 a names p.1
+  told b here h (Some e) names a none = let p = message_ok (at_loop b) here e none in stage_typed here h None e p.0 a names p.1
 
   -- the value of an assignment has a type
   value_typed : (b : Bool) (here : List PlainLocal) (at : Place) (x : Target) (w : Option PlainWritten) (e : PlainExpr) (after : List PlainLocal) → assigned (at_loop b) here at x w e ≡ Ok after → (wanted : Option PlainTy) × (ty : PlainTy) × (type_at c here wanted e ≡ Ok ty)
@@ -124,7 +124,7 @@ module _ (P : Callee → Type 0) (Q : Created → Type 0) (c : Context) (leaves 
   -- Statements without others in them
 
   abbrev NamedAt : PlainStmt → Type 0
-  NamedAt x = (b : Bool) (w next : Way) (h : Spot) → flow (at_loop b) w x ≡ Ok next → E next.locals → A w.locals h.locals → NamedCode (opened leaves c x h)
+  NamedAt x = (b : Bool) (w next : Way) (h : Stage) → flow (at_loop b) w x ≡ Ok next → E next.locals → A w.locals h.locals → NamedCode (opened leaves c x h)
 
   pass_named : (at : Place) → NamedAt (PPass at)
   unfolding opened Each
@@ -143,7 +143,7 @@ module _ (P : Callee → Type 0) (Q : Created → Type 0) (c : Context) (leaves 
   do_named at e names b w next h is early a =
       let p = found_ok (type_at c w.locals None e) (λ ty. done w) next is in
       let k : Hoisted PlainExpr = (forms leaves c e).value None h in
-      let n = settled_unless_named P Q (lasts leaves e) h k at (ty_at c None h.locals e) (value_named e names None h (spot_typed w.locals h None e p.0 a names p.1)) in
+      let n = settled_unless_named P Q (lasts leaves e) h k at (ty_at c None h.locals e) (value_named e names None h (stage_typed w.locals h None e p.0 a names p.1)) in
       each_then P Q FMark _ tt n.each
 
   return_named : (at : Place) (e : Option PlainExpr) → IfSome e (ExprNames limit) → NamedAt (PReturn at e)
@@ -164,10 +164,10 @@ module _ (P : Callee → Type 0) (Q : Created → Type 0) (c : Context) (leaves 
       let rest : PlainTy → Result Way RuleFault = λ ty. needs_none (message_fault (at_loop b) w.locals e) (Ok (on w (narrowed (shown true test) w.locals))) in
       let p : (ty : PlainTy) × (condition_at c w.locals test ≡ Ok ty) × (rest ty ≡ Ok next) = found_ok (condition_at c w.locals test) rest next is in
       let q = no_need (message_fault (at_loop b) w.locals e) (Ok (on w (narrowed (shown true test) w.locals))) next p.2 in
-      let typed = spot_typed w.locals h None test TBool a names_test (condition_ok (place_of test) (type_at c w.locals None test) p.0 p.1).0 in
+      let typed = stage_typed w.locals h None test TBool a names_test (condition_ok (place_of test) (type_at c w.locals None test) p.0 p.1).0 in
       let t = (forms leaves c test).test h in
       let n = test_named test names_test h typed in
-      let g : Spot = record { locals = h.locals; next = t.next } in
+      let g : Stage = record { locals = h.locals; next = t.next } in
       let k = optional leaves c None e g in
       let m = optional_named None e g names (told b w.locals g e names a q.0) in
       (tt, (((n, tt, tt), each_more P Q k.before (FFail 3 k.rest ∷ []) m.each (tt, tt)), tt))
@@ -177,7 +177,7 @@ module _ (P : Callee → Type 0) (Q : Created → Type 0) (c : Context) (leaves 
   assign_named at x ty e names b w next h is early a =
       let p = found_ok (assigned (at_loop b) w.locals at x ty e) (λ locals. done (on w locals)) next is in
       let t = value_typed b w.locals at x ty e p.0 p.1 in
-      marked_named h (stored x) ((forms leaves c e).value (target_ty c h.locals x) h) (value_named e names (target_ty c h.locals x) h (spot_typed w.locals h t.0 e t.1 a names t.2)) (stored_each x _)
+      marked_named h (stored x) ((forms leaves c e).value (target_ty c h.locals x) h) (value_named e names (target_ty c h.locals x) h (stage_typed w.locals h t.0 e t.1 a names t.2)) (stored_each x _)
 
   augment_named : (at : Place) (x : Target) (o : BinOp) (o_at : Place) (e : PlainExpr) → ExprNames limit e → NamedAt (PAugment at x o o_at e)
   unfolding opened flow
@@ -187,28 +187,28 @@ module _ (P : Callee → Type 0) (Q : Created → Type 0) (c : Context) (leaves 
       let ty : PlainTy = ty_at c None h.locals (target_read at x) in
       let read : Hoisted PlainExpr = settled at ty (still (read_of at x) h) in
       let n : N h read = settled_named P Q h (still (read_of at x) h) at ty (still_named P Q h (read_of at x)) in
-      let typed : IsTyped c h.locals e = spot_typed w.locals h (right_wanted o g.before) e g.other a names g.typed in
-      let m = value_named e names (right_wanted o ty) read.spot (typed_behind c limit h read.spot e names n.behind typed) in
+      let typed : IsTyped c h.locals e = stage_typed w.locals h (right_wanted o g.before) e g.other a names g.typed in
+      let m = value_named e names (right_wanted o ty) read.stage (typed_behind c limit h read.stage e names n.behind typed) in
       marked_named h (stored x) (combination leaves c at x o o_at e h)
       (turn_named P Q h (λ left right. PChain at left (PMoreLinks (PLink o o_at right) PNoLink)) read (λ g. (forms leaves c e).value (right_wanted o ty) g) n m) (stored_each x _)
 
   -- Statements one after another, and arms
 
   abbrev NamedAll : PlainStmts → Type 0
-  NamedAll xs = (b : Bool) (w next : Way) (h : Spot) → flow_all (at_loop b) w xs ≡ Ok next → E next.locals → A w.locals h.locals → NamedCode (flat_all leaves c xs h)
+  NamedAll xs = (b : Bool) (w next : Way) (h : Stage) → flow_all (at_loop b) w xs ≡ Ok next → E next.locals → A w.locals h.locals → NamedCode (flat_all leaves c xs h)
 
   -- arms, and the way to what is behind them
-  record ArmsNamed (arms : PlainArms) (h : Spot) (other : Way → Result Way RuleFault) : Type 0 where
+  record ArmsNamed (arms : PlainArms) (h : Stage) (other : Way → Result Way RuleFault) : Type 0 where
     each : EachInArms P Q (flat_arms leaves c arms h).code
     before_other : Way
     last : Way
     other_is : other before_other ≡ Ok last
     early_last : E last.locals
-    ahead_other : A before_other.locals (other_spot leaves c arms h).locals
+    ahead_other : A before_other.locals (other_stage leaves c arms h).locals
 
   abbrev NamedArms : PlainArms → Type 0
   NamedArms arms =
-      (b : Bool) (w next : Way) (ended : Option (List Known)) (go : Bool) (other : Way → Result Way RuleFault) (h : Spot) → flow_arms (at_loop b) w ended arms go other ≡ Ok next → E next.locals
+      (b : Bool) (w next : Way) (ended : Option (List Known)) (go : Bool) (other : Way → Result Way RuleFault) (h : Stage) → flow_arms (at_loop b) w ended arms go other ≡ Ok next → E next.locals
       → ((v last : Way) → other v ≡ Ok last → Follows v last) → A w.locals h.locals → ArmsNamed arms h other
 
   no_stmt_named : NamedAll PNoStmt
@@ -216,7 +216,7 @@ module _ (P : Callee → Type 0) (Q : Created → Type 0) (c : Context) (leaves 
   no_stmt_named b w next h is early a = tt
 
   -- a statement that stays, or doesn't
-  either_named : (s : Bool) (x : PlainStmt) (h : Spot) (f : Flattened (List PlainFlatStmt)) → NamedCode f → NamedCode (code_if s x h f)
+  either_named : (s : Bool) (x : PlainStmt) (h : Stage) (f : Flattened (List PlainFlatStmt)) → NamedCode f → NamedCode (code_if s x h f)
   unfolding Each
   either_named true x h f n = (tt, tt)
   either_named false x h f n = n
@@ -230,7 +230,7 @@ module _ (P : Callee → Type 0) (Q : Created → Type 0) (c : Context) (leaves 
       here : Flattened (List PlainFlatStmt)
       here = code_if (stays leaves x) x h (opened leaves c x h)
 
-      behind : ℕ → Spot
+      behind : ℕ → Stage
       behind k = record { locals = locals_behind c x h.locals; next = k }
 
       here_named : (mid : Way) → flow (at_loop b) w x ≡ Ok mid → E mid.locals → NamedCode here
@@ -275,27 +275,27 @@ module _ (P : Callee → Type 0) (Q : Created → Type 0) (c : Context) (leaves 
       let grows_end = (follows_all body (at_loop b) (on w start) end p.arm).grows in
       let exit_start : shapes exit ≡ shapes start = shapes_narrowed (shown false test) w.locals ∙ sym (shapes_narrowed (shown true test) w.locals) in
       let t = (forms leaves c test).test h in
-      let n = test_named test names h (spot_typed w.locals h None test TBool a names p.condition) in
-      let start_spot : Spot = where_shown true test h.locals t.next in
-      let f = flat_all leaves c body start_spot in
-      let m = inside b (on w start) end start_spot p.arm early_end (ahead_narrowed all (shown true test) w.locals h.locals a) in
-      let rest_spot : Spot = where_shown false test h.locals f.next in
-      let ahead_rest : A later rest_spot.locals = ahead_later all exit end.locals rest_spot.locals (grows_same start exit end.locals end.locals (sym exit_start) refl grows_end) (ahead_narrowed all (shown false test) w.locals h.locals a) in
-      let k = others b (on end later) next (meet ended (way (all_go_on body) end.locals)) go other rest_spot p.rest early follows_so ahead_rest in
+      let n = test_named test names h (stage_typed w.locals h None test TBool a names p.condition) in
+      let start_stage : Stage = where_shown true test h.locals t.next in
+      let f = flat_all leaves c body start_stage in
+      let m = inside b (on w start) end start_stage p.arm early_end (ahead_narrowed all (shown true test) w.locals h.locals a) in
+      let rest_stage : Stage = where_shown false test h.locals f.next in
+      let ahead_rest : A later rest_stage.locals = ahead_later all exit end.locals rest_stage.locals (grows_same start exit end.locals end.locals (sym exit_start) refl grows_end) (ahead_narrowed all (shown false test) w.locals h.locals a) in
+      let k = others b (on end later) next (meet ended (way (all_go_on body) end.locals)) go other rest_stage p.rest early follows_so ahead_rest in
       record {
         each = (n, m, k.each);
         before_other = k.before_other;
         last = k.last;
         other_is = k.other_is;
         early_last = k.early_last;
-        ahead_other = subst (A k.before_other.locals) (same_other leaves c more rest_spot.locals f.next h.next) k.ahead_other;
+        ahead_other = subst (A k.before_other.locals) (same_other leaves c more rest_stage.locals f.next h.next) k.ahead_other;
       }
 
   if_named : (at : Place) (arms : PlainArms) (other : PlainStmts) → NamedArms arms → NamedAll other → NamedAt (PIf at arms other)
   unfolding opened Each flow
   if_named at arms other named named_other b w next h is early a =
       let n = named b w next None (all_go_on other) (λ last. flow_all (at_loop b) last other) h is early (λ v last e. follows_all other (at_loop b) v last e) a in
-      let g : Spot = record { locals = (other_spot leaves c arms h).locals; next = (flat_arms leaves c arms h).next } in
+      let g : Stage = record { locals = (other_stage leaves c arms h).locals; next = (flat_arms leaves c arms h).next } in
       let m = named_other b n.before_other n.last g n.other_is n.early_last n.ahead_other in
       (tt, ((n.each, m), tt))
 
@@ -306,17 +306,17 @@ module _ (P : Callee → Type 0) (Q : Created → Type 0) (c : Context) (leaves 
   while_named at test body names inside b w next h is early a =
       let p = while_parts (at_loop b) w next at test body is in
       let head : List PlainLocal = at_head (assigned_in body) w.locals in
-      let head_spot : Spot = record { locals = at_head (assigned_in body) h.locals; next = h.next } in
-      let ahead_head : A head head_spot.locals = ahead_at_head all (assigned_in body) w.locals h.locals a in
-      let t = (forms leaves c test).test head_spot in
-      let n = test_named test names head_spot (spot_typed head head_spot None test TBool ahead_head names p.condition) in
+      let head_stage : Stage = record { locals = at_head (assigned_in body) h.locals; next = h.next } in
+      let ahead_head : A head head_stage.locals = ahead_at_head all (assigned_in body) w.locals h.locals a in
+      let t = (forms leaves c test).test head_stage in
+      let n = test_named test names head_stage (stage_typed head head_stage None test TBool ahead_head names p.condition) in
       let early_end : E p.end.locals = early_same all p.end.locals next.locals (sym (while_shapes test head p.end) ∙ ap (λ (v : Way). shapes v.locals) p.is) early in
-      let m = inside true (begun (narrowed (shown true test) head)) p.end (where_shown true test head_spot.locals t.next) p.turn early_end (ahead_narrowed all (shown true test) head head_spot.locals ahead_head) in
+      let m = inside true (begun (narrowed (shown true test) head)) p.end (where_shown true test head_stage.locals t.next) p.turn early_end (ahead_narrowed all (shown true test) head head_stage.locals ahead_head) in
       (tt, ((n, m), tt))
 
   -- where the body of a `for` begins, behind parts that are evaluated before it
-  for_body : (b : Bool) (w next : Way) (h g : Spot) (at : Place) (name : ℕ) (name_at : Place) (over : PlainOver) (body : PlainStmts) → NamedAll body → (p : ForParts (at_loop b) w next name name_at over body) → E next.locals → A w.locals h.locals
-      → Behind h g → (ty : PlainTy) → ty ≡ p.item → NamedCode (flat_all leaves c body (body_spot name ty body g))
+  for_body : (b : Bool) (w next : Way) (h g : Stage) (at : Place) (name : ℕ) (name_at : Place) (over : PlainOver) (body : PlainStmts) → NamedAll body → (p : ForParts (at_loop b) w next name name_at over body) → E next.locals → A w.locals h.locals
+      → Behind h g → (ty : PlainTy) → ty ≡ p.item → NamedCode (flat_all leaves c body (body_stage name ty body g))
   unfolding for_head
   for_body b w next h g at name name_at over body inside p early a behind ty e =
       let names : List ℕ = name ∷ assigned_in body in
@@ -329,13 +329,13 @@ module _ (P : Callee → Type 0) (Q : Created → Type 0) (c : Context) (leaves 
       let ahead_head : A head (at_head names g.locals) = ahead_at_head all names (settled_at p.named (known_at w.locals)) g.locals (ahead_later all w.locals p.named g.locals named ahead_here) in
       let ahead_start : A start (with_local name ty ty (at_head names g.locals)) =
       subst (λ u. A start (with_local name u u (at_head names g.locals))) (sym e) (ahead_stored all name p.item p.item p.item head (at_head names g.locals) early_start ahead_head) in
-      inside true (begun start) p.end (body_spot name ty body g) p.turn early_end ahead_start
+      inside true (begun start) p.end (body_stage name ty body g) p.turn early_end ahead_start
 
   -- the ends of a range
-  end_named : (at : Place) (e : PlainExpr) (h : Spot) → ExprNames limit e → IsTyped c h.locals e → N h (settled at TInt (built (PPos at) ((forms leaves c e).value None h)))
+  end_named : (at : Place) (e : PlainExpr) (h : Stage) → ExprNames limit e → IsTyped c h.locals e → N h (settled at TInt (built (PPos at) ((forms leaves c e).value None h)))
   end_named at e h names t = settled_named P Q h (built (PPos at) ((forms leaves c e).value None h)) at TInt (built_named P Q h ((forms leaves c e).value None h) (PPos at) (value_named e names None h t))
 
-  zero_typed : (at : Place) (h : Spot) → IsTyped c h.locals (PInt at (pos 0))
+  zero_typed : (at : Place) (h : Stage) → IsTyped c h.locals (PInt at (pos 0))
   unfolding type_of
   zero_typed at h = has_type c h.locals (PInt at (pos 0)) None TInt refl
 
@@ -353,9 +353,9 @@ module _ (P : Callee → Type 0) (Q : Created → Type 0) (c : Context) (leaves 
   range_ends b here None end item h = let p = short_range_ok (at_loop b) here end item h in record { first = tt; last = p.0; item_is = sym p.1 }
   range_ends b here (Some start) end item h = let p = range_ok (at_loop b) here start end item h in record { first = p.0; last = p.1; item_is = sym p.2 }
 
-  start_named : (at : Place) (start : Option PlainExpr) (here : List PlainLocal) (h : Spot) → IfSome start (ExprNames limit) → A here h.locals → IfSome start (λ e. type_at c here None e ≡ Ok TInt) → N h (range_start leaves c at start h)
+  start_named : (at : Place) (start : Option PlainExpr) (here : List PlainLocal) (h : Stage) → IfSome start (ExprNames limit) → A here h.locals → IfSome start (λ e. type_at c here None e ≡ Ok TInt) → N h (range_start leaves c at start h)
   start_named at None here h names a t = end_named at (PInt at (pos 0)) h (zero_names at) (zero_typed at h)
-  start_named at (Some e) here h names a t = end_named at e h names (spot_typed here h None e TInt a names t)
+  start_named at (Some e) here h names a t = end_named at e h names (stage_typed here h None e TInt a names t)
 
   for_named : (at : Place) (name : ℕ) (name_at : Place) (over : PlainOver) (body : PlainStmts) → OverNames limit over → NamedAll body → NamedAt (PFor at name name_at over body)
   unfolding opened Each
@@ -365,10 +365,10 @@ module _ (P : Callee → Type 0) (Q : Created → Type 0) (c : Context) (leaves 
       let ty : PlainTy = ty_at c None h.locals e in
       let k : Hoisted PlainExpr = (forms leaves c e).value None h in
       let n : N h k = value_named e names None h (has_type c h.locals e None (TList p.item) there) in
-      let one : Spot = with_temporary ty k.spot in
-      let two : Spot = with_temporary TInt one in
-      let three : Spot = with_temporary ty two in
-      let behind : Behind h three = behind_both h k.spot three n.behind (behind_both k.spot one three (with_one_more ty k.spot) (behind_both one two three (with_one_more TInt one) (with_one_more ty two))) in
+      let one : Stage = with_temporary ty k.stage in
+      let two : Stage = with_temporary TInt one in
+      let three : Stage = with_temporary ty two in
+      let behind : Behind h three = behind_both h k.stage three n.behind (behind_both k.stage one three (with_one_more ty k.stage) (behind_both one two three (with_one_more TInt one) (with_one_more ty two))) in
       let m = for_body b w next h three at name name_at (PItems e) body inside p early a behind (item_ty ty) (ap (λ r. item_ty (found_ty r)) there) in
       (tt, each_more P Q (settled at ty k).before _ (settled_named P Q h k at ty n).each (tt, (tt, (tt, ((tt, (tt, (tt, m))), tt)))))
   for_named at name name_at (PRange start end) body names inside b w next h is early a =
@@ -376,9 +376,9 @@ module _ (P : Callee → Type 0) (Q : Created → Type 0) (c : Context) (leaves 
       let ends : RangeEnds w.locals start end p.item = range_ends b w.locals start end p.item p.goes_over in
       let x : Hoisted PlainExpr = range_start leaves c at start h in
       let n : N h x = start_named at start w.locals h names.0 a ends.first in
-      let y : Hoisted PlainExpr = range_end leaves c at end x.spot in
-      let m : N x.spot y = end_named at end x.spot names.1 (typed_behind c limit h x.spot end names.1 n.behind (spot_typed w.locals h None end TInt a names.1 ends.last)) in
-      let k = for_body b w next h y.spot at name name_at (PRange start end) body inside p early a (behind_both h x.spot y.spot n.behind m.behind) TInt ends.item_is in
+      let y : Hoisted PlainExpr = range_end leaves c at end x.stage in
+      let m : N x.stage y = end_named at end x.stage names.1 (typed_behind c limit h x.stage end names.1 n.behind (stage_typed w.locals h None end TInt a names.1 ends.last)) in
+      let k = for_body b w next h y.stage at name name_at (PRange start end) body inside p early a (behind_both h x.stage y.stage n.behind m.behind) TInt ends.item_is in
       (tt, each_more P Q (x.before ++ y.before) _ (each_more P Q x.before y.before n.each m.each) ((tt, (tt, (tt, k))), tt))
 
   mutual

@@ -25,7 +25,7 @@ use Rattle.flat_tree.specs.FlatMeaning.{run_stmt, decide, decide_each, run}
 use Rattle.flat_tree.proofs.NamesBelow.{AgreeBelow, agree_with_itself, agree_on, agree_back, agree_within}
 use Rattle.flat_tree.proofs.SameNames.{eval_same, eval_all_same, follows_same}
 use Rattle.flat_tree.proofs.InTurn.{gives_itself, run_in_turn, Leads, leads, falls, Holds, holds, Decides, leads_through, leads_behind, holds_then, leaf_decides, not_decides, no_operand_decides, operand_decides, and_decides, or_decides}
-use Rattle.hoisting.specs.Spots.{Spot, surely, where_shown, ty_at, method_params}
+use Rattle.hoisting.specs.Stages.{Stage, surely, where_shown, ty_at, method_params}
 use Rattle.hoisting.specs.HoistExpressions.{Hoisted, Tested, Forms, still, if_suspends, in_turn, settled_unless, kept, lasts, by_value, forms_if, made_of, truth_of, with_args, by_params, by_function, by_elements, first_wanted, others_wanted, ChainPart, chain_of, so_far, linked_on, begun_anew, either, taken, taken_each, taken_links, taken_operands, forms}
 use Rattle.hoisting.proofs.Temporaries.{le_on, if_rises, turn_rises, settled_rises, each_rises, operands_rise, forms_rise, still_up}
 use Rattle.hoisting.proofs.PartsMean.{nothing_before, no_form_before, Means, MeansBy, means_there, means_at_once, settled_means, turn_leads, call_means, apply_means, chosen_means, truth_again, chain_behind, link_then_more, ChainMeans, either_means}
@@ -36,11 +36,11 @@ module _ {W : Type 0} (s : Site W) (leaves : Leaving) (c : Context) (calls : Cal
 
   -- the forms of a hoisted expression mean the expression, as a value and as a test, where the locals agree with those of the source
   pub record FormsMean (e : PlainExpr) (both : Forms) : Type 0 where
-    pub value : (wanted : Option PlainTy) (h : Spot) (us : List Var) (w : W) (n : ℕ) → limit ≤ h.next → AgreeBelow limit us vs → Means s (lasts leaves e) h.next us w n (eval s e vs w n) (both.value wanted h)
-    pub test : (h : Spot) (us : List Var) (w : W) (n : ℕ) → limit ≤ h.next → AgreeBelow limit us vs → Decides h.next us (λ yes' no'. decide s (both.test h).test yes' no' us w n) (eval s e vs w n)
+    pub value : (wanted : Option PlainTy) (h : Stage) (us : List Var) (w : W) (n : ℕ) → limit ≤ h.next → AgreeBelow limit us vs → Means s (lasts leaves e) h.next us w n (eval s e vs w n) (both.value wanted h)
+    pub test : (h : Stage) (us : List Var) (w : W) (n : ℕ) → limit ≤ h.next → AgreeBelow limit us vs → Decides h.next us (λ yes' no'. decide s (both.test h).test yes' no' us w n) (eval s e vs w n)
 
-  value_means : (e : PlainExpr) (value : Option PlainTy → Spot → Hoisted PlainExpr)
-      → ((wanted : Option PlainTy) (h : Spot) (us : List Var) (w : W) (n : ℕ) → limit ≤ h.next → AgreeBelow limit us vs → Means s (lasts leaves e) h.next us w n (eval s e vs w n) (value wanted h))
+  value_means : (e : PlainExpr) (value : Option PlainTy → Stage → Hoisted PlainExpr)
+      → ((wanted : Option PlainTy) (h : Stage) (us : List Var) (w : W) (n : ℕ) → limit ≤ h.next → AgreeBelow limit us vs → Means s (lasts leaves e) h.next us w n (eval s e vs w n) (value wanted h))
       → FormsMean e (by_value value)
   value_means e value m = record {
     value = m;
@@ -49,15 +49,15 @@ module _ {W : Type 0} (s : Site W) (leaves : Leaving) (c : Context) (calls : Cal
 
   -- What stays
 
-  constant_means : (e : PlainExpr) (x : Value) → IsLight x → ((us : List Var) (w : W) (n : ℕ) → eval s e us w n ≡ Got x w n) → (h : Spot) (us : List Var) (w : W) (n : ℕ) → Means s true h.next us w n (eval s e vs w n) (still e h)
+  constant_means : (e : PlainExpr) (x : Value) → IsLight x → ((us : List Var) (w : W) (n : ℕ) → eval s e us w n ≡ Got x w n) → (h : Stage) (us : List Var) (w : W) (n : ℕ) → Means s true h.next us w n (eval s e vs w n) (still e h)
   unfolding run_stmt
   constant_means e x light is h us w n = record { stands = subst (λ g. Holds h.next h.next us (eval s e) g (run s [] us w n)) (sym (is vs w n)) (holds (agree_with_itself h.next us) light (λ after v m agree. is after v m)) }
 
-  quiet_means : (e : PlainExpr) → ExprNames limit e → (b : Bool) → b ≡ false → (h : Spot) (us : List Var) (w : W) (n : ℕ) → AgreeBelow limit us vs → Means s b h.next us w n (eval s e vs w n) (still e h)
+  quiet_means : (e : PlainExpr) → ExprNames limit e → (b : Bool) → b ≡ false → (h : Stage) (us : List Var) (w : W) (n : ℕ) → AgreeBelow limit us vs → Means s b h.next us w n (eval s e vs w n) (still e h)
   quiet_means e named true is h us w n agree = absurd (true≢false is)
   quiet_means e named false is h us w n agree = means_at_once s e h.next h us w n (eval s e vs w n) (eval_same s agree e named w n)
 
-  still_means : (e : PlainExpr) → ExprNames limit e → expr_suspends leaves e ≡ false → (h : Spot) (us : List Var) (w : W) (n : ℕ) → AgreeBelow limit us vs → Means s (lasts leaves e) h.next us w n (eval s e vs w n) (still e h)
+  still_means : (e : PlainExpr) → ExprNames limit e → expr_suspends leaves e ≡ false → (h : Stage) (us : List Var) (w : W) (n : ℕ) → AgreeBelow limit us vs → Means s (lasts leaves e) h.next us w n (eval s e vs w n) (still e h)
   unfolding eval expr_suspends
   still_means (PInt at z) named is h us w n agree = constant_means (PInt at z) (value.Int z) (int_light z) (λ us w n. refl) h us w n
   still_means (PBool at b) named is h us w n agree = constant_means (PBool at b) (value.Bool b) (bool_light b) (λ us w n. refl) h us w n
@@ -91,7 +91,7 @@ module _ {W : Type 0} (s : Site W) (leaves : Leaving) (c : Context) (calls : Cal
   stays_means : (e : PlainExpr) → ExprNames limit e → expr_suspends leaves e ≡ false → FormsMean e (forms leaves c e)
   stays_means e named is = means_if e (taken leaves c e) named (λ asked. absurd (true≢false (sym asked ∙ is)))
 
-  each_if : (b : Bool) (es : PlainExprs) (a : Hoisted PlainExprs) → ExprsNames limit es → (xs : List Value) (h : Spot) (us : List Var) (w : W) (n : ℕ) → AgreeBelow limit us vs
+  each_if : (b : Bool) (es : PlainExprs) (a : Hoisted PlainExprs) → ExprsNames limit es → (xs : List Value) (h : Stage) (us : List Var) (w : W) (n : ℕ) → AgreeBelow limit us vs
       → MeansBy s (λ rs us w n. eval_all s rs xs us w n) h.next us w n (eval_all s es xs vs w n) a → MeansBy s (λ rs us w n. eval_all s rs xs us w n) h.next us w n (eval_all s es xs vs w n) (if_suspends b es h a)
   unfolding run_stmt
   each_if true es a named xs h us w n agree m = m
@@ -101,10 +101,10 @@ module _ {W : Type 0} (s : Site W) (leaves : Leaving) (c : Context) (calls : Cal
   along : {least : ℕ} {us later : List Var} → limit ≤ least → AgreeBelow limit us vs → AgreeBelow least us later → AgreeBelow limit later vs
   along le agree on = agree_on (agree_back (agree_within le on)) agree
 
-  abbrev part : PlainExpr → Option PlainTy → Spot → Hoisted PlainExpr
+  abbrev part : PlainExpr → Option PlainTy → Stage → Hoisted PlainExpr
   part e wanted h = (forms leaves c e).value wanted h
 
-  abbrev parts : List (Option PlainTy) → PlainExprs → Spot → Hoisted PlainExprs
+  abbrev parts : List (Option PlainTy) → PlainExprs → Stage → Hoisted PlainExprs
   parts wanted es h = if_suspends (exprs_suspend leaves es) es h (taken_each leaves c wanted es h)
 
   abbrev called_with : ℕ → Value → List Value → W → ℕ → Gives W Value
@@ -127,7 +127,7 @@ module _ {W : Type 0} (s : Site W) (leaves : Leaving) (c : Context) (calls : Cal
   taken_so : {b : Bool} {least : ℕ} {us : List Var} {w : W} {n : ℕ} {g : Gives W Value} {a : Hoisted PlainExpr} → b ≡ true → Means s true least us w n g a → Means s b least us w n g a
   taken_so {least = least} {us} {w} {n} {g} {a} is m = subst (λ b. Means s b least us w n g a) (sym is) m
 
-  nothing_leads : {B : Type 0} (h : Spot) (us : List Var) (w : W) (n : ℕ) (ev : List Var → W → ℕ → Gives W B) (g : Gives W B) → ev us w n ≡ g → Leads h.next us ev g (run s [] us w n)
+  nothing_leads : {B : Type 0} (h : Stage) (us : List Var) (w : W) (n : ℕ) (ev : List Var → W → ℕ → Gives W B) (g : Gives W B) → ev us w n ≡ g → Leads h.next us ev g (run s [] us w n)
   unfolding run_stmt
   nothing_leads h us w n ev g is = leads (agree_with_itself h.next us) is
 
@@ -136,7 +136,7 @@ module _ {W : Type 0} (s : Site W) (leaves : Leaving) (c : Context) (calls : Cal
   leads_by ev also _ _ same (falls agree) = falls agree
 
   -- the truth of operands as a value
-  truth_means : (truth : Bool) (at : Place) (e : PlainExpr) (items : PlainExprs) → lasts leaves e ≡ true → (h : Spot) (us : List Var) (w : W) (n : ℕ) (t : Tested PlainFlatTest) → h.next ≤ t.next → Decides h.next us (λ yes' no'. decide s t.test yes' no' us w n) (each_is s truth items vs w n)
+  truth_means : (truth : Bool) (at : Place) (e : PlainExpr) (items : PlainExprs) → lasts leaves e ≡ true → (h : Stage) (us : List Var) (w : W) (n : ℕ) (t : Tested PlainFlatTest) → h.next ≤ t.next → Decides h.next us (λ yes' no'. decide s t.test yes' no' us w n) (each_is s truth items vs w n)
       → Means s (lasts leaves e) h.next us w n (each_is s truth items vs w n) (truth_of at h.locals e t)
   unfolding eval
   truth_means truth at e items is h us w n t up d =
@@ -275,7 +275,7 @@ module _ {W : Type 0} (s : Site W) (leaves : Leaving) (c : Context) (calls : Cal
         (λ g later w n up now. means_there s (lasts leaves a) w n (part a wanted g) ((expression_means a named.1).value wanted g later w n (le_on le up) (along le agree now)))
         (λ g later w n up now. means_there s (lasts leaves b) w n (part b wanted g) ((expression_means b named.2).value wanted g later w n (le_on le up) (along le agree now))))))
 
-    each_means : (es : PlainExprs) → ExprsNames limit es → (wants : List (Option PlainTy)) (xs : List Value) (h : Spot) (us : List Var) (w : W) (n : ℕ) → limit ≤ h.next → AgreeBelow limit us vs
+    each_means : (es : PlainExprs) → ExprsNames limit es → (wants : List (Option PlainTy)) (xs : List Value) (h : Stage) (us : List Var) (w : W) (n : ℕ) → limit ≤ h.next → AgreeBelow limit us vs
         → MeansBy s (λ rs us w n. eval_all s rs xs us w n) h.next us w n (eval_all s es xs vs w n) (taken_each leaves c wants es h)
     each_means PNoExpr named wants xs h us w n le agree = record { leads = nothing_leads h us w n (λ us w n. eval_all s PNoExpr xs us w n) (eval_all s PNoExpr xs vs w n) refl }
     each_means (PExpr x es) named wants xs h us w n le agree = record {
@@ -291,8 +291,8 @@ module _ {W : Type 0} (s : Site W) (leaves : Leaving) (c : Context) (calls : Cal
     links_mean PNoLink named at ty r least us w n g le agree light m = record { stands = subst (λ g. Leads least us (eval s (so_far at r).rest) g (run s (so_far at r).before us w n)) (sym (gives_itself g)) (means_there s r.lasting w n (so_far at r) m.means) }
     links_mean (PMoreLinks (PLink op op_at right) more) named at ty r least us w n g le agree light m =
         let a : Hoisted PlainExpr = settled_unless r.lasting at ty (so_far at r) in
-        let up : least ≤ a.spot.next = le_on m.up (settled_rises r.lasting at ty (so_far at r)) in
-        let b : Hoisted PlainExpr = part right (right_wanted op ty) a.spot in
+        let up : least ≤ a.stage.next = le_on m.up (settled_rises r.lasting at ty (so_far at r)) in
+        let b : Hoisted PlainExpr = part right (right_wanted op ty) a.stage in
         let anew : ChainPart = begun_anew a (PLink op op_at) b in
         let on : ChainPart = linked_on r (PLink op op_at right) in
         let behind : Gives W Value = g >>= λ v w n. linked s (PMoreLinks (PLink op op_at right) PNoLink) v vs w n in
@@ -300,14 +300,14 @@ module _ {W : Type 0} (s : Site W) (leaves : Leaving) (c : Context) (calls : Cal
         links_mean more named.1 at ty (either (expr_suspends leaves right) anew on) least us w n behind le agree (link_light op op_at right g)
         (either_means s (expr_suspends leaves right) at anew on w n
         (λ is. record {
-          up = le_on up ((forms_rise leaves c right).value (right_wanted op ty) a.spot);
+          up = le_on up ((forms_rise leaves c right).value (right_wanted op ty) a.stage);
           means = record {
             stands =
                 subst (Leads least us (eval s (so_far at anew).rest) behind) (sym (run_in_turn s a.before b.before us w n))
                 (holds_then (eval s a.rest) (λ v us w n. linked s (PMoreLinks (PLink op op_at b.rest) PNoLink) v us w n) g (λ v w n. linked s (PMoreLinks (PLink op op_at right) PNoLink) v vs w n) (run s a.before us w n) (λ us w n. run s b.before us w n) up (settled_means s r.lasting at ty (so_far at r) w n m.up light m.means).stands
                 (λ v after w n l now.
                 leads_through (λ us w n. eval s b.rest us w n) (λ x w n. told (combined op v x) w n >>= λ both w n. Got both w n) (eval s right vs w n) (run s b.before after w n)
-                (means_there s (lasts leaves right) w n b ((expression_means right named.0).value (right_wanted op ty) a.spot after w n (le_on le up) (along le agree now)))));
+                (means_there s (lasts leaves right) w n b ((expression_means right named.0).value (right_wanted op ty) a.stage after w n (le_on le up) (along le agree now)))));
           };
         })
         (λ is. record {
@@ -321,7 +321,7 @@ module _ {W : Type 0} (s : Site W) (leaves : Leaving) (c : Context) (calls : Cal
         })) in
         record { stands = subst (λ g. Leads least us (eval s (so_far at (taken_links leaves c at ty more (either (expr_suspends leaves right) anew on))).rest) g (run s (so_far at (taken_links leaves c at ty more (either (expr_suspends leaves right) anew on))).before us w n)) (link_then_more s (PLink op op_at right) more g vs) rest.stands }
 
-    operands_mean : (truth : Bool) (es : PlainExprs) → ExprsNames limit es → (h : Spot) (us : List Var) (w : W) (n : ℕ) → limit ≤ h.next → AgreeBelow limit us vs
+    operands_mean : (truth : Bool) (es : PlainExprs) → ExprsNames limit es → (h : Stage) (us : List Var) (w : W) (n : ℕ) → limit ≤ h.next → AgreeBelow limit us vs
         → Decides h.next us (λ yes' no'. decide_each s truth (taken_operands leaves c truth es h).test yes' no' us w n) (each_is s truth es vs w n)
     operands_mean truth PNoExpr named h us w n le agree = no_operand_decides s truth h.next us w n
     operands_mean truth (PExpr x es) named h us w n le agree =

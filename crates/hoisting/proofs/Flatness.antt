@@ -19,9 +19,9 @@ use Rattle.py_tree.specs.Acceptance.{method_named}
 use Rattle.call_graph.specs.SuspendingCode.{Leaving, leaving, method_leaves, expr_suspends, exprs_suspend, links_suspend, stmt_suspends}
 use Rattle.flat_tree.specs.PlainFlat.{Point, PlainFlatStmt, FMark, FSet, FGive, FFail, FCode, FBreak, FContinue, FCall, FMake, PlainFlatTest, FAnd, FOr, flat_stmts_of}
 use Rattle.flat_tree.specs.Flatness.{jumps, IsFlat, AreFlat, AreFlatArms, IsFlatTest, AreFlatOperands}
-use Rattle.hoisting.specs.Spots.{Spot, surely, with_temporary, where_shown, ty_at, item_ty, callee_of, created_of, method_params, locals_behind, point_behind}
+use Rattle.hoisting.specs.Stages.{Stage, surely, with_temporary, where_shown, ty_at, item_ty, callee_of, created_of, method_params, locals_behind, point_behind}
 use Rattle.hoisting.specs.HoistExpressions.{Hoisted, Tested, Forms, still, if_suspends, built, in_turn, settled, settled_unless, kept, lasts, by_value, forms_if, made_of, chosen, with_args, call_of, apply_of, by_params, by_function, by_elements, first_wanted, others_wanted, chain, ChainPart, chain_of, so_far, linked_on, begun_anew, either, taken, taken_each, taken_links, taken_operands, forms}
-use Rattle.hoisting.specs.HoistStatements.{Flattened, stays, code_if, followed, stored, read_of, target_ty, value_or_nil, start_or_zero, list_spot, head_locals, body_spot, list_loop, range_loop, optional, combination, range_start, range_end, for_code, opened, flat_all, flat_arms, other_spot, flat}
+use Rattle.hoisting.specs.HoistStatements.{Flattened, stays, code_if, followed, stored, read_of, target_ty, value_or_nil, start_or_zero, list_stage, head_locals, body_stage, list_loop, range_loop, optional, combination, range_start, range_end, for_code, opened, flat_all, flat_arms, other_stage, flat}
 use Rattle.hoisting.specs.HoistMethods.{FlatMethodsAreFlat, FlatByMarks}
 
 module _ (leaves : Leaving) where
@@ -57,10 +57,10 @@ module _ (leaves : Leaving) where
     pub rest : exprs_suspend leaves a.rest ≡ false
 
   pub record FormsFlat (both : Forms) : Type 0 where
-    pub value : (wanted : Option PlainTy) (h : Spot) → HoistedFlat (both.value wanted h)
-    pub test : (h : Spot) → IsFlatTest leaves (both.test h).test
+    pub value : (wanted : Option PlainTy) (h : Stage) → HoistedFlat (both.value wanted h)
+    pub test : (h : Stage) → IsFlatTest leaves (both.test h).test
 
-  value_flat : (value : Option PlainTy → Spot → Hoisted PlainExpr) → ((wanted : Option PlainTy) (h : Spot) → HoistedFlat (value wanted h)) → FormsFlat (by_value value)
+  value_flat : (value : Option PlainTy → Stage → Hoisted PlainExpr) → ((wanted : Option PlainTy) (h : Stage) → HoistedFlat (value wanted h)) → FormsFlat (by_value value)
   unfolding IsFlat
   value_flat value f = record { value = f; test = λ h. ((f None h).before.each, (f None h).rest) }
 
@@ -74,7 +74,7 @@ module _ (leaves : Leaving) where
       by true is = f
       by false is = still_flat e is
 
-  parts_flat : (es : PlainExprs) (h : Spot) (a : Hoisted PlainExprs) → PartsFlat a → PartsFlat (if_suspends (exprs_suspend leaves es) es h a)
+  parts_flat : (es : PlainExprs) (h : Stage) (a : Hoisted PlainExprs) → PartsFlat a → PartsFlat (if_suspends (exprs_suspend leaves es) es h a)
   parts_flat es h a f = by (exprs_suspend leaves es) refl
     where
       by : (b : Bool) → exprs_suspend leaves es ≡ b → PartsFlat (if_suspends b es h a)
@@ -88,7 +88,7 @@ module _ (leaves : Leaving) where
   settled_flat : (lasting : Bool) (at : Place) (ty : PlainTy) (a : Hoisted PlainExpr) → HoistedFlat a → HoistedFlat (settled_unless lasting at ty a)
   unfolding IsFlat
   settled_flat true at ty a f = f
-  settled_flat false at ty a f = record { before = last_flat a.before (FSet a.spot.next a.rest) f.before f.rest; rest = variable_stays at a.spot.next }
+  settled_flat false at ty a f = record { before = last_flat a.before (FSet a.stage.next a.rest) f.before f.rest; rest = variable_stays at a.stage.next }
 
   kept_flat : (later lasting : Bool) (at : Place) (ty : PlainTy) (a : Hoisted PlainExpr) → HoistedFlat a → HoistedFlat (kept later lasting at ty a)
   kept_flat true lasting at ty a f = settled_flat lasting at ty a f
@@ -100,34 +100,34 @@ module _ (leaves : Leaving) where
   call_flat : (c : Context) (b : Bool) (at : Place) (ty on_ty : PlainTy) (name : ℕ) (name_at : Place) (a : Hoisted (PlainExpr × PlainExprs)) → (b ≡ false → leaves a.rest.0 name ≡ false) → AllFlat a.before → expr_suspends leaves a.rest.0 ≡ false → exprs_suspend leaves a.rest.1 ≡ false
       → HoistedFlat (call_of c b at ty on_ty name name_at a)
   unfolding IsFlat expr_suspends
-  call_flat c true at ty on_ty name name_at a own before on args = record { before = last_flat a.before (FCall a.rest.0 (callee_of c on_ty name) a.rest.1 a.spot.next (surely (with_temporary ty a.spot).locals)) before (on, args); rest = refl }
+  call_flat c true at ty on_ty name name_at a own before on args = record { before = last_flat a.before (FCall a.rest.0 (callee_of c on_ty name) a.rest.1 a.stage.next (surely (with_temporary ty a.stage).locals)) before (on, args); rest = refl }
   call_flat c false at ty on_ty name name_at a own before on args = record { before = before; rest = or_from _ _ (or_from _ _ on args) (own refl) }
 
   apply_flat : (c : Context) (b : Bool) (at : Place) (ty : PlainTy) (name : ℕ) (a : Hoisted PlainExprs) → is_none (function_of name) ≡ b → PartsFlat a → HoistedFlat (apply_of c b at ty name a)
   unfolding IsFlat expr_suspends
-  apply_flat c true at ty name a is f = record { before = last_flat a.before (FMake (created_of c name) a.rest a.spot.next (surely (with_temporary ty a.spot).locals)) f.before f.rest; rest = refl }
+  apply_flat c true at ty name a is f = record { before = last_flat a.before (FMake (created_of c name) a.rest a.stage.next (surely (with_temporary ty a.stage).locals)) f.before f.rest; rest = refl }
   apply_flat c false at ty name a is f = record { before = f.before; rest = or_from _ _ f.rest is }
 
-  chosen_flat : (at : Place) (ty : PlainTy) (locals : List PlainLocal) (test : PlainExpr) (t : Tested PlainFlatTest) (first second : Spot → Hoisted PlainExpr) → IsFlatTest leaves t.test → ((h : Spot) → HoistedFlat (first h)) → ((h : Spot) → HoistedFlat (second h)) → HoistedFlat (chosen at ty locals test t first second)
+  chosen_flat : (at : Place) (ty : PlainTy) (locals : List PlainLocal) (test : PlainExpr) (t : Tested PlainFlatTest) (first second : Stage → Hoisted PlainExpr) → IsFlatTest leaves t.test → ((h : Stage) → HoistedFlat (first h)) → ((h : Stage) → HoistedFlat (second h)) → HoistedFlat (chosen at ty locals test t first second)
   unfolding IsFlat
   chosen_flat at ty locals test t first second f first_flat second_flat = record {
-    before = more_flat _ [] ((f, (last_flat a.before (FSet b.spot.next a.rest) p.before p.rest).each, tt), (last_flat b.before (FSet b.spot.next b.rest) q.before q.rest).each) none_flat;
-    rest = variable_stays at b.spot.next;
+    before = more_flat _ [] ((f, (last_flat a.before (FSet b.stage.next a.rest) p.before p.rest).each, tt), (last_flat b.before (FSet b.stage.next b.rest) q.before q.rest).each) none_flat;
+    rest = variable_stays at b.stage.next;
   }
     where
       a : Hoisted PlainExpr
       a = first (where_shown true test locals t.next)
 
       b : Hoisted PlainExpr
-      b = second (where_shown false test locals a.spot.next)
+      b = second (where_shown false test locals a.stage.next)
 
       p : HoistedFlat a
       p = first_flat (where_shown true test locals t.next)
 
       q : HoistedFlat b
-      q = second_flat (where_shown false test locals a.spot.next)
+      q = second_flat (where_shown false test locals a.stage.next)
 
-  bool_flat : (at : Place) (b : Bool) (h : Spot) → HoistedFlat (still (PBool at b) h)
+  bool_flat : (at : Place) (b : Bool) (h : Stage) → HoistedFlat (still (PBool at b) h)
   unfolding expr_suspends
   bool_flat at b h = record { before = none_flat; rest = refl }
 
@@ -166,20 +166,20 @@ module _ (leaves : Leaving) where
   -- Expressions
 
   module _ (c : Context) (own : (on : PlainExpr) (name : ℕ) → leaves on name ≡ false → is_self on ≡ true) where
-    abbrev part : PlainExpr → Option PlainTy → Spot → Hoisted PlainExpr
+    abbrev part : PlainExpr → Option PlainTy → Stage → Hoisted PlainExpr
     part e wanted h = (forms leaves c e).value wanted h
 
-    abbrev parts : List (Option PlainTy) → PlainExprs → Spot → Hoisted PlainExprs
+    abbrev parts : List (Option PlainTy) → PlainExprs → Stage → Hoisted PlainExprs
     parts wanted es h = if_suspends (exprs_suspend leaves es) es h (taken_each leaves c wanted es h)
 
     -- a receiver that is `self` stays
-    self_stays : (later : Bool) (at : Place) (ty : PlainTy) (on : PlainExpr) (h : Spot) → is_self on ≡ true → (kept later (lasts leaves on) at ty (part on None h)).rest ≡ on
+    self_stays : (later : Bool) (at : Place) (ty : PlainTy) (on : PlainExpr) (h : Stage) → is_self on ≡ true → (kept later (lasts leaves on) at ty (part on None h)).rest ≡ on
     unfolding expr_suspends
     self_stays true at ty (PSelf p) h is = refl
     self_stays false at ty (PSelf p) h is = refl
     self_stays later at ty _ h is = absurd (true≢false (sym is))
 
-    own_stays : (later : Bool) (at : Place) (ty : PlainTy) (on : PlainExpr) (name : ℕ) (h : Spot) → leaves on name ≡ false → leaves (kept later (lasts leaves on) at ty (part on None h)).rest name ≡ false
+    own_stays : (later : Bool) (at : Place) (ty : PlainTy) (on : PlainExpr) (name : ℕ) (h : Stage) → leaves on name ≡ false → leaves (kept later (lasts leaves on) at ty (part on None h)).rest name ≡ false
     own_stays later at ty on name h is = ap (λ e. leaves e name) (self_stays later at ty on h (own on name is)) ∙ is
 
     mutual
@@ -199,8 +199,8 @@ module _ (leaves : Leaving) where
           let wants : List (Option PlainTy) = by_params (method_params c on_ty name) in
           let k : Hoisted PlainExpr = kept (exprs_suspend leaves args) (lasts leaves on) (place_of on) on_ty (part on None h) in
           let a : HoistedFlat k = kept_flat (exprs_suspend leaves args) (lasts leaves on) (place_of on) on_ty (part on None h) ((forms_if_flat on (taken leaves c on) (taken_flat on)).value None h) in
-          let b : PartsFlat (parts wants args k.spot) = parts_flat args k.spot (taken_each leaves c wants args k.spot) (each_flat wants args k.spot) in
-          call_flat c (leaves on name) at (ty_at c wanted h.locals (PCall at on name name_at args)) on_ty name name_at (in_turn with_args k (parts wants args)) (own_stays (exprs_suspend leaves args) (place_of on) on_ty on name h) (both_flat k.before (parts wants args k.spot).before a.before b.before) a.rest b.rest)
+          let b : PartsFlat (parts wants args k.stage) = parts_flat args k.stage (taken_each leaves c wants args k.stage) (each_flat wants args k.stage) in
+          call_flat c (leaves on name) at (ty_at c wanted h.locals (PCall at on name name_at args)) on_ty name name_at (in_turn with_args k (parts wants args)) (own_stays (exprs_suspend leaves args) (place_of on) on_ty on name h) (both_flat k.before (parts wants args k.stage).before a.before b.before) a.rest b.rest)
       taken_flat (PApply at name args) =
           value_flat _ (λ wanted h.
           let wants : List (Option PlainTy) = by_function c (function_of name) name in
@@ -209,8 +209,8 @@ module _ (leaves : Leaving) where
           value_flat _ (λ wanted h.
           let k : Hoisted PlainExpr = kept (expr_suspends leaves index) (lasts leaves on) (place_of on) (ty_at c None h.locals on) (part on None h) in
           let a : HoistedFlat k = kept_flat (expr_suspends leaves index) (lasts leaves on) (place_of on) (ty_at c None h.locals on) (part on None h) ((forms_if_flat on (taken leaves c on) (taken_flat on)).value None h) in
-          let b : HoistedFlat (part index None k.spot) = (forms_if_flat index (taken leaves c index) (taken_flat index)).value None k.spot in
-          record { before = both_flat k.before (part index None k.spot).before a.before b.before; rest = or_from _ _ a.rest b.rest })
+          let b : HoistedFlat (part index None k.stage) = (forms_if_flat index (taken leaves c index) (taken_flat index)).value None k.stage in
+          record { before = both_flat k.before (part index None k.stage).before a.before b.before; rest = or_from _ _ a.rest b.rest })
       taken_flat (PList at items) = value_flat _ (λ wanted h. let f = each_flat (by_elements c (option_and_then element_wanted wanted) h.locals items) items h in record { before = f.before; rest = f.rest })
       taken_flat (PNeg at a) = value_flat _ (λ wanted h. built_flat (PNeg at) (part a None h) ((forms_if_flat a (taken leaves c a) (taken_flat a)).value None h) refl)
       taken_flat (PPos at a) = value_flat _ (λ wanted h. built_flat (PPos at) (part a None h) ((forms_if_flat a (taken leaves c a) (taken_flat a)).value None h) refl)
@@ -238,35 +238,35 @@ module _ (leaves : Leaving) where
           value_flat _ (λ wanted h.
           let k : Hoisted PlainExpr = kept (expr_suspends leaves right) (lasts leaves left) (place_of left) (ty_at c None h.locals left) (part left None h) in
           let a : HoistedFlat k = kept_flat (expr_suspends leaves right) (lasts leaves left) (place_of left) (ty_at c None h.locals left) (part left None h) ((forms_if_flat left (taken leaves c left) (taken_flat left)).value None h) in
-          let b : HoistedFlat (part right None k.spot) = (forms_if_flat right (taken leaves c right) (taken_flat right)).value None k.spot in
-          record { before = both_flat k.before (part right None k.spot).before a.before b.before; rest = or_from _ _ a.rest b.rest })
+          let b : HoistedFlat (part right None k.stage) = (forms_if_flat right (taken leaves c right) (taken_flat right)).value None k.stage in
+          record { before = both_flat k.before (part right None k.stage).before a.before b.before; rest = or_from _ _ a.rest b.rest })
       taken_flat (PIsNone at a positive) = value_flat _ (λ wanted h. built_flat (λ r. PIsNone at r positive) (part a None h) ((forms_if_flat a (taken leaves c a) (taken_flat a)).value None h) refl)
       taken_flat (PCond at test a b) =
           value_flat _ (λ wanted h.
           chosen_flat at (ty_at c wanted h.locals (PCond at test a b)) h.locals test ((forms leaves c test).test h) (part a wanted) (part b wanted) ((forms_if_flat test (taken leaves c test) (taken_flat test)).test h)
           (λ g. (forms_if_flat a (taken leaves c a) (taken_flat a)).value wanted g) (λ g. (forms_if_flat b (taken leaves c b) (taken_flat b)).value wanted g))
 
-      each_flat : (wants : List (Option PlainTy)) (es : PlainExprs) (h : Spot) → PartsFlat (taken_each leaves c wants es h)
+      each_flat : (wants : List (Option PlainTy)) (es : PlainExprs) (h : Stage) → PartsFlat (taken_each leaves c wants es h)
       each_flat wants PNoExpr h = record { before = none_flat; rest = refl }
       each_flat wants (PExpr x xs) h =
           let k : Hoisted PlainExpr = kept (exprs_suspend leaves xs) (lasts leaves x) (place_of x) (ty_at c (first_wanted wants) h.locals x) (part x (first_wanted wants) h) in
           let a : HoistedFlat k = kept_flat (exprs_suspend leaves xs) (lasts leaves x) (place_of x) (ty_at c (first_wanted wants) h.locals x) (part x (first_wanted wants) h) ((forms_if_flat x (taken leaves c x) (taken_flat x)).value (first_wanted wants) h) in
-          let b : PartsFlat (parts (others_wanted wants) xs k.spot) = parts_flat xs k.spot (taken_each leaves c (others_wanted wants) xs k.spot) (each_flat (others_wanted wants) xs k.spot) in
-          record { before = both_flat k.before (parts (others_wanted wants) xs k.spot).before a.before b.before; rest = or_from _ _ a.rest b.rest }
+          let b : PartsFlat (parts (others_wanted wants) xs k.stage) = parts_flat xs k.stage (taken_each leaves c (others_wanted wants) xs k.stage) (each_flat (others_wanted wants) xs k.stage) in
+          record { before = both_flat k.before (parts (others_wanted wants) xs k.stage).before a.before b.before; rest = or_from _ _ a.rest b.rest }
 
       links_flat : (ls : PlainLinks) (at : Place) (ty : PlainTy) (r : ChainPart) → ChainFlat r → ChainFlat (taken_links leaves c at ty ls r)
       links_flat PNoLink at ty r f = f
       links_flat (PMoreLinks (PLink op op_at right) more) at ty r f =
           let a : Hoisted PlainExpr = settled_unless r.lasting at ty (so_far at r) in
           let p : HoistedFlat a = settled_flat r.lasting at ty (so_far at r) (so_far_flat at r f) in
-          let b : Hoisted PlainExpr = part right (right_wanted op ty) a.spot in
-          let q : HoistedFlat b = (forms_if_flat right (taken leaves c right) (taken_flat right)).value (right_wanted op ty) a.spot in
+          let b : Hoisted PlainExpr = part right (right_wanted op ty) a.stage in
+          let q : HoistedFlat b = (forms_if_flat right (taken leaves c right) (taken_flat right)).value (right_wanted op ty) a.stage in
           links_flat more at ty (either (expr_suspends leaves right) (begun_anew a (PLink op op_at) b) (linked_on r (PLink op op_at right)))
           (either_flat (expr_suspends leaves right) (begun_anew a (PLink op op_at) b) (linked_on r (PLink op op_at right))
           (λ is. record { before = both_flat a.before b.before p.before q.before; left = p.rest; links = one_link op op_at b.rest q.rest })
           (λ is. record { before = f.before; left = f.left; links = links_behind r.links (PLink op op_at right) f.links (one_link op op_at right is) }))
 
-      operands_flat : (truth : Bool) (es : PlainExprs) (h : Spot) → AreFlatOperands leaves (taken_operands leaves c truth es h).test
+      operands_flat : (truth : Bool) (es : PlainExprs) (h : Stage) → AreFlatOperands leaves (taken_operands leaves c truth es h).test
       operands_flat truth PNoExpr h = tt
       operands_flat truth (PExpr x xs) h = ((forms_if_flat x (taken leaves c x) (taken_flat x)).test h, operands_flat truth xs (where_shown truth x h.locals ((forms leaves c x).test h).next))
 
@@ -279,7 +279,7 @@ module _ (leaves : Leaving) where
     unfolding IsFlat
     mark_flat xs f = more_flat FMark xs tt f
 
-    code_flat : (x : PlainStmt) (h : Spot) (f : Flattened (List PlainFlatStmt)) → AllFlat f.code → AllFlat (code_if (stays leaves x) x h f).code
+    code_flat : (x : PlainStmt) (h : Stage) (f : Flattened (List PlainFlatStmt)) → AllFlat f.code → AllFlat (code_if (stays leaves x) x h f).code
     unfolding IsFlat
     code_flat x h f p = by (stmt_suspends leaves x) refl (jumps x) refl
       where
@@ -302,24 +302,24 @@ module _ (leaves : Leaving) where
     read_flat at (target.Local x) = refl
     read_flat at (target.Field x) = refl
 
-    give_flat : (at : Place) (wanted : Option PlainTy) (e : Option PlainExpr) (h : Spot) → AllFlat ((optional leaves c wanted e h).before ++ FGive (value_or_nil at (optional leaves c wanted e h).rest) ∷ [])
+    give_flat : (at : Place) (wanted : Option PlainTy) (e : Option PlainExpr) (h : Stage) → AllFlat ((optional leaves c wanted e h).before ++ FGive (value_or_nil at (optional leaves c wanted e h).rest) ∷ [])
     unfolding IsFlat expr_suspends
     give_flat at wanted None h = more_flat (FGive (PNil at)) [] refl none_flat
     give_flat at wanted (Some e) h = let f = (forms_flat e).value wanted h in last_flat (part e wanted h).before (FGive (part e wanted h).rest) f.before f.rest
 
-    fail_flat : (kind : ℕ) (e : Option PlainExpr) (h : Spot) → AllFlat ((optional leaves c None e h).before ++ FFail kind (optional leaves c None e h).rest ∷ [])
+    fail_flat : (kind : ℕ) (e : Option PlainExpr) (h : Stage) → AllFlat ((optional leaves c None e h).before ++ FFail kind (optional leaves c None e h).rest ∷ [])
     unfolding IsFlat
     fail_flat kind None h = more_flat (FFail kind None) [] tt none_flat
     fail_flat kind (Some e) h = let f = (forms_flat e).value None h in last_flat (part e None h).before (FFail kind (Some (part e None h).rest)) f.before f.rest
 
-    combination_flat : (at : Place) (x : Target) (op : BinOp) (op_at : Place) (e : PlainExpr) (h : Spot) → HoistedFlat (combination leaves c at x op op_at e h)
+    combination_flat : (at : Place) (x : Target) (op : BinOp) (op_at : Place) (e : PlainExpr) (h : Stage) → HoistedFlat (combination leaves c at x op op_at e h)
     unfolding expr_suspends
     combination_flat at x op op_at e h =
         let ty : PlainTy = ty_at c None h.locals (target_read at x) in
         let a : Hoisted PlainExpr = settled at ty (still (read_of at x) h) in
         let p : HoistedFlat a = settled_flat false at ty (still (read_of at x) h) (record { before = none_flat; rest = read_flat at x }) in
-        let b : Hoisted PlainExpr = part e (right_wanted op ty) a.spot in
-        let q : HoistedFlat b = (forms_flat e).value (right_wanted op ty) a.spot in
+        let b : Hoisted PlainExpr = part e (right_wanted op ty) a.stage in
+        let q : HoistedFlat b = (forms_flat e).value (right_wanted op ty) a.stage in
         record { before = both_flat a.before b.before p.before q.before; rest = or_from _ _ p.rest (one_link op op_at b.rest q.rest) }
 
     loop_over_list : (at : Place) (name t : ℕ) (head : Point) (after : Option Point) (body : List PlainFlatStmt) → AllFlat body → AllFlat (list_loop at name t head after body)
@@ -330,29 +330,29 @@ module _ (leaves : Leaving) where
     unfolding IsFlat expr_suspends
     loop_over_range at name t u head after body f = record { each = (((tt, refl), (refl, (refl, f.each))), tt) }
 
-    end_flat : (at : Place) (e : PlainExpr) (h : Spot) → HoistedFlat (settled at TInt (built (PPos at) (part e None h)))
+    end_flat : (at : Place) (e : PlainExpr) (h : Stage) → HoistedFlat (settled at TInt (built (PPos at) (part e None h)))
     unfolding expr_suspends
     end_flat at e h = settled_flat false at TInt (built (PPos at) (part e None h)) (built_flat (PPos at) (part e None h) ((forms_flat e).value None h) refl)
 
-    for_flat : (at : Place) (name : ℕ) (over : PlainOver) (body : PlainStmts) (after : Option Point) (h : Spot) (code : Spot → Flattened (List PlainFlatStmt)) → ((g : Spot) → AllFlat (code g).code) → AllFlat (for_code leaves c at name over body after h code).code
+    for_flat : (at : Place) (name : ℕ) (over : PlainOver) (body : PlainStmts) (after : Option Point) (h : Stage) (code : Stage → Flattened (List PlainFlatStmt)) → ((g : Stage) → AllFlat (code g).code) → AllFlat (for_code leaves c at name over body after h code).code
     for_flat at name (PItems e) body after h code f =
         let ty : PlainTy = ty_at c None h.locals e in
         let a : Hoisted PlainExpr = part e None h in
-        let inside : Spot = list_spot ty a.spot in
-        let start : Spot = body_spot name (item_ty ty) body inside in
-        mark_flat _ (both_flat (settled at ty a).before (list_loop at name a.spot.next (surely (head_locals name body inside.locals)) after (code start).code) (settled_flat false at ty a ((forms_flat e).value None h)).before (loop_over_list at name a.spot.next _ after (code start).code (f start)))
+        let inside : Stage = list_stage ty a.stage in
+        let start : Stage = body_stage name (item_ty ty) body inside in
+        mark_flat _ (both_flat (settled at ty a).before (list_loop at name a.stage.next (surely (head_locals name body inside.locals)) after (code start).code) (settled_flat false at ty a ((forms_flat e).value None h)).before (loop_over_list at name a.stage.next _ after (code start).code (f start)))
     for_flat at name (PRange start end) body after h code f =
         let a : Hoisted PlainExpr = range_start leaves c at start h in
-        let b : Hoisted PlainExpr = range_end leaves c at end a.spot in
-        let inside : Spot = body_spot name TInt body b.spot in
-        let t : ℕ = (part (start_or_zero at start) None h).spot.next in
-        let u : ℕ = (part end None a.spot).spot.next in
-        mark_flat _ (both_flat (a.before ++ b.before) (range_loop at name t u (surely (head_locals name body b.spot.locals)) after (code inside).code) (both_flat a.before b.before (end_flat at (start_or_zero at start) h).before (end_flat at end a.spot).before) (loop_over_range at name t u _ after (code inside).code (f inside)))
+        let b : Hoisted PlainExpr = range_end leaves c at end a.stage in
+        let inside : Stage = body_stage name TInt body b.stage in
+        let t : ℕ = (part (start_or_zero at start) None h).stage.next in
+        let u : ℕ = (part end None a.stage).stage.next in
+        mark_flat _ (both_flat (a.before ++ b.before) (range_loop at name t u (surely (head_locals name body b.stage.locals)) after (code inside).code) (both_flat a.before b.before (end_flat at (start_or_zero at start) h).before (end_flat at end a.stage).before) (loop_over_range at name t u _ after (code inside).code (f inside)))
 
     mutual
       unfolding opened IsFlat
 
-      opened_flat : (x : PlainStmt) (h : Spot) → AllFlat (opened leaves c x h).code
+      opened_flat : (x : PlainStmt) (h : Stage) → AllFlat (opened leaves c x h).code
       opened_flat (PPass at) h = mark_flat [] none_flat
       opened_flat (PBreak at) h = mark_flat (FBreak ∷ []) (more_flat FBreak [] tt none_flat)
       opened_flat (PContinue at) h = mark_flat (FContinue ∷ []) (more_flat FContinue [] tt none_flat)
@@ -362,18 +362,18 @@ module _ (leaves : Leaving) where
       opened_flat (PAssert at test e) h = mark_flat _ (more_flat _ [] (((forms_flat test).test h, tt, tt), (fail_flat 3 e (record { locals = h.locals; next = ((forms leaves c test).test h).next })).each) none_flat)
       opened_flat (PAssign at x ty e) h = let f = (forms_flat e).value (target_ty c h.locals x) h in mark_flat _ (last_flat (part e (target_ty c h.locals x) h).before (stored x (part e (target_ty c h.locals x) h).rest) f.before (stored_flat x (part e (target_ty c h.locals x) h).rest f.rest))
       opened_flat (PAugment at x op op_at e) h = let f = combination_flat at x op op_at e h in mark_flat _ (last_flat (combination leaves c at x op op_at e h).before (stored x (combination leaves c at x op op_at e h).rest) f.before (stored_flat x (combination leaves c at x op op_at e h).rest f.rest))
-      opened_flat (PIf at arms other) h = mark_flat _ (more_flat _ [] (arms_flat arms h, (all_flat other (record { locals = (other_spot leaves c arms h).locals; next = (flat_arms leaves c arms h).next })).each) none_flat)
+      opened_flat (PIf at arms other) h = mark_flat _ (more_flat _ [] (arms_flat arms h, (all_flat other (record { locals = (other_stage leaves c arms h).locals; next = (flat_arms leaves c arms h).next })).each) none_flat)
       opened_flat (PWhile at test body) h =
-          let head : Spot = record { locals = at_head (assigned_in body) h.locals; next = h.next } in
+          let head : Stage = record { locals = at_head (assigned_in body) h.locals; next = h.next } in
           mark_flat _ (more_flat _ [] ((forms_flat test).test head, (all_flat body (where_shown true test head.locals ((forms leaves c test).test head).next)).each) none_flat)
       opened_flat (PFor at name name_at over body) h = for_flat at name over body (point_behind c (PFor at name name_at over body) h.locals) h (λ g. flat_all leaves c body g) (all_flat body)
 
-      pub all_flat : (xs : PlainStmts) (h : Spot) → AllFlat (flat_all leaves c xs h).code
+      pub all_flat : (xs : PlainStmts) (h : Stage) → AllFlat (flat_all leaves c xs h).code
       all_flat PNoStmt h = none_flat
       all_flat (PStmt x xs) h =
           followed_flat (goes_on x) (flat leaves c x h) (λ next. flat_all leaves c xs (record { locals = locals_behind c x h.locals; next = next })) (code_flat x h (opened leaves c x h) (opened_flat x h)) (λ next. all_flat xs (record { locals = locals_behind c x h.locals; next = next }))
 
-      arms_flat : (arms : PlainArms) (h : Spot) → AreFlatArms leaves (flat_arms leaves c arms h).code
+      arms_flat : (arms : PlainArms) (h : Stage) → AreFlatArms leaves (flat_arms leaves c arms h).code
       arms_flat PNoArm h = tt
       arms_flat (PMoreArms (PArm test body) more) h = ((forms_flat test).test h, (all_flat body (where_shown true test h.locals ((forms leaves c test).test h).next)).each, arms_flat more _)
 

@@ -10,6 +10,6 @@ pub mod Methods
 pub mod Flatness
 mod Examples
 pub mod MethodStands
-pub mod SpotLaws
+pub mod StageLaws
 pub mod PartLaws
 mod SmallExamples

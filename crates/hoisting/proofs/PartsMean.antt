@@ -20,16 +20,16 @@ use Rattle.flat_tree.specs.FlatMeaning.{Way, into_local, call_gives, creation_gi
 use Rattle.flat_tree.proofs.NamesBelow.{AgreeBelow, agree_with_itself}
 use Rattle.flat_tree.proofs.SameNames.{behind_same}
 use Rattle.flat_tree.proofs.InTurn.{next_nothing, follows_behind, run_in_turn, run_alone, run_last, run_nothing, Leads, leads, falls, Holds, loses, Decides, leads_behind, held_leads, holds_then, holds_from, set_holds}
-use Rattle.hoisting.specs.Spots.{Spot, surely, with_temporary, where_shown, callee_of, created_of}
+use Rattle.hoisting.specs.Stages.{Stage, surely, with_temporary, where_shown, callee_of, created_of}
 use Rattle.hoisting.specs.HoistExpressions.{Hoisted, Tested, still, if_suspends, taken_into, settled_unless, kept, forms_if, Forms, chosen, call_of, apply_of, chain, ChainPart, so_far, either}
 use Rattle.hoisting.proofs.Temporaries.{settled_rises, le_on}
 
 -- nothing runs before what stays
-pub nothing_before : {R : Type 0} (b : Bool) (e : R) (h : Spot) (a : Hoisted R) → b ≡ false → (if_suspends b e h a).before ≡ []
+pub nothing_before : {R : Type 0} (b : Bool) (e : R) (h : Stage) (a : Hoisted R) → b ≡ false → (if_suspends b e h a).before ≡ []
 nothing_before true e h a is = absurd (true≢false is)
 nothing_before false e h a is = refl
 
-pub no_form_before : (b : Bool) (e : PlainExpr) (w : Forms) (wanted : Option PlainTy) (h : Spot) → b ≡ false → ((forms_if b e w).value wanted h).before ≡ []
+pub no_form_before : (b : Bool) (e : PlainExpr) (w : Forms) (wanted : Option PlainTy) (h : Stage) → b ≡ false → ((forms_if b e w).value wanted h).before ≡ []
 no_form_before true e w wanted h is = absurd (true≢false is)
 no_form_before false e w wanted h is = refl
 
@@ -46,7 +46,7 @@ on_from _ f other = other
 module _ {W : Type 0} (s : Site W) where
   -- what is hoisted means what is given
   pub record Means (lasting : Bool) (least : ℕ) (us : List Var) (w : W) (n : ℕ) (g : Gives W Value) (a : Hoisted PlainExpr) : Type 0 where
-    pub stands : Stands lasting least a.spot.next us (eval s a.rest) g (run s a.before us w n)
+    pub stands : Stands lasting least a.stage.next us (eval s a.rest) g (run s a.before us w n)
 
   -- in terms of what is evaluated of the rest
   pub record MeansBy {S B : Type 0} (ev : S → List Var → W → ℕ → Gives W B) (least : ℕ) (us : List Var) (w : W) (n : ℕ) (g : Gives W B) (a : Hoisted S) : Type 0 where
@@ -57,7 +57,7 @@ module _ {W : Type 0} (s : Site W) where
   means_there false w n a m = m.stands
 
   -- with nothing before
-  pub means_at_once : (e : PlainExpr) (least : ℕ) (h : Spot) (us : List Var) (w : W) (n : ℕ) (g : Gives W Value) → eval s e us w n ≡ g → Means false least us w n g (still e h)
+  pub means_at_once : (e : PlainExpr) (least : ℕ) (h : Stage) (us : List Var) (w : W) (n : ℕ) (g : Gives W Value) → eval s e us w n ≡ g → Means false least us w n g (still e h)
   unfolding run_stmt
   means_at_once e least h us w n g is = record { stands = leads (agree_with_itself least us) is }
 
@@ -69,12 +69,12 @@ module _ {W : Type 0} (s : Site W) where
       by _ _ is (falls agree) = absurd (true≢false (sym (ap (λ e. on_from e (λ us w n. true) false) is)))
 
   -- the value of a statement
-  pub taken_means : {S : Type 0} (ev : S → List Var → W → ℕ → Gives W Value) (at : Place) (ty : PlainTy) (f : S → ℕ → PlainFlatStmt) (a : Hoisted S) {least : ℕ} {us : List Var} (w : W) (n : ℕ) {g : Gives W Value} → least ≤ a.spot.next → GivesLight g
-      → ((us : List Var) (w : W) (n : ℕ) → run_stmt s (f a.rest a.spot.next) us w n ≡ into_local a.spot.next us (ev a.rest us w n))
+  pub taken_means : {S : Type 0} (ev : S → List Var → W → ℕ → Gives W Value) (at : Place) (ty : PlainTy) (f : S → ℕ → PlainFlatStmt) (a : Hoisted S) {least : ℕ} {us : List Var} (w : W) (n : ℕ) {g : Gives W Value} → least ≤ a.stage.next → GivesLight g
+      → ((us : List Var) (w : W) (n : ℕ) → run_stmt s (f a.rest a.stage.next) us w n ≡ into_local a.stage.next us (ev a.rest us w n))
       → MeansBy ev least us w n g a → Means true least us w n g (taken_into at ty f a)
   taken_means ev at ty f a {least} {us} w n {g} up light acts m = record {
     stands =
-        subst (Holds least (a.spot.next + 1) us (eval s (PVar at a.spot.next)) g) (sym (run_last s a.before (f a.rest a.spot.next) (λ us w n. into_local a.spot.next us (ev a.rest us w n)) us w n acts))
+        subst (Holds least (a.stage.next + 1) us (eval s (PVar at a.stage.next)) g) (sym (run_last s a.before (f a.rest a.stage.next) (λ us w n. into_local a.stage.next us (ev a.rest us w n)) us w n acts))
         (set_holds s at (ev a.rest) g (run s a.before us w n) up light m.leads);
   }
 
@@ -82,30 +82,30 @@ module _ {W : Type 0} (s : Site W) where
   unfolding run_stmt
   set_acts t e us w n = refl
 
-  pub settled_means : (lasting : Bool) (at : Place) (ty : PlainTy) (a : Hoisted PlainExpr) {least : ℕ} {us : List Var} (w : W) (n : ℕ) {g : Gives W Value} → least ≤ a.spot.next → GivesLight g → Means lasting least us w n g a → Means true least us w n g (settled_unless lasting at ty a)
+  pub settled_means : (lasting : Bool) (at : Place) (ty : PlainTy) (a : Hoisted PlainExpr) {least : ℕ} {us : List Var} (w : W) (n : ℕ) {g : Gives W Value} → least ≤ a.stage.next → GivesLight g → Means lasting least us w n g a → Means true least us w n g (settled_unless lasting at ty a)
   settled_means true at ty a w n up light m = m
-  settled_means false at ty a w n up light m = taken_means (λ r us w n. eval s r us w n) at ty (λ r t. FSet t r) a w n up light (set_acts a.spot.next a.rest) (record { leads = m.stands })
+  settled_means false at ty a w n up light m = taken_means (λ r us w n. eval s r us w n) at ty (λ r t. FSet t r) a w n up light (set_acts a.stage.next a.rest) (record { leads = m.stands })
 
   nothing_next : (e : Ends W) → next e (λ us w n. run s [] us w n) ≡ e
   unfolding run_stmt
   nothing_next e = next_nothing e
 
   -- a part, and one behind it
-  pub turn_leads : {S B : Type 0} (later lasting : Bool) (at : Place) (ty : PlainTy) (a : Hoisted PlainExpr) (b : Spot → Hoisted S) (more : S → Value → List Var → W → ℕ → Gives W B) (rest : Value → W → ℕ → Gives W B)
-      (least : ℕ) (us : List Var) (w : W) (n : ℕ) (g : Gives W Value) → least ≤ a.spot.next → GivesLight g → Means lasting least us w n g a
-      → (later ≡ false → (b a.spot).before ≡ [])
-      → ((x : Value) (h : Spot) (after : List Var) (w : W) (n : ℕ) → least ≤ h.next → AgreeBelow least us after → Leads h.next after (more (b h).rest x) (rest x w n) (run s (b h).before after w n))
-      → Leads least us (λ us w n. eval s (kept later lasting at ty a).rest us w n >>= λ x w n. more (b (kept later lasting at ty a).spot).rest x us w n) (g >>= rest) (run s ((kept later lasting at ty a).before ++ (b (kept later lasting at ty a).spot).before) us w n)
+  pub turn_leads : {S B : Type 0} (later lasting : Bool) (at : Place) (ty : PlainTy) (a : Hoisted PlainExpr) (b : Stage → Hoisted S) (more : S → Value → List Var → W → ℕ → Gives W B) (rest : Value → W → ℕ → Gives W B)
+      (least : ℕ) (us : List Var) (w : W) (n : ℕ) (g : Gives W Value) → least ≤ a.stage.next → GivesLight g → Means lasting least us w n g a
+      → (later ≡ false → (b a.stage).before ≡ [])
+      → ((x : Value) (h : Stage) (after : List Var) (w : W) (n : ℕ) → least ≤ h.next → AgreeBelow least us after → Leads h.next after (more (b h).rest x) (rest x w n) (run s (b h).before after w n))
+      → Leads least us (λ us w n. eval s (kept later lasting at ty a).rest us w n >>= λ x w n. more (b (kept later lasting at ty a).stage).rest x us w n) (g >>= rest) (run s ((kept later lasting at ty a).before ++ (b (kept later lasting at ty a).stage).before) us w n)
   turn_leads false lasting at ty a b more rest least us w n g up light m none second =
-      subst (Leads least us (λ us w n. eval s a.rest us w n >>= λ x w n. more (b a.spot).rest x us w n) (g >>= rest))
-      (sym (run_in_turn s a.before (b a.spot).before us w n ∙ ap (λ xs. next (run s a.before us w n) (λ us w n. run s xs us w n)) (none refl) ∙ nothing_next (run s a.before us w n)))
-      (leads_behind (eval s a.rest) (λ x us w n. more (b a.spot).rest x us w n) g rest (run s a.before us w n) (means_there lasting w n a m) (λ x after w n agree.
-      leads_from_nothing (more (b a.spot).rest x) (rest x w n) w n (b a.spot).before (none refl) (second x a.spot after w n up agree)))
+      subst (Leads least us (λ us w n. eval s a.rest us w n >>= λ x w n. more (b a.stage).rest x us w n) (g >>= rest))
+      (sym (run_in_turn s a.before (b a.stage).before us w n ∙ ap (λ xs. next (run s a.before us w n) (λ us w n. run s xs us w n)) (none refl) ∙ nothing_next (run s a.before us w n)))
+      (leads_behind (eval s a.rest) (λ x us w n. more (b a.stage).rest x us w n) g rest (run s a.before us w n) (means_there lasting w n a m) (λ x after w n agree.
+      leads_from_nothing (more (b a.stage).rest x) (rest x w n) w n (b a.stage).before (none refl) (second x a.stage after w n up agree)))
   turn_leads true lasting at ty a b more rest least us w n g up light m none second =
       let k : Hoisted PlainExpr = settled_unless lasting at ty a in
-      let far : least ≤ k.spot.next = le_on up (settled_rises lasting at ty a) in
-      subst (Leads least us (λ us w n. eval s k.rest us w n >>= λ x w n. more (b k.spot).rest x us w n) (g >>= rest)) (sym (run_in_turn s k.before (b k.spot).before us w n))
-      (holds_then (eval s k.rest) (λ x us w n. more (b k.spot).rest x us w n) g rest (run s k.before us w n) (λ us w n. run s (b k.spot).before us w n) far (settled_means lasting at ty a w n up light m).stands (λ x after w n l agree. second x k.spot after w n far agree))
+      let far : least ≤ k.stage.next = le_on up (settled_rises lasting at ty a) in
+      subst (Leads least us (λ us w n. eval s k.rest us w n >>= λ x w n. more (b k.stage).rest x us w n) (g >>= rest)) (sym (run_in_turn s k.before (b k.stage).before us w n))
+      (holds_then (eval s k.rest) (λ x us w n. more (b k.stage).rest x us w n) g rest (run s k.before us w n) (λ us w n. run s (b k.stage).before us w n) far (settled_means lasting at ty a w n up light m).stands (λ x after w n l agree. second x k.stage after w n far agree))
 
   -- Calls and creations
 
@@ -113,11 +113,11 @@ module _ {W : Type 0} (s : Site W) where
   unfolding run_stmt
   call_acts c on_ty name r t after us w n = refl
 
-  pub call_means : (c : Context) (b : Bool) (at : Place) (ty on_ty : PlainTy) (name : ℕ) (name_at : Place) (a : Hoisted (PlainExpr × PlainExprs)) {least : ℕ} {us : List Var} (w : W) (n : ℕ) {g : Gives W Value} → least ≤ a.spot.next → GivesLight g
+  pub call_means : (c : Context) (b : Bool) (at : Place) (ty on_ty : PlainTy) (name : ℕ) (name_at : Place) (a : Hoisted (PlainExpr × PlainExprs)) {least : ℕ} {us : List Var} (w : W) (n : ℕ) {g : Gives W Value} → least ≤ a.stage.next → GivesLight g
       → MeansBy (λ r us w n. call_gives s r.0 name r.1 us w n) least us w n g a → Means b least us w n g (call_of c b at ty on_ty name name_at a)
   unfolding eval
   call_means c true at ty on_ty name name_at a w n up light m =
-      taken_means (λ r us w n. call_gives s r.0 name r.1 us w n) at ty (λ r t. FCall r.0 (callee_of c on_ty name) r.1 t (surely (with_temporary ty a.spot).locals)) a w n up light (call_acts c on_ty name a.rest a.spot.next (surely (with_temporary ty a.spot).locals)) m
+      taken_means (λ r us w n. call_gives s r.0 name r.1 us w n) at ty (λ r t. FCall r.0 (callee_of c on_ty name) r.1 t (surely (with_temporary ty a.stage).locals)) a w n up light (call_acts c on_ty name a.rest a.stage.next (surely (with_temporary ty a.stage).locals)) m
   call_means c false at ty on_ty name name_at a w n up light m = record { stands = m.leads }
 
   make_acts : (c : Context) (name : ℕ) (r : PlainExprs) (t : ℕ) (after : Point) (us : List Var) (w : W) (n : ℕ) → run_stmt s (FMake (created_of c name) r t after) us w n ≡ into_local t us (creation_gives s name r us w n)
@@ -127,21 +127,21 @@ module _ {W : Type 0} (s : Site W) where
   abbrev pub application : Option Function → ℕ → PlainExprs → List Var → W → ℕ → Gives W Value
   application o name r us w n = eval_all s r [] us w n >>= λ xs w n. applied s o name xs w n
 
-  pub apply_means : (c : Context) (o : Option Function) (at : Place) (ty : PlainTy) (name : ℕ) (a : Hoisted PlainExprs) {least : ℕ} {us : List Var} (w : W) (n : ℕ) {g : Gives W Value} → function_of name ≡ o → least ≤ a.spot.next → GivesLight g
+  pub apply_means : (c : Context) (o : Option Function) (at : Place) (ty : PlainTy) (name : ℕ) (a : Hoisted PlainExprs) {least : ℕ} {us : List Var} (w : W) (n : ℕ) {g : Gives W Value} → function_of name ≡ o → least ≤ a.stage.next → GivesLight g
       → MeansBy (application o name) least us w n g a → Means (is_none o) least us w n g (apply_of c (is_none o) at ty name a)
   unfolding eval
   apply_means c None at ty name a w n is up light m =
-      taken_means (λ r us w n. creation_gives s name r us w n) at ty (λ r t. FMake (created_of c name) r t (surely (with_temporary ty a.spot).locals)) a w n up light (make_acts c name a.rest a.spot.next (surely (with_temporary ty a.spot).locals)) (record { leads = m.leads })
+      taken_means (λ r us w n. creation_gives s name r us w n) at ty (λ r t. FMake (created_of c name) r t (surely (with_temporary ty a.stage).locals)) a w n up light (make_acts c name a.rest a.stage.next (surely (with_temporary ty a.stage).locals)) (record { leads = m.leads })
   apply_means c (Some f) at ty name a {least} {us} w n {g} is up light m = record { stands = subst (λ o. Leads least us (λ us w n. application o name a.rest us w n) g (run s a.before us w n)) (sym is) m.leads }
 
   -- One of two values
 
-  pub chosen_means : (at : Place) (ty : PlainTy) (locals : List PlainLocal) (test : PlainExpr) (t : Tested PlainFlatTest) (first second : Spot → Hoisted PlainExpr) (least : ℕ) (us : List Var) (w : W) (n : ℕ) (g : Gives W Value) (x y : W → ℕ → Gives W Value)
-      → least ≤ t.next → ((h : Spot) → h.next ≤ (first h).spot.next) → ((h : Spot) → h.next ≤ (second h).spot.next)
+  pub chosen_means : (at : Place) (ty : PlainTy) (locals : List PlainLocal) (test : PlainExpr) (t : Tested PlainFlatTest) (first second : Stage → Hoisted PlainExpr) (least : ℕ) (us : List Var) (w : W) (n : ℕ) (g : Gives W Value) (x y : W → ℕ → Gives W Value)
+      → least ≤ t.next → ((h : Stage) → h.next ≤ (first h).stage.next) → ((h : Stage) → h.next ≤ (second h).stage.next)
       → Decides least us (λ yes' no'. decide s t.test yes' no' us w n) g
       → ((w : W) (n : ℕ) → GivesLight (x w n)) → ((w : W) (n : ℕ) → GivesLight (y w n))
-      → ((h : Spot) (later : List Var) (w : W) (n : ℕ) → least ≤ h.next → AgreeBelow least us later → Leads h.next later (eval s (first h).rest) (x w n) (run s (first h).before later w n))
-      → ((h : Spot) (later : List Var) (w : W) (n : ℕ) → least ≤ h.next → AgreeBelow least us later → Leads h.next later (eval s (second h).rest) (y w n) (run s (second h).before later w n))
+      → ((h : Stage) (later : List Var) (w : W) (n : ℕ) → least ≤ h.next → AgreeBelow least us later → Leads h.next later (eval s (first h).rest) (x w n) (run s (first h).before later w n))
+      → ((h : Stage) (later : List Var) (w : W) (n : ℕ) → least ≤ h.next → AgreeBelow least us later → Leads h.next later (eval s (second h).rest) (y w n) (run s (second h).before later w n))
       → Means true least us w n (g >>= λ v w n. if is_true v then x w n else y w n) (chosen at ty locals test t first second)
   unfolding run_stmt
   chosen_means at ty locals test t first second least us w n g x y up rise also d light_x light_y leads_x leads_y = record { stands = subst (Holds least (k + 1) us (eval s (PVar at k)) (g >>= λ v w n. if is_true v then x w n else y w n)) (sym (run_alone s branches us w n)) (by g (d.is yes' no')) }
@@ -150,14 +150,14 @@ module _ {W : Type 0} (s : Site W) where
       a = first (where_shown true test locals t.next)
 
       b : Hoisted PlainExpr
-      b = second (where_shown false test locals a.spot.next)
+      b = second (where_shown false test locals a.stage.next)
 
       k : ℕ
-      k = b.spot.next
+      k = b.stage.next
 
       branches : PlainFlatStmt
       branches =
-          FIf (FMoreArms (FArm t.test (surely (where_shown true test locals t.next).locals) (flat_stmts_of (a.before ++ FSet k a.rest ∷ [])) (surely (where_shown false test locals a.spot.next).locals)) FNoArm) (flat_stmts_of (b.before ++ FSet k b.rest ∷ []))
+          FIf (FMoreArms (FArm t.test (surely (where_shown true test locals t.next).locals) (flat_stmts_of (a.before ++ FSet k a.rest ∷ [])) (surely (where_shown false test locals a.stage.next).locals)) FNoArm) (flat_stmts_of (b.before ++ FSet k b.rest ∷ []))
           (Some (surely (with_temporary ty (record { locals = locals; next = k })).locals))
 
       yes' : Way W
@@ -166,11 +166,11 @@ module _ {W : Type 0} (s : Site W) where
       no' : Way W
       no' = λ us w n. run s (b.before ++ FSet k b.rest ∷ []) us w n
 
-      from_a : t.next ≤ a.spot.next
+      from_a : t.next ≤ a.stage.next
       from_a = rise (where_shown true test locals t.next)
 
-      from_b : a.spot.next ≤ k
-      from_b = also (where_shown false test locals a.spot.next)
+      from_b : a.stage.next ≤ k
+      from_b = also (where_shown false test locals a.stage.next)
 
       turn : (c : Bool) (v : W) (m : ℕ) → run_stmt s branches us w n ≡ (if c then yes' d.later v m else no' d.later v m) → Holds least (k + 1) us (eval s (PVar at k)) (if c then x v m else y v m) (run_stmt s branches us w n)
       turn true v m is =
@@ -178,7 +178,7 @@ module _ {W : Type 0} (s : Site W) where
           (holds_from (eval s (PVar at k)) (x v m) _ up d.agree (set_holds s at (eval s a.rest) (x v m) (run s a.before d.later v m) (le_on from_a from_b) (light_x v m) (leads_x (where_shown true test locals t.next) d.later v m up d.agree)))
       turn false v m is =
           subst (Holds least (k + 1) us (eval s (PVar at k)) (y v m)) (sym (is ∙ run_last s b.before (FSet k b.rest) (λ us w n. into_local k us (eval s b.rest us w n)) d.later v m (set_acts k b.rest)))
-          (holds_from (eval s (PVar at k)) (y v m) _ (le_on up from_a) d.agree (set_holds s at (eval s b.rest) (y v m) (run s b.before d.later v m) from_b (light_y v m) (leads_y (where_shown false test locals a.spot.next) d.later v m (le_on up from_a) d.agree)))
+          (holds_from (eval s (PVar at k)) (y v m) _ (le_on up from_a) d.agree (set_holds s at (eval s b.rest) (y v m) (run s b.before d.later v m) from_b (light_y v m) (leads_y (where_shown false test locals a.stage.next) d.later v m (le_on up from_a) d.agree)))
 
       by : (g : Gives W Value) → run_stmt s branches us w n ≡ with_given d.later g (λ v w n. if is_true v then yes' d.later w n else no' d.later w n) → Holds least (k + 1) us (eval s (PVar at k)) (g >>= λ v w n. if is_true v then x w n else y w n) (run_stmt s branches us w n)
       by (Got v z m) is = turn (is_true v) z m is
@@ -219,7 +219,7 @@ module _ {W : Type 0} (s : Site W) where
 
   -- a run so far means what is given
   pub record ChainMeans (at : Place) (r : ChainPart) (least : ℕ) (us : List Var) (w : W) (n : ℕ) (g : Gives W Value) : Type 0 where
-    pub up : least ≤ r.spot.next
+    pub up : least ≤ r.stage.next
     pub means : Means r.lasting least us w n g (so_far at r)
 
   pub either_means : (b : Bool) (at : Place) (r q : ChainPart) {least : ℕ} {us : List Var} (w : W) (n : ℕ) {g : Gives W Value} → (b ≡ true → ChainMeans at r least us w n g) → (b ≡ false → ChainMeans at q least us w n g) → ChainMeans at (either b r q) least us w n g

@@ -11,12 +11,12 @@ use Rattle.py_tree.specs.Reachability.{goes_on, assigned_in}
 use Rattle.py_tree.specs.Flow.{Context, at_head, target_read, result_at}
 use Rattle.call_graph.specs.SuspendingCode.{Leaving}
 use Rattle.flat_tree.specs.PlainFlat.{Point, PlainFlatStmt}
-use Rattle.hoisting.specs.Spots.{Spot, ty_at, item_ty, locals_behind, point_behind}
+use Rattle.hoisting.specs.Stages.{Stage, ty_at, item_ty, locals_behind, point_behind}
 use Rattle.hoisting.specs.HoistExpressions.{Hoisted, still, settled, lasts, forms}
-use Rattle.hoisting.specs.HoistStatements.{Flattened, stays, code_if, followed, target_ty, start_or_zero, list_spot, body_spot, read_of, optional, combination, range_start, range_end, for_code, opened, flat_all, flat_arms, flat}
+use Rattle.hoisting.specs.HoistStatements.{Flattened, stays, code_if, followed, target_ty, start_or_zero, list_stage, body_stage, read_of, optional, combination, range_start, range_end, for_code, opened, flat_all, flat_arms, flat}
 use Rattle.hoisting.proofs.Temporaries.{le_itself, le_on, le_one_more, settled_rises, forms_rise}
 
-pub code_if_rises : (b : Bool) (x : PlainStmt) (h : Spot) (f : Flattened (List PlainFlatStmt)) → h.next ≤ f.next → h.next ≤ (code_if b x h f).next
+pub code_if_rises : (b : Bool) (x : PlainStmt) (h : Stage) (f : Flattened (List PlainFlatStmt)) → h.next ≤ f.next → h.next ≤ (code_if b x h f).next
 code_if_rises true x h f up = le_itself h.next
 code_if_rises false x h f up = up
 
@@ -25,34 +25,34 @@ followed_rises true f g k up on = le_on up (on f.next)
 followed_rises false f g k up on = up
 
 module _ (leaves : Leaving) (c : Context) where
-  pub optional_rises : (wanted : Option PlainTy) (e : Option PlainExpr) (h : Spot) → h.next ≤ (optional leaves c wanted e h).spot.next
+  pub optional_rises : (wanted : Option PlainTy) (e : Option PlainExpr) (h : Stage) → h.next ≤ (optional leaves c wanted e h).stage.next
   optional_rises wanted None h = le_itself h.next
   optional_rises wanted (Some e) h = (forms_rise leaves c e).value wanted h
 
-  pub combination_rises : (at : Place) (x : Target) (op : BinOp) (op_at : Place) (e : PlainExpr) (h : Spot) → h.next ≤ (combination leaves c at x op op_at e h).spot.next
+  pub combination_rises : (at : Place) (x : Target) (op : BinOp) (op_at : Place) (e : PlainExpr) (h : Stage) → h.next ≤ (combination leaves c at x op op_at e h).stage.next
   combination_rises at x op op_at e h =
       let first : Hoisted PlainExpr = settled at (ty_at c None h.locals (target_read at x)) (still (read_of at x) h) in
-      le_on (settled_rises false at (ty_at c None h.locals (target_read at x)) (still (read_of at x) h)) ((forms_rise leaves c e).value (right_wanted op (ty_at c None h.locals (target_read at x))) first.spot)
+      le_on (settled_rises false at (ty_at c None h.locals (target_read at x)) (still (read_of at x) h)) ((forms_rise leaves c e).value (right_wanted op (ty_at c None h.locals (target_read at x))) first.stage)
 
-  pub start_rises : (at : Place) (start : Option PlainExpr) (h : Spot) → h.next ≤ (range_start leaves c at start h).spot.next
+  pub start_rises : (at : Place) (start : Option PlainExpr) (h : Stage) → h.next ≤ (range_start leaves c at start h).stage.next
   start_rises at start h = le_one_more ((forms_rise leaves c (start_or_zero at start)).value None h)
 
-  pub end_rises : (at : Place) (end : PlainExpr) (h : Spot) → h.next ≤ (range_end leaves c at end h).spot.next
+  pub end_rises : (at : Place) (end : PlainExpr) (h : Stage) → h.next ≤ (range_end leaves c at end h).stage.next
   end_rises at end h = le_one_more ((forms_rise leaves c end).value None h)
 
   three_more : {i j : ℕ} → i ≤ j → i ≤ j + 1 + 1 + 1
   three_more a = omega (arith, a)
 
-  pub for_rises : (at : Place) (name : ℕ) (over : PlainOver) (body : PlainStmts) (after : Option Point) (h : Spot) (code : Spot → Flattened (List PlainFlatStmt)) → ((g : Spot) → g.next ≤ (code g).next) → h.next ≤ (for_code leaves c at name over body after h code).next
+  pub for_rises : (at : Place) (name : ℕ) (over : PlainOver) (body : PlainStmts) (after : Option Point) (h : Stage) (code : Stage → Flattened (List PlainFlatStmt)) → ((g : Stage) → g.next ≤ (code g).next) → h.next ≤ (for_code leaves c at name over body after h code).next
   for_rises at name (PItems e) body after h code up =
-      le_on (three_more ((forms_rise leaves c e).value None h)) (up (body_spot name (item_ty (ty_at c None h.locals e)) body (list_spot (ty_at c None h.locals e) ((forms leaves c e).value None h).spot)))
+      le_on (three_more ((forms_rise leaves c e).value None h)) (up (body_stage name (item_ty (ty_at c None h.locals e)) body (list_stage (ty_at c None h.locals e) ((forms leaves c e).value None h).stage)))
   for_rises at name (PRange start end) body after h code up =
-      le_on (le_on (start_rises at start h) (end_rises at end (range_start leaves c at start h).spot)) (up (body_spot name TInt body (range_end leaves c at end (range_start leaves c at start h).spot).spot))
+      le_on (le_on (start_rises at start h) (end_rises at end (range_start leaves c at start h).stage)) (up (body_stage name TInt body (range_end leaves c at end (range_start leaves c at start h).stage).stage))
 
   mutual
     unfolding opened
 
-    pub opened_rises : (x : PlainStmt) (h : Spot) → h.next ≤ (opened leaves c x h).next
+    pub opened_rises : (x : PlainStmt) (h : Stage) → h.next ≤ (opened leaves c x h).next
     opened_rises (PPass at) h = le_itself h.next
     opened_rises (PBreak at) h = le_itself h.next
     opened_rises (PContinue at) h = le_itself h.next
@@ -66,15 +66,15 @@ module _ (leaves : Leaving) (c : Context) where
     opened_rises (PWhile at test body) h = le_on ((forms_rise leaves c test).test (record { locals = at_head (assigned_in body) h.locals; next = h.next })) (all_rise body _)
     opened_rises (PFor at name name_at over body) h = for_rises at name over body (point_behind c (PFor at name name_at over body) h.locals) h (λ g. flat_all leaves c body g) (all_rise body)
 
-    pub all_rise : (xs : PlainStmts) (h : Spot) → h.next ≤ (flat_all leaves c xs h).next
+    pub all_rise : (xs : PlainStmts) (h : Stage) → h.next ≤ (flat_all leaves c xs h).next
     all_rise PNoStmt h = le_itself h.next
     all_rise (PStmt x xs) h =
         followed_rises (goes_on x) (code_if (stays leaves x) x h (opened leaves c x h)) (λ next. flat_all leaves c xs (record { locals = locals_behind c x h.locals; next = next })) h.next (code_if_rises (stays leaves x) x h (opened leaves c x h) (opened_rises x h))
         (λ next. all_rise xs (record { locals = locals_behind c x h.locals; next = next }))
 
-    pub arms_rise : (arms : PlainArms) (h : Spot) → h.next ≤ (flat_arms leaves c arms h).next
+    pub arms_rise : (arms : PlainArms) (h : Stage) → h.next ≤ (flat_arms leaves c arms h).next
     arms_rise PNoArm h = le_itself h.next
     arms_rise (PMoreArms (PArm test body) more) h = le_on (le_on ((forms_rise leaves c test).test h) (all_rise body _)) (arms_rise more _)
 
-  pub flat_rises : (x : PlainStmt) (h : Spot) → h.next ≤ (flat leaves c x h).next
+  pub flat_rises : (x : PlainStmt) (h : Stage) → h.next ≤ (flat leaves c x h).next
   flat_rises x h = code_if_rises (stays leaves x) x h (opened leaves c x h) (opened_rises x h)

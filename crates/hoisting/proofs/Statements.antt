@@ -34,9 +34,9 @@ use Rattle.flat_tree.proofs.NamesBelow.{AgreeBelow, agree_with_itself, agree_on,
 use Rattle.flat_tree.proofs.SameNames.{behind_same}
 use Rattle.flat_tree.proofs.RelatedEnds.{Carries, EndsRelated, both_go, both_return, both_break, both_continue, both_fail, WaysRelated, next_related, store_related, act_related}
 use Rattle.flat_tree.proofs.InTurn.{gives_itself, run_in_turn, run_alone, run_last, Leads, leads, Holds, holds, loses, leads_through, holds_then, leads_related, decided_related, loop_related}
-use Rattle.hoisting.specs.Spots.{Spot, surely, where_shown, ty_at, item_ty, locals_behind, point_behind}
+use Rattle.hoisting.specs.Stages.{Stage, surely, where_shown, ty_at, item_ty, locals_behind, point_behind}
 use Rattle.hoisting.specs.HoistExpressions.{Hoisted, Tested, still, built, settled, settled_unless, lasts, forms}
-use Rattle.hoisting.specs.HoistStatements.{Flattened, stays, code_if, followed, stored, read_of, target_ty, value_or_nil, start_or_zero, list_spot, head_locals, body_spot, list_loop, range_loop, optional, combination, failure_of, range_start, range_end, for_code, opened, flat_all, flat_arms, other_spot, flat}
+use Rattle.hoisting.specs.HoistStatements.{Flattened, stays, code_if, followed, stored, read_of, target_ty, value_or_nil, start_or_zero, list_stage, head_locals, body_stage, list_loop, range_loop, optional, combination, failure_of, range_start, range_end, for_code, opened, flat_all, flat_arms, other_stage, flat}
 use Rattle.hoisting.proofs.Temporaries.{le_itself, le_on, settled_rises, forms_rise}
 use Rattle.hoisting.proofs.StatementTemporaries.{flat_rises, all_rise, arms_rise}
 use Rattle.hoisting.proofs.PartsMean.{means_there, means_at_once, settled_means}
@@ -93,23 +93,23 @@ module _ {W : Type 0} (s : Site W) (leaves : Leaving) (c : Context) (calls : Cal
   told_light (Err f) w n light = tt
 
   -- an expression where the locals agree with those of the source
-  there : (e : PlainExpr) → ExprNames limit e → (wanted : Option PlainTy) (h : Spot) (us vs : List Var) (w : W) (n : ℕ) → limit ≤ h.next → AgreeBelow limit us vs
+  there : (e : PlainExpr) → ExprNames limit e → (wanted : Option PlainTy) (h : Stage) (us vs : List Var) (w : W) (n : ℕ) → limit ≤ h.next → AgreeBelow limit us vs
       → Leads h.next us (eval s ((forms leaves c e).value wanted h).rest) (eval s e vs w n) (run s ((forms leaves c e).value wanted h).before us w n)
   there e named wanted h us vs w n le agree = means_there s (lasts leaves e) w n ((forms leaves c e).value wanted h) ((expression_means s leaves c calls own_light limit vs e named).value wanted h us w n le agree)
 
-  optional_value : (at : Place) (wanted : Option PlainTy) (e : Option PlainExpr) (h : Spot) (us vs : List Var) (w : W) (n : ℕ) → IfSome e (ExprNames limit) → limit ≤ h.next → AgreeBelow limit us vs
+  optional_value : (at : Place) (wanted : Option PlainTy) (e : Option PlainExpr) (h : Stage) (us vs : List Var) (w : W) (n : ℕ) → IfSome e (ExprNames limit) → limit ≤ h.next → AgreeBelow limit us vs
       → Leads h.next us (eval s (value_or_nil at (optional leaves c wanted e h).rest)) (value_or_none s e vs w n) (run s (optional leaves c wanted e h).before us w n)
   unfolding value_or_none eval run_stmt
   optional_value at wanted None h us vs w n named le agree = leads (agree_with_itself h.next us) refl
   optional_value at wanted (Some e) h us vs w n named le agree = there e named wanted h us vs w n le agree
 
-  optional_message : (e : Option PlainExpr) (h : Spot) (us vs : List Var) (w : W) (n : ℕ) → IfSome e (ExprNames limit) → limit ≤ h.next → AgreeBelow limit us vs
+  optional_message : (e : Option PlainExpr) (h : Stage) (us vs : List Var) (w : W) (n : ℕ) → IfSome e (ExprNames limit) → limit ≤ h.next → AgreeBelow limit us vs
       → Leads h.next us (λ us w n. message s (optional leaves c None e h).rest us w n) (message s e vs w n) (run s (optional leaves c None e h).before us w n)
   unfolding message run_stmt
   optional_message None h us vs w n named le agree = leads (agree_with_itself h.next us) refl
   optional_message (Some e) h us vs w n named le agree = leads_through (λ us w n. eval s ((forms leaves c e).value None h).rest us w n) (λ v w n. Got (text_of v) w n) (eval s e vs w n) (run s ((forms leaves c e).value None h).before us w n) (there e named None h us vs w n le agree)
 
-  combination_means : (at : Place) (x : Target) (op : BinOp) (op_at : Place) (e : PlainExpr) (h : Spot) (us vs : List Var) (w : W) (n : ℕ) → target_name x < limit → ExprNames limit e → limit ≤ h.next → AgreeBelow limit us vs
+  combination_means : (at : Place) (x : Target) (op : BinOp) (op_at : Place) (e : PlainExpr) (h : Stage) (us vs : List Var) (w : W) (n : ℕ) → target_name x < limit → ExprNames limit e → limit ≤ h.next → AgreeBelow limit us vs
       → Leads h.next us (eval s (combination leaves c at x op op_at e h).rest) (augmented s x op e vs w n) (run s (combination leaves c at x op op_at e h).before us w n)
   unfolding eval augmented
   combination_means at x op op_at e h us vs w n below named le agree =
@@ -121,7 +121,7 @@ module _ {W : Type 0} (s : Site W) (leaves : Leaving) (c : Context) (calls : Cal
       (settled_means s false at ty (still (read_of at x) h) w n (le_itself h.next) (told_light (weighed (target_value s x vs w)) w n (weighed_light _)) (means_at_once s (read_of at x) h.next h us w n _ (read_gives at x us vs w n below agree))).stands
       (λ before after w n light on.
       leads_through (λ us w n. eval s second.rest us w n) (λ v w n. told (combined op before v) w n >>= λ both w n. Got both w n) (eval s e vs w n) (run s second.before after w n)
-      (there e named (right_wanted op ty) first.spot after vs w n (le_on le up) (agree_on (agree_back (agree_within le on)) agree)))))
+      (there e named (right_wanted op ty) first.stage after vs w n (le_on le up) (agree_on (agree_back (agree_within le on)) agree)))))
     where
       ty : PlainTy
       ty = ty_at c None h.locals (target_read at x)
@@ -130,17 +130,17 @@ module _ {W : Type 0} (s : Site W) (leaves : Leaving) (c : Context) (calls : Cal
       first = settled at ty (still (read_of at x) h)
 
       second : Hoisted PlainExpr
-      second = (forms leaves c e).value (right_wanted op ty) first.spot
+      second = (forms leaves c e).value (right_wanted op ty) first.stage
 
-      up : h.next ≤ first.spot.next
+      up : h.next ≤ first.stage.next
       up = settled_rises false at ty (still (read_of at x) h)
 
-  code_related : {R : List Var → List Var → Type 0} (b : Bool) (x : PlainStmt) (h : Spot) (f : Flattened (List PlainFlatStmt)) → StmtNames limit x → Carries limit h.next R → WaysRelated R (run s f.code) (act s x) → WaysRelated R (run s (code_if b x h f).code) (act s x)
+  code_related : {R : List Var → List Var → Type 0} (b : Bool) (x : PlainStmt) (h : Stage) (f : Flattened (List PlainFlatStmt)) → StmtNames limit x → Carries limit h.next R → WaysRelated R (run s f.code) (act s x) → WaysRelated R (run s (code_if b x h f).code) (act s x)
   unfolding run_stmt
   code_related {R} true x h f named carries means us vs w n r = subst (λ e. EndsRelated R e (act s x vs w n)) (sym (run_alone s (FCode x) us w n)) (act_related carries s x named us vs w n r)
   code_related false x h f named carries means us vs w n r = means us vs w n r
 
-  failure_related : {R : List Var → List Var → Type 0} (kind : ℕ) (e : Option PlainExpr) (h : Spot) → Carries limit h.next R → IfSome e (ExprNames limit) → limit ≤ h.next → (us vs : List Var) (w : W) (n : ℕ) → R us vs
+  failure_related : {R : List Var → List Var → Type 0} (kind : ℕ) (e : Option PlainExpr) (h : Stage) → Carries limit h.next R → IfSome e (ExprNames limit) → limit ≤ h.next → (us vs : List Var) (w : W) (n : ℕ) → R us vs
       → EndsRelated R (run s ((optional leaves c None e h).before ++ FFail kind (optional leaves c None e h).rest ∷ []) us w n) (with_given vs (message s e vs w n) (λ text w n. Fails (record { kind = kind; message = text }) vs w n))
   unfolding run_stmt
   failure_related kind e h carries named le us vs w n r =
@@ -149,10 +149,10 @@ module _ {W : Type 0} (s : Site W) (leaves : Leaving) (c : Context) (calls : Cal
 
   -- Loops, of which the bodies are given
 
-  abbrev BodiesMean : (Spot → Flattened (List PlainFlatStmt)) → PlainStmts → Type 1
-  BodiesMean code body = (g : Spot) → limit ≤ g.next → (R : List Var → List Var → Type 0) → Carries limit g.next R → WaysRelated R (run s (code g).code) (act_all s body)
+  abbrev BodiesMean : (Stage → Flattened (List PlainFlatStmt)) → PlainStmts → Type 1
+  BodiesMean code body = (g : Stage) → limit ≤ g.next → (R : List Var → List Var → Type 0) → Carries limit g.next R → WaysRelated R (run s (code g).code) (act_all s body)
 
-  items_related : {R : List Var → List Var → Type 0} (at : Place) (name : ℕ) (e : PlainExpr) (body : PlainStmts) (after : Option Point) (h : Spot) (code : Spot → Flattened (List PlainFlatStmt)) → Carries limit h.next R → name < limit → ExprNames limit e → limit ≤ h.next → BodiesMean code body
+  items_related : {R : List Var → List Var → Type 0} (at : Place) (name : ℕ) (e : PlainExpr) (body : PlainStmts) (after : Option Point) (h : Stage) (code : Stage → Flattened (List PlainFlatStmt)) → Carries limit h.next R → name < limit → ExprNames limit e → limit ≤ h.next → BodiesMean code body
       → (us vs : List Var) (w : W) (n : ℕ) → R us vs
       → EndsRelated R (run s (for_code leaves c at name (PItems e) body after h code).code us w n) (stepping vs w n (λ n. with_given vs (turns_of s (PItems e) vs w n) (λ turns w n. over_turns name (λ vars w n. act_all s body vars w n) turns vs w n)))
   unfolding turns_of
@@ -171,16 +171,16 @@ module _ {W : Type 0} (s : Site W) (leaves : Leaving) (c : Context) (calls : Cal
       a = (forms leaves c e).value None h
 
       t : ℕ
-      t = a.spot.next
+      t = a.stage.next
 
       kept : Hoisted PlainExpr
       kept = settled at ty a
 
       head : Point
-      head = surely (head_locals name body (list_spot ty a.spot).locals)
+      head = surely (head_locals name body (list_stage ty a.stage).locals)
 
-      start : Spot
-      start = body_spot name (item_ty ty) body (list_spot ty a.spot)
+      start : Stage
+      start = body_stage name (item_ty ty) body (list_stage ty a.stage)
 
       inner : Flattened (List PlainFlatStmt)
       inner = code start
@@ -209,14 +209,14 @@ module _ {W : Type 0} (s : Site W) (leaves : Leaving) (c : Context) (calls : Cal
   whole_light (Fell f w n) = tt
 
   -- an end of a range, in its temporary
-  end_holds : (at : Place) (e : PlainExpr) → ExprNames limit e → (h : Spot) (us vs : List Var) (w : W) (n : ℕ) → limit ≤ h.next → AgreeBelow limit us vs
-      → Holds h.next (((forms leaves c e).value None h).spot.next + 1) us (eval s (PVar at ((forms leaves c e).value None h).spot.next)) (eval s e vs w n >>= λ v w n. Got (value.Int (int_of v)) w n) (run s (settled at TInt (built (PPos at) ((forms leaves c e).value None h))).before us w n)
+  end_holds : (at : Place) (e : PlainExpr) → ExprNames limit e → (h : Stage) (us vs : List Var) (w : W) (n : ℕ) → limit ≤ h.next → AgreeBelow limit us vs
+      → Holds h.next (((forms leaves c e).value None h).stage.next + 1) us (eval s (PVar at ((forms leaves c e).value None h).stage.next)) (eval s e vs w n >>= λ v w n. Got (value.Int (int_of v)) w n) (run s (settled at TInt (built (PPos at) ((forms leaves c e).value None h))).before us w n)
   unfolding eval
   end_holds at e named h us vs w n le agree =
       (settled_means s false at TInt (built (PPos at) ((forms leaves c e).value None h)) w n ((forms_rise leaves c e).value None h) (whole_light (eval s e vs w n))
       (record { stands = leads_through (λ us w n. eval s ((forms leaves c e).value None h).rest us w n) (λ v w n. Got (value.Int (int_of v)) w n) (eval s e vs w n) (run s ((forms leaves c e).value None h).before us w n) (there e named None h us vs w n le agree) })).stands
 
-  numbers_related : {R : List Var → List Var → Type 0} (at : Place) (name : ℕ) (start : Option PlainExpr) (end : PlainExpr) (body : PlainStmts) (after : Option Point) (h : Spot) (code : Spot → Flattened (List PlainFlatStmt)) → Carries limit h.next R → name < limit → OverNames limit (PRange start end) → limit ≤ h.next
+  numbers_related : {R : List Var → List Var → Type 0} (at : Place) (name : ℕ) (start : Option PlainExpr) (end : PlainExpr) (body : PlainStmts) (after : Option Point) (h : Stage) (code : Stage → Flattened (List PlainFlatStmt)) → Carries limit h.next R → name < limit → OverNames limit (PRange start end) → limit ≤ h.next
       → BodiesMean code body → (us vs : List Var) (w : W) (n : ℕ) → R us vs
       → EndsRelated R (run s (for_code leaves c at name (PRange start end) body after h code).code us w n)
       (stepping vs w n (λ n. with_given vs (turns_of s (PRange start end) vs w n) (λ turns w n. over_turns name (λ vars w n. act_all s body vars w n) turns vs w n)))
@@ -231,27 +231,27 @@ module _ {W : Type 0} (s : Site W) (leaves : Leaving) (c : Context) (calls : Cal
       first = range_start leaves c at start h
 
       second : Hoisted PlainExpr
-      second = range_end leaves c at end first.spot
+      second = range_end leaves c at end first.stage
 
       t : ℕ
-      t = ((forms leaves c (start_or_zero at start)).value None h).spot.next
+      t = ((forms leaves c (start_or_zero at start)).value None h).stage.next
 
       u : ℕ
-      u = ((forms leaves c end).value None first.spot).spot.next
+      u = ((forms leaves c end).value None first.stage).stage.next
 
-      begin : Spot
-      begin = body_spot name TInt body second.spot
+      begin : Stage
+      begin = body_stage name TInt body second.stage
 
       loop : List PlainFlatStmt
-      loop = range_loop at name t u (surely (head_locals name body second.spot.locals)) after (code begin).code
+      loop = range_loop at name t u (surely (head_locals name body second.stage.locals)) after (code begin).code
 
       up : h.next ≤ t
       up = (forms_rise leaves c (start_or_zero at start)).value None h
 
       order : t < u
-      order = let on = (forms_rise leaves c end).value None first.spot in omega (arith, on)
+      order = let on = (forms_rise leaves c end).value None first.stage in omega (arith, on)
 
-      lim : limit ≤ first.spot.next
+      lim : limit ≤ first.stage.next
       lim = omega (arith, le, up)
 
       far : limit ≤ u + 1
@@ -271,16 +271,16 @@ module _ {W : Type 0} (s : Site W) (leaves : Leaving) (c : Context) (calls : Cal
       counted x later (Got y w n) _ r reads (holds {later = after} agree light ends) =
           range_related s at t u (int_of y) carries le up order name below (code begin).code (λ vars w n. act_all s body vars w n)
           (λ from us vs w n r count. bodies begin far (λ us vs. R us vs × Counts s at t u (int_of y) from us) (range_carries s at t u (int_of y) carries le up order from) us vs w n (r, count))
-          (surely (head_locals name body second.spot.locals)) _ (int_of x) after vs w n (carries.change (agree_within reach agree) r)
+          (surely (head_locals name body second.stage.locals)) _ (int_of x) after vs w n (carries.change (agree_within reach agree) r)
           (record { number = local_read s at t after (value.Int (int_of x)) w n (reads after w n agree); end = local_read s at u after (value.Int (int_of y)) w n (ends after w n (agree_with_itself (u + 1) after)) })
 
       from_start : (n : ℕ) (g : Gives W Value) (e : Ends W) → Holds h.next (t + 1) us (eval s (PVar at t)) (g >>= λ v w n. Got (value.Int (int_of v)) w n) e
           → EndsRelated R (next (next e (λ us w n. run s second.before us w n)) (λ us w n. run s loop us w n)) (looped n g)
       from_start n (Fell f w m) _ (loses agree) = both_fail (carries.change agree r)
       from_start n (Got x w m) _ (holds {later = later} agree light reads) =
-          counted x later (eval s end vs w m) (run s second.before later w m) (carries.change agree r) reads (end_holds at end named.1 first.spot later vs w m lim (carries.agree (carries.change agree r)))
+          counted x later (eval s end vs w m) (run s second.before later w m) (carries.change agree r) reads (end_holds at end named.1 first.stage later vs w m lim (carries.agree (carries.change agree r)))
 
-  for_related : {R : List Var → List Var → Type 0} (at : Place) (name : ℕ) (over : PlainOver) (body : PlainStmts) (after : Option Point) (h : Spot) (code : Spot → Flattened (List PlainFlatStmt)) → Carries limit h.next R → name < limit → OverNames limit over → limit ≤ h.next → BodiesMean code body
+  for_related : {R : List Var → List Var → Type 0} (at : Place) (name : ℕ) (over : PlainOver) (body : PlainStmts) (after : Option Point) (h : Stage) (code : Stage → Flattened (List PlainFlatStmt)) → Carries limit h.next R → name < limit → OverNames limit over → limit ≤ h.next → BodiesMean code body
       → (us vs : List Var) (w : W) (n : ℕ) → R us vs
       → EndsRelated R (run s (for_code leaves c at name over body after h code).code us w n) (stepping vs w n (λ n. with_given vs (turns_of s over vs w n) (λ turns w n. over_turns name (λ vars w n. act_all s body vars w n) turns vs w n)))
   for_related at name (PItems e) body after h code carries below named le bodies us vs w n r = items_related at name e body after h code carries below named le bodies us vs w n r
@@ -306,7 +306,7 @@ module _ {W : Type 0} (s : Site W) (leaves : Leaving) (c : Context) (calls : Cal
   mutual
     unfolding opened act run_stmt StmtNames
 
-    opened_means : (x : PlainStmt) → StmtNames limit x → (h : Spot) → limit ≤ h.next → (R : List Var → List Var → Type 0) → Carries limit h.next R → WaysRelated R (run s (opened leaves c x h).code) (act s x)
+    opened_means : (x : PlainStmt) → StmtNames limit x → (h : Stage) → limit ≤ h.next → (R : List Var → List Var → Type 0) → Carries limit h.next R → WaysRelated R (run s (opened leaves c x h).code) (act s x)
     opened_means (PPass at) named h le R carries us vs w n r = mark_related s carries [] _ us vs w n r (λ n. both_go r)
     opened_means (PBreak at) named h le R carries us vs w n r = mark_related s carries (FBreak ∷ []) _ us vs w n r (λ n. both_break r)
     opened_means (PContinue at) named h le R carries us vs w n r = mark_related s carries (FContinue ∷ []) _ us vs w n r (λ n. both_continue r)
@@ -327,7 +327,7 @@ module _ {W : Type 0} (s : Site W) (leaves : Leaving) (c : Context) (calls : Cal
     opened_means (PAssert at test e) named h le R carries us vs w n r =
         let t : Tested PlainFlatTest = (forms leaves c test).test h in
         let behind : Point = surely (where_shown true test h.locals t.next).locals in
-        let otherwise : Spot = record { locals = h.locals; next = t.next } in
+        let otherwise : Stage = record { locals = h.locals; next = t.next } in
         let failing : List PlainFlatStmt = (failure_of leaves c e otherwise).code in
         let up : h.next ≤ t.next = (forms_rise leaves c test).test h in
         let branches : PlainFlatStmt = FIf (FMoreArms (FArm t.test behind FNoStmt (surely h.locals)) FNoArm) (flat_stmts_of failing) (Some behind) in
@@ -348,7 +348,7 @@ module _ {W : Type 0} (s : Site W) (leaves : Leaving) (c : Context) (calls : Cal
         (combination_means at x op op_at e h us vs w n named.0 named.1 le (carries.agree r)) (λ later v w n on. store_related carries s x v later vs w n named.0 on))
     opened_means (PIf at arms other) named h le R carries us vs w n r =
         let f : Flattened PlainFlatArms = flat_arms leaves c arms h in
-        let last : Spot = record { locals = (other_spot leaves c arms h).locals; next = f.next } in
+        let last : Stage = record { locals = (other_stage leaves c arms h).locals; next = f.next } in
         let g : Flattened (List PlainFlatStmt) = flat_all leaves c other last in
         let up : h.next ≤ f.next = arms_rise leaves c arms h in
         let branches : PlainFlatStmt = FIf f.code (flat_stmts_of g.code) (point_behind c (PIf at arms other) h.locals) in
@@ -356,9 +356,9 @@ module _ {W : Type 0} (s : Site W) (leaves : Leaving) (c : Context) (calls : Cal
         subst (λ q. EndsRelated R q (act_arms s arms (λ vars w n. act_all s other vars w n) vs w n)) (sym (run_alone s branches us w n))
         (arms_mean arms named.0 h le R carries (λ us w n. run s g.code us w n) (λ vars w n. act_all s other vars w n) (all_mean other named.1 last (further le up) R (carries_further up carries)) us vs w n r))
     opened_means (PWhile at test body) named h le R carries us vs w n r =
-        let head : Spot = record { locals = at_head (assigned_in body) h.locals; next = h.next } in
+        let head : Stage = record { locals = at_head (assigned_in body) h.locals; next = h.next } in
         let t : Tested PlainFlatTest = (forms leaves c test).test head in
-        let start : Spot = where_shown true test head.locals t.next in
+        let start : Stage = where_shown true test head.locals t.next in
         let f : Flattened (List PlainFlatStmt) = flat_all leaves c body start in
         let up : h.next ≤ t.next = (forms_rise leaves c test).test head in
         let loop : PlainFlatStmt = FWhile (surely head.locals) t.test (surely start.locals) (flat_stmts_of f.code) (point_behind c (PWhile at test body) h.locals) in
@@ -369,22 +369,22 @@ module _ {W : Type 0} (s : Site W) (leaves : Leaving) (c : Context) (calls : Cal
     opened_means (PFor at name name_at over body) named h le R carries us vs w n r =
         for_related at name over body (point_behind c (PFor at name name_at over body) h.locals) h (λ g. flat_all leaves c body g) carries named.0 named.1 le (λ g far R carries. all_mean body named.2 g far R carries) us vs w n r
 
-    pub all_mean : (xs : PlainStmts) → StmtsNames limit xs → (h : Spot) → limit ≤ h.next → (R : List Var → List Var → Type 0) → Carries limit h.next R → WaysRelated R (run s (flat_all leaves c xs h).code) (act_all s xs)
+    pub all_mean : (xs : PlainStmts) → StmtsNames limit xs → (h : Stage) → limit ≤ h.next → (R : List Var → List Var → Type 0) → Carries limit h.next R → WaysRelated R (run s (flat_all leaves c xs h).code) (act_all s xs)
     all_mean PNoStmt named h le R carries us vs w n r = nothing_related us vs w n r
     all_mean (PStmt x xs) named h le R carries us vs w n r =
         let f : Flattened (List PlainFlatStmt) = flat leaves c x h in
-        let behind : ℕ → Spot = λ next. record { locals = locals_behind c x h.locals; next = next } in
+        let behind : ℕ → Stage = λ next. record { locals = locals_behind c x h.locals; next = next } in
         let up : h.next ≤ f.next = flat_rises leaves c x h in
         followed_related (goes_on x) x xs refl f (λ next. flat_all leaves c xs (behind next)) (code_related (stays leaves x) x h (opened leaves c x h) named.0 carries (opened_means x named.0 h le R carries))
         (all_mean xs named.1 (behind f.next) (further le up) R (carries_further up carries)) us vs w n r
 
-    arms_mean : (arms : PlainArms) → ArmsNames limit arms → (h : Spot) → limit ≤ h.next → (R : List Var → List Var → Type 0) → Carries limit h.next R → (f g : Way W) → WaysRelated R f g → WaysRelated R (run_arms s (flat_arms leaves c arms h).code f) (act_arms s arms g)
+    arms_mean : (arms : PlainArms) → ArmsNames limit arms → (h : Stage) → limit ≤ h.next → (R : List Var → List Var → Type 0) → Carries limit h.next R → (f g : Way W) → WaysRelated R f g → WaysRelated R (run_arms s (flat_arms leaves c arms h).code f) (act_arms s arms g)
     arms_mean PNoArm named h le R carries f g rest us vs w n r = rest us vs w n r
     arms_mean (PMoreArms (PArm test body) more) named h le R carries f g rest us vs w n r =
         let t : Tested PlainFlatTest = (forms leaves c test).test h in
-        let start : Spot = where_shown true test h.locals t.next in
+        let start : Stage = where_shown true test h.locals t.next in
         let inner : Flattened (List PlainFlatStmt) = flat_all leaves c body start in
-        let behind : Spot = where_shown false test h.locals inner.next in
+        let behind : Stage = where_shown false test h.locals inner.next in
         let up : h.next ≤ t.next = (forms_rise leaves c test).test h in
         let on : t.next ≤ inner.next = all_rise leaves c body start in
         decided_related carries (λ yes' no'. decide s t.test yes' no' us w n) (eval s test vs w n) (λ us w n. run s inner.code us w n) (λ us w n. run_arms s (flat_arms leaves c more behind).code f us w n) _ _ r ((expression_means s leaves c calls own_light limit vs test named.0.0).test h us w n le (carries.agree r))

@@ -9,7 +9,7 @@ use Rattle.py_tree.specs.Flow.{Context}
 use Rattle.py_tree.specs.PlainExpressions.{PlainExpr, PInt, PBool, PStr, PNil, PVar, PSelf, PAttr, PCall, PApply, PIndex, PList, PNeg, PPos, PNot, PChain, PAnd, POr, PCompare, PIsNone, PCond, PlainExprs, PNoExpr, PExpr, PLink, PlainLinks, PNoLink, PMoreLinks}
 use Rattle.call_graph.specs.SuspendingCode.{Leaving, expr_suspends, exprs_suspend}
 use Rattle.flat_tree.specs.PlainFlat.{PlainFlatTest, FAnd, FOr}
-use Rattle.hoisting.specs.Spots.{Spot, where_shown, ty_at, method_params}
+use Rattle.hoisting.specs.Stages.{Stage, where_shown, ty_at, method_params}
 use Rattle.hoisting.specs.HoistExpressions.{with_args, by_params, by_function, first_wanted, others_wanted, made_of, Hoisted, Tested, Forms, still, if_suspends, in_turn, settled_unless, kept, lasts, by_value, forms_if, chosen, call_of, apply_of, ChainPart, chain_of, so_far, linked_on, begun_anew, either, taken, taken_each, taken_links, taken_operands, forms}
 
 pub le_itself : (k : ℕ) → k ≤ k
@@ -22,10 +22,10 @@ pub le_one_more : {i j : ℕ} → i ≤ j → i ≤ j + 1
 le_one_more a = omega (arith, a)
 
 pub record Rises (w : Forms) : Type 0 where
-  pub value : (wanted : Option PlainTy) (h : Spot) → h.next ≤ (w.value wanted h).spot.next
-  pub test : (h : Spot) → h.next ≤ (w.test h).next
+  pub value : (wanted : Option PlainTy) (h : Stage) → h.next ≤ (w.value wanted h).stage.next
+  pub test : (h : Stage) → h.next ≤ (w.test h).next
 
-pub by_value_rises : (value : Option PlainTy → Spot → Hoisted PlainExpr) → ((wanted : Option PlainTy) (h : Spot) → h.next ≤ (value wanted h).spot.next) → Rises (by_value value)
+pub by_value_rises : (value : Option PlainTy → Stage → Hoisted PlainExpr) → ((wanted : Option PlainTy) (h : Stage) → h.next ≤ (value wanted h).stage.next) → Rises (by_value value)
 by_value_rises value up = record { value = up; test = up None }
 
 still_rises : (e : PlainExpr) → Rises (by_value (λ wanted h. still e h))
@@ -35,46 +35,46 @@ pub forms_if_rise : (b : Bool) (e : PlainExpr) (w : Forms) → Rises w → Rises
 forms_if_rise true e w up = up
 forms_if_rise false e w up = still_rises e
 
-pub if_rises : {R : Type 0} (b : Bool) (e : R) (h : Spot) (a : Hoisted R) → h.next ≤ a.spot.next → h.next ≤ (if_suspends b e h a).spot.next
+pub if_rises : {R : Type 0} (b : Bool) (e : R) (h : Stage) (a : Hoisted R) → h.next ≤ a.stage.next → h.next ≤ (if_suspends b e h a).stage.next
 if_rises true e h a up = up
 if_rises false e h a up = le_itself h.next
 
-pub settled_rises : (lasting : Bool) (at : Place) (ty : PlainTy) (a : Hoisted PlainExpr) → a.spot.next ≤ (settled_unless lasting at ty a).spot.next
-settled_rises true at ty a = le_itself a.spot.next
+pub settled_rises : (lasting : Bool) (at : Place) (ty : PlainTy) (a : Hoisted PlainExpr) → a.stage.next ≤ (settled_unless lasting at ty a).stage.next
+settled_rises true at ty a = le_itself a.stage.next
 settled_rises false at ty a = omega arith
 
-kept_rises : (later lasting : Bool) (at : Place) (ty : PlainTy) (a : Hoisted PlainExpr) → a.spot.next ≤ (kept later lasting at ty a).spot.next
+kept_rises : (later lasting : Bool) (at : Place) (ty : PlainTy) (a : Hoisted PlainExpr) → a.stage.next ≤ (kept later lasting at ty a).stage.next
 kept_rises true lasting at ty a = settled_rises lasting at ty a
-kept_rises false lasting at ty a = le_itself a.spot.next
+kept_rises false lasting at ty a = le_itself a.stage.next
 
-pub turn_rises : {S T : Type 0} (f : PlainExpr → S → T) (later lasting : Bool) (at : Place) (ty : PlainTy) (a : Hoisted PlainExpr) (b : Spot → Hoisted S) (k : ℕ) → k ≤ a.spot.next → ((g : Spot) → g.next ≤ (b g).spot.next) → k ≤ (in_turn f (kept later lasting at ty a) b).spot.next
-turn_rises f later lasting at ty a b k up on = le_on up (le_on (kept_rises later lasting at ty a) (on (kept later lasting at ty a).spot))
+pub turn_rises : {S T : Type 0} (f : PlainExpr → S → T) (later lasting : Bool) (at : Place) (ty : PlainTy) (a : Hoisted PlainExpr) (b : Stage → Hoisted S) (k : ℕ) → k ≤ a.stage.next → ((g : Stage) → g.next ≤ (b g).stage.next) → k ≤ (in_turn f (kept later lasting at ty a) b).stage.next
+turn_rises f later lasting at ty a b k up on = le_on up (le_on (kept_rises later lasting at ty a) (on (kept later lasting at ty a).stage))
 
-call_rises : (c : Context) (b : Bool) (at : Place) (ty on_ty : PlainTy) (name : ℕ) (name_at : Place) (a : Hoisted (PlainExpr × PlainExprs)) (k : ℕ) → k ≤ a.spot.next → k ≤ (call_of c b at ty on_ty name name_at a).spot.next
+call_rises : (c : Context) (b : Bool) (at : Place) (ty on_ty : PlainTy) (name : ℕ) (name_at : Place) (a : Hoisted (PlainExpr × PlainExprs)) (k : ℕ) → k ≤ a.stage.next → k ≤ (call_of c b at ty on_ty name name_at a).stage.next
 call_rises c true at ty on_ty name name_at a k up = le_one_more up
 call_rises c false at ty on_ty name name_at a k up = up
 
-apply_rises : (c : Context) (b : Bool) (at : Place) (ty : PlainTy) (name : ℕ) (a : Hoisted PlainExprs) (k : ℕ) → k ≤ a.spot.next → k ≤ (apply_of c b at ty name a).spot.next
+apply_rises : (c : Context) (b : Bool) (at : Place) (ty : PlainTy) (name : ℕ) (a : Hoisted PlainExprs) (k : ℕ) → k ≤ a.stage.next → k ≤ (apply_of c b at ty name a).stage.next
 apply_rises c true at ty name a k up = le_one_more up
 apply_rises c false at ty name a k up = up
 
-chosen_rises : (at : Place) (ty : PlainTy) (locals : List PlainLocal) (test : PlainExpr) (t : Tested PlainFlatTest) (a b : Spot → Hoisted PlainExpr) (k : ℕ) → k ≤ t.next → ((g : Spot) → g.next ≤ (a g).spot.next) → ((g : Spot) → g.next ≤ (b g).spot.next)
-    → k ≤ (chosen at ty locals test t a b).spot.next
+chosen_rises : (at : Place) (ty : PlainTy) (locals : List PlainLocal) (test : PlainExpr) (t : Tested PlainFlatTest) (a b : Stage → Hoisted PlainExpr) (k : ℕ) → k ≤ t.next → ((g : Stage) → g.next ≤ (a g).stage.next) → ((g : Stage) → g.next ≤ (b g).stage.next)
+    → k ≤ (chosen at ty locals test t a b).stage.next
 chosen_rises at ty locals test t a b k up first second =
-    le_one_more (le_on up (le_on (first (where_shown true test locals t.next)) (second (where_shown false test locals (a (where_shown true test locals t.next)).spot.next))))
+    le_one_more (le_on up (le_on (first (where_shown true test locals t.next)) (second (where_shown false test locals (a (where_shown true test locals t.next)).stage.next))))
 
-pub still_up : (e : PlainExpr) (h : Spot) → h.next ≤ (still e h).spot.next
+pub still_up : (e : PlainExpr) (h : Stage) → h.next ≤ (still e h).stage.next
 still_up e h = le_itself h.next
 
-either_rises : (b : Bool) (r q : ChainPart) (k : ℕ) → k ≤ r.spot.next → k ≤ q.spot.next → k ≤ (either b r q).spot.next
+either_rises : (b : Bool) (r q : ChainPart) (k : ℕ) → k ≤ r.stage.next → k ≤ q.stage.next → k ≤ (either b r q).stage.next
 either_rises true r q k first second = first
 either_rises false r q k first second = second
 
 module _ (leaves : Leaving) (c : Context) where
-  abbrev part : PlainExpr → Option PlainTy → Spot → Hoisted PlainExpr
+  abbrev part : PlainExpr → Option PlainTy → Stage → Hoisted PlainExpr
   part e wanted h = (forms leaves c e).value wanted h
 
-  abbrev parts : List (Option PlainTy) → PlainExprs → Spot → Hoisted PlainExprs
+  abbrev parts : List (Option PlainTy) → PlainExprs → Stage → Hoisted PlainExprs
   parts wanted es h = if_suspends (exprs_suspend leaves es) es h (taken_each leaves c wanted es h)
 
   mutual
@@ -121,20 +121,20 @@ module _ (leaves : Leaving) (c : Context) where
         by_value_rises _ (λ wanted h.
         chosen_rises at (ty_at c wanted h.locals (PCond at test a b)) h.locals test ((forms leaves c test).test h) (part a wanted) (part b wanted) h.next ((forms_if_rise (expr_suspends leaves test) test (taken leaves c test) (taken_rises test)).test h) (λ g. (forms_if_rise (expr_suspends leaves a) a (taken leaves c a) (taken_rises a)).value wanted g) (λ g. (forms_if_rise (expr_suspends leaves b) b (taken leaves c b) (taken_rises b)).value wanted g))
 
-    pub each_rises : (wanted : List (Option PlainTy)) (es : PlainExprs) (h : Spot) → h.next ≤ (taken_each leaves c wanted es h).spot.next
+    pub each_rises : (wanted : List (Option PlainTy)) (es : PlainExprs) (h : Stage) → h.next ≤ (taken_each leaves c wanted es h).stage.next
     each_rises wanted PNoExpr h = le_itself h.next
     each_rises wanted (PExpr x xs) h =
         turn_rises PExpr (exprs_suspend leaves xs) (lasts leaves x) (place_of x) (ty_at c (first_wanted wanted) h.locals x) (part x (first_wanted wanted) h) (parts (others_wanted wanted) xs) h.next ((forms_if_rise (expr_suspends leaves x) x (taken leaves c x) (taken_rises x)).value (first_wanted wanted) h) (λ g. if_rises (exprs_suspend leaves xs) xs g (taken_each leaves c (others_wanted wanted) xs g) (each_rises (others_wanted wanted) xs g))
 
-    pub links_rise : (ls : PlainLinks) (at : Place) (ty : PlainTy) (r : ChainPart) (k : ℕ) → k ≤ r.spot.next → k ≤ (taken_links leaves c at ty ls r).spot.next
+    pub links_rise : (ls : PlainLinks) (at : Place) (ty : PlainTy) (r : ChainPart) (k : ℕ) → k ≤ r.stage.next → k ≤ (taken_links leaves c at ty ls r).stage.next
     links_rise PNoLink at ty r k up = up
     links_rise (PMoreLinks (PLink op op_at right) more) at ty r k up =
         let a : Hoisted PlainExpr = settled_unless r.lasting at ty (so_far at r) in
-        links_rise more at ty (either (expr_suspends leaves right) (begun_anew a (PLink op op_at) (part right (right_wanted op ty) a.spot)) (linked_on r (PLink op op_at right))) k
-        (either_rises (expr_suspends leaves right) (begun_anew a (PLink op op_at) (part right (right_wanted op ty) a.spot)) (linked_on r (PLink op op_at right)) k
-        (le_on (le_on up (settled_rises r.lasting at ty (so_far at r))) ((forms_if_rise (expr_suspends leaves right) right (taken leaves c right) (taken_rises right)).value (right_wanted op ty) a.spot)) up)
+        links_rise more at ty (either (expr_suspends leaves right) (begun_anew a (PLink op op_at) (part right (right_wanted op ty) a.stage)) (linked_on r (PLink op op_at right))) k
+        (either_rises (expr_suspends leaves right) (begun_anew a (PLink op op_at) (part right (right_wanted op ty) a.stage)) (linked_on r (PLink op op_at right)) k
+        (le_on (le_on up (settled_rises r.lasting at ty (so_far at r))) ((forms_if_rise (expr_suspends leaves right) right (taken leaves c right) (taken_rises right)).value (right_wanted op ty) a.stage)) up)
 
-    pub operands_rise : (truth : Bool) (es : PlainExprs) (h : Spot) → h.next ≤ (taken_operands leaves c truth es h).next
+    pub operands_rise : (truth : Bool) (es : PlainExprs) (h : Stage) → h.next ≤ (taken_operands leaves c truth es h).next
     operands_rise truth PNoExpr h = le_itself h.next
     operands_rise truth (PExpr x xs) h = le_on ((forms_if_rise (expr_suspends leaves x) x (taken leaves c x) (taken_rises x)).test h) (operands_rise truth xs (where_shown truth x h.locals ((forms leaves c x).test h).next))
 

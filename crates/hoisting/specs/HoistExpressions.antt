@@ -13,13 +13,13 @@ use Rattle.py_tree.specs.Flow.{Context}
 use Rattle.py_tree.specs.PlainExpressions.{PlainExpr, PInt, PBool, PNil, PVar, PSelf, PCall, PApply, PIndex, PList, PNeg, PPos, PNot, PChain, PAnd, POr, PCompare, PIsNone, PCond, PlainExprs, PNoExpr, PExpr, PlainLink, PLink, PlainLinks, PNoLink, PMoreLinks, links_of}
 use Rattle.call_graph.specs.SuspendingCode.{Leaving, expr_suspends, exprs_suspend}
 use Rattle.flat_tree.specs.PlainFlat.{PlainFlatStmt, FSet, FCall, FMake, FIf, FArm, FNoArm, FMoreArms, PlainFlatTest, FLeaf, FNot, FAnd, FOr, FOperand, PlainOperands, FNoOperand, FMoreOperands, flat_stmts_of}
-use Rattle.hoisting.specs.Spots.{Spot, surely, with_temporary, where_shown, ty_at, callee_of, created_of, method_params, init_params}
+use Rattle.hoisting.specs.Stages.{Stage, surely, with_temporary, where_shown, ty_at, callee_of, created_of, method_params, init_params}
 
 -- what runs before, what is left to evaluate, and what is known behind what runs before
 pub record Hoisted (R : Type 0) : Type 0 where
   pub before : List PlainFlatStmt
   pub rest : R
-  pub spot : Spot
+  pub stage : Stage
 
 -- a test, and the number of the next temporary
 pub record Tested (T : Type 0) : Type 0 where
@@ -28,30 +28,30 @@ pub record Tested (T : Type 0) : Type 0 where
 
 -- an expression as a value, of which a type may be wanted, and as a test
 pub record Forms : Type 0 where
-  pub value : Option PlainTy → Spot → Hoisted PlainExpr
-  pub test : Spot → Tested PlainFlatTest
+  pub value : Option PlainTy → Stage → Hoisted PlainExpr
+  pub test : Stage → Tested PlainFlatTest
 
 -- Parts
 
 -- what stays as it is
-abbrev pub still : {R : Type 0} → R → Spot → Hoisted R
-still e h = record { before = []; rest = e; spot = h }
+abbrev pub still : {R : Type 0} → R → Stage → Hoisted R
+still e h = record { before = []; rest = e; stage = h }
 
-abbrev pub if_suspends : {R : Type 0} → Bool → R → Spot → Hoisted R → Hoisted R
+abbrev pub if_suspends : {R : Type 0} → Bool → R → Stage → Hoisted R → Hoisted R
 if_suspends true e h hoisted = hoisted
 if_suspends false e h hoisted = still e h
 
 -- something is made of what is left
 abbrev pub built : {R S : Type 0} → (R → S) → Hoisted R → Hoisted S
-built f a = record { before = a.before; rest = f a.rest; spot = a.spot }
+built f a = record { before = a.before; rest = f a.rest; stage = a.stage }
 
 -- a part, and one behind it
-abbrev pub in_turn : {R S T : Type 0} → (R → S → T) → Hoisted R → (Spot → Hoisted S) → Hoisted T
-in_turn f a b = record { before = a.before ++ (b a.spot).before; rest = f a.rest (b a.spot).rest; spot = (b a.spot).spot }
+abbrev pub in_turn : {R S T : Type 0} → (R → S → T) → Hoisted R → (Stage → Hoisted S) → Hoisted T
+in_turn f a b = record { before = a.before ++ (b a.stage).before; rest = f a.rest (b a.stage).rest; stage = (b a.stage).stage }
 
 -- the value of a statement that puts it into the next temporary
 abbrev pub taken_into : {R : Type 0} → Place → PlainTy → (R → ℕ → PlainFlatStmt) → Hoisted R → Hoisted PlainExpr
-taken_into at ty f a = record { before = a.before ++ f a.rest a.spot.next ∷ []; rest = PVar at a.spot.next; spot = with_temporary ty a.spot }
+taken_into at ty f a = record { before = a.before ++ f a.rest a.stage.next ∷ []; rest = PVar at a.stage.next; stage = with_temporary ty a.stage }
 
 -- what is left is evaluated now
 abbrev pub settled : Place → PlainTy → Hoisted PlainExpr → Hoisted PlainExpr
@@ -92,9 +92,9 @@ lasts leaves e = is_constant e || is_taken leaves e
 -- Tests
 
 abbrev pub leaf : Hoisted PlainExpr → Tested PlainFlatTest
-leaf a = record { test = FLeaf (flat_stmts_of a.before) a.rest; next = a.spot.next }
+leaf a = record { test = FLeaf (flat_stmts_of a.before) a.rest; next = a.stage.next }
 
-abbrev pub by_value : (Option PlainTy → Spot → Hoisted PlainExpr) → Forms
+abbrev pub by_value : (Option PlainTy → Stage → Hoisted PlainExpr) → Forms
 by_value value = record { value = value; test = λ h. leaf (value None h) }
 
 abbrev pub forms_if : Bool → PlainExpr → Forms → Forms
@@ -105,20 +105,20 @@ abbrev pub made_of : {S T : Type 0} → (S → T) → Tested S → Tested T
 made_of f t = record { test = f t.test; next = t.next }
 
 -- one of two values by a test, where it holds and where it doesn't: either goes into one temporary
-abbrev pub chosen : Place → PlainTy → List PlainLocal → PlainExpr → Tested PlainFlatTest → (Spot → Hoisted PlainExpr) → (Spot → Hoisted PlainExpr) → Hoisted PlainExpr
+abbrev pub chosen : Place → PlainTy → List PlainLocal → PlainExpr → Tested PlainFlatTest → (Stage → Hoisted PlainExpr) → (Stage → Hoisted PlainExpr) → Hoisted PlainExpr
 chosen at ty locals test tested first second =
     let a = first (where_shown true test locals tested.next) in
-    let b = second (where_shown false test locals a.spot.next) in
-    let behind : Spot = with_temporary ty (record { locals = locals; next = b.spot.next }) in
+    let b = second (where_shown false test locals a.stage.next) in
+    let behind : Stage = with_temporary ty (record { locals = locals; next = b.stage.next }) in
     record {
       before =
           FIf
           (FMoreArms
-          (FArm tested.test (surely (where_shown true test locals tested.next).locals) (flat_stmts_of (a.before ++ FSet b.spot.next a.rest ∷ []))
-          (surely (where_shown false test locals a.spot.next).locals)) FNoArm) (flat_stmts_of (b.before ++ FSet b.spot.next b.rest ∷ [])) (Some (surely behind.locals))
+          (FArm tested.test (surely (where_shown true test locals tested.next).locals) (flat_stmts_of (a.before ++ FSet b.stage.next a.rest ∷ []))
+          (surely (where_shown false test locals a.stage.next).locals)) FNoArm) (flat_stmts_of (b.before ++ FSet b.stage.next b.rest ∷ [])) (Some (surely behind.locals))
           ∷ [];
-      rest = PVar at b.spot.next;
-      spot = behind;
+      rest = PVar at b.stage.next;
+      stage = behind;
     }
 
 -- the truth of a test as a value
@@ -133,11 +133,11 @@ with_args on args = (on, args)
 
 -- a call of this type, on a receiver of that one
 abbrev pub call_of : Context → Bool → Place → PlainTy → PlainTy → ℕ → Place → Hoisted (PlainExpr × PlainExprs) → Hoisted PlainExpr
-call_of c true at ty on_ty name name_at a = taken_into at ty (λ r t. FCall r.0 (callee_of c on_ty name) r.1 t (surely (with_temporary ty a.spot).locals)) a
+call_of c true at ty on_ty name name_at a = taken_into at ty (λ r t. FCall r.0 (callee_of c on_ty name) r.1 t (surely (with_temporary ty a.stage).locals)) a
 call_of c false at ty on_ty name name_at a = built (λ r. PCall at r.0 name name_at r.1) a
 
 abbrev pub apply_of : Context → Bool → Place → PlainTy → ℕ → Hoisted PlainExprs → Hoisted PlainExpr
-apply_of c true at ty name a = taken_into at ty (λ r t. FMake (created_of c name) r t (surely (with_temporary ty a.spot).locals)) a
+apply_of c true at ty name a = taken_into at ty (λ r t. FMake (created_of c name) r t (surely (with_temporary ty a.stage).locals)) a
 apply_of c false at ty name a = built (PApply at name) a
 
 -- Wanted types of expressions in a list
@@ -180,21 +180,21 @@ pub record ChainPart : Type 0 where
   pub lasting : Bool
   pub left : PlainExpr
   pub links : List PlainLink
-  pub spot : Spot
+  pub stage : Stage
 
 abbrev pub chain_of : Bool → Hoisted PlainExpr → ChainPart
-chain_of lasting a = record { before = a.before; lasting = lasting; left = a.rest; links = []; spot = a.spot }
+chain_of lasting a = record { before = a.before; lasting = lasting; left = a.rest; links = []; stage = a.stage }
 
 abbrev pub so_far : Place → ChainPart → Hoisted PlainExpr
-so_far at r = record { before = r.before; rest = chain at r.left r.links; spot = r.spot }
+so_far at r = record { before = r.before; rest = chain at r.left r.links; stage = r.stage }
 
 -- one more link, of which nothing suspends
 abbrev pub linked_on : ChainPart → PlainLink → ChainPart
-linked_on r l = record { before = r.before; lasting = false; left = r.left; links = r.links ++ l ∷ []; spot = r.spot }
+linked_on r l = record { before = r.before; lasting = false; left = r.left; links = r.links ++ l ∷ []; stage = r.stage }
 
 -- the run so far, and a link behind it
 abbrev pub begun_anew : Hoisted PlainExpr → (PlainExpr → PlainLink) → Hoisted PlainExpr → ChainPart
-begun_anew a f b = record { before = a.before ++ b.before; lasting = false; left = a.rest; links = f b.rest ∷ []; spot = b.spot }
+begun_anew a f b = record { before = a.before ++ b.before; lasting = false; left = a.rest; links = f b.rest ∷ []; stage = b.stage }
 
 abbrev pub either : {A : Type 0} → Bool → A → A → A
 either true a b = a
@@ -242,7 +242,7 @@ module _ (leaves : Leaving) (c : Context) where
     taken e = by_value (λ wanted h. still e h)
 
     -- expressions one after another, of these wanted types
-    pub taken_each : List (Option PlainTy) → PlainExprs → Spot → Hoisted PlainExprs
+    pub taken_each : List (Option PlainTy) → PlainExprs → Stage → Hoisted PlainExprs
     taken_each wanted PNoExpr h = still PNoExpr h
     taken_each wanted (PExpr x xs) h =
         in_turn PExpr (kept (exprs_suspend leaves xs) (lasts leaves x) (place_of x) (ty_at c (first_wanted wanted) h.locals x) ((forms_if (expr_suspends leaves x) x (taken x)).value (first_wanted wanted) h)) (λ g.
@@ -254,11 +254,11 @@ module _ (leaves : Leaving) (c : Context) where
     taken_links at ty (PMoreLinks (PLink op op_at right) more) r =
         taken_links at ty more
         (either (expr_suspends leaves right)
-        (let a = settled_unless r.lasting at ty (so_far at r) in begun_anew a (PLink op op_at) ((forms_if (expr_suspends leaves right) right (taken right)).value (right_wanted op ty) a.spot))
+        (let a = settled_unless r.lasting at ty (so_far at r) in begun_anew a (PLink op op_at) ((forms_if (expr_suspends leaves right) right (taken right)).value (right_wanted op ty) a.stage))
         (linked_on r (PLink op op_at right)))
 
     -- operands of `and`, or of `or`
-    pub taken_operands : Bool → PlainExprs → Spot → Tested PlainOperands
+    pub taken_operands : Bool → PlainExprs → Stage → Tested PlainOperands
     taken_operands truth PNoExpr h = record { test = FNoOperand; next = h.next }
     taken_operands truth (PExpr x xs) h =
         let t = (forms_if (expr_suspends leaves x) x (taken x)).test h in

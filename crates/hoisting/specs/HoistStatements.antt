@@ -19,7 +19,7 @@ use Rattle.py_tree.specs.Flow.{Context, at_head, earlier, result_at, target_read
 use Rattle.call_graph.specs.SuspendingCode.{Leaving, stmt_suspends}
 use Rattle.flat_tree.specs.PlainFlat.{Point, PlainFlatStmt, FMark, FSet, FPut, FGive, FFail, FCode, FBreak, FContinue, FIf, FWhile, FNoStmt, FArm, PlainFlatArms, FNoArm, FMoreArms, FLeaf, PlainFlatTest, flat_stmts_of}
 use Rattle.flat_tree.specs.Flatness.{jumps}
-use Rattle.hoisting.specs.Spots.{Spot, surely, with_temporary, where_shown, ty_at, locals_behind, point_behind, item_ty}
+use Rattle.hoisting.specs.Stages.{Stage, surely, with_temporary, where_shown, ty_at, locals_behind, point_behind, item_ty}
 use Rattle.hoisting.specs.HoistExpressions.{Hoisted, still, built, in_turn, settled, settled_unless, lasts, forms}
 
 -- flat code, and the number of the next temporary
@@ -32,7 +32,7 @@ pub record Flattened (T : Type 0) : Type 0 where
 abbrev pub stays : Leaving → PlainStmt → Bool
 stays leaves x = not (stmt_suspends leaves x || jumps x)
 
-abbrev pub code_if : Bool → PlainStmt → Spot → Flattened (List PlainFlatStmt) → Flattened (List PlainFlatStmt)
+abbrev pub code_if : Bool → PlainStmt → Stage → Flattened (List PlainFlatStmt) → Flattened (List PlainFlatStmt)
 code_if true x h f = record { code = FCode x ∷ []; next = h.next }
 code_if false x h f = f
 
@@ -59,7 +59,7 @@ target_ty c locals (target.Field x) = field_of c.tables c.class x.name.0
 
 -- a statement's step, what runs before, and a statement over what is left
 abbrev pub marked : {R : Type 0} → (R → PlainFlatStmt) → Hoisted R → Flattened (List PlainFlatStmt)
-marked f a = record { code = FMark ∷ a.before ++ f a.rest ∷ []; next = a.spot.next }
+marked f a = record { code = FMark ∷ a.before ++ f a.rest ∷ []; next = a.stage.next }
 
 abbrev pub plus : Place → PlainExpr → PlainExpr → PlainExpr
 plus at x y = PChain at x (PMoreLinks (PLink op.Add at y) PNoLink)
@@ -75,16 +75,16 @@ start_or_zero at (Some e) = e
 -- A loop over a list goes by the places in it. What is no list has no items, as `[] + x` hasn't.
 
 -- the list, the place in it, and an empty list
-abbrev pub list_spot : PlainTy → Spot → Spot
-list_spot ty h = with_temporary ty (with_temporary TInt (with_temporary ty h))
+abbrev pub list_stage : PlainTy → Stage → Stage
+list_stage ty h = with_temporary ty (with_temporary TInt (with_temporary ty h))
 
 -- the locals at the head of a loop
 abbrev pub head_locals : ℕ → PlainStmts → List PlainLocal → List PlainLocal
 head_locals name body locals = at_head (name ∷ assigned_in body) locals
 
 -- where the body of a loop begins, of which the name has this type
-abbrev pub body_spot : ℕ → PlainTy → PlainStmts → Spot → Spot
-body_spot name ty body h = record { locals = with_local name ty ty (head_locals name body h.locals); next = h.next }
+abbrev pub body_stage : ℕ → PlainTy → PlainStmts → Stage → Stage
+body_stage name ty body h = record { locals = with_local name ty ty (head_locals name body h.locals); next = h.next }
 
 abbrev pub list_test : Place → ℕ → PlainFlatTest
 list_test at t = FLeaf FNoStmt (PCompare at cmp.Lt at (PVar at (t + 1)) (PApply at (reserved_number (codes "len")) (PExpr (PVar at t) PNoExpr)))
@@ -110,21 +110,21 @@ abbrev pub range_loop : Place → ℕ → ℕ → ℕ → Point → Option Point
 range_loop at name t u head after body = FWhile head (range_test at t u) head (flat_stmts_of (range_turn at name t body)) after ∷ []
 
 module _ (leaves : Leaving) (c : Context) where
-  abbrev pub optional : Option PlainTy → Option PlainExpr → Spot → Hoisted (Option PlainExpr)
+  abbrev pub optional : Option PlainTy → Option PlainExpr → Stage → Hoisted (Option PlainExpr)
   optional wanted None h = still None h
   optional wanted (Some e) h = built Some ((forms leaves c e).value wanted h)
 
   -- what is assigned by `x op= e`: the target is read before e
-  abbrev pub combination : Place → Target → BinOp → Place → PlainExpr → Spot → Hoisted PlainExpr
+  abbrev pub combination : Place → Target → BinOp → Place → PlainExpr → Stage → Hoisted PlainExpr
   combination at x op op_at e h =
       let ty = ty_at c None h.locals (target_read at x) in
       in_turn (λ left right. PChain at left (PMoreLinks (PLink op op_at right) PNoLink)) (settled at ty (still (read_of at x) h)) (λ g. (forms leaves c e).value (right_wanted op ty) g)
 
   -- the failure of an assert, behind which no more is known than before its test
-  abbrev pub failure_of : Option PlainExpr → Spot → Flattened (List PlainFlatStmt)
-  failure_of e h = let a = optional None e h in record { code = a.before ++ FFail 3 a.rest ∷ []; next = a.spot.next }
+  abbrev pub failure_of : Option PlainExpr → Stage → Flattened (List PlainFlatStmt)
+  failure_of e h = let a = optional None e h in record { code = a.before ++ FFail 3 a.rest ∷ []; next = a.stage.next }
 
-  abbrev pub asserted : PlainExpr → Option PlainExpr → Spot → Flattened (List PlainFlatStmt)
+  abbrev pub asserted : PlainExpr → Option PlainExpr → Stage → Flattened (List PlainFlatStmt)
   asserted test e h =
       let t = (forms leaves c test).test h in
       let behind : Point = surely (where_shown true test h.locals t.next).locals in
@@ -132,36 +132,36 @@ module _ (leaves : Leaving) (c : Context) where
       record { code = FMark ∷ FIf (FMoreArms (FArm t.test behind FNoStmt (surely h.locals)) FNoArm) (flat_stmts_of f.code) (Some behind) ∷ []; next = f.next }
 
   -- the ends of a range, each in a temporary as a whole number
-  abbrev pub range_start : Place → Option PlainExpr → Spot → Hoisted PlainExpr
+  abbrev pub range_start : Place → Option PlainExpr → Stage → Hoisted PlainExpr
   range_start at start h = settled at TInt (built (PPos at) ((forms leaves c (start_or_zero at start)).value None h))
 
-  abbrev pub range_end : Place → PlainExpr → Spot → Hoisted PlainExpr
+  abbrev pub range_end : Place → PlainExpr → Stage → Hoisted PlainExpr
   range_end at end h = settled at TInt (built (PPos at) ((forms leaves c end).value None h))
 
   -- a `for`, whose body is flat code by where it begins
-  abbrev pub for_code : Place → ℕ → PlainOver → PlainStmts → Option Point → Spot → (Spot → Flattened (List PlainFlatStmt)) → Flattened (List PlainFlatStmt)
+  abbrev pub for_code : Place → ℕ → PlainOver → PlainStmts → Option Point → Stage → (Stage → Flattened (List PlainFlatStmt)) → Flattened (List PlainFlatStmt)
   for_code at name (PItems e) body after h code =
       let ty = ty_at c None h.locals e in
       let a = (forms leaves c e).value None h in
-      let inside : Spot = list_spot ty a.spot in
-      let f = code (body_spot name (item_ty ty) body inside) in
-      record { code = FMark ∷ (settled at ty a).before ++ list_loop at name a.spot.next (surely (head_locals name body inside.locals)) after f.code; next = f.next }
+      let inside : Stage = list_stage ty a.stage in
+      let f = code (body_stage name (item_ty ty) body inside) in
+      record { code = FMark ∷ (settled at ty a).before ++ list_loop at name a.stage.next (surely (head_locals name body inside.locals)) after f.code; next = f.next }
   for_code at name (PRange start end) body after h code =
       let a = range_start at start h in
-      let b = range_end at end a.spot in
-      let f = code (body_spot name TInt body b.spot) in
+      let b = range_end at end a.stage in
+      let f = code (body_stage name TInt body b.stage) in
       record {
-        code = FMark ∷ (a.before ++ b.before) ++ range_loop at name ((forms leaves c (start_or_zero at start)).value None h).spot.next ((forms leaves c end).value None a.spot).spot.next (surely (head_locals name body b.spot.locals)) after f.code;
+        code = FMark ∷ (a.before ++ b.before) ++ range_loop at name ((forms leaves c (start_or_zero at start)).value None h).stage.next ((forms leaves c end).value None a.stage).stage.next (surely (head_locals name body b.stage.locals)) after f.code;
         next = f.next;
       }
 
   unfoldable mutual
     -- of a statement that doesn't stay
-    pub opened : PlainStmt → Spot → Flattened (List PlainFlatStmt)
+    pub opened : PlainStmt → Stage → Flattened (List PlainFlatStmt)
     opened (PPass at) h = record { code = FMark ∷ []; next = h.next }
     opened (PBreak at) h = record { code = FMark ∷ FBreak ∷ []; next = h.next }
     opened (PContinue at) h = record { code = FMark ∷ FContinue ∷ []; next = h.next }
-    opened (PDo at e) h = let a = settled_unless (lasts leaves e) at (ty_at c None h.locals e) ((forms leaves c e).value None h) in record { code = FMark ∷ a.before; next = a.spot.next }
+    opened (PDo at e) h = let a = settled_unless (lasts leaves e) at (ty_at c None h.locals e) ((forms leaves c e).value None h) in record { code = FMark ∷ a.before; next = a.stage.next }
     opened (PReturn at e) h = marked (λ r. FGive (value_or_nil at r)) (optional (Some (result_at c)) e h)
     opened (PRaise at kind e) h = marked (FFail kind) (optional None e h)
     opened (PAssert at test e) h = asserted test e h
@@ -169,36 +169,36 @@ module _ (leaves : Leaving) (c : Context) where
     opened (PAugment at x op op_at e) h = marked (stored x) (combination at x op op_at e h)
     opened (PIf at arms other) h =
         let f = flat_arms arms h in
-        let g = flat_all other (record { locals = (other_spot arms h).locals; next = f.next }) in
+        let g = flat_all other (record { locals = (other_stage arms h).locals; next = f.next }) in
         record { code = FMark ∷ FIf f.code (flat_stmts_of g.code) (point_behind c (PIf at arms other) h.locals) ∷ []; next = g.next }
     opened (PWhile at test body) h =
-        let head : Spot = record { locals = at_head (assigned_in body) h.locals; next = h.next } in
+        let head : Stage = record { locals = at_head (assigned_in body) h.locals; next = h.next } in
         let t = (forms leaves c test).test head in
-        let start : Spot = where_shown true test head.locals t.next in
+        let start : Stage = where_shown true test head.locals t.next in
         let f = flat_all body start in
         record { code = FMark ∷ FWhile (surely head.locals) t.test (surely start.locals) (flat_stmts_of f.code) (point_behind c (PWhile at test body) h.locals) ∷ []; next = f.next }
     opened (PFor at name name_at over body) h = for_code at name over body (point_behind c (PFor at name name_at over body) h.locals) h (λ g. flat_all body g)
 
-    pub flat_all : PlainStmts → Spot → Flattened (List PlainFlatStmt)
+    pub flat_all : PlainStmts → Stage → Flattened (List PlainFlatStmt)
     flat_all PNoStmt h = record { code = []; next = h.next }
     flat_all (PStmt x xs) h = followed (goes_on x) (code_if (stays leaves x) x h (opened x h)) (λ next. flat_all xs (record { locals = locals_behind c x h.locals; next = next }))
 
     -- each arm begins where its test is True and those before it were False
-    pub flat_arms : PlainArms → Spot → Flattened PlainFlatArms
+    pub flat_arms : PlainArms → Stage → Flattened PlainFlatArms
     flat_arms PNoArm h = record { code = FNoArm; next = h.next }
     flat_arms (PMoreArms (PArm test body) more) h =
         let t = (forms leaves c test).test h in
-        let start : Spot = where_shown true test h.locals t.next in
+        let start : Stage = where_shown true test h.locals t.next in
         let f = flat_all body start in
-        let rest : Spot = where_shown false test h.locals f.next in
+        let rest : Stage = where_shown false test h.locals f.next in
         let g = flat_arms more rest in
         record { code = FMoreArms (FArm t.test (surely start.locals) (flat_stmts_of f.code) (surely rest.locals)) g.code; next = g.next }
 
     -- where all tests were False
-    pub other_spot : PlainArms → Spot → Spot
-    other_spot PNoArm h = h
-    other_spot (PMoreArms (PArm test body) more) h = other_spot more (where_shown false test h.locals h.next)
+    pub other_stage : PlainArms → Stage → Stage
+    other_stage PNoArm h = h
+    other_stage (PMoreArms (PArm test body) more) h = other_stage more (where_shown false test h.locals h.next)
 
   -- a statement as flat code
-  abbrev pub flat : PlainStmt → Spot → Flattened (List PlainFlatStmt)
+  abbrev pub flat : PlainStmt → Stage → Flattened (List PlainFlatStmt)
   flat x h = code_if (stays leaves x) x h (opened x h)

@@ -1,4 +1,4 @@
-pub mod Spots
+pub mod Stages
 pub mod HoistExpressions
 pub mod HoistStatements
 pub mod HoistMethods

@@ -14,13 +14,13 @@ use Rattle.hoisting.specs.declared.parts.Hoisted.{Hoisted}
 use Rattle.hoisting.specs.declared.parts.HoistedEach.{HoistedEach}
 use Rattle.hoisting.specs.declared.parts.HoistedCall.{HoistedCall}
 use Rattle.hoisting.specs.declared.parts.HoistedTwo.{HoistedTwo}
-use Rattle.hoisting.specs.declared.spots.Spot.{Spot}
+use Rattle.hoisting.specs.declared.stages.Stage.{Stage}
 use Rattle.hoisting.specs.declared.setting.Setting.{Setting}
 use Rattle.hoisting.specs.HoistExpressions.{Hoisted as PlainHoisted, Forms, forms}
-use Rattle.hoisting.specs.Spots as spec
+use Rattle.hoisting.specs.Stages as spec
 
-abbrev pub plain_spot : Spot → spec.Spot
-plain_spot h = record { locals = plain_locals h.locals; next = h.next }
+abbrev pub plain_stage : Stage → spec.Stage
+plain_stage h = record { locals = plain_locals h.locals; next = h.next }
 
 -- where the method stands that is made flat, and which calls leave there
 abbrev pub context_of : Setting → Context
@@ -34,17 +34,17 @@ abbrev pub ty_in : Setting → List PlainLocal → Option PlainTy → PlainExpr 
 ty_in s locals wanted e = spec.ty_at (context_of s) wanted locals e
 
 -- what is hoisted, with what is known behind what runs before
-abbrev pub hoisted_at : Hoisted → Spot → PlainHoisted PlainExpr
-hoisted_at a h = record { before = plain_flat_stmts a.before; rest = plain_expr a.rest; spot = plain_spot h }
+abbrev pub hoisted_at : Hoisted → Stage → PlainHoisted PlainExpr
+hoisted_at a h = record { before = plain_flat_stmts a.before; rest = plain_expr a.rest; stage = plain_stage h }
 
-abbrev pub each_at : HoistedEach → Spot → PlainHoisted PlainExprs
-each_at a h = record { before = plain_flat_stmts a.before; rest = exprs_of (plain_exprs a.rest); spot = plain_spot h }
+abbrev pub each_at : HoistedEach → Stage → PlainHoisted PlainExprs
+each_at a h = record { before = plain_flat_stmts a.before; rest = exprs_of (plain_exprs a.rest); stage = plain_stage h }
 
-abbrev pub call_at : HoistedCall → Spot → PlainHoisted (PlainExpr × PlainExprs)
-call_at a h = record { before = plain_flat_stmts a.before; rest = (plain_expr a.on, exprs_of (plain_exprs a.args)); spot = plain_spot h }
+abbrev pub call_at : HoistedCall → Stage → PlainHoisted (PlainExpr × PlainExprs)
+call_at a h = record { before = plain_flat_stmts a.before; rest = (plain_expr a.on, exprs_of (plain_exprs a.args)); stage = plain_stage h }
 
-abbrev pub two_at : HoistedTwo → Spot → PlainHoisted (PlainExpr × PlainExpr)
-two_at a h = record { before = plain_flat_stmts a.before; rest = (plain_expr a.first, plain_expr a.second); spot = plain_spot h }
+abbrev pub two_at : HoistedTwo → Stage → PlainHoisted (PlainExpr × PlainExpr)
+two_at a h = record { before = plain_flat_stmts a.before; rest = (plain_expr a.first, plain_expr a.second); stage = plain_stage h }
 
 -- an expression as a value and as a test
 abbrev pub forms_of : Setting → Expr → Forms

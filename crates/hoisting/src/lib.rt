@@ -7,8 +7,8 @@
 mod laws;
 pub mod parts;
 mod setting;
-mod spots;
+mod stages;
 
 pub use laws::{flat_methods_are_flat, flat_methods_mean};
 pub use setting::{Setting, sig_at};
-pub use spots::{Spot, copy_locals, surely, where_shown};
+pub use stages::{Stage, copy_locals, surely, where_shown};

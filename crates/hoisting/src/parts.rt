@@ -5,10 +5,10 @@ ghost use Rattle.py_tree.specs.PlainTypes.{plain_ty};
 ghost use Rattle.py_tree.specs.PlainExpressions.{plain_expr, plain_exprs, exprs_of};
 ghost use Rattle.flat_tree.specs.PlainFlat.{FSet, plain_flat_stmts};
 ghost use Rattle.hoisting.specs.HoistExpressions as spec;
-ghost use Rattle.hoisting.specs.Views.{plain_spot, context_of, leaves_of, hoisted_at, each_at, call_at};
+ghost use Rattle.hoisting.specs.Views.{plain_stage, context_of, leaves_of, hoisted_at, each_at, call_at};
 
 use crate::setting::Setting;
-use crate::spots::{Spot, surely};
+use crate::stages::{Stage, surely};
 use flat_tree::{FlatStmt, FlatStmts};
 use py_tree::nodes::var_of;
 use py_tree::{Expr, ExprKind, Exprs, Name, Place, PlacedName, Ty, function_of};
@@ -117,8 +117,8 @@ pub fn copy_exprs(alloc: Global, exprs: &Exprs) -> Result<Exprs, AllocError>
 }
 
 /// What stays as it is.
-pub fn still(alloc: Global, spot: &Spot, expr: &Expr) -> Result<Hoisted, AllocError>
-    ensures { IfOk result (λ made. hoisted_at made spot.now ≡ spec.still (plain_expr expr.now) (plain_spot spot.now)) }
+pub fn still(alloc: Global, stage: &Stage, expr: &Expr) -> Result<Hoisted, AllocError>
+    ensures { IfOk result (λ made. hoisted_at made stage.now ≡ spec.still (plain_expr expr.now) (plain_stage stage.now)) }
 {
     Ok(Hoisted {
         before: Sequence::new(alloc),
@@ -127,8 +127,8 @@ pub fn still(alloc: Global, spot: &Spot, expr: &Expr) -> Result<Hoisted, AllocEr
 }
 
 /// Expressions that stay as they are.
-pub fn still_each(alloc: Global, spot: &Spot, exprs: &Exprs) -> Result<HoistedEach, AllocError>
-    ensures { IfOk result (λ made. each_at made spot.now ≡ spec.still (exprs_of (plain_exprs exprs.now)) (plain_spot spot.now)) }
+pub fn still_each(alloc: Global, stage: &Stage, exprs: &Exprs) -> Result<HoistedEach, AllocError>
+    ensures { IfOk result (λ made. each_at made stage.now ≡ spec.still (exprs_of (plain_exprs exprs.now)) (plain_stage stage.now)) }
 {
     Ok(HoistedEach {
         before: Sequence::new(alloc),
@@ -154,14 +154,14 @@ pub fn with_set(
 /// What is left is evaluated now, into the next temporary, which has this type.
 pub fn settle(
     alloc: Global,
-    spot: &mut Spot,
+    stage: &mut Stage,
     place: Place,
     ty: Ty,
     hoisted: Hoisted,
 ) -> Result<Hoisted, AllocError>
-    ensures { IfOk result (λ made. hoisted_at made spot.new ≡ spec.settled place (plain_ty ty) (hoisted_at hoisted spot.old)) }
+    ensures { IfOk result (λ made. hoisted_at made stage.new ≡ spec.settled place (plain_ty ty) (hoisted_at hoisted stage.old)) }
 {
-    let name = spot.add_temporary(alloc, ty)?;
+    let name = stage.add_temporary(alloc, ty)?;
     let before = with_set(alloc, hoisted.before, name, hoisted.rest)?;
     Ok(Hoisted {
         before,
@@ -173,19 +173,19 @@ pub fn settle(
 pub fn wait_call(
     alloc: Global,
     setting: &Setting<'_>,
-    spot: &mut Spot,
+    stage: &mut Stage,
     place: Place,
     ty: Ty,
     on_ty: &Ty,
     name: PlacedName,
     parts: HoistedCall,
 ) -> Result<Hoisted, AllocError>
-    ensures { IfOk result (λ made. hoisted_at made spot.new ≡ spec.call_of (context_of setting.now) true place (plain_ty ty)
-        (plain_ty on_ty.now) name.name.0 name.place (call_at parts spot.old)) }
+    ensures { IfOk result (λ made. hoisted_at made stage.new ≡ spec.call_of (context_of setting.now) true place (plain_ty ty)
+        (plain_ty on_ty.now) name.name.0 name.place (call_at parts stage.old)) }
 {
     let callee = setting.callee(on_ty, name.name)?;
-    let into = spot.add_temporary(alloc, ty)?;
-    let after = surely(alloc, &spot.locals)?;
+    let into = stage.add_temporary(alloc, ty)?;
+    let after = surely(alloc, &stage.locals)?;
     let mut before = parts.before;
     let call = FlatStmt::Call {
         on: parts.on,
@@ -205,17 +205,17 @@ pub fn wait_call(
 pub fn wait_creation(
     alloc: Global,
     setting: &Setting<'_>,
-    spot: &mut Spot,
+    stage: &mut Stage,
     place: Place,
     ty: Ty,
     name: Name,
     args: HoistedEach,
 ) -> Result<Hoisted, AllocError>
-    ensures { IfOk result (λ made. hoisted_at made spot.new ≡ spec.apply_of (context_of setting.now) true place (plain_ty ty) name.0 (each_at args spot.old)) }
+    ensures { IfOk result (λ one. hoisted_at one stage.new ≡ spec.apply_of (context_of setting.now) true place (plain_ty ty) name.0 (each_at args stage.old)) }
 {
     let class = setting.created(name)?;
-    let into = spot.add_temporary(alloc, ty)?;
-    let after = surely(alloc, &spot.locals)?;
+    let into = stage.add_temporary(alloc, ty)?;
+    let after = surely(alloc, &stage.locals)?;
     let mut before = args.before;
     let creation = FlatStmt::Make {
         class,

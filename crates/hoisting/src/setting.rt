@@ -13,10 +13,10 @@ ghost use Rattle.entity_tables.specs.Views.{plain_sig_param, plain_sig, plain_ta
 ghost use Rattle.entity_types.specs.Views.{plain_locals, plain_wanted};
 ghost use Rattle.block_code.specs.PlainVars.{plain_vars};
 ghost use Rattle.py_tree.specs.ExpressionTypes as types;
-ghost use Rattle.hoisting.specs.Spots as spec;
+ghost use Rattle.hoisting.specs.Stages as spec;
 ghost use Rattle.hoisting.specs.Views.{context_of, leaves_of, ty_in};
 
-use crate::spots::{copy_locals, surely};
+use crate::stages::{copy_locals, surely};
 use block_code::VarTypes;
 use call_graph::CallGraph;
 use entity_tables::{ClassTable, Sig, SigParam};

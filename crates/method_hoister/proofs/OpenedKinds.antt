@@ -10,12 +10,12 @@ use Rattle.py_tree.specs.Flow.{Context, at_head}
 use Rattle.py_tree.specs.Reachability.{assigned_in}
 use Rattle.call_graph.specs.SuspendingCode.{Leaving}
 use Rattle.flat_tree.specs.PlainFlat.{Point, PlainFlatTest, PlainFlatStmt, FMark, FCode, FBreak, FContinue, FWhile, flat_stmts_of}
-use Rattle.hoisting.specs.Spots.{Spot, surely, ty_at, item_ty, point_behind}
+use Rattle.hoisting.specs.Stages.{Stage, surely, ty_at, item_ty, point_behind}
 use Rattle.hoisting.specs.HoistExpressions.{Tested, settled, forms}
-use Rattle.hoisting.specs.HoistStatements.{Flattened, stays, code_if, asserted, list_spot, body_spot, list_test, list_turn, list_loop, range_test, range_turn, opened, flat_all, flat}
-use Rattle.method_hoister.specs.SmallCode.{PlainBody, head_point, list_start, list_before, range_before, range_spot, start_number, end_number, body_where, evaluated, returned, raised, assigned, augmented, choice_code, while_code, for_loop}
+use Rattle.hoisting.specs.HoistStatements.{Flattened, stays, code_if, asserted, list_stage, body_stage, list_test, list_turn, list_loop, range_test, range_turn, opened, flat_all, flat}
+use Rattle.method_hoister.specs.SmallCode.{PlainBody, head_point, list_start, list_before, range_before, range_stage, start_number, end_number, body_where, evaluated, returned, raised, assigned, augmented, choice_code, while_code, for_loop}
 
-module _ (leaves : Leaving) (c : Context) (h : Spot) (at : Place) where
+module _ (leaves : Leaving) (c : Context) (h : Stage) (at : Place) where
   pub open-Pass : (x : PlainStmt) → x ≡ PPass at → record { code = FMark ∷ []; next = h.next } ≡ opened leaves c x h
   unfolding opened
   open-Pass x is = ap (λ y. opened leaves c y h) (sym is)
@@ -69,45 +69,45 @@ pub list_loop_is : (at : Place) (name t : ℕ) (head : Point) (after : Option Po
     → (before ++ list_start at t) ++ FWhile head (list_test at t) head (flat_stmts_of (list_turn at name t body)) after ∷ [] ≡ before ++ list_loop at name t head after body
 list_loop_is at name t head after before body = append_assoc before (list_start at t) (FWhile head (list_test at t) head (flat_stmts_of (list_turn at name t body)) after ∷ [])
 
-module _ (leaves : Leaving) (c : Context) (h : Spot) (x : PlainStmt) where
+module _ (leaves : Leaving) (c : Context) (h : Stage) (x : PlainStmt) where
   pub flat_stays : stays leaves x ≡ true → record { code = FCode x ∷ []; next = h.next } ≡ flat leaves c x h
   flat_stays is = sym (ap (λ b. code_if b x h (opened leaves c x h)) is)
 
   pub flat_opens : stays leaves x ≡ false → opened leaves c x h ≡ flat leaves c x h
   flat_opens is = sym (ap (λ b. code_if b x h (opened leaves c x h)) is)
 
-module _ (leaves : Leaving) (c : Context) (h : Spot) where
+module _ (leaves : Leaving) (c : Context) (h : Stage) where
   -- Loops, as they are made of parts
 
-  pub while_is : (e : PlainExpr) (body : PlainStmts) (after : Option Point) (head : Spot) (point : Point) (t : Tested PlainFlatTest) (f : PlainBody) → head ≡ record { locals = at_head (assigned_in body) h.locals; next = h.next } → point ≡ surely head.locals → t ≡ (forms leaves c e).test head → f ≡ body_where leaves c e head.locals t.next body
+  pub while_is : (e : PlainExpr) (body : PlainStmts) (after : Option Point) (head : Stage) (point : Point) (t : Tested PlainFlatTest) (f : PlainBody) → head ≡ record { locals = at_head (assigned_in body) h.locals; next = h.next } → point ≡ surely head.locals → t ≡ (forms leaves c e).test head → f ≡ body_where leaves c e head.locals t.next body
       → record { code = FMark ∷ FWhile point t.test f.start (flat_stmts_of f.code) after ∷ []; next = f.next } ≡ while_code leaves c e body after h
   while_is e body after head point t f at point_is test_is body_is =
-      let there : Spot = record { locals = at_head (assigned_in body) h.locals; next = h.next } in
+      let there : Stage = record { locals = at_head (assigned_in body) h.locals; next = h.next } in
       let tested : t ≡ (forms leaves c e).test there = test_is ∙ ap (λ g. (forms leaves c e).test g) at in
-      let assigned : point ≡ surely there.locals = point_is ∙ ap (λ (g : Spot). surely g.locals) at in
+      let assigned : point ≡ surely there.locals = point_is ∙ ap (λ (g : Stage). surely g.locals) at in
       let inside : f ≡ body_where leaves c e there.locals ((forms leaves c e).test there).next body = body_is ∙ (λ j. body_where leaves c e (at j).locals (tested j).next body) in
       λ j. record { code = FMark ∷ FWhile (assigned j) (tested j).test (inside j).start (flat_stmts_of (inside j).code) after ∷ []; next = (inside j).next }
 
   module _ (at : Place) (name : ℕ) (body : PlainStmts) (after : Option Point) (head start : Point) (test : PlainFlatTest) (before turn : List PlainFlatStmt) (f : Flattened (List PlainFlatStmt)) where
-    pub list_is : (e : PlainExpr) → before ≡ list_before leaves c at (ty_at c None h.locals e) e h → head ≡ head_point name body (list_spot (ty_at c None h.locals e) ((forms leaves c e).value None h).spot) → start ≡ head_point name body (list_spot (ty_at c None h.locals e) ((forms leaves c e).value None h).spot)
-        → test ≡ list_test at ((forms leaves c e).value None h).spot.next → turn ≡ list_turn at name ((forms leaves c e).value None h).spot.next f.code
-        → f ≡ flat_all leaves c body (body_spot name (item_ty (ty_at c None h.locals e)) body (list_spot (ty_at c None h.locals e) ((forms leaves c e).value None h).spot))
+    pub list_is : (e : PlainExpr) → before ≡ list_before leaves c at (ty_at c None h.locals e) e h → head ≡ head_point name body (list_stage (ty_at c None h.locals e) ((forms leaves c e).value None h).stage) → start ≡ head_point name body (list_stage (ty_at c None h.locals e) ((forms leaves c e).value None h).stage)
+        → test ≡ list_test at ((forms leaves c e).value None h).stage.next → turn ≡ list_turn at name ((forms leaves c e).value None h).stage.next f.code
+        → f ≡ flat_all leaves c body (body_stage name (item_ty (ty_at c None h.locals e)) body (list_stage (ty_at c None h.locals e) ((forms leaves c e).value None h).stage))
         → record { code = FMark ∷ before ++ FWhile head test start (flat_stmts_of turn) after ∷ []; next = f.next } ≡ for_loop leaves c at name (PItems e) body after h
     list_is e before_is head_is start_is test_is turn_is f_is =
         let a = (forms leaves c e).value None h in
-        let there : Spot = list_spot (ty_at c None h.locals e) a.spot in
-        let turned : turn ≡ list_turn at name a.spot.next (flat_all leaves c body (body_spot name (item_ty (ty_at c None h.locals e)) body there)).code = turn_is ∙ ap (λ (g : Flattened (List PlainFlatStmt)). list_turn at name a.spot.next g.code) f_is in
+        let there : Stage = list_stage (ty_at c None h.locals e) a.stage in
+        let turned : turn ≡ list_turn at name a.stage.next (flat_all leaves c body (body_stage name (item_ty (ty_at c None h.locals e)) body there)).code = turn_is ∙ ap (λ (g : Flattened (List PlainFlatStmt)). list_turn at name a.stage.next g.code) f_is in
         (λ j. record { code = FMark ∷ before_is j ++ FWhile (head_is j) (test_is j) (start_is j) (flat_stmts_of (turned j)) after ∷ []; next = (f_is j).next })
         ∙ (λ j. record {
-          code = FMark ∷ list_loop_is at name a.spot.next (head_point name body there) after (settled at (ty_at c None h.locals e) a).before (flat_all leaves c body (body_spot name (item_ty (ty_at c None h.locals e)) body there)).code j;
-          next = (flat_all leaves c body (body_spot name (item_ty (ty_at c None h.locals e)) body there)).next;
+          code = FMark ∷ list_loop_is at name a.stage.next (head_point name body there) after (settled at (ty_at c None h.locals e) a).before (flat_all leaves c body (body_stage name (item_ty (ty_at c None h.locals e)) body there)).code j;
+          next = (flat_all leaves c body (body_stage name (item_ty (ty_at c None h.locals e)) body there)).next;
         })
 
-    pub range_is : (from : Option PlainExpr) (to : PlainExpr) → before ≡ range_before leaves c at from to h → head ≡ head_point name body (range_spot leaves c at from to h) → start ≡ head_point name body (range_spot leaves c at from to h)
+    pub range_is : (from : Option PlainExpr) (to : PlainExpr) → before ≡ range_before leaves c at from to h → head ≡ head_point name body (range_stage leaves c at from to h) → start ≡ head_point name body (range_stage leaves c at from to h)
         → test ≡ range_test at (start_number leaves c at from h) (end_number leaves c at from to h) → turn ≡ range_turn at name (start_number leaves c at from h) f.code
-        → f ≡ flat_all leaves c body (body_spot name TInt body (range_spot leaves c at from to h))
+        → f ≡ flat_all leaves c body (body_stage name TInt body (range_stage leaves c at from to h))
         → record { code = FMark ∷ before ++ FWhile head test start (flat_stmts_of turn) after ∷ []; next = f.next } ≡ for_loop leaves c at name (PRange from to) body after h
     range_is from to before_is head_is start_is test_is turn_is f_is =
         let t = start_number leaves c at from h in
-        let turned : turn ≡ range_turn at name t (flat_all leaves c body (body_spot name TInt body (range_spot leaves c at from to h))).code = turn_is ∙ ap (λ (g : Flattened (List PlainFlatStmt)). range_turn at name t g.code) f_is in
+        let turned : turn ≡ range_turn at name t (flat_all leaves c body (body_stage name TInt body (range_stage leaves c at from to h))).code = turn_is ∙ ap (λ (g : Flattened (List PlainFlatStmt)). range_turn at name t g.code) f_is in
         λ j. record { code = FMark ∷ before_is j ++ FWhile (head_is j) (test_is j) (start_is j) (flat_stmts_of (turned j)) after ∷ []; next = (f_is j).next }

@@ -7,8 +7,8 @@ use Rattle.py_tree.specs.Reachability.{goes_on}
 use Rattle.py_tree.specs.Flow.{Context}
 use Rattle.call_graph.specs.SuspendingCode.{Leaving}
 use Rattle.flat_tree.specs.PlainFlat.{Point, PlainFlatStmt, FMark, FIf, PlainFlatArm, PlainFlatArms, FNoArm, FMoreArms, flat_stmts_of, flat_arms_of}
-use Rattle.hoisting.specs.Spots.{Spot, locals_behind, where_shown}
-use Rattle.hoisting.specs.HoistStatements.{Flattened, followed, opened, flat, flat_all, flat_arms, other_spot}
+use Rattle.hoisting.specs.Stages.{Stage, locals_behind, where_shown}
+use Rattle.hoisting.specs.HoistStatements.{Flattened, followed, opened, flat, flat_all, flat_arms, other_stage}
 use Rattle.method_hoister.specs.SmallCode.{arm_code, behind_arm, choice_code}
 
 -- behind the code so far
@@ -31,13 +31,13 @@ arms_all [] = refl
 arms_all (a ∷ arms) = ap (FMoreArms a) (arms_all arms)
 
 module _ (leaves : Leaving) (c : Context) where
-  first_of_all : (x : PlainStmt) (xs : PlainStmts) (h : Spot) → flat_all leaves c (PStmt x xs) h ≡ followed (goes_on x) (flat leaves c x h) (λ next. flat_all leaves c xs (record { locals = locals_behind c x h.locals; next = next }))
+  first_of_all : (x : PlainStmt) (xs : PlainStmts) (h : Stage) → flat_all leaves c (PStmt x xs) h ≡ followed (goes_on x) (flat leaves c x h) (λ next. flat_all leaves c xs (record { locals = locals_behind c x h.locals; next = next }))
   unfolding opened
   first_of_all x xs h = refl
 
-  module _ (all : Flattened (List PlainFlatStmt)) (code : List PlainFlatStmt) (h : Spot) where
+  module _ (all : Flattened (List PlainFlatStmt)) (code : List PlainFlatStmt) (h : Stage) where
     -- one statement more, behind which the next is reached
-    pub stmts_more : (x : PlainStmt) (xs stmts : PlainStmts) (made : Flattened (List PlainFlatStmt)) (g : Spot) → stmts ≡ PStmt x xs → goes_on x ≡ true → made ≡ flat leaves c x h → g ≡ record { locals = locals_behind c x h.locals; next = made.next }
+    pub stmts_more : (x : PlainStmt) (xs stmts : PlainStmts) (made : Flattened (List PlainFlatStmt)) (g : Stage) → stmts ≡ PStmt x xs → goes_on x ≡ true → made ≡ flat leaves c x h → g ≡ record { locals = locals_behind c x h.locals; next = made.next }
         → after_code code (flat_all leaves c stmts h) ≡ all → after_code (code ++ made.code) (flat_all leaves c xs g) ≡ all
     stmts_more x xs stmts made g is on known behind so_far =
         ap (λ g. after_code (code ++ made.code) (flat_all leaves c xs g)) behind
@@ -61,12 +61,12 @@ module _ (leaves : Leaving) (c : Context) where
 
   -- Arms
 
-  first_arm : (a : PlainArm) (more : PlainArms) (h : Spot) → flat_arms leaves c (PMoreArms a more) h ≡ after_arms (arm_code leaves c a h ∷ []) (flat_arms leaves c more (behind_arm leaves c a h))
+  first_arm : (a : PlainArm) (more : PlainArms) (h : Stage) → flat_arms leaves c (PMoreArms a more) h ≡ after_arms (arm_code leaves c a h ∷ []) (flat_arms leaves c more (behind_arm leaves c a h))
   unfolding opened
   first_arm (PArm test body) more h = refl
 
-  module _ (all : Flattened PlainFlatArms) (arms : List PlainFlatArm) (h : Spot) where
-    pub arms_more : (a : PlainArm) (more from : PlainArms) (made : PlainFlatArm) (g : Spot) → from ≡ PMoreArms a more → made ≡ arm_code leaves c a h → g ≡ behind_arm leaves c a h
+  module _ (all : Flattened PlainFlatArms) (arms : List PlainFlatArm) (h : Stage) where
+    pub arms_more : (a : PlainArm) (more from : PlainArms) (made : PlainFlatArm) (g : Stage) → from ≡ PMoreArms a more → made ≡ arm_code leaves c a h → g ≡ behind_arm leaves c a h
         → after_arms arms (flat_arms leaves c from h) ≡ all → after_arms (arms ++ made ∷ []) (flat_arms leaves c more g) ≡ all
     arms_more a more from made g is known behind so_far =
         (λ j. after_arms (arms ++ known j ∷ []) (flat_arms leaves c more (behind j)))
@@ -78,28 +78,28 @@ module _ (leaves : Leaving) (c : Context) where
     arms_done from none so_far = (λ j. record { code = sym (arms_all arms) j; next = h.next }) ∙ sym (ap (λ y. after_arms arms (flat_arms leaves c y h)) none) ∙ so_far
 
   -- where all tests were False: the locals there don't depend on the number of the next temporary
-  other_same : (arms : PlainArms) (locals : List PlainLocal) (i j : ℕ) → (other_spot leaves c arms (record { locals = locals; next = i })).locals ≡ (other_spot leaves c arms (record { locals = locals; next = j })).locals
+  other_same : (arms : PlainArms) (locals : List PlainLocal) (i j : ℕ) → (other_stage leaves c arms (record { locals = locals; next = i })).locals ≡ (other_stage leaves c arms (record { locals = locals; next = j })).locals
   unfolding opened
   other_same PNoArm locals i j = refl
   other_same (PMoreArms (PArm test body) more) locals i j = other_same more (where_shown false test locals i).locals i j
 
-  first_other : (a : PlainArm) (more : PlainArms) (h : Spot) → (other_spot leaves c (PMoreArms a more) h).locals ≡ (other_spot leaves c more (behind_arm leaves c a h)).locals
+  first_other : (a : PlainArm) (more : PlainArms) (h : Stage) → (other_stage leaves c (PMoreArms a more) h).locals ≡ (other_stage leaves c more (behind_arm leaves c a h)).locals
   unfolding opened
   first_other (PArm test body) more h = other_same more (where_shown false test h.locals h.next).locals h.next (behind_arm leaves c (PArm test body) h).next
 
-  pub other_more : (locals : List PlainLocal) (h : Spot) (a : PlainArm) (more from : PlainArms) (g : Spot) → from ≡ PMoreArms a more → g ≡ behind_arm leaves c a h
-      → (other_spot leaves c from h).locals ≡ locals → (other_spot leaves c more g).locals ≡ locals
+  pub other_more : (locals : List PlainLocal) (h : Stage) (a : PlainArm) (more from : PlainArms) (g : Stage) → from ≡ PMoreArms a more → g ≡ behind_arm leaves c a h
+      → (other_stage leaves c from h).locals ≡ locals → (other_stage leaves c more g).locals ≡ locals
   other_more locals h a more from g is behind so_far =
-      ap (λ (g : Spot). (other_spot leaves c more g).locals) behind ∙ sym (ap (λ (y : PlainArms). (other_spot leaves c y h).locals) is ∙ first_other a more h) ∙ so_far
+      ap (λ (g : Stage). (other_stage leaves c more g).locals) behind ∙ sym (ap (λ (y : PlainArms). (other_stage leaves c y h).locals) is ∙ first_other a more h) ∙ so_far
 
-  pub other_done : (locals : List PlainLocal) (h : Spot) (from : PlainArms) → from ≡ PNoArm → (other_spot leaves c from h).locals ≡ locals → h.locals ≡ locals
+  pub other_done : (locals : List PlainLocal) (h : Stage) (from : PlainArms) → from ≡ PNoArm → (other_stage leaves c from h).locals ≡ locals → h.locals ≡ locals
   unfolding opened
-  other_done locals h from none so_far = sym (ap (λ (y : PlainArms). (other_spot leaves c y h).locals) none) ∙ so_far
+  other_done locals h from none so_far = sym (ap (λ (y : PlainArms). (other_stage leaves c y h).locals) none) ∙ so_far
 
   -- An `if` of arms, and what follows where no test was True
-  pub choice_is : (arms : PlainArms) (other : PlainStmts) (after : Option Point) (h : Spot) (f : Flattened PlainFlatArms) (b : Spot) (g : Flattened (List PlainFlatStmt)) → f ≡ flat_arms leaves c arms h → b.locals ≡ (other_spot leaves c arms h).locals → b.next ≡ f.next → g ≡ flat_all leaves c other b
+  pub choice_is : (arms : PlainArms) (other : PlainStmts) (after : Option Point) (h : Stage) (f : Flattened PlainFlatArms) (b : Stage) (g : Flattened (List PlainFlatStmt)) → f ≡ flat_arms leaves c arms h → b.locals ≡ (other_stage leaves c arms h).locals → b.next ≡ f.next → g ≡ flat_all leaves c other b
       → record { code = FMark ∷ FIf f.code (flat_stmts_of g.code) after ∷ []; next = g.next } ≡ choice_code leaves c arms other after h
   choice_is arms other after h f b g first locals next last =
-      let there : b ≡ record { locals = (other_spot leaves c arms h).locals; next = (flat_arms leaves c arms h).next } = λ j. record { locals = locals j; next = (next ∙ ap (λ (a : Flattened PlainFlatArms). a.next) first) j } in
-      let code : g ≡ flat_all leaves c other (record { locals = (other_spot leaves c arms h).locals; next = (flat_arms leaves c arms h).next }) = last ∙ ap (flat_all leaves c other) there in
+      let there : b ≡ record { locals = (other_stage leaves c arms h).locals; next = (flat_arms leaves c arms h).next } = λ j. record { locals = locals j; next = (next ∙ ap (λ (a : Flattened PlainFlatArms). a.next) first) j } in
+      let code : g ≡ flat_all leaves c other (record { locals = (other_stage leaves c arms h).locals; next = (flat_arms leaves c arms h).next }) = last ∙ ap (flat_all leaves c other) there in
       λ j. record { code = FMark ∷ FIf (first j).code (flat_stmts_of (code j).code) after ∷ []; next = (code j).next }

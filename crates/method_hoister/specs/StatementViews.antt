@@ -25,21 +25,21 @@ use Rattle.block_code.specs.declared.vars.VarType.{VarType}
 use Rattle.block_code.specs.PlainVars.{plain_vars}
 use Rattle.flat_tree.specs.PlainFlat.{Point, PlainFlat, PlainFlatStmt, PlainFlatArm, PlainFlatArms, flat_arms_of, plain_flat_stmts, plain_flat_arms}
 use Rattle.hoisting.specs.declared.parts.Hoisted.{Hoisted}
-use Rattle.hoisting.specs.declared.spots.Spot.{Spot}
+use Rattle.hoisting.specs.declared.stages.Stage.{Stage}
 use Rattle.hoisting.specs.declared.setting.Setting.{Setting}
-use Rattle.hoisting.specs.Spots as spots
+use Rattle.hoisting.specs.Stages as stages
 use Rattle.hoisting.specs.HoistExpressions.{Hoisted as PlainHoisted, still, in_turn, settled, settled_unless, lasts}
-use Rattle.hoisting.specs.HoistStatements.{Flattened as PlainFlattened, body_spot, read_of, optional, combination, failure_of, asserted, range_start, range_end, opened, flat_all, flat_arms, other_spot, flat}
+use Rattle.hoisting.specs.HoistStatements.{Flattened as PlainFlattened, body_stage, read_of, optional, combination, failure_of, asserted, range_start, range_end, opened, flat_all, flat_arms, other_stage, flat}
 use Rattle.hoisting.specs.FlatMethods.{start_locals, flat_method}
-use Rattle.hoisting.specs.Views.{plain_spot, context_of, leaves_of, ty_in, forms_of, hoisted_at}
+use Rattle.hoisting.specs.Views.{plain_stage, context_of, leaves_of, ty_in, forms_of, hoisted_at}
 use Rattle.method_hoister.specs.declared.code.HoistedMaybe.{HoistedMaybe}
 use Rattle.method_hoister.specs.declared.code.Flattened.{Flattened}
 use Rattle.method_hoister.specs.declared.stmts.Body.{Body}
 use Rattle.method_hoister.specs.declared.stmts.ArmsCode.{ArmsCode}
-use Rattle.method_hoister.specs.SmallCode.{PlainBody, head_point, evaluated, returned, raised, assigned, augmented, list_before, start_number, end_number, range_before, range_spot, body_where, arm_code, behind_arm, choice_code, while_code, for_loop}
+use Rattle.method_hoister.specs.SmallCode.{PlainBody, head_point, evaluated, returned, raised, assigned, augmented, list_before, start_number, end_number, range_before, range_stage, body_where, arm_code, behind_arm, choice_code, while_code, for_loop}
 
-abbrev pub maybe_at : HoistedMaybe → Spot → PlainHoisted (Option PlainExpr)
-maybe_at a h = record { before = plain_flat_stmts a.before; rest = plain_option plain_expr a.rest; spot = plain_spot h }
+abbrev pub maybe_at : HoistedMaybe → Stage → PlainHoisted (Option PlainExpr)
+maybe_at a h = record { before = plain_flat_stmts a.before; rest = plain_option plain_expr a.rest; stage = plain_stage h }
 
 abbrev pub plain_flattened : Flattened → PlainFlattened (List PlainFlatStmt)
 plain_flattened f = record { code = plain_flat_stmts f.code; next = f.next }
@@ -57,110 +57,110 @@ method_in program class method = slice_get (methods_of (checked_names program) (
 -- What functions give, in the method at hand
 module _ (s : Setting) where
   -- what is known behind an expression
-  abbrev pub behind_value : Expr → Spot → spots.Spot
-  behind_value e h = ((forms_of s e).value None (plain_spot h)).spot
+  abbrev pub behind_value : Expr → Stage → stages.Stage
+  behind_value e h = ((forms_of s e).value None (plain_stage h)).stage
 
-  abbrev pub settled_in : Place → Expr → Spot → PlainHoisted PlainExpr
+  abbrev pub settled_in : Place → Expr → Stage → PlainHoisted PlainExpr
   settled_in at e h =
-      settled_unless (lasts (leaves_of s) (plain_expr e)) at (ty_in s (plain_locals h.locals) None (plain_expr e)) ((forms_of s e).value None (plain_spot h))
+      settled_unless (lasts (leaves_of s) (plain_expr e)) at (ty_in s (plain_locals h.locals) None (plain_expr e)) ((forms_of s e).value None (plain_stage h))
 
-  abbrev pub evaluated_in : Place → Expr → Spot → PlainFlattened (List PlainFlatStmt)
-  evaluated_in at e h = evaluated (leaves_of s) (context_of s) at (plain_expr e) (plain_spot h)
+  abbrev pub evaluated_in : Place → Expr → Stage → PlainFlattened (List PlainFlatStmt)
+  evaluated_in at e h = evaluated (leaves_of s) (context_of s) at (plain_expr e) (plain_stage h)
 
-  abbrev pub optional_in : Option (Bor Ty) → Option Expr → Spot → PlainHoisted (Option PlainExpr)
-  optional_in wanted e h = optional (leaves_of s) (context_of s) (plain_wanted wanted) (plain_option plain_expr e) (plain_spot h)
+  abbrev pub optional_in : Option (Bor Ty) → Option Expr → Stage → PlainHoisted (Option PlainExpr)
+  optional_in wanted e h = optional (leaves_of s) (context_of s) (plain_wanted wanted) (plain_option plain_expr e) (plain_stage h)
 
-  abbrev pub returned_in : Place → Option Expr → Spot → PlainFlattened (List PlainFlatStmt)
-  returned_in at e h = returned (leaves_of s) (context_of s) at (plain_option plain_expr e) (plain_spot h)
+  abbrev pub returned_in : Place → Option Expr → Stage → PlainFlattened (List PlainFlatStmt)
+  returned_in at e h = returned (leaves_of s) (context_of s) at (plain_option plain_expr e) (plain_stage h)
 
-  abbrev pub raised_in : ℕ → Option Expr → Spot → PlainFlattened (List PlainFlatStmt)
-  raised_in kind e h = raised (leaves_of s) (context_of s) kind (plain_option plain_expr e) (plain_spot h)
+  abbrev pub raised_in : ℕ → Option Expr → Stage → PlainFlattened (List PlainFlatStmt)
+  raised_in kind e h = raised (leaves_of s) (context_of s) kind (plain_option plain_expr e) (plain_stage h)
 
-  abbrev pub failure_in : Option Expr → Spot → PlainFlattened (List PlainFlatStmt)
-  failure_in e h = failure_of (leaves_of s) (context_of s) (plain_option plain_expr e) (plain_spot h)
+  abbrev pub failure_in : Option Expr → Stage → PlainFlattened (List PlainFlatStmt)
+  failure_in e h = failure_of (leaves_of s) (context_of s) (plain_option plain_expr e) (plain_stage h)
 
-  abbrev pub asserted_in : Expr → Option Expr → Spot → PlainFlattened (List PlainFlatStmt)
-  asserted_in test e h = asserted (leaves_of s) (context_of s) (plain_expr test) (plain_option plain_expr e) (plain_spot h)
+  abbrev pub asserted_in : Expr → Option Expr → Stage → PlainFlattened (List PlainFlatStmt)
+  asserted_in test e h = asserted (leaves_of s) (context_of s) (plain_expr test) (plain_option plain_expr e) (plain_stage h)
 
-  abbrev pub assignment_in : Target → Expr → Spot → PlainFlattened (List PlainFlatStmt)
-  assignment_in target e h = assigned (leaves_of s) (context_of s) target (plain_expr e) (plain_spot h)
+  abbrev pub assignment_in : Target → Expr → Stage → PlainFlattened (List PlainFlatStmt)
+  assignment_in target e h = assigned (leaves_of s) (context_of s) target (plain_expr e) (plain_stage h)
 
-  abbrev pub combination_in : Place → Target → BinOp → Place → Expr → Spot → PlainHoisted PlainExpr
-  combination_in at target op op_at e h = combination (leaves_of s) (context_of s) at target op op_at (plain_expr e) (plain_spot h)
+  abbrev pub combination_in : Place → Target → BinOp → Place → Expr → Stage → PlainHoisted PlainExpr
+  combination_in at target op op_at e h = combination (leaves_of s) (context_of s) at target op op_at (plain_expr e) (plain_stage h)
 
-  abbrev pub augmented_in : Place → Target → BinOp → Place → Expr → Spot → PlainFlattened (List PlainFlatStmt)
-  augmented_in at target op op_at e h = augmented (leaves_of s) (context_of s) at target op op_at (plain_expr e) (plain_spot h)
+  abbrev pub augmented_in : Place → Target → BinOp → Place → Expr → Stage → PlainFlattened (List PlainFlatStmt)
+  augmented_in at target op op_at e h = augmented (leaves_of s) (context_of s) at target op op_at (plain_expr e) (plain_stage h)
 
-  abbrev pub list_before_in : Place → Ty → Expr → Spot → List PlainFlatStmt
-  list_before_in at ty e h = list_before (leaves_of s) (context_of s) at (plain_ty ty) (plain_expr e) (plain_spot h)
+  abbrev pub list_before_in : Place → Ty → Expr → Stage → List PlainFlatStmt
+  list_before_in at ty e h = list_before (leaves_of s) (context_of s) at (plain_ty ty) (plain_expr e) (plain_stage h)
 
-  abbrev pub range_end_in : Place → Expr → Spot → PlainHoisted PlainExpr
-  range_end_in at e h = range_end (leaves_of s) (context_of s) at (plain_expr e) (plain_spot h)
+  abbrev pub range_end_in : Place → Expr → Stage → PlainHoisted PlainExpr
+  range_end_in at e h = range_end (leaves_of s) (context_of s) at (plain_expr e) (plain_stage h)
 
-  abbrev pub range_start_in : Place → Option Expr → Spot → PlainHoisted PlainExpr
-  range_start_in at e h = range_start (leaves_of s) (context_of s) at (plain_option plain_expr e) (plain_spot h)
+  abbrev pub range_start_in : Place → Option Expr → Stage → PlainHoisted PlainExpr
+  range_start_in at e h = range_start (leaves_of s) (context_of s) at (plain_option plain_expr e) (plain_stage h)
 
-  abbrev pub start_number_in : Place → Option Expr → Spot → ℕ
-  start_number_in at e h = start_number (leaves_of s) (context_of s) at (plain_option plain_expr e) (plain_spot h)
+  abbrev pub start_number_in : Place → Option Expr → Stage → ℕ
+  start_number_in at e h = start_number (leaves_of s) (context_of s) at (plain_option plain_expr e) (plain_stage h)
 
-  abbrev pub end_number_in : Place → Option Expr → Expr → Spot → ℕ
-  end_number_in at from to h = end_number (leaves_of s) (context_of s) at (plain_option plain_expr from) (plain_expr to) (plain_spot h)
+  abbrev pub end_number_in : Place → Option Expr → Expr → Stage → ℕ
+  end_number_in at from to h = end_number (leaves_of s) (context_of s) at (plain_option plain_expr from) (plain_expr to) (plain_stage h)
 
-  abbrev pub range_before_in : Place → Option Expr → Expr → Spot → List PlainFlatStmt
-  range_before_in at from to h = range_before (leaves_of s) (context_of s) at (plain_option plain_expr from) (plain_expr to) (plain_spot h)
+  abbrev pub range_before_in : Place → Option Expr → Expr → Stage → List PlainFlatStmt
+  range_before_in at from to h = range_before (leaves_of s) (context_of s) at (plain_option plain_expr from) (plain_expr to) (plain_stage h)
 
-  abbrev pub range_spot_in : Place → Option Expr → Expr → Spot → spots.Spot
-  range_spot_in at from to h = range_spot (leaves_of s) (context_of s) at (plain_option plain_expr from) (plain_expr to) (plain_spot h)
+  abbrev pub range_stage_in : Place → Option Expr → Expr → Stage → stages.Stage
+  range_stage_in at from to h = range_stage (leaves_of s) (context_of s) at (plain_option plain_expr from) (plain_expr to) (plain_stage h)
 
-  abbrev pub flat_in : Stmt → Spot → PlainFlattened (List PlainFlatStmt)
-  flat_in x h = flat (leaves_of s) (context_of s) (plain_stmt x) (plain_spot h)
+  abbrev pub flat_in : Stmt → Stage → PlainFlattened (List PlainFlatStmt)
+  flat_in x h = flat (leaves_of s) (context_of s) (plain_stmt x) (plain_stage h)
 
-  abbrev pub opened_in : Stmt → Spot → PlainFlattened (List PlainFlatStmt)
-  opened_in x h = opened (leaves_of s) (context_of s) (plain_stmt x) (plain_spot h)
+  abbrev pub opened_in : Stmt → Stage → PlainFlattened (List PlainFlatStmt)
+  opened_in x h = opened (leaves_of s) (context_of s) (plain_stmt x) (plain_stage h)
 
-  abbrev pub flat_all_in : List Stmt → Spot → PlainFlattened (List PlainFlatStmt)
-  flat_all_in xs h = flat_all (leaves_of s) (context_of s) (stmts_of (plain_stmts xs)) (plain_spot h)
+  abbrev pub flat_all_in : List Stmt → Stage → PlainFlattened (List PlainFlatStmt)
+  flat_all_in xs h = flat_all (leaves_of s) (context_of s) (stmts_of (plain_stmts xs)) (plain_stage h)
 
   abbrev pub body_in : Expr → List Local → ℕ → List Stmt → PlainBody
   body_in test locals next body = body_where (leaves_of s) (context_of s) (plain_expr test) (plain_locals locals) next (stmts_of (plain_stmts body))
 
-  abbrev pub arm_in : Arm → Spot → PlainFlatArm
-  arm_in arm h = arm_code (leaves_of s) (context_of s) (plain_arm arm) (plain_spot h)
+  abbrev pub arm_in : Arm → Stage → PlainFlatArm
+  arm_in arm h = arm_code (leaves_of s) (context_of s) (plain_arm arm) (plain_stage h)
 
-  abbrev pub behind_arm_in : Arm → Spot → spots.Spot
-  behind_arm_in arm h = behind_arm (leaves_of s) (context_of s) (plain_arm arm) (plain_spot h)
+  abbrev pub behind_arm_in : Arm → Stage → stages.Stage
+  behind_arm_in arm h = behind_arm (leaves_of s) (context_of s) (plain_arm arm) (plain_stage h)
 
-  abbrev pub arms_in : List Arm → Spot → PlainFlattened PlainFlatArms
-  arms_in arms h = flat_arms (leaves_of s) (context_of s) (arms_of (plain_arms arms)) (plain_spot h)
+  abbrev pub arms_in : List Arm → Stage → PlainFlattened PlainFlatArms
+  arms_in arms h = flat_arms (leaves_of s) (context_of s) (arms_of (plain_arms arms)) (plain_stage h)
 
-  abbrev pub other_in : List Arm → Spot → spots.Spot
-  other_in arms h = other_spot (leaves_of s) (context_of s) (arms_of (plain_arms arms)) (plain_spot h)
+  abbrev pub other_in : List Arm → Stage → stages.Stage
+  other_in arms h = other_stage (leaves_of s) (context_of s) (arms_of (plain_arms arms)) (plain_stage h)
 
-  abbrev pub choice_in : List Arm → List Stmt → Option (List VarType) → Spot → PlainFlattened (List PlainFlatStmt)
+  abbrev pub choice_in : List Arm → List Stmt → Option (List VarType) → Stage → PlainFlattened (List PlainFlatStmt)
   choice_in arms other after h =
-      choice_code (leaves_of s) (context_of s) (arms_of (plain_arms arms)) (stmts_of (plain_stmts other)) (plain_option plain_vars after) (plain_spot h)
+      choice_code (leaves_of s) (context_of s) (arms_of (plain_arms arms)) (stmts_of (plain_stmts other)) (plain_option plain_vars after) (plain_stage h)
 
-  abbrev pub while_in : Expr → List Stmt → Option (List VarType) → Spot → PlainFlattened (List PlainFlatStmt)
+  abbrev pub while_in : Expr → List Stmt → Option (List VarType) → Stage → PlainFlattened (List PlainFlatStmt)
   while_in test body after h =
-      while_code (leaves_of s) (context_of s) (plain_expr test) (stmts_of (plain_stmts body)) (plain_option plain_vars after) (plain_spot h)
+      while_code (leaves_of s) (context_of s) (plain_expr test) (stmts_of (plain_stmts body)) (plain_option plain_vars after) (plain_stage h)
 
   -- a `for` over what is given as a plain tree
-  abbrev pub for_in : Place → Name → PlainOver → List Stmt → Option (List VarType) → Spot → PlainFlattened (List PlainFlatStmt)
+  abbrev pub for_in : Place → Name → PlainOver → List Stmt → Option (List VarType) → Stage → PlainFlattened (List PlainFlatStmt)
   for_in at name over body after h =
-      for_loop (leaves_of s) (context_of s) at name.0 over (stmts_of (plain_stmts body)) (plain_option plain_vars after) (plain_spot h)
+      for_loop (leaves_of s) (context_of s) at name.0 over (stmts_of (plain_stmts body)) (plain_option plain_vars after) (plain_stage h)
 
-  abbrev pub for_range_in : Place → Name → Option Expr → Expr → List Stmt → Option (List VarType) → Spot → PlainFlattened (List PlainFlatStmt)
+  abbrev pub for_range_in : Place → Name → Option Expr → Expr → List Stmt → Option (List VarType) → Stage → PlainFlattened (List PlainFlatStmt)
   for_range_in at name from to body after h = for_in at name (PRange (plain_option plain_expr from) (plain_expr to)) body after h
 
 -- at the head of a `for`, and where its body begins
-abbrev pub head_in : Name → List Stmt → Spot → Point
-head_in name body h = head_point name.0 (stmts_of (plain_stmts body)) (plain_spot h)
+abbrev pub head_in : Name → List Stmt → Stage → Point
+head_in name body h = head_point name.0 (stmts_of (plain_stmts body)) (plain_stage h)
 
-abbrev pub body_spot_in : Name → Ty → List Stmt → Spot → spots.Spot
-body_spot_in name ty body h = body_spot name.0 (plain_ty ty) (stmts_of (plain_stmts body)) (plain_spot h)
+abbrev pub body_stage_in : Name → Ty → List Stmt → Stage → stages.Stage
+body_stage_in name ty body h = body_stage name.0 (plain_ty ty) (stmts_of (plain_stmts body)) (plain_stage h)
 
 -- one operator over what is left of two expressions
-abbrev pub combined_at : Place → BinOp → Place → Hoisted → Hoisted → Spot → PlainHoisted PlainExpr
+abbrev pub combined_at : Place → BinOp → Place → Hoisted → Hoisted → Stage → PlainHoisted PlainExpr
 combined_at at op op_at left right h = in_turn (λ l r. PChain at l (PMoreLinks (PLink op op_at r) PNoLink)) (hoisted_at left h) (λ g. hoisted_at right h)
 
 -- so it is for the method of this number, in the class of that number
@@ -168,8 +168,8 @@ abbrev pub OfMethod : Checked → ℕ → ℕ → (PlainMethod → Type 0) → T
 OfMethod program class method P = (m : PlainMethod) → method_in program class method ≡ Some m → P m
 
 -- the target of `x op= e` as it is read, in a temporary
-abbrev pub held_in : Place → Target → Ty → Spot → PlainHoisted PlainExpr
-held_in at target ty h = settled at (plain_ty ty) (still (read_of at target) (plain_spot h))
+abbrev pub held_in : Place → Target → Ty → Stage → PlainHoisted PlainExpr
+held_in at target ty h = settled at (plain_ty ty) (still (read_of at target) (plain_stage h))
 
 -- the locals of a method where its body begins, and its flat method
 abbrev pub locals_in : Checked → ℕ → ℕ → PlainMethod → List PlainLocal

@@ -19,7 +19,7 @@ use expression_hoister::{test, value};
 use flat_tree::{FlatArm, FlatStmt, FlatStmts};
 use flow_types::Locals;
 use hoisting::parts::{Hoisted, lasts, settle};
-use hoisting::{Setting, Spot, surely, where_shown};
+use hoisting::{Setting, Stage, surely, where_shown};
 use py_tree::nodes::{chain, link_of, nil_of};
 use py_tree::{BinOp, Expr, Place, Stmt, Target, Ty};
 use sf_list::{Sequence, TryClone};
@@ -80,43 +80,43 @@ pub fn code_of(alloc: Global, stmt: &Stmt, next: u32) -> Result<Flattened, Alloc
 pub fn settled_value(
     alloc: Global,
     setting: &Setting<'_>,
-    spot: &mut Spot,
+    stage: &mut Stage,
     place: Place,
     expr: &Expr,
 ) -> Result<Hoisted, AllocError>
-    ensures { IfOk result (λ made. hoisted_at made spot.new ≡ gives.settled_in setting.now place expr.now spot.old) }
+    ensures { IfOk result (λ made. hoisted_at made stage.new ≡ gives.settled_in setting.now place expr.now stage.old) }
 {
     if lasts(setting, expr) {
-        return value(alloc, setting, spot, None, expr);
+        return value(alloc, setting, stage, None, expr);
     }
-    let ty = setting.ty_at(alloc, &spot.locals, None, expr)?;
-    let hoisted = value(alloc, setting, spot, None, expr)?;
-    settle(alloc, spot, place, ty, hoisted)
+    let ty = setting.ty_at(alloc, &stage.locals, None, expr)?;
+    let hoisted = value(alloc, setting, stage, None, expr)?;
+    settle(alloc, stage, place, ty, hoisted)
 }
 
 /// An expression as a statement.
 pub fn evaluated(
     alloc: Global,
     setting: &Setting<'_>,
-    spot: &mut Spot,
+    stage: &mut Stage,
     place: Place,
     expr: &Expr,
 ) -> Result<Flattened, AllocError>
-    ensures { IfOk result (λ made. plain_flattened made ≡ gives.evaluated_in setting.now place expr.now spot.old) }
+    ensures { IfOk result (λ made. plain_flattened made ≡ gives.evaluated_in setting.now place expr.now stage.old) }
 {
-    let hoisted = settled_value(alloc, setting, spot, place, expr)?;
-    stepped(alloc, hoisted.before, spot.next)
+    let hoisted = settled_value(alloc, setting, stage, place, expr)?;
+    stepped(alloc, hoisted.before, stage.next)
 }
 
 /// An expression, where there is one.
 pub fn optional(
     alloc: Global,
     setting: &Setting<'_>,
-    spot: &mut Spot,
+    stage: &mut Stage,
     wanted: Option<&Ty>,
     expr: &Option<Expr>,
 ) -> Result<HoistedMaybe, AllocError>
-    ensures { IfOk result (λ made. maybe_at made spot.new ≡ gives.optional_in setting.now wanted.entry expr.now spot.old) }
+    ensures { IfOk result (λ made. maybe_at made stage.new ≡ gives.optional_in setting.now wanted.entry expr.now stage.old) }
 {
     match expr {
         None => Ok(HoistedMaybe {
@@ -124,7 +124,7 @@ pub fn optional(
             rest: None,
         }),
         Some(expr) => {
-            let hoisted = value(alloc, setting, spot, wanted, expr)?;
+            let hoisted = value(alloc, setting, stage, wanted, expr)?;
             Ok(HoistedMaybe {
                 before: hoisted.before,
                 rest: Some(hoisted.rest),
@@ -148,17 +148,17 @@ fn value_or_nil(place: Place, expr: Option<Expr>) -> Expr
 pub fn returned(
     alloc: Global,
     setting: &Setting<'_>,
-    spot: &mut Spot,
+    stage: &mut Stage,
     place: Place,
     expr: &Option<Expr>,
 ) -> Result<Flattened, AllocError>
-    ensures { IfOk result (λ made. plain_flattened made ≡ gives.returned_in setting.now place expr.now spot.old) }
+    ensures { IfOk result (λ made. plain_flattened made ≡ gives.returned_in setting.now place expr.now stage.old) }
 {
     let ty = setting.result_ty(alloc)?;
-    let hoisted = optional(alloc, setting, spot, Some(&ty), expr)?;
+    let hoisted = optional(alloc, setting, stage, Some(&ty), expr)?;
     drop(ty);
     let last = FlatStmt::Give(value_or_nil(place, hoisted.rest));
-    marked(alloc, hoisted.before, last, spot.next)
+    marked(alloc, hoisted.before, last, stage.next)
 }
 
 /// `raise`.
@@ -166,15 +166,15 @@ pub fn returned(
 pub fn raised(
     alloc: Global,
     setting: &Setting<'_>,
-    spot: &mut Spot,
+    stage: &mut Stage,
     kind: u8,
     expr: &Option<Expr>,
 ) -> Result<Flattened, AllocError>
-    ensures { IfOk result (λ made. plain_flattened made ≡ gives.raised_in setting.now kind expr.now spot.old) }
+    ensures { IfOk result (λ made. plain_flattened made ≡ gives.raised_in setting.now kind expr.now stage.old) }
 {
-    let hoisted = optional(alloc, setting, spot, None, expr)?;
+    let hoisted = optional(alloc, setting, stage, None, expr)?;
     let last = FlatStmt::Fail(kind, hoisted.rest);
-    marked(alloc, hoisted.before, last, spot.next)
+    marked(alloc, hoisted.before, last, stage.next)
 }
 
 /// What fails where an `assert` doesn't hold.
@@ -182,17 +182,17 @@ pub fn raised(
 fn failure_of(
     alloc: Global,
     setting: &Setting<'_>,
-    spot: &mut Spot,
+    stage: &mut Stage,
     expr: &Option<Expr>,
 ) -> Result<Flattened, AllocError>
-    ensures { IfOk result (λ made. plain_flattened made ≡ gives.failure_in setting.now expr.now spot.old) }
+    ensures { IfOk result (λ made. plain_flattened made ≡ gives.failure_in setting.now expr.now stage.old) }
 {
-    let hoisted = optional(alloc, setting, spot, None, expr)?;
+    let hoisted = optional(alloc, setting, stage, None, expr)?;
     let mut code = hoisted.before;
     code.push(alloc, FlatStmt::Fail(3, hoisted.rest))?;
     Ok(Flattened {
         code,
-        next: spot.next,
+        next: stage.next,
     })
 }
 
@@ -221,19 +221,19 @@ fn assert_arm(
 pub fn asserted(
     alloc: Global,
     setting: &Setting<'_>,
-    spot: &mut Spot,
+    stage: &mut Stage,
     decider: &Expr,
     message: &Option<Expr>,
 ) -> Result<Flattened, AllocError>
-    ensures { IfOk result (λ made. plain_flattened made ≡ gives.asserted_in setting.now decider.now message.now spot.old) }
+    ensures { IfOk result (λ made. plain_flattened made ≡ gives.asserted_in setting.now decider.now message.now stage.old) }
 {
-    let tested = test(alloc, setting, spot, decider)?;
-    let holds = where_shown(alloc, &spot.locals, decider, true, tested.next)?;
+    let tested = test(alloc, setting, stage, decider)?;
+    let holds = where_shown(alloc, &stage.locals, decider, true, tested.next)?;
     let behind = surely(alloc, &holds.locals)?;
     drop(holds);
-    spot.next = tested.next;
-    let arm = assert_arm(alloc, &spot.locals, decider, tested)?;
-    let failure = failure_of(alloc, setting, spot, message)?;
+    stage.next = tested.next;
+    let arm = assert_arm(alloc, &stage.locals, decider, tested)?;
+    let failure = failure_of(alloc, setting, stage, message)?;
     let choice = if_stmt(alloc, arm, failure.code, behind)?;
     marked(alloc, Sequence::new(alloc), choice, failure.next)
 }
@@ -242,52 +242,52 @@ pub fn asserted(
 pub fn assigned(
     alloc: Global,
     setting: &Setting<'_>,
-    spot: &mut Spot,
+    stage: &mut Stage,
     target: Target,
     expr: &Expr,
 ) -> Result<Flattened, AllocError>
-    ensures { IfOk result (λ made. plain_flattened made ≡ gives.assignment_in setting.now target expr.now spot.old) }
+    ensures { IfOk result (λ made. plain_flattened made ≡ gives.assignment_in setting.now target expr.now stage.old) }
 {
-    let wanted = target_ty(alloc, setting, &spot.locals, target)?;
-    let hoisted = value(alloc, setting, spot, wanted.as_ref(), expr)?;
+    let wanted = target_ty(alloc, setting, &stage.locals, target)?;
+    let hoisted = value(alloc, setting, stage, wanted.as_ref(), expr)?;
     drop(wanted);
     marked(
         alloc,
         hoisted.before,
         stored(target, hoisted.rest),
-        spot.next,
+        stage.next,
     )
 }
 
 /// The target of `x op= e`, read before e.
 fn held_target(
     alloc: Global,
-    spot: &mut Spot,
+    stage: &mut Stage,
     place: Place,
     target: Target,
     ty: &Ty,
 ) -> Result<Hoisted, AllocError>
-    ensures { IfOk result (λ made. hoisted_at made spot.new ≡ gives.held_in place target ty.now spot.old) }
+    ensures { IfOk result (λ made. hoisted_at made stage.new ≡ gives.held_in place target ty.now stage.old) }
 {
     let ty = ty.try_clone(alloc)?;
     let read = Hoisted {
         before: Sequence::new(alloc),
         rest: read_of(alloc, place, target)?,
     };
-    settle(alloc, spot, place, ty, read)
+    settle(alloc, stage, place, ty, read)
 }
 
 /// One operator over what is left of two expressions.
 fn combined(
     alloc: Global,
-    spot: &Spot,
+    stage: &Stage,
     place: Place,
     op: BinOp,
     op_place: Place,
     left: Hoisted,
     right: Hoisted,
 ) -> Result<Hoisted, AllocError>
-    ensures { IfOk result (λ made. hoisted_at made spot.now ≡ gives.combined_at place op op_place left right spot.now) }
+    ensures { IfOk result (λ made. hoisted_at made stage.now ≡ gives.combined_at place op op_place left right stage.now) }
 {
     let mut before = left.before;
     before.append(alloc, right.before)?;
@@ -301,42 +301,42 @@ fn combined(
 fn combination(
     alloc: Global,
     setting: &Setting<'_>,
-    spot: &mut Spot,
+    stage: &mut Stage,
     place: Place,
     target: Target,
     op: BinOp,
     op_place: Place,
     expr: &Expr,
 ) -> Result<Hoisted, AllocError>
-    ensures { IfOk result (λ made. hoisted_at made spot.new ≡ gives.combination_in setting.now place target op op_place expr.now spot.old) }
+    ensures { IfOk result (λ made. hoisted_at made stage.new ≡ gives.combination_in setting.now place target op op_place expr.now stage.old) }
 {
     let read = target_read(alloc, place, target)?;
-    let ty = setting.ty_at(alloc, &spot.locals, None, &read)?;
+    let ty = setting.ty_at(alloc, &stage.locals, None, &read)?;
     drop(read);
-    let left = held_target(alloc, spot, place, target, &ty)?;
-    let right = value(alloc, setting, spot, right_wanted(op, &ty), expr)?;
+    let left = held_target(alloc, stage, place, target, &ty)?;
+    let right = value(alloc, setting, stage, right_wanted(op, &ty), expr)?;
     drop(ty);
-    combined(alloc, spot, place, op, op_place, left, right)
+    combined(alloc, stage, place, op, op_place, left, right)
 }
 
 /// `x op= e`.
 pub fn augmented(
     alloc: Global,
     setting: &Setting<'_>,
-    spot: &mut Spot,
+    stage: &mut Stage,
     place: Place,
     target: Target,
     op: BinOp,
     op_place: Place,
     expr: &Expr,
 ) -> Result<Flattened, AllocError>
-    ensures { IfOk result (λ made. plain_flattened made ≡ gives.augmented_in setting.now place target op op_place expr.now spot.old) }
+    ensures { IfOk result (λ made. plain_flattened made ≡ gives.augmented_in setting.now place target op op_place expr.now stage.old) }
 {
-    let hoisted = combination(alloc, setting, spot, place, target, op, op_place, expr)?;
+    let hoisted = combination(alloc, setting, stage, place, target, op, op_place, expr)?;
     marked(
         alloc,
         hoisted.before,
         stored(target, hoisted.rest),
-        spot.next,
+        stage.next,
     )
 }

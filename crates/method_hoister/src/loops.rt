@@ -9,7 +9,7 @@ ghost use Rattle.py_tree.specs.Reachability.{assigned_in};
 ghost use Rattle.py_tree.specs.Flow as flow;
 ghost use Rattle.entity_types.specs.Views.{plain_local, plain_locals};
 ghost use Rattle.flat_tree.specs.PlainFlat.{plain_flat_stmts, plain_flat_test};
-ghost use Rattle.hoisting.specs.Spots.{item_ty as the_item_ty};
+ghost use Rattle.hoisting.specs.Stages.{item_ty as the_item_ty};
 ghost use Rattle.hoisting.specs.HoistStatements as spec;
 ghost use Rattle.method_hoister.specs.SmallCode as code;
 

@@ -11,7 +11,7 @@ ghost use Rattle.entity_types.specs.Views.{plain_locals};
 ghost use Rattle.block_code.specs.PlainVars.{plain_var, plain_vars};
 ghost use Rattle.block_code.specs.GraphFits.{var_of_param};
 ghost use Rattle.flat_tree.specs.PlainFlat.{plain_flat};
-ghost use Rattle.hoisting.specs.Spots.{params_of_sig};
+ghost use Rattle.hoisting.specs.Stages.{params_of_sig};
 ghost use Rattle.method_hoister.specs.StatementViews as gives;
 ghost use Rattle.method_hoister.specs.StatementViews.{method_in, OfMethod};
 
@@ -21,7 +21,7 @@ use call_graph::CallGraph;
 use entity_tables::SigParam;
 use flat_tree::Flat;
 use flow_types::{Locals, RuleError, Tables, check_method};
-use hoisting::{Setting, Spot, sig_at};
+use hoisting::{Setting, Stage, sig_at};
 use py_tree::{Checked, Stmt};
 use sf_list::{Sequence, TryClone};
 use std::alloc::{AllocError, Global};
@@ -124,7 +124,7 @@ pub fn hoist(
         class,
         method,
     };
-    let start = Spot {
+    let start = Stage {
         locals,
         next: program.names().count(),
     };

@@ -5,7 +5,7 @@ ghost use Rattle.py_tree.specs.PlainTypes.{plain_ty};
 ghost use Rattle.flat_tree.specs.PlainFlat.{plain_flat_stmts};
 ghost use Rattle.block_code.specs.PlainVars.{plain_vars};
 ghost use Rattle.hoisting.specs.HoistStatements as spec;
-ghost use Rattle.hoisting.specs.Views.{plain_spot};
+ghost use Rattle.hoisting.specs.Views.{plain_stage};
 ghost use Rattle.method_hoister.specs.StatementViews as gives;
 
 use crate::loops::{ListNames, head_locals, list_start, with_local};
@@ -14,7 +14,7 @@ use expression_hoister::kinds::posed;
 use expression_hoister::value;
 use flat_tree::FlatStmts;
 use hoisting::parts::settle;
-use hoisting::{Setting, Spot, surely};
+use hoisting::{Setting, Stage, surely};
 use py_tree::nodes::int_of;
 use py_tree::{Expr, Name, Place, Stmts, Ty};
 use sf_list::TryClone;
@@ -31,21 +31,21 @@ pub struct ListBefore {
 pub fn list_before(
     alloc: Global,
     setting: &Setting<'_>,
-    spot: &mut Spot,
+    stage: &mut Stage,
     place: Place,
     ty: &Ty,
     expr: &Expr,
 ) -> Result<ListBefore, AllocError>
-    ensures list { IfOk result (λ made. made.names.list.0 ≡ (gives.behind_value setting.now expr.now spot.old).next) }
+    ensures list { IfOk result (λ made. made.names.list.0 ≡ (gives.behind_value setting.now expr.now stage.old).next) }
     ensures place { IfOk result (λ made. made.names.place.0 ≡ made.names.list.0 + 1) }
-    ensures before { IfOk result (λ made. plain_flat_stmts made.before ≡ gives.list_before_in setting.now place ty.now expr.now spot.old) }
-    ensures known { OnOk result (plain_spot spot.new ≡ spec.list_spot (plain_ty ty.now) (gives.behind_value setting.now expr.now spot.old)) }
+    ensures before { IfOk result (λ made. plain_flat_stmts made.before ≡ gives.list_before_in setting.now place ty.now expr.now stage.old) }
+    ensures known { OnOk result (plain_stage stage.new ≡ spec.list_stage (plain_ty ty.now) (gives.behind_value setting.now expr.now stage.old)) }
 {
-    let hoisted = value(alloc, setting, spot, None, expr)?;
-    let list = Name(spot.next);
-    let hoisted = settle(alloc, spot, place, ty.try_clone(alloc)?, hoisted)?;
-    let index = spot.add_temporary(alloc, Ty::Int)?;
-    let empty = spot.add_temporary(alloc, ty.try_clone(alloc)?)?;
+    let hoisted = value(alloc, setting, stage, None, expr)?;
+    let list = Name(stage.next);
+    let hoisted = settle(alloc, stage, place, ty.try_clone(alloc)?, hoisted)?;
+    let index = stage.add_temporary(alloc, Ty::Int)?;
+    let empty = stage.add_temporary(alloc, ty.try_clone(alloc)?)?;
     let names = ListNames {
         list,
         place: index,
@@ -66,18 +66,18 @@ pub struct RangeEnd {
 fn range_end(
     alloc: Global,
     setting: &Setting<'_>,
-    spot: &mut Spot,
+    stage: &mut Stage,
     place: Place,
     expr: &Expr,
 ) -> Result<RangeEnd, AllocError>
-    ensures name { IfOk result (λ made. made.name.0 ≡ (gives.behind_value setting.now expr.now spot.old).next) }
-    ensures before { IfOk result (λ made. plain_flat_stmts made.before ≡ (gives.range_end_in setting.now place expr.now spot.old).before) }
-    ensures known { OnOk result (plain_spot spot.new ≡ (gives.range_end_in setting.now place expr.now spot.old).spot) }
+    ensures name { IfOk result (λ made. made.name.0 ≡ (gives.behind_value setting.now expr.now stage.old).next) }
+    ensures before { IfOk result (λ made. plain_flat_stmts made.before ≡ (gives.range_end_in setting.now place expr.now stage.old).before) }
+    ensures known { OnOk result (plain_stage stage.new ≡ (gives.range_end_in setting.now place expr.now stage.old).stage) }
 {
-    let hoisted = value(alloc, setting, spot, None, expr)?;
-    let hoisted = posed(alloc, spot, place, hoisted)?;
-    let name = Name(spot.next);
-    let hoisted = settle(alloc, spot, place, Ty::Int, hoisted)?;
+    let hoisted = value(alloc, setting, stage, None, expr)?;
+    let hoisted = posed(alloc, stage, place, hoisted)?;
+    let name = Name(stage.next);
+    let hoisted = settle(alloc, stage, place, Ty::Int, hoisted)?;
     Ok(RangeEnd {
         before: hoisted.before,
         name,
@@ -88,19 +88,19 @@ fn range_end(
 fn range_start(
     alloc: Global,
     setting: &Setting<'_>,
-    spot: &mut Spot,
+    stage: &mut Stage,
     place: Place,
     start: &Option<Expr>,
 ) -> Result<RangeEnd, AllocError>
-    ensures name { IfOk result (λ made. made.name.0 ≡ gives.start_number_in setting.now place start.now spot.old) }
-    ensures before { IfOk result (λ made. plain_flat_stmts made.before ≡ (gives.range_start_in setting.now place start.now spot.old).before) }
-    ensures known { OnOk result (plain_spot spot.new ≡ (gives.range_start_in setting.now place start.now spot.old).spot) }
+    ensures name { IfOk result (λ made. made.name.0 ≡ gives.start_number_in setting.now place start.now stage.old) }
+    ensures before { IfOk result (λ made. plain_flat_stmts made.before ≡ (gives.range_start_in setting.now place start.now stage.old).before) }
+    ensures known { OnOk result (plain_stage stage.new ≡ (gives.range_start_in setting.now place start.now stage.old).stage) }
 {
     match start {
-        Some(start) => range_end(alloc, setting, spot, place, start),
+        Some(start) => range_end(alloc, setting, stage, place, start),
         None => {
             let zero = int_of(place, 0);
-            range_end(alloc, setting, spot, place, &zero)
+            range_end(alloc, setting, stage, place, &zero)
         }
     }
 }
@@ -117,18 +117,18 @@ pub struct RangeBefore {
 pub fn range_before(
     alloc: Global,
     setting: &Setting<'_>,
-    spot: &mut Spot,
+    stage: &mut Stage,
     place: Place,
     start: &Option<Expr>,
     end: &Expr,
 ) -> Result<RangeBefore, AllocError>
-    ensures from { IfOk result (λ made. made.from.0 ≡ gives.start_number_in setting.now place start.now spot.old) }
-    ensures to { IfOk result (λ made. made.to.0 ≡ gives.end_number_in setting.now place start.now end.now spot.old) }
-    ensures before { IfOk result (λ made. plain_flat_stmts made.before ≡ gives.range_before_in setting.now place start.now end.now spot.old) }
-    ensures known { OnOk result (plain_spot spot.new ≡ gives.range_spot_in setting.now place start.now end.now spot.old) }
+    ensures from { IfOk result (λ made. made.from.0 ≡ gives.start_number_in setting.now place start.now stage.old) }
+    ensures to { IfOk result (λ made. made.to.0 ≡ gives.end_number_in setting.now place start.now end.now stage.old) }
+    ensures before { IfOk result (λ made. plain_flat_stmts made.before ≡ gives.range_before_in setting.now place start.now end.now stage.old) }
+    ensures known { OnOk result (plain_stage stage.new ≡ gives.range_stage_in setting.now place start.now end.now stage.old) }
 {
-    let from = range_start(alloc, setting, spot, place, start)?;
-    let to = range_end(alloc, setting, spot, place, end)?;
+    let from = range_start(alloc, setting, stage, place, start)?;
+    let to = range_end(alloc, setting, stage, place, end)?;
     let mut before = from.before;
     before.append(alloc, to.before)?;
     Ok(RangeBefore {
@@ -144,31 +144,31 @@ pub struct Inside {
     pub head: VarTypes,
     /// The same, once more.
     pub start: VarTypes,
-    pub spot: Spot,
+    pub stage: Stage,
 }
 
 /// Where the body of a `for` begins, of which the name has this type.
 pub fn inside_for(
     alloc: Global,
-    spot: &Spot,
+    stage: &Stage,
     name: Name,
     ty: Ty,
     body: &Stmts,
 ) -> Result<Inside, AllocError>
-    ensures head { IfOk result (λ made. plain_vars made.head ≡ gives.head_in name body.now spot.now) }
-    ensures start { IfOk result (λ made. plain_vars made.start ≡ gives.head_in name body.now spot.now) }
-    ensures spot { IfOk result (λ made. plain_spot made.spot ≡ gives.body_spot_in name ty body.now spot.now) }
+    ensures head { IfOk result (λ made. plain_vars made.head ≡ gives.head_in name body.now stage.now) }
+    ensures start { IfOk result (λ made. plain_vars made.start ≡ gives.head_in name body.now stage.now) }
+    ensures stage { IfOk result (λ made. plain_stage made.stage ≡ gives.body_stage_in name ty body.now stage.now) }
 {
-    let locals = head_locals(alloc, &spot.locals, name, body)?;
+    let locals = head_locals(alloc, &stage.locals, name, body)?;
     let head = surely(alloc, &locals)?;
     let start = surely(alloc, &locals)?;
     let locals = with_local(alloc, locals, name, ty)?;
     Ok(Inside {
         head,
         start,
-        spot: Spot {
+        stage: Stage {
             locals,
-            next: spot.next,
+            next: stage.next,
         },
     })
 }

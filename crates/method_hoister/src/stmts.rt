@@ -6,7 +6,7 @@ ghost use Rattle.py_tree.specs.PlainStatements.{PItems, plain_over, plain_stmt};
 ghost use Rattle.entity_types.specs.Views.{plain_locals};
 ghost use Rattle.flat_tree.specs.PlainFlat.{plain_flat_arm};
 ghost use Rattle.hoisting.specs.HoistStatements as spec;
-ghost use Rattle.hoisting.specs.Views.{plain_spot, leaves_of};
+ghost use Rattle.hoisting.specs.Views.{plain_stage, leaves_of};
 ghost use Rattle.method_hoister.specs.StatementViews as gives;
 ghost use Rattle.method_hoister.specs.StatementViews.{plain_flattened, plain_body, plain_arms_code};
 
@@ -20,7 +20,7 @@ use block_code::VarTypes;
 use expression_hoister::test;
 use flat_tree::{FlatArm, FlatArms, FlatStmt, FlatStmts};
 use flow_types::Locals;
-use hoisting::{Setting, Spot, surely, where_shown};
+use hoisting::{Setting, Stage, surely, where_shown};
 use py_tree::{Arm, Arms, Expr, Name, Over, Place, Stmt, StmtKind, Stmts, Ty, goes_on};
 use sf_list::Sequence;
 use std::alloc::{AllocError, Global};
@@ -39,7 +39,7 @@ pub struct Body {
 #[derive(Drop)]
 pub struct ArmsCode {
     pub arms: FlatArms,
-    pub behind: Spot,
+    pub behind: Stage,
 }
 
 /// Whether a statement stays as it is.
@@ -54,62 +54,62 @@ fn stays(setting: &Setting<'_>, stmt: &Stmt) -> bool
 fn statement(
     alloc: Global,
     setting: &Setting<'_>,
-    spot: &Spot,
+    stage: &Stage,
     stmt: &Stmt,
 ) -> Result<Flattened, AllocError>
-    ensures { IfOk result (λ made. plain_flattened made ≡ gives.flat_in setting.now stmt.now spot.now) }
+    ensures { IfOk result (λ made. plain_flattened made ≡ gives.flat_in setting.now stmt.now stage.now) }
 {
     if stays(setting, stmt) {
-        return code_of(alloc, stmt, spot.next);
+        return code_of(alloc, stmt, stage.next);
     }
-    let mut here = spot.copied(alloc)?;
+    let mut here = stage.copied(alloc)?;
     let made = opened(alloc, setting, &mut here, stmt)?;
     drop(here);
     Ok(made)
 }
 
-/// A statement that doesn't stay. Nothing else reads what is known at the spot while it is made flat.
+/// A statement that doesn't stay. Nothing else reads what is known at the stage while it is made flat.
 #[cycle(flat)]
 #[tactic(auto, using(crate::proofs::StatementSizes::statement_sizes))]
 fn opened(
     alloc: Global,
     setting: &Setting<'_>,
-    spot: &mut Spot,
+    stage: &mut Stage,
     stmt: &Stmt,
 ) -> Result<Flattened, AllocError>
-    ensures { IfOk result (λ made. plain_flattened made ≡ gives.opened_in setting.now stmt.now spot.old) }
+    ensures { IfOk result (λ made. plain_flattened made ≡ gives.opened_in setting.now stmt.now stage.old) }
 {
     let place = stmt.place;
     match &stmt.kind {
-        StmtKind::Pass => stepped(alloc, Sequence::new(alloc), spot.next),
-        StmtKind::Break => marked(alloc, Sequence::new(alloc), FlatStmt::Break, spot.next),
-        StmtKind::Continue => marked(alloc, Sequence::new(alloc), FlatStmt::Continue, spot.next),
-        StmtKind::Expr(expr) => evaluated(alloc, setting, spot, place, expr),
-        StmtKind::Return(expr) => returned(alloc, setting, spot, place, expr),
-        StmtKind::Raise(kind, expr) => raised(alloc, setting, spot, *kind, expr),
-        StmtKind::Assert(decider, message) => asserted(alloc, setting, spot, decider, message),
+        StmtKind::Pass => stepped(alloc, Sequence::new(alloc), stage.next),
+        StmtKind::Break => marked(alloc, Sequence::new(alloc), FlatStmt::Break, stage.next),
+        StmtKind::Continue => marked(alloc, Sequence::new(alloc), FlatStmt::Continue, stage.next),
+        StmtKind::Expr(expr) => evaluated(alloc, setting, stage, place, expr),
+        StmtKind::Return(expr) => returned(alloc, setting, stage, place, expr),
+        StmtKind::Raise(kind, expr) => raised(alloc, setting, stage, *kind, expr),
+        StmtKind::Assert(decider, message) => asserted(alloc, setting, stage, decider, message),
         StmtKind::Assign {
             target,
             ty: _,
             value,
-        } => assigned(alloc, setting, spot, *target, value),
+        } => assigned(alloc, setting, stage, *target, value),
         StmtKind::Augment {
             target,
             op,
             op_place,
             value,
-        } => augmented(alloc, setting, spot, place, *target, *op, *op_place, value),
+        } => augmented(alloc, setting, stage, place, *target, *op, *op_place, value),
         StmtKind::If { arms, other } => {
-            let after = setting.point_behind(alloc, &spot.locals, stmt)?;
-            choice(alloc, setting, spot, arms, other, after)
+            let after = setting.point_behind(alloc, &stage.locals, stmt)?;
+            choice(alloc, setting, stage, arms, other, after)
         }
         StmtKind::While { test, body } => {
-            let after = setting.point_behind(alloc, &spot.locals, stmt)?;
-            while_loop(alloc, setting, spot, test, body, after)
+            let after = setting.point_behind(alloc, &stage.locals, stmt)?;
+            while_loop(alloc, setting, stage, test, body, after)
         }
         StmtKind::For { name, over, body } => {
-            let after = setting.point_behind(alloc, &spot.locals, stmt)?;
-            for_loop(alloc, setting, spot, place, name.name, over, body, after)
+            let after = setting.point_behind(alloc, &stage.locals, stmt)?;
+            for_loop(alloc, setting, stage, place, name.name, over, body, after)
         }
     }
 }
@@ -119,28 +119,28 @@ fn opened(
 pub fn flat_all(
     alloc: Global,
     setting: &Setting<'_>,
-    start: Spot,
+    start: Stage,
     stmts: &[Stmt],
 ) -> Result<Flattened, AllocError>
     ensures { IfOk result (λ made. plain_flattened made ≡ gives.flat_all_in setting.now stmts.now start) }
 {
-    let mut spot = start;
+    let mut stage = start;
     let mut code = Sequence::new(alloc);
     for stmt in stmts {
-        let made = statement(alloc, setting, &spot, stmt)?;
+        let made = statement(alloc, setting, &stage, stmt)?;
         code.append(alloc, made.code)?;
-        spot.next = made.next;
+        stage.next = made.next;
         if !goes_on(stmt) {
             return Ok(Flattened {
                 code,
-                next: spot.next,
+                next: stage.next,
             });
         }
-        spot.locals = setting.locals_behind(alloc, &spot.locals, stmt)?;
+        stage.locals = setting.locals_behind(alloc, &stage.locals, stmt)?;
     }
     Ok(Flattened {
         code,
-        next: spot.next,
+        next: stage.next,
     })
 }
 
@@ -166,28 +166,28 @@ fn body_where(
     })
 }
 
-/// An arm, behind which the spot is where its test is False.
+/// An arm, behind which the stage is where its test is False.
 #[cycle(flat)]
 fn arm_code(
     alloc: Global,
     setting: &Setting<'_>,
-    spot: &mut Spot,
+    stage: &mut Stage,
     arm: &Arm,
 ) -> Result<FlatArm, AllocError>
-    ensures arm { IfOk result (λ made. plain_flat_arm made ≡ gives.arm_in setting.now arm.now spot.old) }
-    ensures behind { OnOk result (plain_spot spot.new ≡ gives.behind_arm_in setting.now arm.now spot.old) }
+    ensures arm { IfOk result (λ made. plain_flat_arm made ≡ gives.arm_in setting.now arm.now stage.old) }
+    ensures behind { OnOk result (plain_stage stage.new ≡ gives.behind_arm_in setting.now arm.now stage.old) }
 {
-    let tested = test(alloc, setting, spot, &arm.test)?;
+    let tested = test(alloc, setting, stage, &arm.test)?;
     let body = body_where(
         alloc,
         setting,
-        &spot.locals,
+        &stage.locals,
         &arm.test,
         tested.next,
         &arm.body,
     )?;
-    *spot = where_shown(alloc, &spot.locals, &arm.test, false, body.next)?;
-    let rest = surely(alloc, &spot.locals)?;
+    *stage = where_shown(alloc, &stage.locals, &arm.test, false, body.next)?;
+    let rest = surely(alloc, &stage.locals)?;
     Ok(FlatArm {
         test: tested.test,
         start: body.start,
@@ -201,13 +201,13 @@ fn arm_code(
 fn arms_code(
     alloc: Global,
     setting: &Setting<'_>,
-    spot: &Spot,
+    stage: &Stage,
     arms: &[Arm],
 ) -> Result<ArmsCode, AllocError>
-    ensures arms { IfOk result (λ made. plain_arms_code made ≡ gives.arms_in setting.now arms.now spot.now) }
-    ensures behind { IfOk result (λ made. plain_locals made.behind.locals ≡ (gives.other_in setting.now arms.now spot.now).locals) }
+    ensures arms { IfOk result (λ made. plain_arms_code made ≡ gives.arms_in setting.now arms.now stage.now) }
+    ensures behind { IfOk result (λ made. plain_locals made.behind.locals ≡ (gives.other_in setting.now arms.now stage.now).locals) }
 {
-    let mut behind = spot.copied(alloc)?;
+    let mut behind = stage.copied(alloc)?;
     let mut made = Sequence::new(alloc);
     for arm in arms {
         made.push(alloc, arm_code(alloc, setting, &mut behind, arm)?)?;
@@ -220,14 +220,14 @@ fn arms_code(
 fn choice(
     alloc: Global,
     setting: &Setting<'_>,
-    spot: &Spot,
+    stage: &Stage,
     arms: &Arms,
     other: &Stmts,
     after: Option<VarTypes>,
 ) -> Result<Flattened, AllocError>
-    ensures { IfOk result (λ made. plain_flattened made ≡ gives.choice_in setting.now arms.now other.now after spot.now) }
+    ensures { IfOk result (λ made. plain_flattened made ≡ gives.choice_in setting.now arms.now other.now after stage.now) }
 {
-    let made = arms_code(alloc, setting, spot, arms.as_slice())?;
+    let made = arms_code(alloc, setting, stage, arms.as_slice())?;
     let other = flat_all(alloc, setting, made.behind, other.as_slice())?;
     let stmt = FlatStmt::If {
         arms: made.arms,
@@ -242,17 +242,17 @@ fn choice(
 fn while_loop(
     alloc: Global,
     setting: &Setting<'_>,
-    spot: &Spot,
+    stage: &Stage,
     decider: &Expr,
     body: &Stmts,
     after: Option<VarTypes>,
 ) -> Result<Flattened, AllocError>
-    ensures { IfOk result (λ made. plain_flattened made ≡ gives.while_in setting.now decider.now body.now after spot.now) }
+    ensures { IfOk result (λ made. plain_flattened made ≡ gives.while_in setting.now decider.now body.now after stage.now) }
 {
-    let locals = while_locals(alloc, &spot.locals, body)?;
-    let head = Spot {
+    let locals = while_locals(alloc, &stage.locals, body)?;
+    let head = Stage {
         locals,
-        next: spot.next,
+        next: stage.next,
     };
     let point = surely(alloc, &head.locals)?;
     let tested = test(alloc, setting, &head, decider)?;
@@ -273,19 +273,19 @@ fn while_loop(
 fn for_loop(
     alloc: Global,
     setting: &Setting<'_>,
-    spot: &mut Spot,
+    stage: &mut Stage,
     place: Place,
     name: Name,
     over: &Over,
     body: &Stmts,
     after: Option<VarTypes>,
 ) -> Result<Flattened, AllocError>
-    ensures { IfOk result (λ made. plain_flattened made ≡ gives.for_in setting.now place name (plain_over over.now) body.now after spot.old) }
+    ensures { IfOk result (λ made. plain_flattened made ≡ gives.for_in setting.now place name (plain_over over.now) body.now after stage.old) }
 {
     match over {
-        Over::Items(items) => list_loop(alloc, setting, spot, place, name, items, body, after),
+        Over::Items(items) => list_loop(alloc, setting, stage, place, name, items, body, after),
         Over::Range(start, end) => {
-            range_loop(alloc, setting, spot, place, name, start, end, body, after)
+            range_loop(alloc, setting, stage, place, name, start, end, body, after)
         }
     }
 }
@@ -295,21 +295,21 @@ fn for_loop(
 fn list_loop(
     alloc: Global,
     setting: &Setting<'_>,
-    spot: &mut Spot,
+    stage: &mut Stage,
     place: Place,
     name: Name,
     items: &Expr,
     body: &Stmts,
     after: Option<VarTypes>,
 ) -> Result<Flattened, AllocError>
-    ensures { IfOk result (λ made. plain_flattened made ≡ gives.for_in setting.now place name (PItems (plain_expr items.now)) body.now after spot.old) }
+    ensures { IfOk result (λ made. plain_flattened made ≡ gives.for_in setting.now place name (PItems (plain_expr items.now)) body.now after stage.old) }
 {
-    let ty = setting.ty_at(alloc, &spot.locals, None, items)?;
+    let ty = setting.ty_at(alloc, &stage.locals, None, items)?;
     let item = item_ty(alloc, &ty)?;
-    let start = list_before(alloc, setting, spot, place, &ty, items)?;
+    let start = list_before(alloc, setting, stage, place, &ty, items)?;
     drop(ty);
-    let inside = inside_for(alloc, spot, name, item, body)?;
-    let made = flat_all(alloc, setting, inside.spot, body.as_slice())?;
+    let inside = inside_for(alloc, stage, name, item, body)?;
+    let made = flat_all(alloc, setting, inside.stage, body.as_slice())?;
     let test = list_test(alloc, place, start.names)?;
     let turn = list_turn(alloc, place, name, start.names, made.code)?;
     let stmt = FlatStmt::While {
@@ -327,7 +327,7 @@ fn list_loop(
 fn range_loop(
     alloc: Global,
     setting: &Setting<'_>,
-    spot: &mut Spot,
+    stage: &mut Stage,
     place: Place,
     name: Name,
     start: &Option<Expr>,
@@ -335,11 +335,11 @@ fn range_loop(
     body: &Stmts,
     after: Option<VarTypes>,
 ) -> Result<Flattened, AllocError>
-    ensures { IfOk result (λ made. plain_flattened made ≡ gives.for_range_in setting.now place name start.now end.now body.now after spot.old) }
+    ensures { IfOk result (λ made. plain_flattened made ≡ gives.for_range_in setting.now place name start.now end.now body.now after stage.old) }
 {
-    let range = range_before(alloc, setting, spot, place, start, end)?;
-    let inside = inside_for(alloc, spot, name, Ty::Int, body)?;
-    let made = flat_all(alloc, setting, inside.spot, body.as_slice())?;
+    let range = range_before(alloc, setting, stage, place, start, end)?;
+    let inside = inside_for(alloc, stage, name, Ty::Int, body)?;
+    let made = flat_all(alloc, setting, inside.stage, body.as_slice())?;
     let test = range_test(alloc, place, range.from, range.to)?;
     let turn = range_turn(alloc, place, name, range.from, made.code)?;
     let stmt = FlatStmt::While {

@@ -123,3 +123,6 @@ pub struct Arm {
 }
 
 pub type Arms = Sequence<Arm>;
+
+/// The numbers of kinds of failures.
+pub type Kinds = Sequence<u8>;

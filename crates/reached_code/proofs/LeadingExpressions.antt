@@ -10,15 +10,15 @@ use Rattle.py_tree.specs.PlainExpressions.{PlainExpr, PInt, PBool, PStr, PNil, P
 use Rattle.call_graph.specs.SuspendingCode.{Leaving, expr_suspends, exprs_suspend}
 use Rattle.flat_tree.specs.PlainFlat.{FSet, FCall, FMake, PlainFlatTest, FAnd, FOr}
 use Rattle.flat_types.specs.DeadCode.{HaveNoDead, TestHasNoDead, OperandsHaveNoDead}
-use Rattle.hoisting.specs.Spots.{Spot, surely, with_temporary, where_shown, ty_at, callee_of, created_of, method_params}
+use Rattle.hoisting.specs.Stages.{Stage, surely, with_temporary, where_shown, ty_at, callee_of, created_of, method_params}
 use Rattle.hoisting.specs.HoistExpressions.{Hoisted, Tested, Forms, still, if_suspends, settled_unless, kept, lasts, by_value, forms_if, made_of, chosen, with_args, in_turn, call_of, apply_of, by_params, by_function, by_elements, first_wanted, others_wanted, ChainPart, chain_of, so_far, linked_on, begun_anew, either, taken, taken_each, taken_links, taken_operands, forms}
 use Rattle.reached_code.proofs.LeadingCode.{AllLead, both_lead, last_leads, live_last, live}
 
 pub record FormsLead (both : Forms) : Type 0 where
-  pub value : (wanted : Option PlainTy) (h : Spot) → AllLead (both.value wanted h).before
-  pub test : (h : Spot) → TestHasNoDead (both.test h).test
+  pub value : (wanted : Option PlainTy) (h : Stage) → AllLead (both.value wanted h).before
+  pub test : (h : Stage) → TestHasNoDead (both.test h).test
 
-value_leads : (value : Option PlainTy → Spot → Hoisted PlainExpr) → ((wanted : Option PlainTy) (h : Spot) → AllLead (value wanted h).before) → FormsLead (by_value value)
+value_leads : (value : Option PlainTy → Stage → Hoisted PlainExpr) → ((wanted : Option PlainTy) (h : Stage) → AllLead (value wanted h).before) → FormsLead (by_value value)
 unfolding HaveNoDead
 value_leads value f = record { value = f; test = λ h. live (value None h).before (f None h) }
 
@@ -29,40 +29,40 @@ forms_if_lead : (b : Bool) (e : PlainExpr) (both : Forms) → FormsLead both →
 forms_if_lead true e both f = f
 forms_if_lead false e both f = still_leads e
 
-if_leads : {R : Type 0} (b : Bool) (e : R) (h : Spot) (a : Hoisted R) → AllLead a.before → AllLead (if_suspends b e h a).before
+if_leads : {R : Type 0} (b : Bool) (e : R) (h : Stage) (a : Hoisted R) → AllLead a.before → AllLead (if_suspends b e h a).before
 if_leads true e h a f = f
 if_leads false e h a f = tt
 
 pub settled_leads : (lasting : Bool) (at : Place) (ty : PlainTy) (a : Hoisted PlainExpr) → AllLead a.before → AllLead (settled_unless lasting at ty a).before
 unfolding HaveNoDead
 settled_leads true at ty a f = f
-settled_leads false at ty a f = last_leads a.before (FSet a.spot.next a.rest) f refl tt
+settled_leads false at ty a f = last_leads a.before (FSet a.stage.next a.rest) f refl tt
 
 kept_leads : (later lasting : Bool) (at : Place) (ty : PlainTy) (a : Hoisted PlainExpr) → AllLead a.before → AllLead (kept later lasting at ty a).before
 kept_leads true lasting at ty a f = settled_leads lasting at ty a f
 kept_leads false lasting at ty a f = f
 
-turn_leads : {R S T : Type 0} (f : R → S → T) (a : Hoisted R) (b : Spot → Hoisted S) → AllLead a.before → ((g : Spot) → AllLead (b g).before) → AllLead (in_turn f a b).before
-turn_leads f a b first second = both_lead a.before (b a.spot).before first (second a.spot)
+turn_leads : {R S T : Type 0} (f : R → S → T) (a : Hoisted R) (b : Stage → Hoisted S) → AllLead a.before → ((g : Stage) → AllLead (b g).before) → AllLead (in_turn f a b).before
+turn_leads f a b first second = both_lead a.before (b a.stage).before first (second a.stage)
 
 call_leads : (c : Context) (b : Bool) (at : Place) (ty on_ty : PlainTy) (name : ℕ) (name_at : Place) (a : Hoisted (PlainExpr × PlainExprs)) → AllLead a.before → AllLead (call_of c b at ty on_ty name name_at a).before
 unfolding HaveNoDead
-call_leads c true at ty on_ty name name_at a f = last_leads a.before (FCall a.rest.0 (callee_of c on_ty name) a.rest.1 a.spot.next (surely (with_temporary ty a.spot).locals)) f refl tt
+call_leads c true at ty on_ty name name_at a f = last_leads a.before (FCall a.rest.0 (callee_of c on_ty name) a.rest.1 a.stage.next (surely (with_temporary ty a.stage).locals)) f refl tt
 call_leads c false at ty on_ty name name_at a f = f
 
 apply_leads : (c : Context) (b : Bool) (at : Place) (ty : PlainTy) (name : ℕ) (a : Hoisted PlainExprs) → AllLead a.before → AllLead (apply_of c b at ty name a).before
 unfolding HaveNoDead
-apply_leads c true at ty name a f = last_leads a.before (FMake (created_of c name) a.rest a.spot.next (surely (with_temporary ty a.spot).locals)) f refl tt
+apply_leads c true at ty name a f = last_leads a.before (FMake (created_of c name) a.rest a.stage.next (surely (with_temporary ty a.stage).locals)) f refl tt
 apply_leads c false at ty name a f = f
 
-chosen_leads : (at : Place) (ty : PlainTy) (locals : List PlainLocal) (test : PlainExpr) (t : Tested PlainFlatTest) (first second : Spot → Hoisted PlainExpr) → TestHasNoDead t.test → ((g : Spot) → AllLead (first g).before) → ((g : Spot) → AllLead (second g).before)
+chosen_leads : (at : Place) (ty : PlainTy) (locals : List PlainLocal) (test : PlainExpr) (t : Tested PlainFlatTest) (first second : Stage → Hoisted PlainExpr) → TestHasNoDead t.test → ((g : Stage) → AllLead (first g).before) → ((g : Stage) → AllLead (second g).before)
     → AllLead (chosen at ty locals test t first second).before
 unfolding HaveNoDead
 chosen_leads at ty locals test t first second f one other =
     let a : Hoisted PlainExpr = first (where_shown true test locals t.next) in
-    let b : Hoisted PlainExpr = second (where_shown false test locals a.spot.next) in (
+    let b : Hoisted PlainExpr = second (where_shown false test locals a.stage.next) in (
       refl,
-      ((f, live_last a.before (FSet b.spot.next a.rest) (one (where_shown true test locals t.next)) tt, tt), live_last b.before (FSet b.spot.next b.rest) (other (where_shown false test locals a.spot.next)) tt),
+      ((f, live_last a.before (FSet b.stage.next a.rest) (one (where_shown true test locals t.next)) tt, tt), live_last b.before (FSet b.stage.next b.rest) (other (where_shown false test locals a.stage.next)) tt),
       tt,
     )
 
@@ -71,10 +71,10 @@ either_leads true r q first second = first
 either_leads false r q first second = second
 
 module _ (leaves : Leaving) (c : Context) where
-  abbrev part : PlainExpr → Option PlainTy → Spot → Hoisted PlainExpr
+  abbrev part : PlainExpr → Option PlainTy → Stage → Hoisted PlainExpr
   part e wanted h = (forms leaves c e).value wanted h
 
-  abbrev parts : List (Option PlainTy) → PlainExprs → Spot → Hoisted PlainExprs
+  abbrev parts : List (Option PlainTy) → PlainExprs → Stage → Hoisted PlainExprs
   parts wanted es h = if_suspends (exprs_suspend leaves es) es h (taken_each leaves c wanted es h)
 
   as_part : (e : PlainExpr) → FormsLead (taken leaves c e) → FormsLead (forms leaves c e)
@@ -131,7 +131,7 @@ module _ (leaves : Leaving) (c : Context) where
         chosen_leads at (ty_at c wanted h.locals (PCond at test a b)) h.locals test ((forms leaves c test).test h) (part a wanted) (part b wanted) ((as_part test (taken_leads test)).test h)
         (λ g. (as_part a (taken_leads a)).value wanted g) (λ g. (as_part b (taken_leads b)).value wanted g))
 
-    each_leads : (wants : List (Option PlainTy)) (es : PlainExprs) (h : Spot) → AllLead (taken_each leaves c wants es h).before
+    each_leads : (wants : List (Option PlainTy)) (es : PlainExprs) (h : Stage) → AllLead (taken_each leaves c wants es h).before
     each_leads wants PNoExpr h = tt
     each_leads wants (PExpr x xs) h =
         let k : Hoisted PlainExpr = kept (exprs_suspend leaves xs) (lasts leaves x) (place_of x) (ty_at c (first_wanted wants) h.locals x) (part x (first_wanted wants) h) in
@@ -142,12 +142,12 @@ module _ (leaves : Leaving) (c : Context) where
     links_lead PNoLink at ty r f = f
     links_lead (PMoreLinks (PLink op op_at right) more) at ty r f =
         let a : Hoisted PlainExpr = settled_unless r.lasting at ty (so_far at r) in
-        let b : Hoisted PlainExpr = part right (right_wanted op ty) a.spot in
+        let b : Hoisted PlainExpr = part right (right_wanted op ty) a.stage in
         links_lead more at ty (either (expr_suspends leaves right) (begun_anew a (PLink op op_at) b) (linked_on r (PLink op op_at right)))
         (either_leads (expr_suspends leaves right) (begun_anew a (PLink op op_at) b) (linked_on r (PLink op op_at right))
-        (both_lead a.before b.before (settled_leads r.lasting at ty (so_far at r) f) ((as_part right (taken_leads right)).value (right_wanted op ty) a.spot)) f)
+        (both_lead a.before b.before (settled_leads r.lasting at ty (so_far at r) f) ((as_part right (taken_leads right)).value (right_wanted op ty) a.stage)) f)
 
-    operands_lead : (truth : Bool) (es : PlainExprs) (h : Spot) → OperandsHaveNoDead (taken_operands leaves c truth es h).test
+    operands_lead : (truth : Bool) (es : PlainExprs) (h : Stage) → OperandsHaveNoDead (taken_operands leaves c truth es h).test
     operands_lead truth PNoExpr h = tt
     operands_lead truth (PExpr x xs) h = ((as_part x (taken_leads x)).test h, operands_lead truth xs (where_shown truth x h.locals ((forms leaves c x).test h).next))
 

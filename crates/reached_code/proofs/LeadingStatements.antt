@@ -17,9 +17,9 @@ use Rattle.call_graph.specs.SuspendingCode.{Leaving, expr_suspends}
 use Rattle.flat_tree.specs.PlainFlat.{Point, PlainFlatStmt, FMark, FGive, FFail, FCode, FBreak, FContinue, flat_stmts_of}
 use Rattle.method_splitter.specs.Split.{always}
 use Rattle.flat_types.specs.DeadCode.{leads_on, HasNoDead, HaveNoDead, ArmsHaveNoDead}
-use Rattle.hoisting.specs.Spots.{Spot, surely, where_shown, ty_at, item_ty, locals_behind, point_behind}
+use Rattle.hoisting.specs.Stages.{Stage, surely, where_shown, ty_at, item_ty, locals_behind, point_behind}
 use Rattle.hoisting.specs.HoistExpressions.{Hoisted, built, still, settled, lasts, taken, forms}
-use Rattle.hoisting.specs.HoistStatements.{Flattened, stays, code_if, followed, stored, read_of, target_ty, value_or_nil, start_or_zero, list_spot, head_locals, body_spot, list_loop, range_loop, optional, combination, range_start, range_end, for_code, opened, flat_all, flat_arms, other_spot, flat}
+use Rattle.hoisting.specs.HoistStatements.{Flattened, stays, code_if, followed, stored, read_of, target_ty, value_or_nil, start_or_zero, list_stage, head_locals, body_stage, list_loop, range_loop, optional, combination, range_start, range_end, for_code, opened, flat_all, flat_arms, other_stage, flat}
 use Rattle.reached_code.specs.NoPartIsDead.{NoPartIsDead}
 use Rattle.reached_code.proofs.LeadingCode.{AllLead, both_lead, last_leads, live_both, live_one, live_last, live}
 use Rattle.reached_code.proofs.LeadingExpressions.{settled_leads, forms_lead}
@@ -42,7 +42,7 @@ marked_one : (on : Bool) (x : PlainFlatStmt) → leads_on x ≡ on → HasNoDead
 unfolding HaveNoDead
 marked_one on x is d = record { live = live_last (FMark ∷ []) x (refl, tt, tt) d; leads = λ goes. (refl, tt, (is ∙ goes, d, tt)) }
 
-code_reached : (b : Bool) (x : PlainStmt) (h : Spot) (f : Flattened (List PlainFlatStmt)) → Reached (goes_on x) f.code → Reached (goes_on x) (code_if b x h f).code
+code_reached : (b : Bool) (x : PlainStmt) (h : Stage) (f : Flattened (List PlainFlatStmt)) → Reached (goes_on x) f.code → Reached (goes_on x) (code_if b x h f).code
 unfolding HaveNoDead
 code_reached true x h f r = record { live = live_one (FCode x) tt; leads = λ is. (is, tt, tt) }
 code_reached false x h f r = r
@@ -60,20 +60,20 @@ point_there c x locals = by (goes_on x)
     by false = refl
 
 module _ (leaves : Leaving) (c : Context) where
-  abbrev part : PlainExpr → Option PlainTy → Spot → Hoisted PlainExpr
+  abbrev part : PlainExpr → Option PlainTy → Stage → Hoisted PlainExpr
   part e wanted h = (forms leaves c e).value wanted h
 
-  part_leads : (e : PlainExpr) (wanted : Option PlainTy) (h : Spot) → AllLead (part e wanted h).before
+  part_leads : (e : PlainExpr) (wanted : Option PlainTy) (h : Stage) → AllLead (part e wanted h).before
   part_leads e wanted h = (forms_lead leaves c e).value wanted h
 
   -- the literal True always holds as a test
-  always_true : (test : PlainExpr) (h : Spot) → is_true test ≡ true → always ((forms leaves c test).test h).test ≡ true
+  always_true : (test : PlainExpr) (h : Stage) → is_true test ≡ true → always ((forms leaves c test).test h).test ≡ true
   unfolding taken expr_suspends
   always_true (PBool at b) h is = is
   always_true _ h is = absurd (true≢false (sym is))
 
   -- a loop with another test goes on
-  while_goes_on : (at : Place) (test : PlainExpr) (body : PlainStmts) (h : Spot) → always ((forms leaves c test).test h).test ≡ false → goes_on (PWhile at test body) ≡ true
+  while_goes_on : (at : Place) (test : PlainExpr) (body : PlainStmts) (h : Stage) → always ((forms leaves c test).test h).test ≡ false → goes_on (PWhile at test body) ≡ true
   unfolding goes_on
   while_goes_on at test body h is = by (is_true test) refl
     where
@@ -81,7 +81,7 @@ module _ (leaves : Leaving) (c : Context) where
       by true e = absurd (true≢false (sym (always_true test h e) ∙ is))
       by false e = refl
 
-  optional_leads : (wanted : Option PlainTy) (e : Option PlainExpr) (h : Spot) → AllLead (optional leaves c wanted e h).before
+  optional_leads : (wanted : Option PlainTy) (e : Option PlainExpr) (h : Stage) → AllLead (optional leaves c wanted e h).before
   optional_leads wanted None h = tt
   optional_leads wanted (Some e) h = part_leads e wanted h
 
@@ -90,11 +90,11 @@ module _ (leaves : Leaving) (c : Context) where
   stored_leads (target.Local x) e = (refl, tt)
   stored_leads (target.Field x) e = (refl, tt)
 
-  combination_leads : (at : Place) (x : Target) (op : BinOp) (op_at : Place) (e : PlainExpr) (h : Spot) → AllLead (combination leaves c at x op op_at e h).before
+  combination_leads : (at : Place) (x : Target) (op : BinOp) (op_at : Place) (e : PlainExpr) (h : Stage) → AllLead (combination leaves c at x op op_at e h).before
   combination_leads at x op op_at e h =
       let ty : PlainTy = ty_at c None h.locals (target_read at x) in
       let a : Hoisted PlainExpr = settled at ty (still (read_of at x) h) in
-      both_lead a.before (part e (right_wanted op ty) a.spot).before (settled_leads false at ty (still (read_of at x) h) tt) (part_leads e (right_wanted op ty) a.spot)
+      both_lead a.before (part e (right_wanted op ty) a.stage).before (settled_leads false at ty (still (read_of at x) h) tt) (part_leads e (right_wanted op ty) a.stage)
 
   -- what runs before, and a statement that leads on
   marked_leads : (before : List PlainFlatStmt) (x : PlainFlatStmt) → AllLead before → (leads_on x ≡ true) × HasNoDead x → (on : Bool) → Reached on (FMark ∷ before ++ x ∷ [])
@@ -115,32 +115,32 @@ module _ (leaves : Leaving) (c : Context) where
       let stays_on : true ≡ false → ⊥ = true≢false in
       (refl, ((λ e. refl), tt, ((λ e. absurd (stays_on e)), tt, ((λ e. absurd (stays_on e)), tt, d))), tt)
 
-  end_leads : (at : Place) (e : PlainExpr) (h : Spot) → AllLead (settled at TInt (built (PPos at) (part e None h))).before
+  end_leads : (at : Place) (e : PlainExpr) (h : Stage) → AllLead (settled at TInt (built (PPos at) (part e None h))).before
   end_leads at e h = settled_leads false at TInt (built (PPos at) (part e None h)) (part_leads e None h)
 
-  for_leads : (at : Place) (name : ℕ) (over : PlainOver) (body : PlainStmts) (after : Point) (h : Spot) (code : Spot → Flattened (List PlainFlatStmt)) → ((g : Spot) → HaveNoDead (flat_stmts_of (code g).code))
+  for_leads : (at : Place) (name : ℕ) (over : PlainOver) (body : PlainStmts) (after : Point) (h : Stage) (code : Stage → Flattened (List PlainFlatStmt)) → ((g : Stage) → HaveNoDead (flat_stmts_of (code g).code))
       → AllLead (for_code leaves c at name over body (Some after) h code).code
   unfolding HaveNoDead
   for_leads at name (PItems e) body after h code d =
       let ty : PlainTy = ty_at c None h.locals e in
       let a : Hoisted PlainExpr = part e None h in
-      let inside : Spot = list_spot ty a.spot in
-      let start : Spot = body_spot name (item_ty ty) body inside in
+      let inside : Stage = list_stage ty a.stage in
+      let start : Stage = body_stage name (item_ty ty) body inside in
       let head : Point = surely (head_locals name body inside.locals) in
-      (refl, tt, both_lead (settled at ty a).before (list_loop at name a.spot.next head (Some after) (code start).code) (settled_leads false at ty a (part_leads e None h)) (list_leads at name a.spot.next head after (code start).code (d start)))
+      (refl, tt, both_lead (settled at ty a).before (list_loop at name a.stage.next head (Some after) (code start).code) (settled_leads false at ty a (part_leads e None h)) (list_leads at name a.stage.next head after (code start).code (d start)))
   for_leads at name (PRange start end) body after h code d =
       let a : Hoisted PlainExpr = range_start leaves c at start h in
-      let b : Hoisted PlainExpr = range_end leaves c at end a.spot in
-      let inside : Spot = body_spot name TInt body b.spot in
-      let t : ℕ = (part (start_or_zero at start) None h).spot.next in
-      let u : ℕ = (part end None a.spot).spot.next in
-      let head : Point = surely (head_locals name body b.spot.locals) in
-      (refl, tt, both_lead (a.before ++ b.before) (range_loop at name t u head (Some after) (code inside).code) (both_lead a.before b.before (end_leads at (start_or_zero at start) h) (end_leads at end a.spot)) (range_leads at name t u head after (code inside).code (d inside)))
+      let b : Hoisted PlainExpr = range_end leaves c at end a.stage in
+      let inside : Stage = body_stage name TInt body b.stage in
+      let t : ℕ = (part (start_or_zero at start) None h).stage.next in
+      let u : ℕ = (part end None a.stage).stage.next in
+      let head : Point = surely (head_locals name body b.stage.locals) in
+      (refl, tt, both_lead (a.before ++ b.before) (range_loop at name t u head (Some after) (code inside).code) (both_lead a.before b.before (end_leads at (start_or_zero at start) h) (end_leads at end a.stage)) (range_leads at name t u head after (code inside).code (d inside)))
 
   mutual
     unfolding opened goes_on HaveNoDead
 
-    opened_reached : (x : PlainStmt) (h : Spot) → Reached (goes_on x) (opened leaves c x h).code
+    opened_reached : (x : PlainStmt) (h : Stage) → Reached (goes_on x) (opened leaves c x h).code
     opened_reached (PPass at) h = leading true (FMark ∷ []) (refl, tt, tt)
     opened_reached (PBreak at) h = stopping [] FBreak tt tt
     opened_reached (PContinue at) h = stopping [] FContinue tt tt
@@ -148,7 +148,7 @@ module _ (leaves : Leaving) (c : Context) where
     opened_reached (PReturn at e) h = stopping (optional leaves c (Some (result_at c)) e h).before (FGive (value_or_nil at (optional leaves c (Some (result_at c)) e h).rest)) (optional_leads (Some (result_at c)) e h) tt
     opened_reached (PRaise at kind e) h = stopping (optional leaves c None e h).before (FFail kind (optional leaves c None e h).rest) (optional_leads None e h) tt
     opened_reached (PAssert at test e) h =
-        let g : Spot = record { locals = h.locals; next = ((forms leaves c test).test h).next } in
+        let g : Stage = record { locals = h.locals; next = ((forms leaves c test).test h).next } in
         marked_one true _ refl (((forms_lead leaves c test).test h, tt, tt), live_last (optional leaves c None e g).before (FFail 3 (optional leaves c None e g).rest) (optional_leads None e g) tt)
     opened_reached (PAssign at x ty e) h =
         let a : Hoisted PlainExpr = part e (target_ty c h.locals x) h in
@@ -157,25 +157,25 @@ module _ (leaves : Leaving) (c : Context) where
         let a : Hoisted PlainExpr = combination leaves c at x op op_at e h in
         marked_leads a.before (stored x a.rest) (combination_leads at x op op_at e h) (stored_leads x a.rest) true
     opened_reached (PIf at arms other) h =
-        marked_one (goes_on (PIf at arms other)) _ (point_there c (PIf at arms other) h.locals) (arms_live arms h, all_live other (record { locals = (other_spot leaves c arms h).locals; next = (flat_arms leaves c arms h).next }))
+        marked_one (goes_on (PIf at arms other)) _ (point_there c (PIf at arms other) h.locals) (arms_live arms h, all_live other (record { locals = (other_stage leaves c arms h).locals; next = (flat_arms leaves c arms h).next }))
     opened_reached (PWhile at test body) h =
-        let head : Spot = record { locals = at_head (assigned_in body) h.locals; next = h.next } in
+        let head : Stage = record { locals = at_head (assigned_in body) h.locals; next = h.next } in
         marked_one (goes_on (PWhile at test body)) _ (point_there c (PWhile at test body) h.locals)
         ((λ is. point_there c (PWhile at test body) h.locals ∙ while_goes_on at test body head is), (forms_lead leaves c test).test head, all_live body (where_shown true test head.locals ((forms leaves c test).test head).next))
     opened_reached (PFor at name name_at over body) h =
         leading true _ (for_leads at name over body (surely (locals_behind c (PFor at name name_at over body) h.locals)) h (λ g. flat_all leaves c body g) (all_live body))
 
-    all_live : (xs : PlainStmts) (h : Spot) → HaveNoDead (flat_stmts_of (flat_all leaves c xs h).code)
+    all_live : (xs : PlainStmts) (h : Stage) → HaveNoDead (flat_stmts_of (flat_all leaves c xs h).code)
     all_live PNoStmt h = tt
     all_live (PStmt x xs) h =
         followed_live (goes_on x) (flat leaves c x h) (λ next. flat_all leaves c xs (record { locals = locals_behind c x h.locals; next = next })) (code_reached (stays leaves x) x h (opened leaves c x h) (opened_reached x h))
         (λ next. all_live xs (record { locals = locals_behind c x h.locals; next = next }))
 
-    arms_live : (arms : PlainArms) (h : Spot) → ArmsHaveNoDead (flat_arms leaves c arms h).code
+    arms_live : (arms : PlainArms) (h : Stage) → ArmsHaveNoDead (flat_arms leaves c arms h).code
     arms_live PNoArm h = tt
     arms_live (PMoreArms (PArm test body) more) h = ((forms_lead leaves c test).test h, all_live body (where_shown true test h.locals ((forms leaves c test).test h).next), arms_live more _)
 
-  pub code_live : (xs : PlainStmts) (h : Spot) → HaveNoDead (flat_stmts_of (flat_all leaves c xs h).code)
+  pub code_live : (xs : PlainStmts) (h : Stage) → HaveNoDead (flat_stmts_of (flat_all leaves c xs h).code)
   code_live xs h = all_live xs h
 
 pub no_part_is_dead : NoPartIsDead

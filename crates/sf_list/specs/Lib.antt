@@ -1,3 +1,4 @@
 pub mod Copies
 pub mod formers
 pub mod Lends
+pub mod Taking

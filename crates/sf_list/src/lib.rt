@@ -4,13 +4,15 @@
 //! laws serves every list of the workspace, also where an element leads back to the list.
 #![tactic(auto)]
 
-ghost use Rattle.std.specs.Prelude.{◌≡◌, [], ◌∷◌, ◌++◌, ◌+◌, ◌<◌, ◌↔◌, Some, length, take, drop, slice_get, slice_set, IsTrue, IfOk, OnOk, OnErr, OnSome};
-ghost use Rattle.std.specs.Option.{option_copied};
+ghost use Rattle.std.specs.Prelude.{◌≡◌, [], ◌∷◌, ◌++◌, ◌+◌, ◌<◌, ◌↔◌, Some, length, take, drop, slice_get, slice_set, IsTrue, IsSome, IfOk, OnOk, OnErr, OnSome};
+ghost use Rattle.std.specs.Option.{option_copied, option_to_list};
 ghost use Rattle.std.specs.Borrow.{sem};
 ghost use Rattle.sf_list.specs.Copies.{AreCopies};
+ghost use Rattle.sf_list.specs.Taking.{TakesApart};
 
 use std::alloc::{AllocError, Global};
 use std::marker::Model;
+use std::vec::IntoIter;
 
 /// A value that can be copied where there is memory for it.
 pub trait TryClone: Sized {
@@ -51,6 +53,21 @@ impl<T> Sequence<T> {
         }
     }
 
+    /// The list of a vector's elements. It takes no memory.
+    pub fn from_vec(items: Vec<T>) -> Sequence<T>
+        ensures { result ≡ items.items }
+    {
+        Sequence { items }
+    }
+
+    /// The empty list, with room for so many elements.
+    pub fn with_room(alloc: Global, count: usize) -> Result<Sequence<T>, AllocError>
+        ensures { IfOk result (λ made. made ≡ []) }
+    {
+        let items = Vec::with_capacity(alloc, count)?;
+        Ok(Sequence { items })
+    }
+
     pub fn as_slice(&self) -> &[T]
         ensures { result.now ≡ self.now }
     {
@@ -84,6 +101,14 @@ impl<T> Sequence<T> {
         ensures value { slice_get self.old at ≡ Some result.now }
     {
         &mut self.items[at]
+    }
+
+    /// Takes the last element out, where there is one.
+    pub fn pop(&mut self) -> Option<T>
+        ensures taken { self.old ≡ self.new ++ option_to_list result }
+        ensures some { IsSome result ↔ (0 < length self.old) }
+    {
+        self.items.pop()
     }
 }
 
@@ -124,6 +149,19 @@ impl<T: Drop> Sequence<T> {
     }
 }
 
+/// The elements are taken out from the front, and none of those behind moves up.
+impl<T: Drop> IntoIterator for Sequence<T> {
+    type Item = T;
+
+    type IntoIter = IntoIter<T>;
+
+    ghost into_iter_gives = { TakesApart };
+
+    fn into_iter(self) -> IntoIter<T> {
+        self.items.into_iter()
+    }
+}
+
 impl<T: Copy> Sequence<T> {
     /// Adds copies of the elements at the end. The list keeps its own allocator, so `alloc` is unused.
     pub fn extend_from_slice(&mut self, _alloc: Global, items: &[T]) -> Result<(), AllocError>
@@ -138,7 +176,7 @@ impl<T: TryClone + Drop> TryClone for Sequence<T> {
     ghost is_copy = { AreCopies T.is_copy };
 
     fn try_clone(&self, alloc: Global) -> Result<Sequence<T>, AllocError> {
-        let mut made = Sequence::new(alloc);
+        let mut made = Sequence::with_room(alloc, self.len())?;
         for item in self.as_slice() {
             made.push(alloc, item.try_clone(alloc)?)?;
         }

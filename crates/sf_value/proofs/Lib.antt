@@ -4,3 +4,4 @@ pub mod Maps
 pub mod Variants
 pub mod FloorLaws
 pub mod SameLaws
+pub mod SpotLaws

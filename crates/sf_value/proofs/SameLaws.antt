@@ -1,12 +1,10 @@
 -- Two values are the same exactly where they are equal.
-use Rattle.std.proofs.Common.{◌≡◌, ℕ, ℤ, Bool as Truth, true, false, ◌&&◌, ◌==◌, not, List as Items, [], ◌∷◌, true≢false, refl, sym, ap, ◌∙◌}
+use Rattle.std.proofs.Common.{◌≡◌, Bool as Truth, true, false, ◌&&◌, ◌==◌, ◌∷◌, true≢false, refl, sym, ap, ◌∙◌}
 use Rattle.std.specs.Prelude.{bytes_eq}
 use Rattle.std.specs.Bool.{Decides}
-use Rattle.std.specs.Ordering.{int_eq}
 use Rattle.std.proofs.lemmas.Bool.Decides.{Decides-int_eq, Decides-eqb, same_from_decides}
 use Rattle.std.proofs.lemmas.Slice.Eq.{bytes_eq-Decides}
 use denote.Hole.Carrier as Carrier
-use Rattle.sf_value.specs.declared.value.Ref.{Ref}
 use Rattle.sf_value.specs.declared.value.Value.{Value, Int, Bool, Str, Nil, List', Entity, Row_of-Value, end_of-Value, more_of-Value, items-the_row-Value, items_shown-the_row-Value-0, out-Value, roll-Value, roll-out-Value}
 use Rattle.sf_value.specs.declared.value.Value.TheBlock.{shown-the_row-Value-0}
 use Rattle.sf_value.specs.declared.value.Value.TheOpen as open'

@@ -1,5 +1,5 @@
 //! Values, and what is asked and answered with them: entities, records, requests, outcomes, replies,
-//! and what a log and a snapshot hold; and the division of whole numbers.
+//! what of entities is read and written, and what a log and a snapshot hold; and the division of whole numbers.
 //!
 //! A value holds no pointer of its own, so contracts see it as it stands, and a copy is equal to its
 //! original.
@@ -8,12 +8,16 @@
 ghost use Rattle.std.specs.Prelude.{◌≡◌, ◌↔◌, IfOk, IsTrue};
 
 mod arithmetic;
+mod heads;
+mod spots;
 mod text;
 mod value;
 mod weighing;
 
 pub use arithmetic::{floor_div, floor_mod, has_computed_quotient, has_one_quotient};
+pub use heads::{Era, Eras, Head};
 use sf_list::{Sequence, TryClone};
+pub use spots::{Spot, Spots};
 use std::alloc::{AllocError, Global};
 pub use text::Text;
 use value::same_all as same_values;

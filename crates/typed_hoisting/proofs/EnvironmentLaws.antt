@@ -11,7 +11,7 @@ use Rattle.py_tree.specs.FlowEnvironment.{PlainLocal, local_of, has_name, narrow
 use Rattle.py_tree.specs.ExpressionTypes.{type_of}
 use Rattle.py_tree.specs.Flow.{Context, env_of, type_at}
 use Rattle.block_code.specs.PlainVars.{PlainVar}
-use Rattle.hoisting.specs.Spots.{temporary}
+use Rattle.hoisting.specs.Stages.{temporary}
 use Rattle.typed_hoisting.specs.KnownLocals.{is_optional, seen_of, seen, Alike, Kept, Under, Once, Free, AreVariables, Stands, AtLeast}
 use Rattle.typed_hoisting.proofs.LocalLaws.{changed, once_changed, variables_changed, narrowed_more, narrow, narrow_name, narrow_ty, narrowed_seen, read_seen, or_else, one_more, apart, kept_same, kept_on, kept_seen, kept_narrowed, kept_under, under_kept, under_narrowed, under_forgotten, under_unnarrowed, under_both, narrowed_twice, has_either}
 use Rattle.typed_hoisting.proofs.KeptTypes.{Near, type_kept}

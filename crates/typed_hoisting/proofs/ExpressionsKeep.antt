@@ -13,7 +13,7 @@ use Rattle.py_tree.specs.Flow.{Context, env_of, type_at}
 use Rattle.call_graph.specs.SuspendingCode.{Leaving, leaving, method_leaves, expr_suspends}
 use Rattle.program_meaning.proofs.TypedParts.{not_false, either_false, typed_index, typed_number, typed_none_test, typed_cond, conditions_result}
 use Rattle.flat_tree.specs.PlainFlat.{FAnd, FOr, PlainFlatTest}
-use Rattle.hoisting.specs.Spots.{Spot, surely, where_shown, ty_at, found_ty}
+use Rattle.hoisting.specs.Stages.{Stage, surely, where_shown, ty_at, found_ty}
 use Rattle.hoisting.specs.HoistExpressions.{Hoisted, Tested, Forms, by_value, made_of, chosen, truth_of, taken, taken_operands, forms}
 use Rattle.typed_hoisting.specs.KnownLocals.{Free}
 use Rattle.typed_hoisting.specs.TypedHoisting.{Around, Typed, Good, GoodTest, GoodForms, ExpressionsKeepTheRules, IsTyped, ValueFits, TestFits, FormsFit, ExpressionsFit}
@@ -39,12 +39,12 @@ module _ (c : Context) (leaves : Leaving) (own : Own leaves) (limit : ℕ) where
 
   abbrev GoodAnd : PlainExprs → Type 1
   GoodAnd items =
-      (h : Spot) → limit ≤ h.next → Free h.next h.locals → conditions c.tables (env_of c h.locals) true items ≡ Ok TBool
+      (h : Stage) → limit ≤ h.next → Free h.next h.locals → conditions c.tables (env_of c h.locals) true items ≡ Ok TBool
       → GoodTest c leaves h (asked_of_each c leaves true (taken_operands leaves c true items h).test) (taken_operands leaves c true items h).next (narrowed (shown_by_each true items) h.locals) h.locals
 
   abbrev GoodOr : PlainExprs → Type 1
   GoodOr items =
-      (h : Spot) → limit ≤ h.next → Free h.next h.locals → conditions c.tables (env_of c h.locals) false items ≡ Ok TBool
+      (h : Stage) → limit ≤ h.next → Free h.next h.locals → conditions c.tables (env_of c h.locals) false items ≡ Ok TBool
       → GoodTest c leaves h (asked_of_each c leaves false (taken_operands leaves c false items h).test) (taken_operands leaves c false items h).next h.locals (narrowed (shown_by_each false items) h.locals)
 
   and_none : GoodAnd PNoExpr
@@ -62,7 +62,7 @@ module _ (c : Context) (leaves : Leaving) (own : Own leaves) (limit : ℕ) where
       let t : Tested PlainFlatTest = (forms leaves c x).test h in
       let ga = first.test h below free p.0 in
       let on : h.next ≤ t.next = numbered_up h.next ga.made t.next ga.numbered in
-      let g : Spot = where_shown true x h.locals t.next in
+      let g : Stage = where_shown true x h.locals t.next in
       and_more c leaves h free x xs t (taken_operands leaves c true xs g) ga (rest g (omega (arith, below, on)) (free_narrowed h.next t.next (shown true x) h.locals on free) p.1)
 
   or_step : (x : PlainExpr) (xs : PlainExprs) → G x → GoodOr xs → GoodOr (PExpr x xs)
@@ -72,7 +72,7 @@ module _ (c : Context) (leaves : Leaving) (own : Own leaves) (limit : ℕ) where
       let t : Tested PlainFlatTest = (forms leaves c x).test h in
       let ga = first.test h below free p.0 in
       let on : h.next ≤ t.next = numbered_up h.next ga.made t.next ga.numbered in
-      let g : Spot = where_shown false x h.locals t.next in
+      let g : Stage = where_shown false x h.locals t.next in
       or_more c leaves h free x xs t (taken_operands leaves c false xs g) ga (rest g (omega (arith, below, on)) (free_narrowed h.next t.next (shown false x) h.locals on free) p.1)
 
   and_good : (at : Place) (items : PlainExprs) → GoodAnd items → GoodTaken c leaves limit (PAnd at items)
@@ -116,24 +116,24 @@ module _ (c : Context) (leaves : Leaving) (own : Own leaves) (limit : ℕ) where
       let fit = join_suits p.0 p.1 ty p.5 in
       (p.0, p.1, p.2, p.3, p.4, fit.0, fit.1)
 
-  cond_value : (at : Place) (test a b : PlainExpr) → G test → G a → G b → (wanted : Option PlainTy) (h : Spot) (ty : PlainTy) → limit ≤ h.next → Free h.next h.locals → type_at c h.locals wanted (PCond at test a b) ≡ Ok ty
+  cond_value : (at : Place) (test a b : PlainExpr) → G test → G a → G b → (wanted : Option PlainTy) (h : Stage) (ty : PlainTy) → limit ≤ h.next → Free h.next h.locals → type_at c h.locals wanted (PCond at test a b) ≡ Ok ty
       → Good c leaves h (chosen at (ty_at c wanted h.locals (PCond at test a b)) h.locals test ((forms leaves c test).test h) (λ g. part c leaves limit a wanted g) (λ g. part c leaves limit b wanted g)) (Typed c leaves wanted ty)
   cond_value at test a b good_test good_a good_b wanted h ty below free is =
       let p = cond_parts h.locals wanted at test a b ty is in
       let t : Tested PlainFlatTest = (forms leaves c test).test h in
       let gt = good_test.test h below free p.2 in
       let on : h.next ≤ t.next = numbered_up h.next gt.made t.next gt.numbered in
-      let y : Spot = where_shown true test h.locals t.next in
+      let y : Stage = where_shown true test h.locals t.next in
       let ga : Good c leaves y (part c leaves limit a wanted y) (Typed c leaves wanted p.0) = good_a.value wanted y p.0 (omega (arith, below, on)) (free_narrowed h.next t.next (shown true test) h.locals on free) p.3 in
-      let next : ℕ = (part c leaves limit a wanted y).spot.next in
+      let next : ℕ = (part c leaves limit a wanted y).stage.next in
       let on2 : t.next ≤ next = numbered_up t.next ga.made next ga.numbered in
-      let n : Spot = where_shown false test h.locals next in
+      let n : Stage = where_shown false test h.locals next in
       let gb : Good c leaves n (part c leaves limit b wanted n) (Typed c leaves wanted p.1) = good_b.value wanted n p.1 (omega (arith, below, on, on2)) (free_narrowed h.next next (shown false test) h.locals (omega (arith, on, on2)) free) p.4 in
       subst (λ s. Good c leaves h (chosen at s h.locals test t (λ g. part c leaves limit a wanted g) (λ g. part c leaves limit b wanted g)) (Typed c leaves wanted ty)) (sym (ap found_ty is))
       (chosen_good c leaves h free at ty test t (λ g. part c leaves limit a wanted g) (λ g. part c leaves limit b wanted g) wanted p.0 p.1 gt ga gb p.5 p.6)
 
   -- `is None`: a variable stays
-  variable_stays : (a : PlainExpr) (h : Spot) (x : ℕ) → has_name (variable_in a) x ≡ true → has_name (variable_in (part c leaves limit a None h).rest) x ≡ true
+  variable_stays : (a : PlainExpr) (h : Stage) (x : ℕ) → has_name (variable_in a) x ≡ true → has_name (variable_in (part c leaves limit a None h).rest) x ≡ true
   unfolding expr_suspends has_name
   variable_stays (PVar at n) h x is = is
   variable_stays _ h x is = absurd (true≢false (sym is))
@@ -149,8 +149,8 @@ module _ (c : Context) (leaves : Leaving) (own : Own leaves) (limit : ℕ) where
   pos_parts locals wanted at a ty is = typed_number c.tables (env_of c locals) wanted at ty a is
 
   -- an expression by its value, which shows nothing
-  silent_good : (e : PlainExpr) (value : Option PlainTy → Spot → Hoisted PlainExpr)
-      → ((wanted : Option PlainTy) (h : Spot) (ty : PlainTy) → limit ≤ h.next → Free h.next h.locals → type_at c h.locals wanted e ≡ Ok ty → Good c leaves h (value wanted h) (Typed c leaves wanted ty))
+  silent_good : (e : PlainExpr) (value : Option PlainTy → Stage → Hoisted PlainExpr)
+      → ((wanted : Option PlainTy) (h : Stage) (ty : PlainTy) → limit ≤ h.next → Free h.next h.locals → type_at c h.locals wanted e ≡ Ok ty → Good c leaves h (value wanted h) (Typed c leaves wanted ty))
       → ((truth : Bool) → shown truth e ≡ []) → GoodForms c leaves limit e (by_value value)
   silent_good e value good none = by_value_good c leaves limit e value good (λ h. shows_nothing e (value None h).rest none)
 
@@ -256,7 +256,7 @@ module _ (c : Context) (leaves : Leaving) (limit : ℕ) (e : PlainExpr) (both : 
   abbrev outside : List PlainVar → Around
   outside variables = record { variables = variables; breaks = Nowhere; continues = Nowhere }
 
-  value_fits : (wanted : Option PlainTy) (h : Spot) (ty : PlainTy) → limit ≤ h.next → Free h.next h.locals → type_at c h.locals wanted e ≡ Ok ty → ValueFits c leaves h (both.value wanted h) ty
+  value_fits : (wanted : Option PlainTy) (h : Stage) (ty : PlainTy) → limit ≤ h.next → Free h.next h.locals → type_at c h.locals wanted e ≡ Ok ty → ValueFits c leaves h (both.value wanted h) ty
   value_fits wanted h ty below free is =
       let a : Hoisted PlainExpr = both.value wanted h in
       let g : Good c leaves h a (Typed c leaves wanted ty) = good.value wanted h ty below free is in
@@ -267,7 +267,7 @@ module _ (c : Context) (leaves : Leaving) (limit : ℕ) (e : PlainExpr) (both : 
         fits = λ variables among env stands. g.before (outside variables) among env stands (IsTyped c leaves a.rest ty) (λ after there. record { wanted = wanted; typed = (g.rest after there.alike).0; stays = (g.rest after there.alike).1 });
       }
 
-  test_fits_so : (h : Spot) → limit ≤ h.next → Free h.next h.locals → type_at c h.locals None e ≡ Ok TBool → TestFits c leaves h (both.test h) (narrowed (shown true e) h.locals) (narrowed (shown false e) h.locals)
+  test_fits_so : (h : Stage) → limit ≤ h.next → Free h.next h.locals → type_at c h.locals None e ≡ Ok TBool → TestFits c leaves h (both.test h) (narrowed (shown true e) h.locals) (narrowed (shown false e) h.locals)
   test_fits_so h below free is =
       let g = good.test h below free is in
       record {

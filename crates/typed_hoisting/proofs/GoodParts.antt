@@ -15,7 +15,7 @@ use Rattle.block_code.specs.GraphFits.{Asked, is_var}
 use Rattle.flat_tree.specs.PlainFlat.{PlainFlatStmt, FSet, FNoStmt}
 use Rattle.method_splitter.specs.Points.{PointsPass}
 use Rattle.flat_types.specs.FlatTypes.{is_point, LeafFits, stmt_fits, stmts_fit, test_fits}
-use Rattle.hoisting.specs.Spots.{Spot, temporary}
+use Rattle.hoisting.specs.Stages.{Stage, temporary}
 use Rattle.hoisting.specs.HoistExpressions.{Hoisted, Forms, still, built, in_turn, taken_into, settled, settled_unless, kept, leaf, by_value, forms_if}
 use Rattle.typed_hoisting.specs.KnownLocals.{Alike, Free, Stands}
 use Rattle.typed_hoisting.specs.TypedHoisting.{Numbered, AreAmong, AreTyped, Adds, Around, code_fits, asked_of, Typed, Good, GoodTest, GoodForms}
@@ -90,38 +90,38 @@ module _ (c : Context) (leaves : Leaving) where
   pub code_then : (m : Around) (xs ys : List PlainFlatStmt) (goal : Asked) (env : List PlainLocal) → code_fits c leaves m xs (code_fits c leaves m ys goal) env → code_fits c leaves m (xs ++ ys) goal env
   code_then m xs ys goal env h = subst (λ (f : Asked). f env) (sym (code_both m xs ys goal)) h
 
-  pub up : {R : Type 0} (h : Spot) (a : Hoisted R) {Rest : List PlainLocal → R → Type 0} → Good c leaves h a Rest → h.next ≤ a.spot.next
-  up h a g = numbered_up h.next g.made a.spot.next g.numbered
+  pub up : {R : Type 0} (h : Stage) (a : Hoisted R) {Rest : List PlainLocal → R → Type 0} → Good c leaves h a Rest → h.next ≤ a.stage.next
+  up h a g = numbered_up h.next g.made a.stage.next g.numbered
 
   -- what stays
-  pub still_good : {R : Type 0} (h : Spot) (e : R) (Rest : List PlainLocal → R → Type 0) → Free h.next h.locals → ((there : List PlainLocal) → Alike h.next h.locals there → Rest there e) → Good c leaves h (still e h) Rest
+  pub still_good : {R : Type 0} (h : Stage) (e : R) (Rest : List PlainLocal → R → Type 0) → Free h.next h.locals → ((there : List PlainLocal) → Alike h.next h.locals there → Rest there e) → Good c leaves h (still e h) Rest
   unfolding stmts_fit PointsPass
   still_good h e Rest free rest = record { made = []; numbered = refl; free = free; adds = adds_nothing h.locals; alike = alike_itself h.next h.locals; rest = rest; before = λ m among env stands goal goes. goes env stands; points = λ variables among typed. tt }
 
   -- something is made of what is left
-  pub built_good : {R S : Type 0} (h : Spot) (a : Hoisted R) (f : R → S) {RA : List PlainLocal → R → Type 0} (RB : List PlainLocal → S → Type 0) → Good c leaves h a RA → ((there : List PlainLocal) → RA there a.rest → RB there (f a.rest)) → Good c leaves h (built f a) RB
+  pub built_good : {R S : Type 0} (h : Stage) (a : Hoisted R) (f : R → S) {RA : List PlainLocal → R → Type 0} (RB : List PlainLocal → S → Type 0) → Good c leaves h a RA → ((there : List PlainLocal) → RA there a.rest → RB there (f a.rest)) → Good c leaves h (built f a) RB
   built_good h a f RB g make = record { made = g.made; numbered = g.numbered; free = g.free; adds = g.adds; alike = g.alike; rest = λ there alike. make there (g.rest there alike); before = g.before; points = g.points }
 
   -- a part, and one behind it
-  pub turn_good : {R S T : Type 0} (h : Spot) (f : R → S → T) (a : Hoisted R) (b : Spot → Hoisted S) {RA : List PlainLocal → R → Type 0} {RB : List PlainLocal → S → Type 0} (RC : List PlainLocal → T → Type 0)
-      → Good c leaves h a RA → Good c leaves a.spot (b a.spot) RB → ((there : List PlainLocal) → RA there a.rest → RB there (b a.spot).rest → RC there (f a.rest (b a.spot).rest)) → Good c leaves h (in_turn f a b) RC
+  pub turn_good : {R S T : Type 0} (h : Stage) (f : R → S → T) (a : Hoisted R) (b : Stage → Hoisted S) {RA : List PlainLocal → R → Type 0} {RB : List PlainLocal → S → Type 0} (RC : List PlainLocal → T → Type 0)
+      → Good c leaves h a RA → Good c leaves a.stage (b a.stage) RB → ((there : List PlainLocal) → RA there a.rest → RB there (b a.stage).rest → RC there (f a.rest (b a.stage).rest)) → Good c leaves h (in_turn f a b) RC
   turn_good h f a b RC ga gb both =
-      let next : ℕ = (b a.spot).spot.next in
-      let locals : List PlainLocal = (b a.spot).spot.locals in
+      let next : ℕ = (b a.stage).stage.next in
+      let locals : List PlainLocal = (b a.stage).stage.locals in
       record {
         made = ga.made ++ gb.made;
-        numbered = numbered_both h.next ga.made gb.made a.spot.next next ga.numbered gb.numbered;
+        numbered = numbered_both h.next ga.made gb.made a.stage.next next ga.numbered gb.numbered;
         free = gb.free;
-        adds = adds_on ga.made gb.made h.locals a.spot.locals locals ga.adds gb.adds;
-        alike = alike_on h.next a.spot.next h.locals a.spot.locals locals (up h a ga) ga.alike gb.alike;
-        rest = λ there alike. both there (ga.rest there (alike_on a.spot.next next a.spot.locals locals there (up a.spot (b a.spot) gb) gb.alike alike)) (gb.rest there alike);
+        adds = adds_on ga.made gb.made h.locals a.stage.locals locals ga.adds gb.adds;
+        alike = alike_on h.next a.stage.next h.locals a.stage.locals locals (up h a ga) ga.alike gb.alike;
+        rest = λ there alike. both there (ga.rest there (alike_on a.stage.next next a.stage.locals locals there (up a.stage (b a.stage) gb) gb.alike alike)) (gb.rest there alike);
         before = λ m among env stands goal goes.
-            code_then m a.before (b a.spot).before goal env
-            (ga.before m (among_first m.variables ga.made gb.made among) env stands (code_fits c leaves m (b a.spot).before goal)
+            code_then m a.before (b a.stage).before goal env
+            (ga.before m (among_first m.variables ga.made gb.made among) env stands (code_fits c leaves m (b a.stage).before goal)
             (λ after there. gb.before m (among_rest m.variables ga.made gb.made among) after there goal goes));
         points = λ variables among typed.
             let first : AreAmong variables ga.made = among_first variables ga.made gb.made among in
-            passes_both variables a.before (b a.spot).before (ga.points variables first typed) (gb.points variables (among_rest variables ga.made gb.made among) (ga.adds.only variables first typed));
+            passes_both variables a.before (b a.stage).before (ga.points variables first typed) (gb.points variables (among_rest variables ga.made gb.made among) (ga.adds.only variables first typed));
       }
 
   -- Values in temporaries
@@ -133,26 +133,26 @@ module _ (c : Context) (leaves : Leaving) where
   -- a statement keeps the rules that puts a value of this type into the next temporary
   abbrev pub PutsNext : {R : Type 0} → PlainTy → Hoisted R → PlainFlatStmt → (List PlainLocal → R → Type 0) → Type 1
   PutsNext ty a x RA =
-      (m : Around) (env : List PlainLocal) → Stands m.variables a.spot.next a.spot.locals env → IsVariable m.variables a.spot.next ty → RA env a.rest
-      → (goal : Asked) → ((after : List PlainLocal) → Stands m.variables (a.spot.next + 1) (a.spot.locals ++ temporary a.spot.next ty ∷ []) after → goal after) → stmt_fits c leaves m.variables m.breaks m.continues x goal env
+      (m : Around) (env : List PlainLocal) → Stands m.variables a.stage.next a.stage.locals env → IsVariable m.variables a.stage.next ty → RA env a.rest
+      → (goal : Asked) → ((after : List PlainLocal) → Stands m.variables (a.stage.next + 1) (a.stage.locals ++ temporary a.stage.next ty ∷ []) after → goal after) → stmt_fits c leaves m.variables m.breaks m.continues x goal env
 
   -- its point names variables, if the next temporary is one
   abbrev pub PassesNext : {R : Type 0} → PlainTy → Hoisted R → PlainFlatStmt → Type 0
-  PassesNext ty a x = (variables : List PlainVar) → Free (a.spot.next + 1) (a.spot.locals ++ temporary a.spot.next ty ∷ []) → AreTyped variables (a.spot.locals ++ temporary a.spot.next ty ∷ []) → PointsPass (is_point variables) x
+  PassesNext ty a x = (variables : List PlainVar) → Free (a.stage.next + 1) (a.stage.locals ++ temporary a.stage.next ty ∷ []) → AreTyped variables (a.stage.locals ++ temporary a.stage.next ty ∷ []) → PointsPass (is_point variables) x
 
-  pub taken_good : {R : Type 0} (h : Spot) (a : Hoisted R) {RA : List PlainLocal → R → Type 0} (at : Place) (ty : PlainTy) (wanted : Option PlainTy) (f : R → ℕ → PlainFlatStmt)
-      → Good c leaves h a RA → PutsNext ty a (f a.rest a.spot.next) RA → PassesNext ty a (f a.rest a.spot.next) → Good c leaves h (taken_into at ty f a) (Typed c leaves wanted ty)
+  pub taken_good : {R : Type 0} (h : Stage) (a : Hoisted R) {RA : List PlainLocal → R → Type 0} (at : Place) (ty : PlainTy) (wanted : Option PlainTy) (f : R → ℕ → PlainFlatStmt)
+      → Good c leaves h a RA → PutsNext ty a (f a.rest a.stage.next) RA → PassesNext ty a (f a.rest a.stage.next) → Good c leaves h (taken_into at ty f a) (Typed c leaves wanted ty)
   unfolding stmts_fit PointsPass
   taken_good h a at ty wanted f g puts passes =
-      let n : ℕ = a.spot.next in
+      let n : ℕ = a.stage.next in
       let last : List PlainVar = made_var n ty ∷ [] in
       record {
         made = g.made ++ last;
         numbered = numbered_both h.next g.made last n (n + 1) g.numbered (one_numbered n ty);
-        free = more_free n a.spot.locals ty g.free;
-        adds = adds_on g.made last h.locals a.spot.locals (a.spot.locals ++ temporary n ty ∷ []) g.adds (adds_temporary n ty a.spot.locals);
-        alike = alike_on h.next n h.locals a.spot.locals (a.spot.locals ++ temporary n ty ∷ []) (up h a g) g.alike (more_alike n a.spot.locals ty);
-        rest = λ there alike. (reads_temporary n a.spot.locals ty g.free c there wanted at alike, variable_stays at n);
+        free = more_free n a.stage.locals ty g.free;
+        adds = adds_on g.made last h.locals a.stage.locals (a.stage.locals ++ temporary n ty ∷ []) g.adds (adds_temporary n ty a.stage.locals);
+        alike = alike_on h.next n h.locals a.stage.locals (a.stage.locals ++ temporary n ty ∷ []) (up h a g) g.alike (more_alike n a.stage.locals ty);
+        rest = λ there alike. (reads_temporary n a.stage.locals ty g.free c there wanted at alike, variable_stays at n);
         before = λ m among env stands goal goes.
             code_then m a.before (f a.rest n ∷ []) goal env
             (g.before m (among_first m.variables g.made last among) env stands (code_fits c leaves m (f a.rest n ∷ []) goal)
@@ -160,22 +160,22 @@ module _ (c : Context) (leaves : Leaving) where
         points = λ variables among typed.
             let first : AreAmong variables g.made = among_first variables g.made last among in
             passes_both variables a.before (f a.rest n ∷ []) (g.points variables first typed)
-            (passes variables (more_free n a.spot.locals ty g.free) ((adds_temporary n ty a.spot.locals).only variables (among_rest variables g.made last among) (g.adds.only variables first typed)), tt);
+            (passes variables (more_free n a.stage.locals ty g.free) ((adds_temporary n ty a.stage.locals).only variables (among_rest variables g.made last among) (g.adds.only variables first typed)), tt);
       }
 
-  settled_good : (h : Spot) (a : Hoisted PlainExpr) (at : Place) (wanted : Option PlainTy) (ty : PlainTy) → Good c leaves h a (Typed c leaves wanted ty) → Good c leaves h (settled at ty a) (Typed c leaves wanted ty)
+  settled_good : (h : Stage) (a : Hoisted PlainExpr) (at : Place) (wanted : Option PlainTy) (ty : PlainTy) → Good c leaves h a (Typed c leaves wanted ty) → Good c leaves h (settled at ty a) (Typed c leaves wanted ty)
   unfolding stmts_fit PointsPass
   settled_good h a at wanted ty g = taken_good h a at ty wanted (λ r t. FSet t r) g (λ m env stands is rest goal goes. (
     ty,
     record { wanted = wanted; typed = rest.0; stays = rest.1 },
-    takes m.variables a.spot.next ty ty env stands.are is (assigned_itself ty) goal (goes _ (stored_stands m.variables a.spot.next ty env a.spot.locals g.free stands is)),
+    takes m.variables a.stage.next ty ty env stands.are is (assigned_itself ty) goal (goes _ (stored_stands m.variables a.stage.next ty env a.stage.locals g.free stands is)),
   )) (λ variables free typed. tt)
 
-  pub settled_unless_good : (lasting : Bool) (h : Spot) (a : Hoisted PlainExpr) (at : Place) (wanted : Option PlainTy) (s ty : PlainTy) → s ≡ ty → Good c leaves h a (Typed c leaves wanted ty) → Good c leaves h (settled_unless lasting at s a) (Typed c leaves wanted ty)
+  pub settled_unless_good : (lasting : Bool) (h : Stage) (a : Hoisted PlainExpr) (at : Place) (wanted : Option PlainTy) (s ty : PlainTy) → s ≡ ty → Good c leaves h a (Typed c leaves wanted ty) → Good c leaves h (settled_unless lasting at s a) (Typed c leaves wanted ty)
   settled_unless_good true h a at wanted s ty e g = g
   settled_unless_good false h a at wanted s ty e g = subst (λ s. Good c leaves h (settled at s a) (Typed c leaves wanted ty)) (sym e) (settled_good h a at wanted ty g)
 
-  pub kept_good : (later lasting : Bool) (h : Spot) (a : Hoisted PlainExpr) (at : Place) (wanted : Option PlainTy) (s ty : PlainTy) → s ≡ ty → Good c leaves h a (Typed c leaves wanted ty) → Good c leaves h (kept later lasting at s a) (Typed c leaves wanted ty)
+  pub kept_good : (later lasting : Bool) (h : Stage) (a : Hoisted PlainExpr) (at : Place) (wanted : Option PlainTy) (s ty : PlainTy) → s ≡ ty → Good c leaves h a (Typed c leaves wanted ty) → Good c leaves h (kept later lasting at s a) (Typed c leaves wanted ty)
   kept_good true lasting h a at wanted s ty e g = settled_unless_good lasting h a at wanted s ty e g
   kept_good false lasting h a at wanted s ty e g = g
 
@@ -185,7 +185,7 @@ module _ (c : Context) (leaves : Leaving) where
   abbrev pub Shows : PlainExpr → PlainExpr → Type 0
   Shows e r = (truth : Bool) (x : ℕ) → has_name (shown truth e) x ≡ true → has_name (shown truth r) x ≡ true
 
-  pub leaf_good : (h : Spot) (e : PlainExpr) (a : Hoisted PlainExpr) → Shows e a.rest → Good c leaves h a (Typed c leaves None TBool)
+  pub leaf_good : (h : Stage) (e : PlainExpr) (a : Hoisted PlainExpr) → Shows e a.rest → Good c leaves h a (Typed c leaves None TBool)
       → GoodTest c leaves h (asked_of c leaves (leaf a).test) (leaf a).next (narrowed (shown true e) h.locals) (narrowed (shown false e) h.locals)
   unfolding test_fits PointsPass
   leaf_good h e a shows g = record {
@@ -194,16 +194,16 @@ module _ (c : Context) (leaves : Leaving) where
     numbered = g.numbered;
     sides = λ m among env stands yes' no' holds fails. g.before m among env stands (LeafFits c leaves a.rest yes' no') (λ after there. (
       record { wanted = None; typed = (g.rest after there.alike).0; stays = (g.rest after there.alike).1 },
-      holds _ (narrowed_least m.variables h.next a.spot.next (shown true e) (shown true a.rest) h.locals a.spot.locals after (up h a g) (shows true) g.alike there),
-      fails _ (narrowed_least m.variables h.next a.spot.next (shown false e) (shown false a.rest) h.locals a.spot.locals after (up h a g) (shows false) g.alike there),
+      holds _ (narrowed_least m.variables h.next a.stage.next (shown true e) (shown true a.rest) h.locals a.stage.locals after (up h a g) (shows true) g.alike there),
+      fails _ (narrowed_least m.variables h.next a.stage.next (shown false e) (shown false a.rest) h.locals a.stage.locals after (up h a g) (shows false) g.alike there),
     ));
   }
 
   module _ (limit : ℕ) where
     -- an expression by its value
-    pub by_value_good : (e : PlainExpr) (value : Option PlainTy → Spot → Hoisted PlainExpr)
-        → ((wanted : Option PlainTy) (h : Spot) (ty : PlainTy) → limit ≤ h.next → Free h.next h.locals → type_at c h.locals wanted e ≡ Ok ty → Good c leaves h (value wanted h) (Typed c leaves wanted ty))
-        → ((h : Spot) → Shows e (value None h).rest) → GoodForms c leaves limit e (by_value value)
+    pub by_value_good : (e : PlainExpr) (value : Option PlainTy → Stage → Hoisted PlainExpr)
+        → ((wanted : Option PlainTy) (h : Stage) (ty : PlainTy) → limit ≤ h.next → Free h.next h.locals → type_at c h.locals wanted e ≡ Ok ty → Good c leaves h (value wanted h) (Typed c leaves wanted ty))
+        → ((h : Stage) → Shows e (value None h).rest) → GoodForms c leaves limit e (by_value value)
     by_value_good e value good shows = record { value = good; test = λ h below free is. leaf_good h e (value None h) (shows h) (good None h TBool below free is) }
 
     pub still_forms : (e : PlainExpr) → ExprNames limit e → expr_suspends leaves e ≡ false → GoodForms c leaves limit e (by_value (λ wanted h. still e h))

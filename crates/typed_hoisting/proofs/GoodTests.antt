@@ -12,7 +12,7 @@ use Rattle.block_code.specs.GraphFits.{Asked, at_start}
 use Rattle.flat_tree.specs.PlainFlat.{FSet, PlainFlatTest, FNot, FAnd, FOr, FOperand, PlainOperands, FNoOperand, FMoreOperands, FNoStmt}
 use Rattle.method_splitter.specs.Points.{PointsPass, PointsPassInOperands}
 use Rattle.flat_types.specs.FlatTypes.{is_point, Supplies, Behind, stmts_fit, test_fits, each_fits}
-use Rattle.hoisting.specs.Spots.{Spot, surely, temporary, where_shown}
+use Rattle.hoisting.specs.Stages.{Stage, surely, temporary, where_shown}
 use Rattle.hoisting.specs.HoistExpressions.{Hoisted, Tested, still, chosen, truth_of, made_of}
 use Rattle.typed_hoisting.specs.KnownLocals.{Free, Stands, AtLeast}
 use Rattle.typed_hoisting.specs.TypedHoisting.{AreAmong, AreTyped, Around, AskedOfTest, code_fits, asked_of, Typed, Good, GoodTest}
@@ -32,31 +32,31 @@ module _ (c : Context) (leaves : Leaving) where
   }
 
   -- where names are narrowed, the point leads to where as much is known
-  narrowed_behind : (m : Around) (h : Spot) (names : List ℕ) (env : List PlainLocal) → Free h.next h.locals → Stands m.variables h.next h.locals env → (n : ℕ) → Stands m.variables n (narrowed names h.locals) (at_start m.variables (surely (narrowed names h.locals)))
+  narrowed_behind : (m : Around) (h : Stage) (names : List ℕ) (env : List PlainLocal) → Free h.next h.locals → Stands m.variables h.next h.locals env → (n : ℕ) → Stands m.variables n (narrowed names h.locals) (at_start m.variables (surely (narrowed names h.locals)))
   narrowed_behind m h names env free stands n =
       stands_behind m.variables h.next (narrowed names h.locals) (narrowed names env) (free_narrowed h.next h.next names h.locals (omega arith) free)
       (narrowed_least m.variables h.next h.next names names h.locals h.locals env (omega arith) (λ x e. e) (alike_itself h.next h.locals) stands) n
 
-  narrowed_supplies : (m : Around) (h : Spot) (names : List ℕ) (after : List PlainLocal) → Free h.next h.locals → AtLeast m.variables h.next (narrowed names h.locals) after → Supplies (surely (narrowed names h.locals)) after
+  narrowed_supplies : (m : Around) (h : Stage) (names : List ℕ) (after : List PlainLocal) → Free h.next h.locals → AtLeast m.variables h.next (narrowed names h.locals) after → Supplies (surely (narrowed names h.locals)) after
   narrowed_supplies m h names after free least = supplies m.variables h.next (narrowed names h.locals) after (free_narrowed h.next h.next names h.locals (omega arith) free) least
 
   -- Tests
 
-  pub not_test : (h : Spot) (at : Place) (a : PlainExpr) (t : Tested PlainFlatTest) → GoodTest c leaves h (asked_of c leaves t.test) t.next (narrowed (shown true a) h.locals) (narrowed (shown false a) h.locals)
+  pub not_test : (h : Stage) (at : Place) (a : PlainExpr) (t : Tested PlainFlatTest) → GoodTest c leaves h (asked_of c leaves t.test) t.next (narrowed (shown true a) h.locals) (narrowed (shown false a) h.locals)
       → GoodTest c leaves h (asked_of c leaves (made_of FNot t).test) t.next (narrowed (shown true (PNot at a)) h.locals) (narrowed (shown false (PNot at a)) h.locals)
   unfolding test_fits shown PointsPass
   not_test h at a t g = record { points = g.points; made = g.made; numbered = g.numbered; sides = λ m among env stands yes' no' holds fails. g.sides m among env stands no' yes' fails holds }
 
-  pub no_and : (h : Spot) → GoodTest c leaves h (asked_of_each true FNoOperand) h.next (narrowed (shown_by_each true PNoExpr) h.locals) h.locals
+  pub no_and : (h : Stage) → GoodTest c leaves h (asked_of_each true FNoOperand) h.next (narrowed (shown_by_each true PNoExpr) h.locals) h.locals
   unfolding each_fits shown PointsPass
   no_and h = record { points = λ variables among typed. tt; made = []; numbered = refl; sides = λ m among env stands yes' no' holds fails. holds env (unnarrowed_least m.variables h.next h.locals env (as_least m.variables h.next h.locals env stands)) }
 
-  pub no_or : (h : Spot) → GoodTest c leaves h (asked_of_each false FNoOperand) h.next h.locals (narrowed (shown_by_each false PNoExpr) h.locals)
+  pub no_or : (h : Stage) → GoodTest c leaves h (asked_of_each false FNoOperand) h.next h.locals (narrowed (shown_by_each false PNoExpr) h.locals)
   unfolding each_fits shown PointsPass
   no_or h = record { points = λ variables among typed. tt; made = []; numbered = refl; sides = λ m among env stands yes' no' holds fails. fails env (unnarrowed_least m.variables h.next h.locals env (as_least m.variables h.next h.locals env stands)) }
 
-  module _ (h : Spot) (free : Free h.next h.locals) (names others later : List ℕ) (t : PlainFlatTest) (mid : ℕ) (operands : PlainOperands) (next : ℕ) where
-    abbrev there : Spot
+  module _ (h : Stage) (free : Free h.next h.locals) (names others later : List ℕ) (t : PlainFlatTest) (mid : ℕ) (operands : PlainOperands) (next : ℕ) where
+    abbrev there : Stage
     there = record { locals = narrowed names h.locals; next = mid }
 
     abbrev all_operands : PlainOperands
@@ -105,21 +105,21 @@ module _ (c : Context) (leaves : Leaving) where
     }
 
   -- operands of `and`, the first before the others
-  pub and_more : (h : Spot) → Free h.next h.locals → (x : PlainExpr) (xs : PlainExprs) (t : Tested PlainFlatTest) (rest : Tested PlainOperands)
+  pub and_more : (h : Stage) → Free h.next h.locals → (x : PlainExpr) (xs : PlainExprs) (t : Tested PlainFlatTest) (rest : Tested PlainOperands)
       → GoodTest c leaves h (asked_of c leaves t.test) t.next (narrowed (shown true x) h.locals) (narrowed (shown false x) h.locals)
       → GoodTest c leaves (where_shown true x h.locals t.next) (asked_of_each true rest.test) rest.next (narrowed (shown_by_each true xs) (narrowed (shown true x) h.locals)) (narrowed (shown true x) h.locals)
       → GoodTest c leaves h (asked_of_each true (FMoreOperands (FOperand t.test (surely (narrowed (shown true x) h.locals))) rest.test)) rest.next (narrowed (shown_by_each true (PExpr x xs)) h.locals) h.locals
   unfolding shown
   and_more h free x xs t rest a b = more_and h free (shown true x) (shown false x) (shown_by_each true xs) t.test t.next rest.test rest.next a b
 
-  pub or_more : (h : Spot) → Free h.next h.locals → (x : PlainExpr) (xs : PlainExprs) (t : Tested PlainFlatTest) (rest : Tested PlainOperands)
+  pub or_more : (h : Stage) → Free h.next h.locals → (x : PlainExpr) (xs : PlainExprs) (t : Tested PlainFlatTest) (rest : Tested PlainOperands)
       → GoodTest c leaves h (asked_of c leaves t.test) t.next (narrowed (shown true x) h.locals) (narrowed (shown false x) h.locals)
       → GoodTest c leaves (where_shown false x h.locals t.next) (asked_of_each false rest.test) rest.next (narrowed (shown false x) h.locals) (narrowed (shown_by_each false xs) (narrowed (shown false x) h.locals))
       → GoodTest c leaves h (asked_of_each false (FMoreOperands (FOperand t.test (surely (narrowed (shown false x) h.locals))) rest.test)) rest.next h.locals (narrowed (shown_by_each false (PExpr x xs)) h.locals)
   unfolding shown
   or_more h free x xs t rest a b = more_or h free (shown false x) (shown true x) (shown_by_each false xs) t.test t.next rest.test rest.next a b
 
-  pub and_test : (h : Spot) (at : Place) (items : PlainExprs) (t : Tested PlainOperands) → GoodTest c leaves h (asked_of_each true t.test) t.next (narrowed (shown_by_each true items) h.locals) h.locals
+  pub and_test : (h : Stage) (at : Place) (items : PlainExprs) (t : Tested PlainOperands) → GoodTest c leaves h (asked_of_each true t.test) t.next (narrowed (shown_by_each true items) h.locals) h.locals
       → GoodTest c leaves h (asked_of c leaves (made_of FAnd t).test) t.next (narrowed (shown true (PAnd at items)) h.locals) (narrowed (shown false (PAnd at items)) h.locals)
   unfolding test_fits shown PointsPass
   and_test h at items t g = record {
@@ -129,7 +129,7 @@ module _ (c : Context) (leaves : Leaving) where
     sides = λ m among env stands yes' no' holds fails. g.sides m among env stands yes' no' holds (λ after least. fails after (unnarrowed_least m.variables h.next h.locals after least));
   }
 
-  pub or_test : (h : Spot) (at : Place) (items : PlainExprs) (t : Tested PlainOperands) → GoodTest c leaves h (asked_of_each false t.test) t.next h.locals (narrowed (shown_by_each false items) h.locals)
+  pub or_test : (h : Stage) (at : Place) (items : PlainExprs) (t : Tested PlainOperands) → GoodTest c leaves h (asked_of_each false t.test) t.next h.locals (narrowed (shown_by_each false items) h.locals)
       → GoodTest c leaves h (asked_of c leaves (made_of FOr t).test) t.next (narrowed (shown true (POr at items)) h.locals) (narrowed (shown false (POr at items)) h.locals)
   unfolding test_fits shown PointsPass
   or_test h at items t g = record {
@@ -142,18 +142,18 @@ module _ (c : Context) (leaves : Leaving) where
   -- One of two values
 
   -- a side that puts its value into a variable of the method
-  side_fits : (m : Around) (h : Spot) (free : Free h.next h.locals) (env : List PlainLocal) (stands : Stands m.variables h.next h.locals env) (names : List ℕ) (first : ℕ) (a : Hoisted PlainExpr) (wanted : Option PlainTy) (s ty : PlainTy) (n : ℕ) → h.next ≤ first → a.spot.next ≤ n
+  side_fits : (m : Around) (h : Stage) (free : Free h.next h.locals) (env : List PlainLocal) (stands : Stands m.variables h.next h.locals env) (names : List ℕ) (first : ℕ) (a : Hoisted PlainExpr) (wanted : Option PlainTy) (s ty : PlainTy) (n : ℕ) → h.next ≤ first → a.stage.next ≤ n
       → (g : Good c leaves (record { locals = narrowed names h.locals; next = first }) a (Typed c leaves wanted s)) → AreAmong m.variables g.made → IsVariable m.variables n ty → assignable s ty ≡ true
       → Behind m.variables (surely (narrowed names h.locals)) (code_fits c leaves m (a.before ++ FSet n a.rest ∷ []) (Supplies (surely (h.locals ++ temporary n ty ∷ []))))
   unfolding stmts_fit
   side_fits m h free env stands names first a wanted s ty n below under g among is fit =
       let start : List PlainLocal = at_start m.variables (surely (narrowed names h.locals)) in
       let point : Asked = Supplies (surely (h.locals ++ temporary n ty ∷ [])) in
-      let inside : first ≤ a.spot.next = numbered_up first g.made a.spot.next g.numbered in
+      let inside : first ≤ a.stage.next = numbered_up first g.made a.stage.next g.numbered in
       let later : h.next ≤ n = omega (arith, below, under, inside) in
       code_then c leaves m a.before (FSet n a.rest ∷ []) point start
       (g.before m among start (narrowed_behind m h names env free stands first) (code_fits c leaves m (FSet n a.rest ∷ []) point) (λ after there.
-      let least : AtLeast m.variables h.next h.locals after = least_behind m.variables h.next first a.spot.next names h.locals a.spot.locals after below inside g.alike there in (
+      let least : AtLeast m.variables h.next h.locals after = least_behind m.variables h.next first a.stage.next names h.locals a.stage.locals after below inside g.alike there in (
         s,
         record { wanted = wanted; typed = (g.rest after there.alike).0; stays = (g.rest after there.alike).1 },
         takes m.variables n ty s after there.are is fit (stmts_fit c leaves m.variables m.breaks m.continues FNoStmt point)
@@ -161,26 +161,26 @@ module _ (c : Context) (leaves : Leaving) where
             (stored_least m.variables n ty s after there.are is h.next later h.locals free least)),
       )))
 
-  pub chosen_good : (h : Spot) (free : Free h.next h.locals) (at : Place) (ty : PlainTy) (test : PlainExpr) (t : Tested PlainFlatTest) (first second : Spot → Hoisted PlainExpr) (wanted : Option PlainTy) (s u : PlainTy)
+  pub chosen_good : (h : Stage) (free : Free h.next h.locals) (at : Place) (ty : PlainTy) (test : PlainExpr) (t : Tested PlainFlatTest) (first second : Stage → Hoisted PlainExpr) (wanted : Option PlainTy) (s u : PlainTy)
       → GoodTest c leaves h (asked_of c leaves t.test) t.next (narrowed (shown true test) h.locals) (narrowed (shown false test) h.locals)
       → Good c leaves (where_shown true test h.locals t.next) (first (where_shown true test h.locals t.next)) (Typed c leaves wanted s)
-      → Good c leaves (where_shown false test h.locals (first (where_shown true test h.locals t.next)).spot.next) (second (where_shown false test h.locals (first (where_shown true test h.locals t.next)).spot.next)) (Typed c leaves wanted u)
+      → Good c leaves (where_shown false test h.locals (first (where_shown true test h.locals t.next)).stage.next) (second (where_shown false test h.locals (first (where_shown true test h.locals t.next)).stage.next)) (Typed c leaves wanted u)
       → assignable s ty ≡ true → assignable u ty ≡ true → Good c leaves h (chosen at ty h.locals test t first second) (Typed c leaves wanted ty)
   unfolding stmts_fit PointsPass
   chosen_good h free at ty test t first second wanted s u gt ga gb es eu =
       let a : Hoisted PlainExpr = first (where_shown true test h.locals t.next) in
-      let b : Hoisted PlainExpr = second (where_shown false test h.locals a.spot.next) in
-      let n : ℕ = b.spot.next in
+      let b : Hoisted PlainExpr = second (where_shown false test h.locals a.stage.next) in
+      let n : ℕ = b.stage.next in
       let last : List PlainVar = made_var n ty ∷ [] in
       let to_test : h.next ≤ t.next = numbered_up h.next gt.made t.next gt.numbered in
-      let to_first : t.next ≤ a.spot.next = numbered_up t.next ga.made a.spot.next ga.numbered in
-      let to_second : a.spot.next ≤ n = numbered_up a.spot.next gb.made n gb.numbered in
+      let to_first : t.next ≤ a.stage.next = numbered_up t.next ga.made a.stage.next ga.numbered in
+      let to_second : a.stage.next ≤ n = numbered_up a.stage.next gb.made n gb.numbered in
       let below : h.next ≤ n = omega (arith, to_test, to_first, to_second) in
       let open' : Free n h.locals = free_later h.next n h.locals below free in
       record {
         made = gt.made ++ (ga.made ++ (gb.made ++ last));
         numbered = numbered_both h.next gt.made (ga.made ++ (gb.made ++ last)) t.next (n + 1) gt.numbered
-            (numbered_both t.next ga.made (gb.made ++ last) a.spot.next (n + 1) ga.numbered (numbered_both a.spot.next gb.made last n (n + 1) gb.numbered (one_numbered n ty)));
+            (numbered_both t.next ga.made (gb.made ++ last) a.stage.next (n + 1) ga.numbered (numbered_both a.stage.next gb.made last n (n + 1) gb.numbered (one_numbered n ty)));
         free = more_free n h.locals ty open';
         adds = adds_behind gt.made (ga.made ++ (gb.made ++ last)) h.locals (h.locals ++ temporary n ty ∷ [])
             (adds_behind ga.made (gb.made ++ last) h.locals (h.locals ++ temporary n ty ∷ []) (adds_behind gb.made last h.locals (h.locals ++ temporary n ty ∷ []) (adds_temporary n ty h.locals)));
@@ -213,7 +213,7 @@ module _ (c : Context) (leaves : Leaving) where
                 gt.sides m (among_first m.variables gt.made (ga.made ++ (gb.made ++ last)) among) env stands (Supplies (surely (narrowed (shown true test) h.locals))) (Supplies (surely (narrowed (shown false test) h.locals)))
                     (λ after least. narrowed_supplies m h (shown true test) after free least) (λ after least. narrowed_supplies m h (shown false test) after free least),
                 side_fits m h free env stands (shown true test) t.next a wanted s ty n to_test to_second ga (among_first m.variables ga.made (gb.made ++ last) rest1) is es,
-                side_fits m h free env stands (shown false test) a.spot.next b wanted u ty n (omega (arith, to_test, to_first)) (omega arith) gb (among_first m.variables gb.made last rest2) is eu,
+                side_fits m h free env stands (shown false test) a.stage.next b wanted u ty n (omega (arith, to_test, to_first)) (omega arith) gb (among_first m.variables gb.made last rest2) is eu,
               ),
               goes (at_start m.variables (surely (h.locals ++ temporary n ty ∷ [])))
                   (stands_behind m.variables (n + 1) (h.locals ++ temporary n ty ∷ []) (with_local n ty ty env) (more_free n h.locals ty open')
@@ -227,7 +227,7 @@ module _ (c : Context) (leaves : Leaving) where
   unfolding type_of expr_suspends
   bool_typed at b wanted env = (refl, refl)
 
-  pub truth_good : (h : Spot) → Free h.next h.locals → (at : Place) (test : PlainExpr) (t : Tested PlainFlatTest) (wanted : Option PlainTy)
+  pub truth_good : (h : Stage) → Free h.next h.locals → (at : Place) (test : PlainExpr) (t : Tested PlainFlatTest) (wanted : Option PlainTy)
       → GoodTest c leaves h (asked_of c leaves t.test) t.next (narrowed (shown true test) h.locals) (narrowed (shown false test) h.locals) → Good c leaves h (truth_of at h.locals test t) (Typed c leaves wanted TBool)
   truth_good h free at test t wanted g =
       let below : h.next ≤ t.next = numbered_up h.next g.made t.next g.numbered in

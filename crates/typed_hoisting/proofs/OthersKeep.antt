@@ -17,7 +17,7 @@ use Rattle.call_graph.specs.SuspendingCode.{Leaving, expr_suspends, exprs_suspen
 use Rattle.program_meaning.proofs.TypedParts.{found_ok, arguments_result, each_result, elements_result, typed_creation, type_given}
 use Rattle.flat_tree.specs.PlainFlat.{FMake}
 use Rattle.flat_types.specs.FlatTypes.{stmt_fits}
-use Rattle.hoisting.specs.Spots.{Spot, surely, temporary, with_temporary, ty_at, found_ty, created_of, init_params}
+use Rattle.hoisting.specs.Stages.{Stage, surely, temporary, with_temporary, ty_at, found_ty, created_of, init_params}
 use Rattle.hoisting.specs.HoistExpressions.{Hoisted, built, settled_unless, lasts, apply_of, by_params, by_function, by_elements, each_wanted, chain, ChainPart, chain_of, so_far, linked_on, begun_anew, either, taken, taken_each, taken_links}
 use Rattle.typed_hoisting.specs.KnownLocals.{Alike, Free}
 use Rattle.typed_hoisting.specs.TypedHoisting.{Typed, Good}
@@ -41,7 +41,7 @@ module _ (c : Context) (leaves : Leaving) (limit : ℕ) where
   unfolding type_of
   apply_is there wanted at name args = refl
 
-  module _ (at : Place) (name : ℕ) (args : PlainExprs) (named : ExprsNames limit args) (good_args : GoodEach c leaves limit args) (wanted : Option PlainTy) (h : Spot) (below : limit ≤ h.next) (free : Free h.next h.locals) where
+  module _ (at : Place) (name : ℕ) (args : PlainExprs) (named : ExprsNames limit args) (good_args : GoodEach c leaves limit args) (wanted : Option PlainTy) (h : Stage) (below : limit ≤ h.next) (free : Free h.next h.locals) where
     abbrev pieces : Option Function → Hoisted PlainExprs
     pieces o = parts c leaves limit (by_function c o name) args h
 
@@ -74,8 +74,8 @@ module _ (c : Context) (leaves : Leaving) (limit : ℕ) where
         let a : Hoisted PlainExprs = parts c leaves limit wants args h in
         let g : Good c leaves h a (StayTyped c leaves limit wants all.0) = parts_good c leaves limit args named good_args wants all.0 h below free all.1 in
         let whole : Good c leaves h (apply_of c true at (TEntity table.name) name a) (Typed c leaves wanted (TEntity table.name)) =
-        taken_good c leaves h a at (TEntity table.name) wanted (λ r t. FMake (created_of c name) r t (surely (with_temporary (TEntity table.name) a.spot).locals)) g (λ m env stands is x goal goes.
-        let behind = stored_behind m a.spot.next a.spot.locals (TEntity table.name) env g.free stands is goal goes in (
+        taken_good c leaves h a at (TEntity table.name) wanted (λ r t. FMake (created_of c name) r t (surely (with_temporary (TEntity table.name) a.stage).locals)) g (λ m env stands is x goal goes.
+        let behind = stored_behind m a.stage.next a.stage.locals (TEntity table.name) env g.free stands is goal goes in (
           record {
             table = table;
             has_table = (created_stands c name table p.1).0;
@@ -83,7 +83,7 @@ module _ (c : Context) (leaves : Leaving) (limit : ℕ) where
             takes = behind.0;
           },
           behind.1,
-        )) (λ variables free typed. point_passes variables (a.spot.locals ++ temporary a.spot.next (TEntity table.name) ∷ []) free.once typed) in
+        )) (λ variables free typed. point_passes variables (a.stage.locals ++ temporary a.stage.next (TEntity table.name) ∷ []) free.once typed) in
         subst (λ o. Good c leaves h (apply_of c true at ty name (parts c leaves limit (by_params (init_params o)) args h)) (Typed c leaves wanted ty)) (sym p.1)
         (subst (λ t. Good c leaves h (apply_of c true at t name a) (Typed c leaves wanted t)) result whole)
 
@@ -112,10 +112,10 @@ module _ (c : Context) (leaves : Leaving) (limit : ℕ) where
   empty_again o at here there = refl
 
   -- by what is wanted of the elements
-  abbrev ListGood : Option PlainTy → Place → PlainTy → PlainExprs → Spot → Type 1
+  abbrev ListGood : Option PlainTy → Place → PlainTy → PlainExprs → Stage → Type 1
   ListGood o at ty items h = Good c leaves h (taken_each leaves c (by_elements c o h.locals items) items h) (λ there r. (list_of c.tables (env_of c there) o at r ≡ Ok ty) × (exprs_suspend leaves r ≡ false))
 
-  as_made : {h : Spot} {a : Hoisted PlainExprs} {RA RB : List PlainLocal → PlainExprs → Type 0} → Good c leaves h a RA → ((there : List PlainLocal) → RA there a.rest → RB there a.rest) → Good c leaves h a RB
+  as_made : {h : Stage} {a : Hoisted PlainExprs} {RA RB : List PlainLocal → PlainExprs → Type 0} → Good c leaves h a RA → ((there : List PlainLocal) → RA there a.rest → RB there a.rest) → Good c leaves h a RB
   as_made g f = record { made = g.made; numbered = g.numbered; free = g.free; adds = g.adds; alike = g.alike; rest = λ there alike. f there (g.rest there alike); before = g.before; points = g.points }
 
   list_again : (there : List PlainLocal) (element : PlainTy) (at : Place) (source : PlainExprs) (ts : List PlainTy) (r : PlainExprs) → count_of source ≡ length ts → TypedEach c (each_wanted (Some element) source) ts there r → SuitElement element ts → list_of c.tables (env_of c there) (Some element) at r ≡ Ok (TList element)
@@ -139,7 +139,7 @@ module _ (c : Context) (leaves : Leaving) (limit : ℕ) where
   first_again there at u ty source ts PNoExpr e n typed suit = absurd typed
   first_again there at u ty source ts (PExpr x xs) e n typed suit = ap (λ q. with_found q (λ t. elements c.tables (env_of c there) t xs)) typed.0 ∙ to_elements c u there source ts xs n typed.1 suit ∙ ap Ok e
 
-  list_good : (o : Option PlainTy) (at : Place) (ty : PlainTy) (items : PlainExprs) → GoodEach c leaves limit items → (h : Spot) → limit ≤ h.next → Free h.next h.locals → list_of c.tables (env_of c h.locals) o at items ≡ Ok ty → ListGood o at ty items h
+  list_good : (o : Option PlainTy) (at : Place) (ty : PlainTy) (items : PlainExprs) → GoodEach c leaves limit items → (h : Stage) → limit ≤ h.next → Free h.next h.locals → list_of c.tables (env_of c h.locals) o at items ≡ Ok ty → ListGood o at ty items h
   list_good None at ty PNoExpr good h below free is = as_made (good [] [] h below free tt) (λ there x. (none_left there _ x.0, x.1))
     where
       none_left : (there : List PlainLocal) (r : PlainExprs) → TypedEach c [] [] there r → list_of c.tables (env_of c there) None at r ≡ Ok ty
@@ -165,7 +165,7 @@ module _ (c : Context) (leaves : Leaving) (limit : ℕ) where
       subst (λ t. Good c leaves h (taken_each leaves c (None ∷ each_wanted (Some t) xs) (PExpr x xs) h) (λ there r. (list_of c.tables (env_of c there) None at r ≡ Ok ty) × (exprs_suspend leaves r ≡ false))) (sym (ap found_ty p.1))
       (as_made (good (None ∷ wants) (u ∷ all.0) h below free (p.1, all.1)) (λ there y. (first_again there at u ty xs all.0 _ (elements_result c.tables (env_of c h.locals) u xs ty p.2) count y.0 all.2, y.1)))
 
-  pub list_step : (at : Place) (items : PlainExprs) → GoodEach c leaves limit items → (wanted : Option PlainTy) (h : Spot) (ty : PlainTy) → limit ≤ h.next → Free h.next h.locals → type_at c h.locals wanted (PList at items) ≡ Ok ty
+  pub list_step : (at : Place) (items : PlainExprs) → GoodEach c leaves limit items → (wanted : Option PlainTy) (h : Stage) (ty : PlainTy) → limit ≤ h.next → Free h.next h.locals → type_at c h.locals wanted (PList at items) ≡ Ok ty
       → Good c leaves h (built (PList at) (taken_each leaves c (by_elements c (option_and_then element_wanted wanted) h.locals items) items h)) (Typed c leaves wanted ty)
   list_step at items good wanted h ty below free is =
       built_good c leaves h _ (PList at) (Typed c leaves wanted ty) (list_good (option_and_then element_wanted wanted) at ty items good h below free (sym (list_is h.locals wanted at items) ∙ is)) (λ there x. (list_is there wanted at _ ∙ x.0, list_stays at _ x.1))
@@ -174,18 +174,18 @@ module _ (c : Context) (leaves : Leaving) (limit : ℕ) where
 
   -- the operand and the links of a run so far
   abbrev pub run_of : ChainPart → Hoisted (PlainExpr × List PlainLink)
-  run_of r = record { before = r.before; rest = (r.left, r.links); spot = r.spot }
+  run_of r = record { before = r.before; rest = (r.left, r.links); stage = r.stage }
 
-  abbrev pub GoodRun : PlainTy → Spot → ChainPart → Type 1
+  abbrev pub GoodRun : PlainTy → Stage → ChainPart → Type 1
   GoodRun t h r = Good c leaves h (run_of r) (RunTyped c leaves t)
 
-  pub so_far_good : (t : PlainTy) (h : Spot) (at : Place) (r : ChainPart) → GoodRun t h r → Good c leaves h (so_far at r) (Typed c leaves None t)
+  pub so_far_good : (t : PlainTy) (h : Stage) (at : Place) (r : ChainPart) → GoodRun t h r → Good c leaves h (so_far at r) (Typed c leaves None t)
   so_far_good t h at r g = built_good c leaves h (run_of r) (λ p. chain at p.0 p.1) (Typed c leaves None t) g (λ there x. (run_typed c leaves t there None at r.left r.links x, run_stays c leaves t there at r.left r.links x))
 
-  run_step : (t : PlainTy) (h : Spot) (at : Place) (o : BinOp) (op_at : Place) (right : PlainExpr) (u : PlainTy) (r : ChainPart) → ExprNames limit right → GoodExpr c leaves limit right → limit ≤ h.next
+  run_step : (t : PlainTy) (h : Stage) (at : Place) (o : BinOp) (op_at : Place) (right : PlainExpr) (u : PlainTy) (r : ChainPart) → ExprNames limit right → GoodExpr c leaves limit right → limit ≤ h.next
       → type_at c h.locals (right_wanted o t) right ≡ Ok u → combined o op_at t u ≡ Ok t → GoodRun t h r
       → GoodRun t h (either (expr_suspends leaves right)
-      (let a = settled_unless r.lasting at t (so_far at r) in begun_anew a (PLink o op_at) (part c leaves limit right (right_wanted o t) a.spot))
+      (let a = settled_unless r.lasting at t (so_far at r) in begun_anew a (PLink o op_at) (part c leaves limit right (right_wanted o t) a.stage))
       (linked_on r (PLink o op_at right)))
   run_step t h at o op_at right u r named good below is both g = by (expr_suspends leaves right) refl
     where
@@ -195,11 +195,11 @@ module _ (c : Context) (leaves : Leaving) (limit : ℕ) where
       ga : Good c leaves h a (Typed c leaves None t)
       ga = settled_unless_good c leaves r.lasting h (so_far at r) at None t t refl (so_far_good t h at r g)
 
-      gb : Good c leaves a.spot (part c leaves limit right (right_wanted o t) a.spot) (Typed c leaves (right_wanted o t) u)
-      gb = good.value (right_wanted o t) a.spot u (omega (arith, below, up c leaves h a ga)) ga.free (kept_at c limit h.next h.locals a.spot.locals below ga.alike (right_wanted o t) right u named is)
+      gb : Good c leaves a.stage (part c leaves limit right (right_wanted o t) a.stage) (Typed c leaves (right_wanted o t) u)
+      gb = good.value (right_wanted o t) a.stage u (omega (arith, below, up c leaves h a ga)) ga.free (kept_at c limit h.next h.locals a.stage.locals below ga.alike (right_wanted o t) right u named is)
 
-      by : (b : Bool) → expr_suspends leaves right ≡ b → GoodRun t h (either b (begun_anew a (PLink o op_at) (part c leaves limit right (right_wanted o t) a.spot)) (linked_on r (PLink o op_at right)))
-      by true e = turn_good c leaves h (λ x y. (x, PLink o op_at y ∷ [])) a (λ k. part c leaves limit right (right_wanted o t) k) (RunTyped c leaves t) ga gb (λ there x y. (x, one_link_typed c leaves t u there o op_at (part c leaves limit right (right_wanted o t) a.spot).rest both y))
+      by : (b : Bool) → expr_suspends leaves right ≡ b → GoodRun t h (either b (begun_anew a (PLink o op_at) (part c leaves limit right (right_wanted o t) a.stage)) (linked_on r (PLink o op_at right)))
+      by true e = turn_good c leaves h (λ x y. (x, PLink o op_at y ∷ [])) a (λ k. part c leaves limit right (right_wanted o t) k) (RunTyped c leaves t) ga gb (λ there x y. (x, one_link_typed c leaves t u there o op_at (part c leaves limit right (right_wanted o t) a.stage).rest both y))
       by false e = record {
         made = g.made;
         numbered = g.numbered;
@@ -208,7 +208,7 @@ module _ (c : Context) (leaves : Leaving) (limit : ℕ) where
         alike = g.alike;
         rest = λ there alike.
             let x : RunTyped c leaves t there (r.left, r.links) = g.rest there alike in
-            let same : Alike h.next h.locals there = alike_on h.next r.spot.next h.locals r.spot.locals there (up c leaves h (run_of r) g) g.alike alike in
+            let same : Alike h.next h.locals there = alike_on h.next r.stage.next h.locals r.stage.locals there (up c leaves h (run_of r) g) g.alike alike in
             (x.0, more_links_typed c leaves t there r.links (PLink o op_at right) x.1 (one_link_typed c leaves t u there o op_at right both (kept_at c limit h.next h.locals there below same (right_wanted o t) right u named is, e)));
         before = g.before;
         points = g.points;
@@ -216,7 +216,7 @@ module _ (c : Context) (leaves : Leaving) (limit : ℕ) where
 
   -- a list of links, of which each right side keeps the rules
   abbrev pub GoodLinks : PlainLinks → Type 1
-  GoodLinks ls = (t ty : PlainTy) (h : Spot) (at : Place) (r : ChainPart) → limit ≤ h.next → linked c.tables (env_of c h.locals) t ls ≡ Ok ty → GoodRun t h r → GoodRun t h (taken_links leaves c at t ls r)
+  GoodLinks ls = (t ty : PlainTy) (h : Stage) (at : Place) (r : ChainPart) → limit ≤ h.next → linked c.tables (env_of c h.locals) t ls ≡ Ok ty → GoodRun t h r → GoodRun t h (taken_links leaves c at t ls r)
 
   pub link_step : (o : BinOp) (op_at : Place) (right : PlainExpr) (more : PlainLinks) → ExprNames limit right → GoodExpr c leaves limit right → GoodLinks more → GoodLinks (PMoreLinks (PLink o op_at right) more)
   unfolding taken
@@ -253,13 +253,13 @@ module _ (c : Context) (leaves : Leaving) (limit : ℕ) where
   abbrev next_run : Place → PlainTy → BinOp → Place → PlainExpr → ChainPart → ChainPart
   next_run at t o op_at right r =
       either (expr_suspends leaves right)
-      (let a = settled_unless r.lasting at t (so_far at r) in begun_anew a (PLink o op_at) (part c leaves limit right (right_wanted o t) a.spot))
+      (let a = settled_unless r.lasting at t (so_far at r) in begun_anew a (PLink o op_at) (part c leaves limit right (right_wanted o t) a.stage))
       (linked_on r (PLink o op_at right))
 
   next_link : (at : Place) (t : PlainTy) (o : BinOp) (op_at : Place) (right : PlainExpr) (r : ChainPart) → HasLink (next_run at t o op_at right r).links
   next_link at t o op_at right r =
       let a : Hoisted PlainExpr = settled_unless r.lasting at t (so_far at r) in
-      either_link (expr_suspends leaves right) r a (PLink o op_at) (part c leaves limit right (right_wanted o t) a.spot) (PLink o op_at right)
+      either_link (expr_suspends leaves right) r a (PLink o op_at) (part c leaves limit right (right_wanted o t) a.stage) (PLink o op_at right)
 
   links_left : (ls : PlainLinks) (at : Place) (t : PlainTy) (r : ChainPart) → HasLink r.links → HasLink (taken_links leaves c at t ls r).links
   unfolding taken
@@ -270,7 +270,7 @@ module _ (c : Context) (leaves : Leaving) (limit : ℕ) where
   unfolding taken
   some_left (PLink o op_at right) more at t r = links_left more at t (next_run at t o op_at right r) (next_link at t o op_at right r)
 
-  pub chain_step : (at : Place) (first : PlainExpr) (l : PlainLink) (more : PlainLinks) → GoodExpr c leaves limit first → GoodLinks (PMoreLinks l more) → (wanted : Option PlainTy) (h : Spot) (ty : PlainTy) → limit ≤ h.next → Free h.next h.locals → type_at c h.locals wanted (PChain at first (PMoreLinks l more)) ≡ Ok ty
+  pub chain_step : (at : Place) (first : PlainExpr) (l : PlainLink) (more : PlainLinks) → GoodExpr c leaves limit first → GoodLinks (PMoreLinks l more) → (wanted : Option PlainTy) (h : Stage) (ty : PlainTy) → limit ≤ h.next → Free h.next h.locals → type_at c h.locals wanted (PChain at first (PMoreLinks l more)) ≡ Ok ty
       → Good c leaves h (so_far at (taken_links leaves c at (ty_at c None h.locals first) (PMoreLinks l more) (chain_of (lasts leaves first) (part c leaves limit first None h)))) (Typed c leaves wanted ty)
   chain_step at first l more good links wanted h ty below free is =
       let p : (t : PlainTy) × (type_at c h.locals None first ≡ Ok t) × (linked c.tables (env_of c h.locals) t (PMoreLinks l more) ≡ Ok ty) = chain_parts h.locals wanted at first (PMoreLinks l more) ty is in

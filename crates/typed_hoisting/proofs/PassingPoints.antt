@@ -14,7 +14,7 @@ use Rattle.block_code.specs.GraphFits.{is_var, is_inside, is_param_of, each_once
 use Rattle.flat_tree.specs.PlainFlat.{PlainFlatStmt}
 use Rattle.method_splitter.specs.Points.{PointsPass}
 use Rattle.flat_types.specs.FlatTypes.{is_point}
-use Rattle.hoisting.specs.Spots.{surely}
+use Rattle.hoisting.specs.Stages.{surely}
 use Rattle.typed_hoisting.specs.KnownLocals.{Once}
 use Rattle.typed_hoisting.specs.TypedHoisting.{AreTyped, CodePasses}
 use Rattle.typed_hoisting.proofs.LocalLaws.{changed, narrow, narrow_name, narrow_ty, apart}

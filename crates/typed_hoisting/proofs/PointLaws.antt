@@ -14,8 +14,8 @@ use Rattle.block_code.specs.PlainVars.{PlainVar}
 use Rattle.block_code.specs.GraphFits.{var_of, is_var, is_inside, local_at, at_start, is_supplied, supplied}
 use Rattle.flat_tree.specs.PlainFlat.{Point}
 use Rattle.flat_types.specs.FlatTypes.{Supplies}
-use Rattle.hoisting.specs.Spots.{surely}
-use Rattle.hoisting.specs.Spots.{var_of as entry}
+use Rattle.hoisting.specs.Stages.{surely}
+use Rattle.hoisting.specs.Stages.{var_of as entry}
 use Rattle.typed_hoisting.specs.KnownLocals.{Seen, is_optional, seen_of, seen, Under, Once, Free, AreVariables, Stands, AtLeast}
 use Rattle.typed_hoisting.proofs.LocalLaws.{apart, kept_same}
 use Rattle.typed_hoisting.proofs.EnvironmentLaws.{found_below}

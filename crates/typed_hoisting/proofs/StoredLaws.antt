@@ -9,7 +9,7 @@ use Rattle.py_tree.specs.Flow.{given, with_local}
 use Rattle.program_meaning.proofs.LocalShapes.{given_if}
 use Rattle.block_code.specs.PlainVars.{PlainVar}
 use Rattle.block_code.specs.GraphFits.{Asked, Takes}
-use Rattle.hoisting.specs.Spots.{temporary}
+use Rattle.hoisting.specs.Stages.{temporary}
 use Rattle.typed_hoisting.specs.KnownLocals.{is_optional, seen_of, seen, Kept, Under, Free, AreVariables, Stands, AtLeast}
 use Rattle.typed_hoisting.proofs.LocalLaws.{found_name, changed, variables_changed, apart, kept_same}
 use Rattle.typed_hoisting.proofs.EnvironmentLaws.{other_local, temporary_seen}

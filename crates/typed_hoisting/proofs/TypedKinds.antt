@@ -20,7 +20,7 @@ use Rattle.py_tree.specs.Flow.{Context, env_of, type_at}
 use Rattle.call_graph.specs.SuspendingCode.{Leaving, expr_suspends, links_suspend}
 use Rattle.program_meaning.proofs.TypedParts.{done, same_ok, found_ok, refuse_ok, passes_ok, condition_ok, combined_ok, type_given}
 use Rattle.program_meaning.proofs.Places.{found_at, found_passes, position_is}
-use Rattle.hoisting.specs.Spots.{class_place, method_place, methods_in}
+use Rattle.hoisting.specs.Stages.{class_place, method_place, methods_in}
 use Rattle.hoisting.specs.HoistExpressions.{by_params, chain}
 use Rattle.typed_hoisting.specs.TypedHoisting.{Typed}
 use Rattle.typed_hoisting.proofs.TypedLists.{TypedEach, SuitParams, to_arguments, as_many, params_as_many}

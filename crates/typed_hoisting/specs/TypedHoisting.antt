@@ -17,7 +17,7 @@ use Rattle.block_code.specs.GraphFits.{Asked, HasType, is_var}
 use Rattle.flat_tree.specs.PlainFlat.{PlainFlatStmt, PlainFlatTest, flat_stmts_of}
 use Rattle.method_splitter.specs.Points.{PointsPassInAll, PointsPassInTest}
 use Rattle.flat_types.specs.FlatTypes.{is_point, Nowhere, Supplies, stmts_fit, test_fits}
-use Rattle.hoisting.specs.Spots.{Spot, surely}
+use Rattle.hoisting.specs.Stages.{Stage, surely}
 use Rattle.hoisting.specs.HoistExpressions.{Hoisted, Tested, Forms, forms}
 use Rattle.typed_hoisting.specs.KnownLocals.{HasTy, Alike, Free, Stands, AtLeast}
 
@@ -69,21 +69,21 @@ module _ (c : Context) (leaves : Leaving) where
   abbrev pub Typed : Option PlainTy → PlainTy → List PlainLocal → PlainExpr → Type 0
   Typed wanted ty locals e = (type_at c locals wanted e ≡ Ok ty) × (expr_suspends leaves e ≡ false)
 
-  -- what is hoisted at a spot keeps the rules, and so does what is left; and points name variables
-  pub record Good {R : Type 0} (h : Spot) (a : Hoisted R) (Rest : List PlainLocal → R → Type 0) : Type 1 where
+  -- what is hoisted at a stage keeps the rules, and so does what is left; and points name variables
+  pub record Good {R : Type 0} (h : Stage) (a : Hoisted R) (Rest : List PlainLocal → R → Type 0) : Type 1 where
     pub made : List PlainVar
-    pub numbered : Numbered h.next made a.spot.next
-    pub free : Free a.spot.next a.spot.locals
-    pub adds : Adds made h.locals a.spot.locals
-    pub alike : Alike h.next h.locals a.spot.locals
-    pub rest : (there : List PlainLocal) → Alike a.spot.next a.spot.locals there → Rest there a.rest
+    pub numbered : Numbered h.next made a.stage.next
+    pub free : Free a.stage.next a.stage.locals
+    pub adds : Adds made h.locals a.stage.locals
+    pub alike : Alike h.next h.locals a.stage.locals
+    pub rest : (there : List PlainLocal) → Alike a.stage.next a.stage.locals there → Rest there a.rest
     pub before : (m : Around) → AreAmong m.variables made → (env : List PlainLocal) → Stands m.variables h.next h.locals env
-        → (goal : Asked) → ((after : List PlainLocal) → Stands m.variables a.spot.next a.spot.locals after → goal after)
+        → (goal : Asked) → ((after : List PlainLocal) → Stands m.variables a.stage.next a.stage.locals after → goal after)
         → code_fits m a.before goal env
     pub points : (variables : List PlainVar) → AreAmong variables made → AreTyped variables h.locals → CodePasses variables a.before
 
   -- a test leads to either side, where at least as much is known as here
-  pub record GoodTest (h : Spot) (fit : AskedOfTest) (next : ℕ) (holds fails : List PlainLocal) : Type 1 where
+  pub record GoodTest (h : Stage) (fit : AskedOfTest) (next : ℕ) (holds fails : List PlainLocal) : Type 1 where
     pub made : List PlainVar
     pub numbered : Numbered h.next made next
     pub sides : (m : Around) → AreAmong m.variables made → (env : List PlainLocal) → Stands m.variables h.next h.locals env
@@ -92,11 +92,11 @@ module _ (c : Context) (leaves : Leaving) where
         → fit.fits m yes no env
     pub points : (variables : List PlainVar) → AreAmong variables made → AreTyped variables h.locals → fit.passes variables
 
-  -- of an expression whose names are below the limit, at each spot whose temporaries are not
+  -- of an expression whose names are below the limit, at each stage whose temporaries are not
   pub record GoodForms (limit : ℕ) (e : PlainExpr) (both : Forms) : Type 1 where
-    pub value : (wanted : Option PlainTy) (h : Spot) (ty : PlainTy) → limit ≤ h.next → Free h.next h.locals
+    pub value : (wanted : Option PlainTy) (h : Stage) (ty : PlainTy) → limit ≤ h.next → Free h.next h.locals
         → type_at c h.locals wanted e ≡ Ok ty → Good h (both.value wanted h) (Typed wanted ty)
-    pub test : (h : Spot) → limit ≤ h.next → Free h.next h.locals → type_at c h.locals None e ≡ Ok TBool
+    pub test : (h : Stage) → limit ≤ h.next → Free h.next h.locals → type_at c h.locals None e ≡ Ok TBool
         → GoodTest h (asked_of (both.test h).test) (both.test h).next (narrowed (shown true e) h.locals) (narrowed (shown false e) h.locals)
 
 -- every expression keeps the rules where calls come out of it, whatever is asked behind what runs before; those calls suspend that
@@ -114,15 +114,15 @@ module _ (c : Context) (leaves : Leaving) where
   IsTyped e ty locals = HasType c leaves locals e ty
 
   -- what runs before keeps the rules, and what is left has this type behind that; and points name variables
-  pub record ValueFits (h : Spot) (a : Hoisted PlainExpr) (ty : PlainTy) : Type 0 where
+  pub record ValueFits (h : Stage) (a : Hoisted PlainExpr) (ty : PlainTy) : Type 0 where
     pub made : List PlainVar
-    pub numbered : Numbered h.next made a.spot.next
+    pub numbered : Numbered h.next made a.stage.next
     pub fits : (variables : List PlainVar) → AreAmong variables made → (env : List PlainLocal) → Stands variables h.next h.locals env
         → stmts_fit c leaves variables Nowhere Nowhere (flat_stmts_of a.before) (IsTyped a.rest ty) env
     pub points : (variables : List PlainVar) → AreAmong variables made → AreTyped variables h.locals → CodePasses variables a.before
 
   -- a test keeps the rules, and leads where this is known; and its points name variables
-  pub record TestFits (h : Spot) (t : Tested PlainFlatTest) (holds fails : List PlainLocal) : Type 0 where
+  pub record TestFits (h : Stage) (t : Tested PlainFlatTest) (holds fails : List PlainLocal) : Type 0 where
     pub made : List PlainVar
     pub numbered : Numbered h.next made t.next
     pub fits : (variables : List PlainVar) → AreAmong variables made → (env : List PlainLocal) → Stands variables h.next h.locals env
@@ -132,9 +132,9 @@ module _ (c : Context) (leaves : Leaving) where
   -- as a value, and as a test
   abbrev pub FormsFit : ℕ → PlainExpr → Forms → Type 0
   FormsFit limit e both =
-      ((wanted : Option PlainTy) (h : Spot) (ty : PlainTy) → limit ≤ h.next → Free h.next h.locals
+      ((wanted : Option PlainTy) (h : Stage) (ty : PlainTy) → limit ≤ h.next → Free h.next h.locals
       → type_at c h.locals wanted e ≡ Ok ty → ValueFits h (both.value wanted h) ty)
-      × ((h : Spot) → limit ≤ h.next → Free h.next h.locals → type_at c h.locals None e ≡ Ok TBool
+      × ((h : Stage) → limit ≤ h.next → Free h.next h.locals → type_at c h.locals None e ≡ Ok TBool
       → TestFits h (both.test h) (narrowed (shown true e) h.locals) (narrowed (shown false e) h.locals))
 
 abbrev pub ExpressionsFit : Type 0

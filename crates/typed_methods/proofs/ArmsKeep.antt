@@ -18,9 +18,9 @@ use Rattle.flat_tree.specs.PlainFlat.{PlainFlatStmt, PlainFlatArms, PlainFlatTes
 use Rattle.method_splitter.specs.Points.{PointsPass, PointsPassInArms}
 use Rattle.flat_types.specs.FlatTypes.{is_point, Supplies, Ends, stmts_fit, arms_fit}
 use Rattle.flat_types.proofs.FlowStays.{EachTyped, all_stay, stmt_stays, first_typed, later_typed}
-use Rattle.hoisting.specs.Spots.{Spot, surely, locals_behind, point_behind}
+use Rattle.hoisting.specs.Stages.{Stage, surely, locals_behind, point_behind}
 use Rattle.hoisting.specs.HoistExpressions.{Tested, forms}
-use Rattle.hoisting.specs.HoistStatements.{Flattened, opened, flat_all, flat_arms, other_spot}
+use Rattle.hoisting.specs.HoistStatements.{Flattened, opened, flat_all, flat_arms, other_stage}
 use Rattle.typed_hoisting.specs.KnownLocals.{Free, AreVariables}
 use Rattle.typed_hoisting.specs.TypedHoisting.{Numbered, AreAmong, CodePasses, Around, asked_of, GoodTest}
 use Rattle.typed_hoisting.proofs.EnvironmentLaws.{free_later, free_narrowed}
@@ -33,13 +33,13 @@ use Rattle.typed_methods.proofs.KeptParts.{in_loop_if}
 use Rattle.typed_methods.proofs.FlowKept.{or_left, or_right}
 use Rattle.typed_methods.proofs.WaysOn.{LeftUnder, arms_left_on, all_left_on, ended_on}
 use Rattle.typed_methods.proofs.KnownStays.{Forgets, forgets_first, forgets_rest, narrowed_above}
-use Rattle.typed_methods.proofs.CodeLaws.{spot, At, TypedAs, WaysLead, to_stands, at_as, supplies_all, point_at, typed_same, are_typed, surely_passes, GoodCode}
+use Rattle.typed_methods.proofs.CodeLaws.{stage, At, TypedAs, WaysLead, to_stands, at_as, supplies_all, point_at, typed_same, are_typed, surely_passes, GoodCode}
 use Rattle.typed_methods.proofs.SimpleKeep.{EachVariable, Begins, forms_good, GoodOpened}
 use Rattle.typed_methods.proofs.PointsBehind.{settled_same, behind_is, ends_behind, behind_passes, behind_end}
 
 module _ (c : Context) (leaves : Leaving) (own : Own leaves) (limit : ℕ) where
   abbrev pub flattened : PlainStmts → Way → ℕ → Flattened (List PlainFlatStmt)
-  flattened xs w n = flat_all leaves c xs (spot w n)
+  flattened xs w n = flat_all leaves c xs (stage w n)
 
   -- statements keep the rules wherever they break none
   abbrev pub GoodAll : PlainStmts → Type 1
@@ -68,9 +68,9 @@ module _ (c : Context) (leaves : Leaving) (own : Own leaves) (limit : ℕ) where
   GoodArms arms =
       (looping : Bool) (floor : List PlainLocal) (w : Way) (n : ℕ) (end : Way) → Begins limit floor w n → EachVariable w.locals (assigned_in_arms arms) → Forgets floor (assigned_in_arms arms)
       → (ended : Option (List Known)) (go : Bool) (other : Other) → GoesOn other → flow_arms (in_loop_if c looping) w ended arms go other ≡ Ok end
-      → ArmsFit looping floor w n (flat_arms leaves c arms (spot w n)).code (flat_arms leaves c arms (spot w n)).next end (an_arm_goes_on arms) (break_in_arm arms) (other_spot leaves c arms (spot w n)).locals
+      → ArmsFit looping floor w n (flat_arms leaves c arms (stage w n)).code (flat_arms leaves c arms (stage w n)).next end (an_arm_goes_on arms) (break_in_arm arms) (other_stage leaves c arms (stage w n)).locals
 
-  other_locals : (arms : PlainArms) (ls : List PlainLocal) (a b : ℕ) → (other_spot leaves c arms (record { locals = ls; next = a })).locals ≡ (other_spot leaves c arms (record { locals = ls; next = b })).locals
+  other_locals : (arms : PlainArms) (ls : List PlainLocal) (a b : ℕ) → (other_stage leaves c arms (record { locals = ls; next = a })).locals ≡ (other_stage leaves c arms (record { locals = ls; next = b })).locals
   unfolding opened
   other_locals PNoArm ls a b = refl
   other_locals (PMoreArms (PArm test body) more) ls a b = other_locals more (narrowed (shown false test) ls) a b
@@ -112,7 +112,7 @@ module _ (c : Context) (leaves : Leaving) (own : Own leaves) (limit : ℕ) where
       let shapes2 : shapes rs ≡ shapes w.locals = shapes_narrowed (shown false test) w.locals in
       let rest_flow : flow_arms d w2 (meet ended (way (all_go_on body) p.end.locals)) more go other ≡ Ok end =
       subst (λ ks. flow_arms d (on p.end ks) (meet ended (way (all_go_on body) p.end.locals)) more go other ≡ Ok end) (is_no looping floor w test body p.end in_body p.arm) p.rest in
-      let here : Spot = spot w n in
+      let here : Stage = stage w n in
       let t : Tested PlainFlatTest = (forms leaves c test).test here in
       let gt : GoodTest c leaves here (asked_of c leaves t.test) t.next ls rs = (forms_good c leaves own limit test named).test here b.below b.free p.condition in
       let up : n ≤ t.next = numbered_up n gt.made t.next gt.numbered in
@@ -122,8 +122,8 @@ module _ (c : Context) (leaves : Leaving) (own : Own leaves) (limit : ℕ) where
       good_body looping floor w1 t.next p.end begins1 (subst (λ ss. EachTyped ss (assigned_in body)) (sym shapes1) in_body) (forgets_first floor (assigned_in body) (assigned_in_arms more) forgets) p.arm in
       let up2 : t.next ≤ f.next = numbered_up t.next gb.made f.next gb.numbered in
       let begins2 : Begins limit floor w2 f.next = record { below = omega (arith, b.below, up, up2); free = free_narrowed n f.next (shown false test) w.locals (omega (arith, up, up2)) b.free; above = narrowed_above floor (shown false test) w.locals b.above } in
-      let g = flat_arms leaves c more (spot w2 f.next) in
-      let gm : ArmsFit looping floor w2 f.next g.code g.next end (an_arm_goes_on more) (break_in_arm more) (other_spot leaves c more (spot w2 f.next)).locals =
+      let g = flat_arms leaves c more (stage w2 f.next) in
+      let gm : ArmsFit looping floor w2 f.next g.code g.next end (an_arm_goes_on more) (break_in_arm more) (other_stage leaves c more (stage w2 f.next)).locals =
       good_more looping floor w2 f.next end begins2 (subst (λ ss. EachTyped ss (assigned_in_arms more)) (sym shapes2) in_more) (forgets_rest floor (assigned_in body) (assigned_in_arms more) forgets) (meet ended (way (all_go_on body) p.end.locals)) go other others rest_flow in
       let no_same : shapes rs ≡ shapes p.end.locals = to_no looping floor w test body p.end in_body p.arm in
       record {
@@ -177,7 +177,7 @@ module _ (c : Context) (leaves : Leaving) (own : Own leaves) (limit : ℕ) where
     pub left : (env : List PlainLocal) → LeftUnder env last → LeftUnder env end
 
   pub arms_end : (arms : PlainArms) (looping : Bool) (w : Way) (n : ℕ) (end : Way) (ended : Option (List Known)) (go : Bool) (other : Other) → EachVariable w.locals (assigned_in_arms arms) → flow_arms (in_loop_if c looping) w ended arms go other ≡ Ok end
-      → ArmsEnd w end go other (other_spot leaves c arms (spot w n)).locals
+      → ArmsEnd w end go other (other_stage leaves c arms (stage w n)).locals
   unfolding opened assigned_in
   arms_end PNoArm looping w n end ended go other variables h =
       let p : (last : Way) × (other w ≡ Ok last) × (on last (behind_ways last.locals (meet ended (way go last.locals))) ≡ end) = last_parts (in_loop_if c looping) w end ended go other h in
@@ -199,12 +199,12 @@ module _ (c : Context) (leaves : Leaving) (own : Own leaves) (limit : ℕ) where
       let in_body : EachVariable w.locals (assigned_in body) = first_typed (shapes w.locals) (assigned_in body) (assigned_in_arms more) variables in
       let rs : List PlainLocal = narrowed (shown false test) w.locals in
       let shapes2 : shapes rs ≡ shapes w.locals = shapes_narrowed (shown false test) w.locals in
-      let q : ArmsEnd (on p.end rs) end go other (other_spot leaves c more (spot (on p.end rs) n)).locals =
+      let q : ArmsEnd (on p.end rs) end go other (other_stage leaves c more (stage (on p.end rs) n)).locals =
       arms_end more looping (on p.end rs) n end (meet ended (way (all_go_on body) p.end.locals)) go other (subst (λ ss. EachTyped ss (assigned_in_arms more)) (sym shapes2) (later_typed (shapes w.locals) (assigned_in body) (assigned_in_arms more) variables))
       (subst (λ ks. flow_arms d (on p.end ks) (meet ended (way (all_go_on body) p.end.locals)) more go other ≡ Ok end) (is_no looping [] w test body p.end in_body p.arm) p.rest) in
       record { mid = q.mid; at = q.at; last = q.last; is = q.is; same = q.same ∙ shapes2; behind = q.behind; left = q.left }
 
-  other_above : (floor : List PlainLocal) (arms : PlainArms) (w : Way) (n : ℕ) → AllUnder floor w.locals → AllUnder floor (other_spot leaves c arms (spot w n)).locals
+  other_above : (floor : List PlainLocal) (arms : PlainArms) (w : Way) (n : ℕ) → AllUnder floor w.locals → AllUnder floor (other_stage leaves c arms (stage w n)).locals
   unfolding opened
   other_above floor PNoArm w n under = under
   other_above floor (PMoreArms (PArm test body) more) w n under = other_above floor more (on w (narrowed (shown false test) w.locals)) n (narrowed_above floor (shown false test) w.locals under)
@@ -218,8 +218,8 @@ module _ (c : Context) (leaves : Leaving) (own : Own leaves) (limit : ℕ) where
       let goes : GoesOn others = record { grows = λ v last e. (follows_all other d v last e).grows; left = λ env v last e m. all_left_on env other d v last e m } in
       let in_arms : EachVariable w.locals (assigned_in_arms arms) = first_typed (shapes w.locals) (assigned_in_arms arms) (assigned_in other) variables in
       let in_other : EachVariable w.locals (assigned_in other) = later_typed (shapes w.locals) (assigned_in_arms arms) (assigned_in other) variables in
-      let f = flat_arms leaves c arms (spot w n) in
-      let rest : List PlainLocal = (other_spot leaves c arms (spot w n)).locals in
+      let f = flat_arms leaves c arms (stage w n) in
+      let rest : List PlainLocal = (other_stage leaves c arms (stage w n)).locals in
       let ga : ArmsFit looping floor w n f.code f.next end (an_arm_goes_on arms) (break_in_arm arms) rest =
       good_arms looping floor w n end b in_arms (forgets_first floor (assigned_in_arms arms) (assigned_in other) forgets) None (all_go_on other) others goes h in
       let q : ArmsEnd w end (all_go_on other) others rest = arms_end arms looping w n end None (all_go_on other) others in_arms h in

@@ -23,7 +23,7 @@ use Rattle.program_meaning.proofs.TypedParts.{done, same_ok, found_ok, needs_ok,
 use Rattle.program_meaning.proofs.FlowParts.{Augments, augments_ok, put_local_ok, put_field_ok}
 use Rattle.method_splitter.specs.Points.{PointsPass}
 use Rattle.flat_types.specs.FlatTypes.{stmts_fit}
-use Rattle.hoisting.specs.Spots.{Spot, ty_at, found_ty}
+use Rattle.hoisting.specs.Stages.{Stage, ty_at, found_ty}
 use Rattle.hoisting.specs.HoistExpressions.{Hoisted, still, in_turn, settled, forms}
 use Rattle.hoisting.specs.HoistStatements.{stored as store, read_of, combination, opened}
 use Rattle.typed_hoisting.specs.KnownLocals.{Free}
@@ -37,7 +37,7 @@ use Rattle.typed_hoisting.proofs.TypedKinds.{RunTyped, run_typed, run_stays, one
 use Rattle.typed_hoisting.proofs.CallsKeep.{Own}
 use Rattle.typed_methods.proofs.StoredKnown.{stored_there}
 use Rattle.typed_methods.proofs.KeptParts.{in_loop_if}
-use Rattle.typed_methods.proofs.CodeLaws.{spot, At, at_as, variable_typed, no_more, no_more_is, behind_good, marked_passes, marked_fits}
+use Rattle.typed_methods.proofs.CodeLaws.{stage, At, at_as, variable_typed, no_more, no_more_is, behind_good, marked_passes, marked_fits}
 use Rattle.typed_methods.proofs.SimpleKeep.{EachVariable, Begins, forms_good, GoodOpened}
 
 -- What joins
@@ -94,28 +94,28 @@ module _ (c : Context) (leaves : Leaving) (own : Own leaves) (limit : ℕ) where
 
   combined_good : (w : Way) (n : ℕ) → limit ≤ n → Free n w.locals → (at : Place) (x : Target) (o : BinOp) (op_at : Place) (e : PlainExpr) (s t : PlainTy) → target_name x < limit → ExprNames limit e → Joins o s t
       → type_at c w.locals None (target_read at x) ≡ Ok s → type_at c w.locals (right_wanted o s) e ≡ Ok t → (ty : PlainTy) → ty ≡ s
-      → Good c leaves (spot w n) (in_turn (λ left right. PChain at left (PMoreLinks (PLink o op_at right) PNoLink)) (settled at ty (still (read_of at x) (spot w n))) (λ g. (forms leaves c e).value (right_wanted o ty) g)) (Typed c leaves None s)
+      → Good c leaves (stage w n) (in_turn (λ left right. PChain at left (PMoreLinks (PLink o op_at right) PNoLink)) (settled at ty (still (read_of at x) (stage w n))) (λ g. (forms leaves c e).value (right_wanted o ty) g)) (Typed c leaves None s)
   combined_good w n below free at x o op_at e s t named_x named_e joins read typed ty same =
-      let here : Spot = spot w n in
+      let here : Stage = stage w n in
       let a : Hoisted PlainExpr = settled at s (still (read_of at x) here) in
       let is : type_at c w.locals None (read_of at x) ≡ Ok s = read_typed w.locals at x o s t joins read in
       let ga : Good c leaves here a (Typed c leaves None s) =
       settled_unless_good c leaves false here (still (read_of at x) here) at None s s refl
       (still_good c leaves here (read_of at x) (Typed c leaves None s) free (λ there alike. (kept_at c limit n w.locals there below alike None (read_of at x) s (read_names at x named_x) is, read_stays at x))) in
-      let gb : Good c leaves a.spot ((forms leaves c e).value (right_wanted o s) a.spot) (Typed c leaves (right_wanted o s) t) =
-      (forms_good c leaves own limit e named_e).value (right_wanted o s) a.spot t (omega (arith, below, up c leaves here a ga)) ga.free (kept_at c limit n w.locals a.spot.locals below ga.alike (right_wanted o s) e t named_e typed) in
+      let gb : Good c leaves a.stage ((forms leaves c e).value (right_wanted o s) a.stage) (Typed c leaves (right_wanted o s) t) =
+      (forms_good c leaves own limit e named_e).value (right_wanted o s) a.stage t (omega (arith, below, up c leaves here a ga)) ga.free (kept_at c limit n w.locals a.stage.locals below ga.alike (right_wanted o s) e t named_e typed) in
       subst (λ u. Good c leaves here (in_turn (λ left right. PChain at left (PMoreLinks (PLink o op_at right) PNoLink)) (settled at u (still (read_of at x) here)) (λ g. (forms leaves c e).value (right_wanted o u) g)) (Typed c leaves None s)) (sym same)
       (turn_good c leaves here (λ left right. PChain at left (PMoreLinks (PLink o op_at right) PNoLink)) a (λ g. (forms leaves c e).value (right_wanted o s) g) (Typed c leaves None s) ga gb
       (λ there l r.
-      let run : RunTyped c leaves s there (a.rest, PLink o op_at ((forms leaves c e).value (right_wanted o s) a.spot).rest ∷ []) = (l, one_link_typed c leaves s t there o op_at ((forms leaves c e).value (right_wanted o s) a.spot).rest (joins_combined o op_at s t joins) r) in
-      (run_typed c leaves s there None at a.rest (PLink o op_at ((forms leaves c e).value (right_wanted o s) a.spot).rest ∷ []) run, run_stays c leaves s there at a.rest (PLink o op_at ((forms leaves c e).value (right_wanted o s) a.spot).rest ∷ []) run)))
+      let run : RunTyped c leaves s there (a.rest, PLink o op_at ((forms leaves c e).value (right_wanted o s) a.stage).rest ∷ []) = (l, one_link_typed c leaves s t there o op_at ((forms leaves c e).value (right_wanted o s) a.stage).rest (joins_combined o op_at s t joins) r) in
+      (run_typed c leaves s there None at a.rest (PLink o op_at ((forms leaves c e).value (right_wanted o s) a.stage).rest ∷ []) run, run_stays c leaves s there at a.rest (PLink o op_at ((forms leaves c e).value (right_wanted o s) a.stage).rest ∷ []) run)))
 
   module _ (looping : Bool) (floor : List PlainLocal) (w : Way) (n : ℕ) (b : Begins limit floor w n) (end : Way) where
     abbrev d : Context
     d = in_loop_if c looping
 
-    abbrev here : Spot
-    here = spot w n
+    abbrev here : Stage
+    here = stage w n
 
     pub augment_local : (at : Place) (x : PlacedName) (o : BinOp) (op_at : Place) (e : PlainExpr) → StmtNames limit (PAugment at (Local x) o op_at e) → EachVariable w.locals (local_assigned (Local x)) → flow d w (PAugment at (Local x) o op_at e) ≡ Ok end
         → GoodOpened c leaves own limit (PAugment at (Local x) o op_at e) looping floor w n end

@@ -11,7 +11,7 @@ use Rattle.block_code.specs.GraphFits.{Asked, is_var, at_start}
 use Rattle.flat_tree.specs.PlainFlat.{PlainFlatStmt, FMark, FNoStmt}
 use Rattle.method_splitter.specs.Points.{PointsPass}
 use Rattle.flat_types.specs.FlatTypes.{is_point, Supplies, stmt_fits, stmts_fit}
-use Rattle.hoisting.specs.Spots.{Spot, surely}
+use Rattle.hoisting.specs.Stages.{Stage, surely}
 use Rattle.hoisting.specs.HoistExpressions.{Hoisted}
 use Rattle.typed_hoisting.specs.KnownLocals.{HasTy, seen, Free, AreVariables, Stands}
 use Rattle.typed_hoisting.specs.TypedHoisting.{Numbered, AreAmong, AreTyped, CodePasses, Around, code_fits, Good}
@@ -23,8 +23,8 @@ use Rattle.typed_hoisting.proofs.GoodParts.{code_then}
 use Rattle.typed_methods.proofs.KnownWays.{MetUnder, under_then}
 use Rattle.typed_methods.proofs.StoredKnown.{AllKept, AllUnder, TypedThere, kept_free}
 
-abbrev pub spot : Way → ℕ → Spot
-spot w n = record { locals = w.locals; next = n }
+abbrev pub stage : Way → ℕ → Stage
+stage w n = record { locals = w.locals; next = n }
 
 -- the locals of a point among the variables of a method
 pub record At (variables : List PlainVar) (locals env : List PlainLocal) : Type 0 where
@@ -115,19 +115,19 @@ module _ (c : Context) (leaves : Leaving) where
   no_more_is m goal env h = h
 
   -- behind what runs before an expression, what was known before it is known so
-  pub behind_good : {R : Type 0} (h : Spot) (a : Hoisted R) {Rest : List PlainLocal → R → Type 0} (variables : List PlainVar) (after : List PlainLocal) → Free h.next h.locals → Good c leaves h a Rest → Stands variables a.spot.next a.spot.locals after → At variables h.locals after
+  pub behind_good : {R : Type 0} (h : Stage) (a : Hoisted R) {Rest : List PlainLocal → R → Type 0} (variables : List PlainVar) (after : List PlainLocal) → Free h.next h.locals → Good c leaves h a Rest → Stands variables a.stage.next a.stage.locals after → At variables h.locals after
   behind_good h a variables after free g s =
-      at_before variables h.locals a.spot.locals after (kept_free h.next h.locals a.spot.locals free g.alike) (from_stands variables a.spot.next a.spot.locals after g.free s)
+      at_before variables h.locals a.stage.locals after (kept_free h.next h.locals a.stage.locals free g.alike) (from_stands variables a.stage.next a.stage.locals after g.free s)
 
   -- points of a step, of what runs before an expression, and of a statement
-  pub marked_passes : {R : Type 0} (h : Spot) (a : Hoisted R) (x : PlainFlatStmt) {Rest : List PlainLocal → R → Type 0} → (g : Good c leaves h a Rest) → (variables : List PlainVar) → AreAmong variables g.made → TypedAs variables h.locals → PointsPass (is_point variables) x
+  pub marked_passes : {R : Type 0} (h : Stage) (a : Hoisted R) (x : PlainFlatStmt) {Rest : List PlainLocal → R → Type 0} → (g : Good c leaves h a Rest) → (variables : List PlainVar) → AreAmong variables g.made → TypedAs variables h.locals → PointsPass (is_point variables) x
       → CodePasses variables (FMark ∷ a.before ++ x ∷ [])
   unfolding PointsPass
   marked_passes h a x g variables among typed last = (tt, passes_both variables a.before (x ∷ []) (g.points variables among (are_typed variables h.locals typed)) (last, tt))
 
   -- a step, what runs before an expression, and a statement over what is left
-  pub marked_fits : {R : Type 0} (h : Spot) (a : Hoisted R) (f : R → PlainFlatStmt) {Rest : List PlainLocal → R → Type 0} → (g : Good c leaves h a Rest) → (m : Around) → AreAmong m.variables g.made → (env : List PlainLocal) → At m.variables h.locals env → (goal : Asked)
-      → ((after : List PlainLocal) → Stands m.variables a.spot.next a.spot.locals after → Rest after a.rest → stmt_fits c leaves m.variables m.breaks m.continues (f a.rest) (no_more m goal) after) → code_fits c leaves m (FMark ∷ a.before ++ f a.rest ∷ []) goal env
+  pub marked_fits : {R : Type 0} (h : Stage) (a : Hoisted R) (f : R → PlainFlatStmt) {Rest : List PlainLocal → R → Type 0} → (g : Good c leaves h a Rest) → (m : Around) → AreAmong m.variables g.made → (env : List PlainLocal) → At m.variables h.locals env → (goal : Asked)
+      → ((after : List PlainLocal) → Stands m.variables a.stage.next a.stage.locals after → Rest after a.rest → stmt_fits c leaves m.variables m.breaks m.continues (f a.rest) (no_more m goal) after) → code_fits c leaves m (FMark ∷ a.before ++ f a.rest ∷ []) goal env
   unfolding stmts_fit
   marked_fits h a f g m among env at goal last =
       code_then c leaves m a.before (f a.rest ∷ []) goal env (g.before m among env (to_stands m.variables h.next h.locals env at) (code_fits c leaves m (f a.rest ∷ []) goal) (λ after there. last after there (g.rest after there.alike)))

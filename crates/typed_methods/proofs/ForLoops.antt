@@ -22,7 +22,7 @@ use Rattle.flat_tree.specs.PlainFlat.{Point, PlainFlatStmt, FSet, FWhile, FLeaf,
 use Rattle.method_splitter.specs.Points.{PointsPass}
 use Rattle.flat_types.specs.FlatTypes.{is_point, Supplies, Ends, Behind, LoopFits, stmt_fits, stmts_fit}
 use Rattle.flat_types.proofs.FlowStays.{EachTyped, all_stay, stmt_stays, shapes_with}
-use Rattle.hoisting.specs.Spots.{surely, locals_behind, point_behind}
+use Rattle.hoisting.specs.Stages.{surely, locals_behind, point_behind}
 use Rattle.hoisting.specs.HoistStatements.{Flattened, flat_all, plus}
 use Rattle.typed_hoisting.specs.KnownLocals.{seen, Kept, Under, Free, AreVariables}
 use Rattle.typed_hoisting.specs.TypedHoisting.{Numbered, AreAmong, CodePasses, Around, code_fits, Typed}
@@ -39,7 +39,7 @@ use Rattle.typed_methods.proofs.StoredKnown.{AllKept, AllUnder, TypedThere, all_
 use Rattle.typed_methods.proofs.KeptParts.{in_loop_if}
 use Rattle.typed_methods.proofs.FlowKept.{GoesSo, begun_ahead, all_kept}
 use Rattle.typed_methods.proofs.KnownStays.{begun_above, all_above, Forgets, forgets_first, forgets_rest, narrowed_above, stored_above}
-use Rattle.typed_methods.proofs.CodeLaws.{spot, At, TypedAs, WaysLead, all_under_on, supplies_all, point_at, typed_same, surely_passes, variable_typed, GoodCode}
+use Rattle.typed_methods.proofs.CodeLaws.{stage, At, TypedAs, WaysLead, all_under_on, supplies_all, point_at, typed_same, surely_passes, variable_typed, GoodCode}
 use Rattle.typed_methods.proofs.SimpleKeep.{EachVariable, Begins}
 use Rattle.typed_methods.proofs.StillKeep.{some_typed, each_there}
 use Rattle.typed_methods.proofs.PointsBehind.{settled_same, behind_is, ends_behind, behind_passes, behind_end}
@@ -131,7 +131,7 @@ module _ (c : Context) (leaves : Leaving) (own : Own leaves) (limit : ℕ) (at :
     start = with_local name item item head
 
     abbrev pub code : Flattened (List PlainFlatStmt)
-    code = flat_all leaves c body (spot (begun start) k)
+    code = flat_all leaves c body (stage (begun start) k)
 
     head_shapes : shapes head ≡ shapes ls
     head_shapes = shapes_at_head all ls

@@ -20,9 +20,9 @@ use Rattle.block_code.specs.GraphFits.{Asked}
 use Rattle.flat_tree.specs.PlainFlat.{PlainFlatStmt, FMark, FSet, FWhile, flat_stmts_of}
 use Rattle.method_splitter.specs.Points.{PointsPass}
 use Rattle.flat_types.specs.FlatTypes.{stmts_fit}
-use Rattle.hoisting.specs.Spots.{Spot, surely, temporary, found_ty, item_ty, point_behind}
+use Rattle.hoisting.specs.Stages.{Stage, surely, temporary, found_ty, item_ty, point_behind}
 use Rattle.hoisting.specs.HoistExpressions.{Hoisted, settled, forms}
-use Rattle.hoisting.specs.HoistStatements.{Flattened, opened, flat_all, plus, list_spot, head_locals, body_spot, list_test, list_turn, list_loop}
+use Rattle.hoisting.specs.HoistStatements.{Flattened, opened, flat_all, plus, list_stage, head_locals, body_stage, list_test, list_turn, list_loop}
 use Rattle.typed_hoisting.specs.KnownLocals.{seen, seen_of, Kept, Free}
 use Rattle.typed_hoisting.specs.TypedHoisting.{AreAmong, Adds, Around, Typed, Good}
 use Rattle.typed_hoisting.proofs.LocalLaws.{apart, kept_seen}
@@ -35,7 +35,7 @@ use Rattle.typed_hoisting.proofs.TypedKinds.{index_typed}
 use Rattle.typed_hoisting.proofs.CallsKeep.{Own}
 use Rattle.typed_methods.proofs.StoredKnown.{AllKept, TypedThere, given_as, kept_free}
 use Rattle.typed_methods.proofs.KeptParts.{in_loop_if}
-use Rattle.typed_methods.proofs.CodeLaws.{spot, At, TypedAs, all_kept_on, to_stands, from_stands, ty_as, as_ty, are_typed, GoodCode}
+use Rattle.typed_methods.proofs.CodeLaws.{stage, At, TypedAs, all_kept_on, to_stands, from_stands, ty_as, as_ty, are_typed, GoodCode}
 use Rattle.typed_methods.proofs.SimpleKeep.{EachVariable, Begins, forms_good, GoodOpened}
 use Rattle.typed_methods.proofs.ArmsKeep.{GoodAll}
 use Rattle.typed_methods.proofs.StoredAt.{with_type, stored_itself, stored_other, stored_at, more_at, seen_at, head_type, set_fits, as_has, variable_reads, int_typed, empty_typed, plus_typed, less_typed, length_typed}
@@ -138,14 +138,14 @@ module _ (c : Context) (leaves : Leaving) (own : Own leaves) (limit : ℕ) where
   unfolding opened goes_on breaks stmts_fit StmtNames PointsPass
   list_good at name name_at e body named good_body looping floor w n end b variables h =
       let over : PlainOver = PItems e in
-      let here : Spot = spot w n in
+      let here : Stage = stage w n in
       let p : ForParts (in_loop_if c looping) w end name name_at over body = for_parts (in_loop_if c looping) w end at name name_at over body h in
       let u : PlainTy = p.item in
       let typed_e : type_at c w.locals None e ≡ Ok (TList u) = items_ok (in_loop_if c looping) w.locals e u p.goes_over in
       let a : Hoisted PlainExpr = (forms leaves c e).value None here in
       let ga : Good c leaves here a (Typed c leaves None (TList u)) = (forms_good c leaves own limit e named.1).value None here (TList u) b.below b.free typed_e in
-      let t : ℕ = a.spot.next in
-      let before : List PlainLocal = a.spot.locals in
+      let t : ℕ = a.stage.next in
+      let before : List PlainLocal = a.stage.locals in
       let s : Hoisted PlainExpr = settled at (TList u) a in
       let gs : Good c leaves here s (Typed c leaves None (TList u)) = settled_unless_good c leaves false here a at None (TList u) (TList u) refl ga in
       let ls : List PlainLocal = with_both u t before ga.free in
@@ -153,18 +153,18 @@ module _ (c : Context) (leaves : Leaving) (own : Own leaves) (limit : ℕ) where
       let up_t : n ≤ t = up c leaves here a ga in
       let up_k : n ≤ k = omega (arith, up_t) in
       let kept_w : AllKept w.locals ls =
-      all_kept_on w.locals s.spot.locals ls (kept_free n w.locals s.spot.locals b.free gs.alike)
-      (all_kept_on s.spot.locals (with_place u t before ga.free) ls (kept_place u t before ga.free) (kept_both u t before ga.free)) in
-      let there : TypedThere w.locals ls = λ x v f. as_ty ls x v ((two_add u t before ga.free).keeps x v (ty_as s.spot.locals x v (added_there c leaves here s gs x v f))) in
+      all_kept_on w.locals s.stage.locals ls (kept_free n w.locals s.stage.locals b.free gs.alike)
+      (all_kept_on s.stage.locals (with_place u t before ga.free) ls (kept_place u t before ga.free) (kept_both u t before ga.free)) in
+      let there : TypedThere w.locals ls = λ x v f. as_ty ls x v ((two_add u t before ga.free).keeps x v (ty_as s.stage.locals x v (added_there c leaves here s gs x v f))) in
       let free : Free k ls = free_both u t before ga.free in
       let hs : List PlainLocal = head c leaves own limit at name name_at over body named.2 good_body looping floor w n end b variables h ls k up_k kept_w there free in
       let inside_made : List PlainVar = made_inside c leaves own limit at name name_at over body named.2 good_body looping floor w n end b variables h ls k up_k kept_w there free in
       let test : PlainExpr = PCompare at cmp.Lt at (PVar at (t + 1)) (PApply at (reserved_number (codes "len")) (PExpr (PVar at t) PNoExpr)) in
       let element : PlainExpr = PIndex at (PVar at t) (PVar at (t + 1)) in
-      let coded : PlainTy → Flattened (List PlainFlatStmt) = λ ty. flat_all leaves c body (body_spot name (item_ty ty) body (list_spot ty a.spot)) in
+      let coded : PlainTy → Flattened (List PlainFlatStmt) = λ ty. flat_all leaves c body (body_stage name (item_ty ty) body (list_stage ty a.stage)) in
       let all_code : PlainTy → List PlainFlatStmt = λ ty.
-      FMark ∷ (settled at ty a).before ++ list_loop at name t (surely (head_locals name body (list_spot ty a.spot).locals)) (point_behind c (PFor at name name_at over body) w.locals) (coded ty).code in
-      let point = surely (head_locals name body (list_spot (TList u) a.spot).locals) in
+      FMark ∷ (settled at ty a).before ++ list_loop at name t (surely (head_locals name body (list_stage ty a.stage).locals)) (point_behind c (PFor at name name_at over body) w.locals) (coded ty).code in
+      let point = surely (head_locals name body (list_stage (TList u) a.stage).locals) in
       let loop : PlainFlatStmt = FWhile point (list_test at t) point (flat_stmts_of (list_turn at name t (coded (TList u)).code)) (point_behind c (PFor at name name_at over body) w.locals) in
       let two : List PlainVar = two_made u t before ga.free in
       let good : GoodCode c leaves looping floor w n (all_code (TList u)) (coded (TList u)).next end true false = record {
@@ -174,8 +174,8 @@ module _ (c : Context) (leaves : Leaving) (own : Own leaves) (limit : ℕ) where
         points = λ vs among typed.
             let among_s : AreAmong vs gs.made = among_first vs gs.made (two ++ inside_made) among in
             let among_r : AreAmong vs (two ++ inside_made) = among_rest vs gs.made (two ++ inside_made) among in
-            let typed_s : TypedAs vs s.spot.locals = added_typed c leaves here s gs vs among_s typed in
-            let typed_ls : TypedAs vs ls = λ x v f. (two_add u t before ga.free).only vs (among_first vs two inside_made among_r) (λ y z g. typed_s y z (as_ty s.spot.locals y z g)) x v (ty_as ls x v f) in (
+            let typed_s : TypedAs vs s.stage.locals = added_typed c leaves here s gs vs among_s typed in
+            let typed_ls : TypedAs vs ls = λ x v f. (two_add u t before ga.free).only vs (among_first vs two inside_made among_r) (λ y z g. typed_s y z (as_ty s.stage.locals y z g)) x v (ty_as ls x v f) in (
               tt,
               passes_both vs s.before _ (gs.points vs among_s (are_typed vs w.locals typed))
                   (tt, (tt, (tt, (loop_passes c leaves own limit at name name_at over body named.2 good_body looping floor w n end b variables h ls k up_k kept_w there free vs (among_rest vs two inside_made among_r) typed typed_ls test (FSet name element ∷ FSet (t + 1) (plus at (PVar at (t + 1)) (PInt at (pos 1))) ∷ []) (tt, (tt, tt)), tt)))),
@@ -184,13 +184,13 @@ module _ (c : Context) (leaves : Leaving) (own : Own leaves) (limit : ℕ) where
             let among_s : AreAmong m.variables gs.made = among_first m.variables gs.made (two ++ inside_made) among in
             let among_r : AreAmong m.variables (two ++ inside_made) = among_rest m.variables gs.made (two ++ inside_made) among in
             let among_two : AreAmong m.variables two = among_first m.variables two inside_made among_r in
-            let typed_s : TypedAs m.variables s.spot.locals = added_typed c leaves here s gs m.variables among_s typed in
-            let typed_ls : TypedAs m.variables ls = λ x v f. (two_add u t before ga.free).only m.variables among_two (λ y z g. typed_s y z (as_ty s.spot.locals y z g)) x v (ty_as ls x v f) in
-            let is_list : IsVariable m.variables t (TList u) = typed_s t (TList u) (as_ty s.spot.locals t (TList u) (ap (option_map (λ (l : PlainLocal). l.ty)) (temporary_local t before (TList u) ga.free))) in
+            let typed_s : TypedAs m.variables s.stage.locals = added_typed c leaves here s gs m.variables among_s typed in
+            let typed_ls : TypedAs m.variables ls = λ x v f. (two_add u t before ga.free).only m.variables among_two (λ y z g. typed_s y z (as_ty s.stage.locals y z g)) x v (ty_as ls x v f) in
+            let is_list : IsVariable m.variables t (TList u) = typed_s t (TList u) (as_ty s.stage.locals t (TList u) (ap (option_map (λ (l : PlainLocal). l.ty)) (temporary_local t before (TList u) ga.free))) in
             code_then c leaves m s.before _ goal env
             (gs.before m among_s env (to_stands m.variables n w.locals env at') _
             (λ env1 stands.
-            starts u t before ga.free c leaves at m among_two is_list env1 (from_stands m.variables (t + 1) s.spot.locals env1 gs.free stands) loop goal
+            starts u t before ga.free c leaves at m among_two is_list env1 (from_stands m.variables (t + 1) s.stage.locals env1 gs.free stands) loop goal
             (λ env2 at2.
             loop_fits c leaves own limit at name name_at over body named.2 good_body looping floor w n end b variables h ls k up_k kept_w there free m (among_rest m.variables two inside_made among_r) typed typed_ls env2 at2 test
             (FSet name element ∷ FSet (t + 1) (plus at (PVar at (t + 1)) (PInt at (pos 1))) ∷ []) refl

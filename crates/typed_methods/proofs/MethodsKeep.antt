@@ -30,7 +30,7 @@ use Rattle.flat_tree.specs.PlainFlat.{PlainFlat, flat_stmts_of}
 use Rattle.flat_types.specs.FlatTypes.{is_point, Nowhere, Behind, stmts_fit}
 use Rattle.flat_types.specs.SplitFits.{EndsWithNone}
 use Rattle.flat_types.proofs.FlowStays.{all_stay}
-use Rattle.hoisting.specs.Spots.{surely}
+use Rattle.hoisting.specs.Stages.{surely}
 use Rattle.hoisting.specs.HoistStatements.{flat_all}
 use Rattle.typed_hoisting.specs.KnownLocals.{seen, Free}
 use Rattle.typed_hoisting.specs.TypedHoisting.{Numbered, AreAmong, Around}
@@ -44,7 +44,7 @@ use Rattle.typed_methods.specs.TypedMethods.{behind_temporaries, MethodKeepsType
 use Rattle.typed_methods.proofs.KnownWays.{MetUnder, known_before}
 use Rattle.typed_methods.proofs.StoredKnown.{AllKept, free_same}
 use Rattle.typed_methods.proofs.FlowKept.{GoesSo, begun_ahead, all_kept}
-use Rattle.typed_methods.proofs.CodeLaws.{spot, TypedAs, WaysLead, point_at, surely_passes, GoodCode}
+use Rattle.typed_methods.proofs.CodeLaws.{stage, TypedAs, WaysLead, point_at, surely_passes, GoodCode}
 use Rattle.typed_methods.proofs.StatementsKeep.{all_good}
 use Rattle.typed_methods.proofs.NewLocals.{free_more, Settles, all_settle, each_as}
 use Rattle.typed_methods.proofs.Variables.{made_among, none_named, locals_typed, all_once, surely_params}
@@ -122,7 +122,7 @@ module _ (tables : List PlainTable) (class number : ℕ) (sig : PlainSig) (m : P
   again = all_kept c limit (stmts_of m.body) false false (begun first) (begun locals) flows.end names (λ j t. t) (begun_ahead first locals first_kept) (λ x t e. ap (λ ss. type_in ss x) locals_are ∙ e) flows.goes
 
   module _ (leaves : Leaving) (own : Own leaves) where
-    code_good : GoodCode c leaves false [] (begun locals) limit (flat_all leaves c (stmts_of m.body) (spot (begun locals) limit)).code (flat_all leaves c (stmts_of m.body) (spot (begun locals) limit)).next again.end (all_go_on (stmts_of m.body)) (break_in (stmts_of m.body))
+    code_good : GoodCode c leaves false [] (begun locals) limit (flat_all leaves c (stmts_of m.body) (stage (begun locals) limit)).code (flat_all leaves c (stmts_of m.body) (stage (begun locals) limit)).next again.end (all_go_on (stmts_of m.body)) (break_in (stmts_of m.body))
     unfolding local_of
     code_good =
         all_good c leaves own limit refl refl (stmts_of m.body) names raises false [] (begun locals) limit again.end (record { below = omega arith; free = free; above = λ x. tt })

@@ -8,7 +8,7 @@ use Rattle.program_meaning.proofs.LocalShapes.{Shape, shapes}
 use Rattle.block_code.specs.PlainVars.{PlainVar}
 use Rattle.block_code.specs.GraphFits.{Asked, at_start}
 use Rattle.flat_types.specs.FlatTypes.{is_point, Supplies, Ends, BehindEnd}
-use Rattle.hoisting.specs.Spots.{surely, locals_of, locals_behind}
+use Rattle.hoisting.specs.Stages.{surely, locals_of, locals_behind}
 use Rattle.typed_methods.proofs.KeptParts.{in_loop_if}
 use Rattle.typed_methods.proofs.BegunAnew.{stmt_anew}
 

@@ -18,7 +18,7 @@ use Rattle.block_code.specs.PlainVars.{PlainVar}
 use Rattle.flat_tree.specs.PlainFlat.{PlainFlatStmt, FMark, FSet}
 use Rattle.method_splitter.specs.Points.{PointsPass}
 use Rattle.flat_types.specs.FlatTypes.{stmts_fit}
-use Rattle.hoisting.specs.Spots.{Spot, surely, point_behind}
+use Rattle.hoisting.specs.Stages.{Stage, surely, point_behind}
 use Rattle.hoisting.specs.HoistExpressions.{Hoisted, built, in_turn, settled, forms}
 use Rattle.hoisting.specs.HoistStatements.{Flattened, opened, flat_all, plus, start_or_zero, head_locals, range_loop}
 use Rattle.typed_hoisting.specs.KnownLocals.{HasTy, seen, Free}
@@ -32,36 +32,36 @@ use Rattle.typed_hoisting.proofs.TypedKinds.{pos_typed}
 use Rattle.typed_hoisting.proofs.CallsKeep.{Own}
 use Rattle.typed_methods.proofs.StoredKnown.{AllKept, TypedThere, kept_free}
 use Rattle.typed_methods.proofs.KeptParts.{in_loop_if}
-use Rattle.typed_methods.proofs.CodeLaws.{spot, TypedAs, all_kept_on, to_stands, from_stands, ty_as, as_ty, are_typed, GoodCode}
+use Rattle.typed_methods.proofs.CodeLaws.{stage, TypedAs, all_kept_on, to_stands, from_stands, ty_as, as_ty, are_typed, GoodCode}
 use Rattle.typed_methods.proofs.SimpleKeep.{EachVariable, Begins, forms_good, GoodOpened}
 use Rattle.typed_methods.proofs.ArmsKeep.{GoodAll}
 use Rattle.typed_methods.proofs.StoredAt.{with_type, seen_at, head_type, as_has, variable_reads, less_typed}
 use Rattle.typed_methods.proofs.ForLoops.{head, made_inside, numbered_inside, loop_passes, loop_fits, counted_turn}
 
 module _ (c : Context) (leaves : Leaving) where
-  pub added_there : {R : Type 0} (h : Spot) (a : Hoisted R) {Rest : List PlainLocal → R → Type 0} → Good c leaves h a Rest → TypedThere h.locals a.spot.locals
-  added_there h a g x t e = as_ty a.spot.locals x t (g.adds.keeps x t (ty_as h.locals x t e))
+  pub added_there : {R : Type 0} (h : Stage) (a : Hoisted R) {Rest : List PlainLocal → R → Type 0} → Good c leaves h a Rest → TypedThere h.locals a.stage.locals
+  added_there h a g x t e = as_ty a.stage.locals x t (g.adds.keeps x t (ty_as h.locals x t e))
 
-  pub added_typed : {R : Type 0} (h : Spot) (a : Hoisted R) {Rest : List PlainLocal → R → Type 0} → (g : Good c leaves h a Rest) → (variables : List PlainVar) → AreAmong variables g.made → TypedAs variables h.locals → TypedAs variables a.spot.locals
-  added_typed h a g variables among typed x t e = g.adds.only variables among (λ y u f. typed y u (as_ty h.locals y u f)) x t (ty_as a.spot.locals x t e)
+  pub added_typed : {R : Type 0} (h : Stage) (a : Hoisted R) {Rest : List PlainLocal → R → Type 0} → (g : Good c leaves h a Rest) → (variables : List PlainVar) → AreAmong variables g.made → TypedAs variables h.locals → TypedAs variables a.stage.locals
+  added_typed h a g variables among typed x t e = g.adds.only variables among (λ y u f. typed y u (as_ty h.locals y u f)) x t (ty_as a.stage.locals x t e)
 
 module _ (c : Context) (leaves : Leaving) (own : Own leaves) (limit : ℕ) where
   -- a number, in a temporary
-  abbrev pub whole : Place → PlainExpr → Spot → Hoisted PlainExpr
+  abbrev pub whole : Place → PlainExpr → Stage → Hoisted PlainExpr
   whole at e h = settled at TInt (built (PPos at) ((forms leaves c e).value None h))
 
-  inner_good : (at : Place) (e : PlainExpr) (h : Spot) → limit ≤ h.next → Free h.next h.locals → ExprNames limit e → type_at c h.locals None e ≡ Ok TInt → Good c leaves h (built (PPos at) ((forms leaves c e).value None h)) (Typed c leaves None TInt)
+  inner_good : (at : Place) (e : PlainExpr) (h : Stage) → limit ≤ h.next → Free h.next h.locals → ExprNames limit e → type_at c h.locals None e ≡ Ok TInt → Good c leaves h (built (PPos at) ((forms leaves c e).value None h)) (Typed c leaves None TInt)
   inner_good at e h below free named typed =
       built_good c leaves h ((forms leaves c e).value None h) (PPos at) (Typed c leaves None TInt) ((forms_good c leaves own limit e named).value None h TInt below free typed)
       (λ there x. pos_typed c leaves there None at ((forms leaves c e).value None h).rest TInt refl x)
 
-  whole_good : (at : Place) (e : PlainExpr) (h : Spot) → limit ≤ h.next → Free h.next h.locals → ExprNames limit e → type_at c h.locals None e ≡ Ok TInt → Good c leaves h (whole at e h) (Typed c leaves None TInt)
+  whole_good : (at : Place) (e : PlainExpr) (h : Stage) → limit ≤ h.next → Free h.next h.locals → ExprNames limit e → type_at c h.locals None e ≡ Ok TInt → Good c leaves h (whole at e h) (Typed c leaves None TInt)
   whole_good at e h below free named typed = settled_unless_good c leaves false h (built (PPos at) ((forms leaves c e).value None h)) at None TInt TInt refl (inner_good at e h below free named typed)
 
-  whole_seen : (at : Place) (e : PlainExpr) (h : Spot) → limit ≤ h.next → Free h.next h.locals → ExprNames limit e → type_at c h.locals None e ≡ Ok TInt
-      → (seen (whole at e h).spot.locals ((forms leaves c e).value None h).spot.next ≡ with_type TInt) × HasTy (whole at e h).spot.locals ((forms leaves c e).value None h).spot.next TInt
+  whole_seen : (at : Place) (e : PlainExpr) (h : Stage) → limit ≤ h.next → Free h.next h.locals → ExprNames limit e → type_at c h.locals None e ≡ Ok TInt
+      → (seen (whole at e h).stage.locals ((forms leaves c e).value None h).stage.next ≡ with_type TInt) × HasTy (whole at e h).stage.locals ((forms leaves c e).value None h).stage.next TInt
   whole_seen at e h below free named typed =
-      let a : Spot = ((forms leaves c e).value None h).spot in
+      let a : Stage = ((forms leaves c e).value None h).stage in
       let g = inner_good at e h below free named typed in
       (temporary_seen a.next a.locals TInt g.free, ap (option_map (λ (l : PlainLocal). l.ty)) (temporary_local a.next a.locals TInt g.free))
 
@@ -82,29 +82,29 @@ module _ (c : Context) (leaves : Leaving) (own : Own leaves) (limit : ℕ) where
   unfolding opened goes_on breaks stmts_fit StmtNames PointsPass
   range_good at name name_at from to body named good_body looping floor w n end b variables h =
       let over : PlainOver = PRange from to in
-      let here : Spot = spot w n in
+      let here : Stage = stage w n in
       let p : ForParts (in_loop_if c looping) w end name name_at over body = for_parts (in_loop_if c looping) w end at name name_at over body h in
       let first : PlainExpr = start_or_zero at from in
       let ends = range_ends looping w.locals at from to p.item p.goes_over in
       let first_named : ExprNames limit first = zero_named at from named.1.0 in
       let a : Hoisted PlainExpr = whole at first here in
       let ga : Good c leaves here a (Typed c leaves None TInt) = whole_good at first here b.below b.free first_named ends.0 in
-      let below_a : limit ≤ a.spot.next = omega (arith, b.below, up c leaves here a ga) in
-      let typed_to : type_at c a.spot.locals None to ≡ Ok TInt = kept_at c limit n w.locals a.spot.locals b.below ga.alike None to TInt named.1.1 ends.1 in
-      let d : Hoisted PlainExpr = whole at to a.spot in
-      let gd : Good c leaves a.spot d (Typed c leaves None TInt) = whole_good at to a.spot below_a ga.free named.1.1 typed_to in
-      let t : ℕ = ((forms leaves c first).value None here).spot.next in
-      let u : ℕ = ((forms leaves c to).value None a.spot).spot.next in
+      let below_a : limit ≤ a.stage.next = omega (arith, b.below, up c leaves here a ga) in
+      let typed_to : type_at c a.stage.locals None to ≡ Ok TInt = kept_at c limit n w.locals a.stage.locals b.below ga.alike None to TInt named.1.1 ends.1 in
+      let d : Hoisted PlainExpr = whole at to a.stage in
+      let gd : Good c leaves a.stage d (Typed c leaves None TInt) = whole_good at to a.stage below_a ga.free named.1.1 typed_to in
+      let t : ℕ = ((forms leaves c first).value None here).stage.next in
+      let u : ℕ = ((forms leaves c to).value None a.stage).stage.next in
       let seen_t = whole_seen at first here b.below b.free first_named ends.0 in
-      let seen_u = whole_seen at to a.spot below_a ga.free named.1.1 typed_to in
-      let ls : List PlainLocal = d.spot.locals in
-      let k : ℕ = d.spot.next in
+      let seen_u = whole_seen at to a.stage below_a ga.free named.1.1 typed_to in
+      let ls : List PlainLocal = d.stage.locals in
+      let k : ℕ = d.stage.next in
       let up_t : n ≤ t = up c leaves here _ (inner_good at first here b.below b.free first_named ends.0) in
-      let up_a : a.spot.next ≤ k = up c leaves a.spot d gd in
+      let up_a : a.stage.next ≤ k = up c leaves a.stage d gd in
       let up_k : n ≤ k = omega (arith, up_t, up_a) in
-      let kept_w : AllKept w.locals ls = all_kept_on w.locals a.spot.locals ls (kept_free n w.locals a.spot.locals b.free ga.alike) (kept_free a.spot.next a.spot.locals ls ga.free gd.alike) in
-      let there : TypedThere w.locals ls = λ x v e. added_there c leaves a.spot d gd x v (added_there c leaves here a ga x v e) in
-      let count_t : seen ls t ≡ with_type TInt = kept_seen (seen a.spot.locals t) (seen ls t) _ (kept_free a.spot.next a.spot.locals ls ga.free gd.alike t) seen_t.0 in
+      let kept_w : AllKept w.locals ls = all_kept_on w.locals a.stage.locals ls (kept_free n w.locals a.stage.locals b.free ga.alike) (kept_free a.stage.next a.stage.locals ls ga.free gd.alike) in
+      let there : TypedThere w.locals ls = λ x v e. added_there c leaves a.stage d gd x v (added_there c leaves here a ga x v e) in
+      let count_t : seen ls t ≡ with_type TInt = kept_seen (seen a.stage.locals t) (seen ls t) _ (kept_free a.stage.next a.stage.locals ls ga.free gd.alike t) seen_t.0 in
       let item_is : p.item ≡ TInt = ends.2 in
       let hs : List PlainLocal = head c leaves own limit at name name_at over body named.2 good_body looping floor w n end b variables h ls k up_k kept_w there gd.free in
       let test : PlainExpr = PCompare at cmp.Lt at (PVar at t) (PVar at u) in
@@ -124,7 +124,7 @@ module _ (c : Context) (leaves : Leaving) (own : Own leaves) (limit : ℕ) where
         fits = λ m among typed env at' ways goal goes.
             let among1 : AreAmong m.variables both.made = among_first m.variables both.made inside_made among in
             let typed_ls : TypedAs m.variables ls = added_typed c leaves here (in_turn (λ (x y : PlainExpr). x) a (λ g. whole at to g)) both m.variables among1 typed in
-            let is_t : IsVariable m.variables t TInt = typed_ls t TInt (added_there c leaves a.spot d gd t TInt (as_ty a.spot.locals t TInt seen_t.1)) in
+            let is_t : IsVariable m.variables t TInt = typed_ls t TInt (added_there c leaves a.stage d gd t TInt (as_ty a.stage.locals t TInt seen_t.1)) in
             code_then c leaves m (a.before ++ d.before) _ goal env
             (both.before m among1 env (to_stands m.variables n w.locals env at') _
             (λ env1 stands.

@@ -24,7 +24,7 @@ use Rattle.flat_tree.specs.PlainFlat.{Point, FGive, FFail}
 use Rattle.method_splitter.specs.Points.{PointsPass}
 use Rattle.flat_types.specs.FlatTypes.{is_point, Supplies, stmts_fit}
 use Rattle.flat_types.proofs.FlowStays.{EachTyped}
-use Rattle.hoisting.specs.Spots.{Spot, surely, ty_at, found_ty}
+use Rattle.hoisting.specs.Stages.{Stage, surely, ty_at, found_ty}
 use Rattle.hoisting.specs.HoistExpressions.{Hoisted, Tested, settled_unless, lasts, forms}
 use Rattle.hoisting.specs.HoistStatements.{stored as store, optional, opened}
 use Rattle.typed_hoisting.specs.KnownLocals.{Free}
@@ -39,7 +39,7 @@ use Rattle.typed_hoisting.proofs.ExpressionsKeep.{each_expression_keeps}
 use Rattle.typed_methods.proofs.KnownWays.{MetUnder, met_right, met_here}
 use Rattle.typed_methods.proofs.StoredKnown.{AllUnder, all_under, type_or, stored_there}
 use Rattle.typed_methods.proofs.KeptParts.{in_loop_if, LocalAssigned, local_parts}
-use Rattle.typed_methods.proofs.CodeLaws.{spot, At, TypedAs, all_under_on, to_stands, at_as, supplies_all, point_at, variable_typed, typed_same, are_typed, surely_passes, marked_passes, GoodCode, no_more, no_more_is, behind_good, marked_fits}
+use Rattle.typed_methods.proofs.CodeLaws.{stage, At, TypedAs, all_under_on, to_stands, at_as, supplies_all, point_at, variable_typed, typed_same, are_typed, surely_passes, marked_passes, GoodCode, no_more, no_more_is, behind_good, marked_fits}
 use Rattle.program_meaning.proofs.LocalShapes.{shapes_narrowed}
 
 abbrev pub EachVariable : List PlainLocal → List ℕ → Type 0
@@ -57,7 +57,7 @@ module _ (c : Context) (leaves : Leaving) (own : Own leaves) (limit : ℕ) where
 
   -- a statement that is opened
   abbrev pub GoodOpened : PlainStmt → Bool → List PlainLocal → Way → ℕ → Way → Type 1
-  GoodOpened x looping floor w n end = GoodCode c leaves looping floor w n (opened leaves c x (spot w n)).code (opened leaves c x (spot w n)).next end (goes_on x) (breaks x)
+  GoodOpened x looping floor w n end = GoodCode c leaves looping floor w n (opened leaves c x (stage w n)).code (opened leaves c x (stage w n)).next end (goes_on x) (breaks x)
 
   result_here : (looping : Bool) → result_at (in_loop_if c looping) ≡ result_at c
   unfolding result_at
@@ -67,8 +67,8 @@ module _ (c : Context) (leaves : Leaving) (own : Own leaves) (limit : ℕ) where
     abbrev d : Context
     d = in_loop_if c looping
 
-    abbrev here : Spot
-    here = spot w n
+    abbrev here : Stage
+    here = stage w n
 
     goes_to : (variables : List PlainVar) (after : List PlainLocal) → w ≡ end → At variables w.locals after → At variables end.locals after
     goes_to variables after e at = at_as variables w.locals end.locals after (ap (λ (v : Way). v.locals) e) at
@@ -156,13 +156,13 @@ module _ (c : Context) (leaves : Leaving) (own : Own leaves) (limit : ℕ) where
     abbrev MessageIs : List PlainLocal → Option PlainExpr → Type 0
     MessageIs locals e = MessageFits c leaves locals e
 
-    -- a message, at a spot with the same locals
+    -- a message, at a stage with the same locals
     message_good : (k : ℕ) → limit ≤ k → Free k w.locals → (e : Option PlainExpr) → IfSome e (ExprNames limit) → message_fault d w.locals e ≡ None
-        → Good c leaves (spot w k) (optional leaves c None e (spot w k)) MessageIs
-    message_good k below free None named h = still_good c leaves (spot w k) None MessageIs free (λ there alike. tt)
+        → Good c leaves (stage w k) (optional leaves c None e (stage w k)) MessageIs
+    message_good k below free None named h = still_good c leaves (stage w k) None MessageIs free (λ there alike. tt)
     message_good k below free (Some e) named h =
         let typed : type_at c w.locals None e ≡ Ok TStr = message_typed w.locals e h in
-        built_good c leaves (spot w k) ((forms leaves c e).value None (spot w k)) Some MessageIs ((forms_good e named).value None (spot w k) TStr below free typed)
+        built_good c leaves (stage w k) ((forms leaves c e).value None (stage w k)) Some MessageIs ((forms_good e named).value None (stage w k) TStr below free typed)
         (λ there x. record { wanted = None; typed = x.0; stays = x.1 })
 
     pub raise_good : (at : Place) (kind : ℕ) (e : Option PlainExpr) → StmtNames limit (PRaise at kind e) → RaisesFailure (PRaise at kind e) → flow d w (PRaise at kind e) ≡ Ok end → GoodOpened (PRaise at kind e) looping floor w n end
@@ -191,13 +191,13 @@ module _ (c : Context) (leaves : Leaving) (own : Own leaves) (limit : ℕ) where
         let up : n ≤ t.next = numbered_up n gt.made t.next gt.numbered in
         let free : Free t.next w.locals = free_later n t.next w.locals up b.free in
         let free_true : Free t.next ls = free_narrowed n t.next (shown true test) w.locals up b.free in
-        let failing : Spot = spot w t.next in
+        let failing : Stage = stage w t.next in
         let a : Hoisted (Option PlainExpr) = optional leaves c None e failing in
         let g : Good c leaves failing a MessageIs = message_good t.next (omega (arith, b.below, up)) free e named.1 q.0 in
         let behind : Point = surely ls in
         record {
           made = gt.made ++ g.made;
-          numbered = numbered_both n gt.made g.made t.next a.spot.next gt.numbered g.numbered;
+          numbered = numbered_both n gt.made g.made t.next a.stage.next gt.numbered g.numbered;
           points = λ variables among typed.
               let typed_true : TypedAs variables ls = typed_same variables w.locals ls (shapes_narrowed (shown true test) w.locals) typed in
               let behind_passes : is_point variables behind ≡ true = surely_passes variables t.next ls free_true typed_true in (

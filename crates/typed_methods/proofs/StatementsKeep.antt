@@ -16,7 +16,7 @@ use Rattle.flat_tree.specs.Flatness.{jumps}
 use Rattle.method_splitter.specs.Points.{PointsPass}
 use Rattle.flat_types.specs.FlatTypes.{stmts_fit}
 use Rattle.flat_types.proofs.FlowStays.{EachTyped, stmt_stays, first_typed, later_typed}
-use Rattle.hoisting.specs.Spots.{locals_behind}
+use Rattle.hoisting.specs.Stages.{locals_behind}
 use Rattle.hoisting.specs.HoistStatements.{Flattened, code_if, followed, opened, flat_all}
 use Rattle.typed_hoisting.specs.TypedHoisting.{code_fits}
 use Rattle.typed_hoisting.proofs.EnvironmentLaws.{free_later}
@@ -30,7 +30,7 @@ use Rattle.typed_methods.proofs.FlowKept.{or_left, or_right}
 use Rattle.typed_methods.proofs.BegunAnew.{way_at, LeadsTo, stmt_anew}
 use Rattle.typed_methods.proofs.WaysOn.{all_left_on}
 use Rattle.typed_methods.proofs.KnownStays.{Forgets, forgets_first, forgets_rest, begun_above, stmt_above}
-use Rattle.typed_methods.proofs.CodeLaws.{spot, at_as, typed_same, GoodCode}
+use Rattle.typed_methods.proofs.CodeLaws.{stage, at_as, typed_same, GoodCode}
 use Rattle.typed_methods.proofs.SimpleKeep.{EachVariable, Begins, GoodOpened, pass_good, break_good, continue_good, do_good, return_good, raise_good, assert_good, assign_local, assign_field}
 use Rattle.typed_methods.proofs.AugmentKeep.{augment_local, augment_field}
 use Rattle.typed_methods.proofs.StillKeep.{still_keeps}
@@ -45,7 +45,7 @@ module _ (c : Context) (leaves : Leaving) (own : Own leaves) (limit : ℕ) (outs
   asks x = stmt_suspends leaves x || jumps x
 
   abbrev flattened : PlainStmt → Way → ℕ → Flattened (List PlainFlatStmt)
-  flattened x w n = code_if (not (asks x)) x (spot w n) (opened leaves c x (spot w n))
+  flattened x w n = code_if (not (asks x)) x (stage w n) (opened leaves c x (stage w n))
 
   abbrev Whenever : PlainStmt → ((looping : Bool) (floor : List PlainLocal) (w : Way) (n : ℕ) (end : Way) → Type 1) → Type 1
   Whenever x P =
@@ -62,7 +62,7 @@ module _ (c : Context) (leaves : Leaving) (own : Own leaves) (limit : ℕ) (outs
   either_way x named raises good looping floor w n end b variables forgets h = by (asks x) refl
     where
       by : (o : Bool) → asks x ≡ o
-          → GoodCode c leaves looping floor w n (code_if (not o) x (spot w n) (opened leaves c x (spot w n))).code (code_if (not o) x (spot w n) (opened leaves c x (spot w n))).next end (goes_on x) (breaks x)
+          → GoodCode c leaves looping floor w n (code_if (not o) x (stage w n) (opened leaves c x (stage w n))).code (code_if (not o) x (stage w n) (opened leaves c x (stage w n))).next end (goes_on x) (breaks x)
       by true e = good looping floor w n end b variables forgets h
       by false e = still_keeps c leaves limit outside x named raises e looping floor w n end variables h
 

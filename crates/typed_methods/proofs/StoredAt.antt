@@ -17,7 +17,7 @@ use Rattle.block_code.specs.PlainVars.{PlainVar}
 use Rattle.block_code.specs.GraphFits.{Asked, HasType}
 use Rattle.flat_tree.specs.PlainFlat.{FSet}
 use Rattle.flat_types.specs.FlatTypes.{stmt_fits}
-use Rattle.hoisting.specs.Spots.{temporary}
+use Rattle.hoisting.specs.Stages.{temporary}
 use Rattle.hoisting.specs.HoistStatements.{plus}
 use Rattle.typed_hoisting.specs.KnownLocals.{Seen, seen_of, seen, Kept, Free, AreVariables}
 use Rattle.typed_hoisting.specs.TypedHoisting.{Around, Typed}

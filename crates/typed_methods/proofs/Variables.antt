@@ -13,7 +13,7 @@ use Rattle.py_tree.specs.Flow.{known_at, settled, param_local}
 use Rattle.program_meaning.proofs.LocalShapes.{Shape, shape, shapes, type_in}
 use Rattle.block_code.specs.PlainVars.{PlainVar}
 use Rattle.block_code.specs.GraphFits.{var_of, var_of_param, is_var, each_once}
-use Rattle.hoisting.specs.Spots.{surely}
+use Rattle.hoisting.specs.Stages.{surely}
 use Rattle.typed_hoisting.specs.KnownLocals.{Once}
 use Rattle.typed_hoisting.specs.TypedHoisting.{Numbered, AreAmong}
 use Rattle.typed_hoisting.proofs.LocalLaws.{apart}

@@ -18,7 +18,7 @@ use Rattle.method_splitter.specs.Points.{PointsPass}
 use Rattle.flat_types.specs.FlatTypes.{is_point, Supplies, Ends, Behind, LoopFits, stmts_fit, test_fits}
 use Rattle.flat_types.proofs.FlowStays.{EachTyped, all_stay, stmt_stays}
 use Rattle.method_splitter.specs.Split.{always}
-use Rattle.hoisting.specs.Spots.{Spot, surely, locals_behind, point_behind}
+use Rattle.hoisting.specs.Stages.{Stage, surely, locals_behind, point_behind}
 use Rattle.hoisting.specs.HoistExpressions.{Tested, forms}
 use Rattle.hoisting.specs.HoistStatements.{opened, flat_all}
 use Rattle.typed_hoisting.specs.KnownLocals.{Seen, seen, Kept, Under, Free, AreVariables, AtLeast}
@@ -33,7 +33,7 @@ use Rattle.typed_methods.proofs.StoredKnown.{all_itself, AllKept, AllUnder, all_
 use Rattle.typed_methods.proofs.KeptParts.{in_loop_if}
 use Rattle.typed_methods.proofs.FlowKept.{or_left, or_right}
 use Rattle.typed_methods.proofs.KnownStays.{begun_above, all_above, Forgets, narrowed_above}
-use Rattle.typed_methods.proofs.CodeLaws.{spot, At, TypedAs, WaysLead, all_under_on, to_stands, supplies_all, point_at, typed_same, are_typed, surely_passes, GoodCode}
+use Rattle.typed_methods.proofs.CodeLaws.{stage, At, TypedAs, WaysLead, all_under_on, to_stands, supplies_all, point_at, typed_same, are_typed, surely_passes, GoodCode}
 use Rattle.typed_methods.proofs.SimpleKeep.{EachVariable, Begins, forms_good, GoodOpened}
 use Rattle.typed_methods.proofs.PointsBehind.{behind_is, ends_behind, behind_passes, behind_end}
 use Rattle.typed_methods.proofs.ArmsKeep.{GoodAll}
@@ -101,7 +101,7 @@ unnarrowed env x = kept_same (seen (narrowed [] env) x) (seen env x) (narrowed_s
     by (Some s) = refl
 
 module _ (c : Context) (leaves : Leaving) where
-  literal_always : (test : PlainExpr) (h : Spot) → is_true test ≡ true → always ((forms leaves c test).test h).test ≡ true
+  literal_always : (test : PlainExpr) (h : Stage) → is_true test ≡ true → always ((forms leaves c test).test h).test ≡ true
   unfolding expr_suspends
   literal_always (PBool at true) h e = refl
   literal_always _ h e = absurd (true≢false (sym e))
@@ -145,13 +145,13 @@ module _ (c : Context) (leaves : Leaving) (own : Own leaves) (limit : ℕ) where
       let to_ss : shapes ss ≡ shapes w.locals = shapes_narrowed (shown true test) hs ∙ to_hs in
       let to_ns : shapes ns ≡ shapes w.locals = shapes_narrowed (shown false test) hs ∙ to_hs in
       let free_h : Free n hs = free_same n w.locals hs to_hs b.free in
-      let t : Tested PlainFlatTest = (forms leaves c test).test (spot (begun hs) n) in
-      let gt : GoodTest c leaves (spot (begun hs) n) (asked_of c leaves t.test) t.next ss ns = (forms_good c leaves own limit test named).test (spot (begun hs) n) b.below free_h p.condition in
+      let t : Tested PlainFlatTest = (forms leaves c test).test (stage (begun hs) n) in
+      let gt : GoodTest c leaves (stage (begun hs) n) (asked_of c leaves t.test) t.next ss ns = (forms_good c leaves own limit test named).test (stage (begun hs) n) b.below free_h p.condition in
       let up : n ≤ t.next = numbered_up n gt.made t.next gt.numbered in
       let above_start : AllUnder hs ss = narrowed_above hs (shown true test) hs (all_under hs hs (all_itself hs)) in
       let in_body : EachVariable ss (assigned_in body) = subst (λ ks. EachTyped ks (assigned_in body)) (sym to_ss) variables in
       let begins : Begins limit hs (begun ss) t.next = record { below = omega (arith, b.below, up); free = free_narrowed n t.next (shown true test) hs up free_h; above = above_start } in
-      let f = flat_all leaves c body (spot (begun ss) t.next) in
+      let f = flat_all leaves c body (stage (begun ss) t.next) in
       let gb : GoodCode c leaves true hs (begun ss) t.next f.code f.next p.end (all_go_on body) (break_in body) = good_body true hs (begun ss) t.next p.end begins in_body (head_forgets (assigned_in body) w.locals) p.turn in
       let up2 : t.next ≤ f.next = numbered_up t.next gb.made f.next gb.numbered in
       let end_above : AllUnder hs p.end.locals = (all_above hs body (in_loop_if c true) (begun ss) p.end (head_forgets (assigned_in body) w.locals) (begun_above hs ss above_start) p.turn).under in
@@ -213,7 +213,7 @@ module _ (c : Context) (leaves : Leaving) (own : Own leaves) (limit : ℕ) where
                   (all_under_on ss (narrowed [] env_h) env_h (under_free n m.variables ss (narrowed [] env_h) (free_narrowed n n (shown true test) hs (omega arith) free_h) least) (all_under (narrowed [] env_h) env_h (unnarrowed env_h)));
             } in
             let failing : always t.test ≡ false → (there : List PlainLocal) → AtLeast m.variables n ns there → Ends after there = λ no' there least.
-            let open' : not (is_true test) ≡ true = not_literal (is_true test) (λ e. true≢false (sym (literal_always c leaves test (spot (begun hs) n) e) ∙ no')) in
+            let open' : not (is_true test) ≡ true = not_literal (is_true test) (λ e. true≢false (sym (literal_always c leaves test (stage (begun hs) n) e) ∙ no')) in
             let under : AllUnder ns there = under_free n m.variables ns there (free_narrowed n n (shown false test) hs (omega arith) free_h) least in
             let met : MetUnder (shapes p.end.locals) (way (not (is_true test)) ns) there =
             subst (λ ks. MetUnder ks (way (not (is_true test)) ns) there) (to_ns ∙ sym to_ss ∙ sym end_shapes) (subst (λ o. MetUnder (shapes ns) (way o ns) there) (sym open') (met_here ns there under)) in

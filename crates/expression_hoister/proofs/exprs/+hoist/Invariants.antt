@@ -4,25 +4,25 @@ use Rattle.py_tree.specs.PlainExpressions.{plain_expr, plain_exprs, exprs_of, pl
 use Rattle.py_tree.specs.Bounded.{expr_size, exprs_size, links_size}
 use Rattle.flat_tree.specs.PlainFlat.{plain_flat_stmts, plain_operands}
 use Rattle.hoisting.specs.HoistExpressions.{taken_each, taken_links, taken_operands}
-use Rattle.hoisting.specs.Views.{plain_spot, context_of, leaves_of}
+use Rattle.hoisting.specs.Views.{plain_stage, context_of, leaves_of}
 use Rattle.expression_hoister.specs.ExpressionViews.{run_at, plain_each_wanted}
 use Rattle.expression_hoister.proofs.InRow.{after_each, after_operands}
 use Rattle.expression_hoister.proofs.exprs.+hoist.Given as goal
 
 abbrev pub invariant-each-loop-i : goal.invariant-each-loop-i
 invariant-each-loop-i l =
-    after_each (plain_flat_stmts l.before) (plain_exprs l.rest) (taken_each (leaves_of l.setting) (context_of l.setting) (plain_each_wanted (drop l.i l.wanted)) (exprs_of (plain_exprs (drop l.i l.items))) (plain_spot l.spot))
-    ≡ taken_each (leaves_of l.setting) (context_of l.setting) (plain_each_wanted l.wanted) (exprs_of (plain_exprs l.items)) (plain_spot l.fn.spot)
+    after_each (plain_flat_stmts l.before) (plain_exprs l.rest) (taken_each (leaves_of l.setting) (context_of l.setting) (plain_each_wanted (drop l.i l.wanted)) (exprs_of (plain_exprs (drop l.i l.items))) (plain_stage l.stage))
+    ≡ taken_each (leaves_of l.setting) (context_of l.setting) (plain_each_wanted l.wanted) (exprs_of (plain_exprs l.items)) (plain_stage l.fn.stage)
 
 abbrev pub invariant-linked-loop-link : goal.invariant-linked-loop-link
 invariant-linked-loop-link l =
-    taken_links (leaves_of l.setting) (context_of l.setting) l.place (plain_ty l.ty) (links_of (plain_links (drop l.link-index l.links))) (run_at l.made l.spot)
-    ≡ taken_links (leaves_of l.setting) (context_of l.setting) l.place (plain_ty l.ty) (links_of (plain_links l.links)) (run_at l.initial.made l.fn.spot)
+    taken_links (leaves_of l.setting) (context_of l.setting) l.place (plain_ty l.ty) (links_of (plain_links (drop l.link-index l.links))) (run_at l.made l.stage)
+    ≡ taken_links (leaves_of l.setting) (context_of l.setting) l.place (plain_ty l.ty) (links_of (plain_links l.links)) (run_at l.initial.made l.fn.stage)
 
 abbrev pub invariant-operands-loop-item : goal.invariant-operands-loop-item
 invariant-operands-loop-item l =
-    after_operands (plain_operands l.made) (taken_operands (leaves_of l.setting) (context_of l.setting) l.truth (exprs_of (plain_exprs (drop l.item-index l.items))) (plain_spot l.here))
-    ≡ taken_operands (leaves_of l.setting) (context_of l.setting) l.truth (exprs_of (plain_exprs l.items)) (plain_spot l.spot)
+    after_operands (plain_operands l.made) (taken_operands (leaves_of l.setting) (context_of l.setting) l.truth (exprs_of (plain_exprs (drop l.item-index l.items))) (plain_stage l.here))
+    ≡ taken_operands (leaves_of l.setting) (context_of l.setting) l.truth (exprs_of (plain_exprs l.items)) (plain_stage l.stage)
 
 abbrev pub decreases-value : goal.decreases-value
 decreases-value l = 8 * (expr_size (plain_expr l.expr.now)) + 0

@@ -5,7 +5,7 @@ use Rattle.py_tree.specs.ClassRules.{body_of}
 use Rattle.py_tree.specs.Flow.{in_method, sig_at}
 use Rattle.call_graph.specs.SuspendingCode.{leaving_in}
 use Rattle.block_code.specs.GraphFits.{var_of_param}
-use Rattle.hoisting.specs.Spots.{params_of_sig}
+use Rattle.hoisting.specs.Stages.{params_of_sig}
 use Rattle.hoisting.specs.HoistStatements.{flat_all}
 use Rattle.hoisting.proofs.MethodStands.{class_of_method, sig_stands}
 use Rattle.method_hoister.specs.StatementViews.{plain_flattened}

@@ -11,11 +11,11 @@ use Rattle.py_tree.proofs.ListWalks.{stmts_from, stmts_end, arms_from, arms_end}
 use Rattle.entity_types.specs.Views.{plain_locals}
 use Rattle.flat_tree.specs.PlainFlat.{FMark, plain_flat_stmt, plain_flat_stmts, plain_flat_arm, plain_flat_arms, plain_flat_test}
 use Rattle.flat_tree.proofs.FlatViews.{flat-Break, flat-Continue, flat-If, flat-While}
-use Rattle.hoisting.specs.HoistStatements.{list_spot, body_spot, list_test, list_turn, range_test, range_turn, flat_all, flat_arms, other_spot}
+use Rattle.hoisting.specs.HoistStatements.{list_stage, body_stage, list_test, list_turn, range_test, range_turn, flat_all, flat_arms, other_stage}
 use Rattle.hoisting.specs.HoistExpressions.{forms}
 use Rattle.expression_hoister.specs.ExpressionViews.{plain_tested}
-use Rattle.hoisting.specs.Spots.{Spot, item_ty}
-use Rattle.hoisting.specs.Views.{plain_spot, context_of, leaves_of, ty_in}
+use Rattle.hoisting.specs.Stages.{Stage, item_ty}
+use Rattle.hoisting.specs.Views.{plain_stage, context_of, leaves_of, ty_in}
 use Rattle.expression_hoister.proofs.AnswerLaws.{ok_as}
 use Rattle.method_hoister.specs.SmallCode.{head_point, list_before, choice_code, while_code, for_loop}
 use Rattle.method_hoister.specs.StatementViews.{plain_flattened, plain_body, plain_arms_code}
@@ -38,8 +38,8 @@ flat_all-loop-stmt-preserved t c =
     let made = plain_flattened c.in_ok-made.made in
     let appended : plain_flat_stmts c.append.new.self ≡ plain_flat_stmts c.loop-stmt.code ++ made.code = ap plain_flat_stmts c.in_ok-append.ensures.ok ∙ map-append plain_flat_stmt c.loop-stmt.code c.in_ok-made.made.code in
     let on : goes_on (plain_stmt x) ≡ true = sym c.goes_on.ensures ∙ c.if-not-goes_on.false in
-    (λ j. after_code (appended j) (flat_all leaves here (stmts_of (plain_stmts (drop (i + 1) stmts))) (record { locals = plain_locals c.in_ok-spot.field-0; next = made.next })))
-    ∙ stmts_more leaves here _ (plain_flat_stmts c.loop-stmt.code) (plain_spot c.loop-stmt.spot) (plain_stmt x) (stmts_of (plain_stmts (drop (i + 1) stmts))) (stmts_of (plain_stmts (drop i stmts))) made (record { locals = plain_locals c.in_ok-spot.field-0; next = made.next }) (stmts_from stmts i x c.loop-stmt-test.true c.stmt-item.is) on c.in_ok-made.ensures (λ j. record { locals = c.in_ok-spot.ensures j; next = made.next }) c.loop-stmt.invariant
+    (λ j. after_code (appended j) (flat_all leaves here (stmts_of (plain_stmts (drop (i + 1) stmts))) (record { locals = plain_locals c.in_ok-stage.field-0; next = made.next })))
+    ∙ stmts_more leaves here _ (plain_flat_stmts c.loop-stmt.code) (plain_stage c.loop-stmt.stage) (plain_stmt x) (stmts_of (plain_stmts (drop (i + 1) stmts))) (stmts_of (plain_stmts (drop i stmts))) made (record { locals = plain_locals c.in_ok-stage.field-0; next = made.next }) (stmts_from stmts i x c.loop-stmt-test.true c.stmt-item.is) on c.in_ok-made.ensures (λ j. record { locals = c.in_ok-stage.ensures j; next = made.next }) c.loop-stmt.invariant
 
 pub flat_all-returns-then-not-goes_on : goal.flat_all-returns-then-not-goes_on
 flat_all-returns-then-not-goes_on t c =
@@ -52,11 +52,11 @@ flat_all-returns-then-not-goes_on t c =
     let appended : plain_flat_stmts c.append.new.self ≡ plain_flat_stmts c.loop-stmt.code ++ made.code = ap plain_flat_stmts c.in_ok-append.ensures.ok ∙ map-append plain_flat_stmt c.loop-stmt.code c.in_ok-made.made.code in
     let off : goes_on (plain_stmt x) ≡ false = sym c.goes_on.ensures ∙ c.if-not-goes_on.true in
     (λ j. record { code = appended j; next = made.next })
-    ∙ stmts_stop leaves here _ (plain_flat_stmts c.loop-stmt.code) (plain_spot c.loop-stmt.spot) (plain_stmt x) (stmts_of (plain_stmts (drop (i + 1) stmts))) (stmts_of (plain_stmts (drop i stmts))) made (stmts_from stmts i x c.loop-stmt-test.true c.stmt-item.is) off c.in_ok-made.ensures c.loop-stmt.invariant
+    ∙ stmts_stop leaves here _ (plain_flat_stmts c.loop-stmt.code) (plain_stage c.loop-stmt.stage) (plain_stmt x) (stmts_of (plain_stmts (drop (i + 1) stmts))) (stmts_of (plain_stmts (drop i stmts))) made (stmts_from stmts i x c.loop-stmt-test.true c.stmt-item.is) off c.in_ok-made.ensures c.loop-stmt.invariant
 
 pub flat_all-returns : goal.flat_all-returns
 flat_all-returns t c =
-    stmts_done (leaves_of c.args.setting.now) (context_of c.args.setting.now) _ (plain_flat_stmts c.loop-stmt.code) (plain_spot c.loop-stmt.spot) (stmts_of (plain_stmts (drop c.loop-stmt.stmt-index c.args.stmts.now))) (stmts_end c.args.stmts.now c.loop-stmt.stmt-index c.loop-stmt-test.false) c.loop-stmt.invariant
+    stmts_done (leaves_of c.args.setting.now) (context_of c.args.setting.now) _ (plain_flat_stmts c.loop-stmt.code) (plain_stage c.loop-stmt.stage) (stmts_of (plain_stmts (drop c.loop-stmt.stmt-index c.args.stmts.now))) (stmts_end c.args.stmts.now c.loop-stmt.stmt-index c.loop-stmt-test.false) c.loop-stmt.invariant
 
 pub arms_code-arm_code-requires : goal.arms_code-arm_code-requires
 arms_code-arm_code-requires t c = let h = body_within c.args.arms.now c.loop-arm.arm-index c.arm-item.result c.loop-arm-test.true c.arm-item.is in omega (arith, h)
@@ -73,9 +73,9 @@ arms_code-loop-arm-preserved t c =
     let pushed : plain_flat_arms c.push.new.self ≡ plain_flat_arms c.loop-arm.made ++ plain_flat_arm c.in_ok-arm_code.field-0 ∷ [] = ap plain_flat_arms c.in_ok-push.ensures.ok ∙ map-append plain_flat_arm c.loop-arm.made (c.in_ok-arm_code.field-0 ∷ []) in
     record {
       arms =
-          (λ j. after_arms (pushed j) (flat_arms leaves here more (plain_spot c.arm_code.new.spot)))
-          ∙ arms_more leaves here _ (plain_flat_arms c.loop-arm.made) (plain_spot c.loop-arm.behind) (plain_arm x) more (arms_of (plain_arms (drop i arms))) (plain_flat_arm c.in_ok-arm_code.field-0) (plain_spot c.arm_code.new.spot) from c.in_ok-arm_code.ensures.arm c.in_ok-arm_code.ensures.behind c.loop-arm.invariant.arms;
-      behind = other_more leaves here _ (plain_spot c.loop-arm.behind) (plain_arm x) more (arms_of (plain_arms (drop i arms))) (plain_spot c.arm_code.new.spot) from c.in_ok-arm_code.ensures.behind c.loop-arm.invariant.behind;
+          (λ j. after_arms (pushed j) (flat_arms leaves here more (plain_stage c.arm_code.new.stage)))
+          ∙ arms_more leaves here _ (plain_flat_arms c.loop-arm.made) (plain_stage c.loop-arm.behind) (plain_arm x) more (arms_of (plain_arms (drop i arms))) (plain_flat_arm c.in_ok-arm_code.field-0) (plain_stage c.arm_code.new.stage) from c.in_ok-arm_code.ensures.arm c.in_ok-arm_code.ensures.behind c.loop-arm.invariant.arms;
+      behind = other_more leaves here _ (plain_stage c.loop-arm.behind) (plain_arm x) more (arms_of (plain_arms (drop i arms))) (plain_stage c.arm_code.new.stage) from c.in_ok-arm_code.ensures.behind c.loop-arm.invariant.behind;
     }
 
 pub arms_code-returns : goal.arms_code-returns
@@ -85,8 +85,8 @@ arms_code-returns t c =
     let i = c.loop-arm.arm-index in
     let none = arms_end c.args.arms.now i c.loop-arm-test.false in
     record {
-      arms = arms_done leaves here _ (plain_flat_arms c.loop-arm.made) (plain_spot c.loop-arm.behind) (arms_of (plain_arms (drop i c.args.arms.now))) none c.loop-arm.invariant.arms;
-      behind = other_done leaves here _ (plain_spot c.loop-arm.behind) (arms_of (plain_arms (drop i c.args.arms.now))) none c.loop-arm.invariant.behind;
+      arms = arms_done leaves here _ (plain_flat_arms c.loop-arm.made) (plain_stage c.loop-arm.behind) (arms_of (plain_arms (drop i c.args.arms.now))) none c.loop-arm.invariant.arms;
+      behind = other_done leaves here _ (plain_stage c.loop-arm.behind) (arms_of (plain_arms (drop i c.args.arms.now))) none c.loop-arm.invariant.behind;
     }
 
 pub opened-returns-in-Expr : goal.opened-returns-in-Expr
@@ -94,7 +94,7 @@ opened-returns-in-Expr t c =
     let leaves = leaves_of c.args.setting.now in
     let here = context_of c.args.setting.now in
     let x = c.args.stmt.now in
-    let start = plain_spot c.args.spot.now in
+    let start = plain_stage c.args.stage.now in
     ok_as c.evaluated.result plain_flattened _ _ (open-Do leaves here start x.place (plain_expr c.in-Expr.expr) (plain_stmt x) (is-Expr x c.in-Expr.expr c.in-Expr.is)) c.evaluated.ensures
 
 pub opened-returns-in-Return : goal.opened-returns-in-Return
@@ -102,7 +102,7 @@ opened-returns-in-Return t c =
     let leaves = leaves_of c.args.setting.now in
     let here = context_of c.args.setting.now in
     let x = c.args.stmt.now in
-    let start = plain_spot c.args.spot.now in
+    let start = plain_stage c.args.stage.now in
     ok_as c.returned.result plain_flattened _ _ (open-Return leaves here start x.place (plain_option plain_expr c.in-Return.expr) (plain_stmt x) (is-Return x c.in-Return.expr c.in-Return.is)) c.returned.ensures
 
 pub opened-returns-in-Raise : goal.opened-returns-in-Raise
@@ -110,7 +110,7 @@ opened-returns-in-Raise t c =
     let leaves = leaves_of c.args.setting.now in
     let here = context_of c.args.setting.now in
     let x = c.args.stmt.now in
-    let start = plain_spot c.args.spot.now in
+    let start = plain_stage c.args.stage.now in
     ok_as c.raised.result plain_flattened _ _ (open-Raise leaves here start x.place c.in-Raise.kind (plain_option plain_expr c.in-Raise.expr) (plain_stmt x) (is-Raise x c.in-Raise.kind c.in-Raise.expr c.in-Raise.is)) c.raised.ensures
 
 pub opened-returns-in-Assert : goal.opened-returns-in-Assert
@@ -118,7 +118,7 @@ opened-returns-in-Assert t c =
     let leaves = leaves_of c.args.setting.now in
     let here = context_of c.args.setting.now in
     let x = c.args.stmt.now in
-    let start = plain_spot c.args.spot.now in
+    let start = plain_stage c.args.stage.now in
     ok_as c.asserted.result plain_flattened _ _ (open-Assert leaves here start x.place (plain_expr c.in-Assert.decider) (plain_option plain_expr c.in-Assert.message) (plain_stmt x) (is-Assert x c.in-Assert.decider c.in-Assert.message c.in-Assert.is)) c.asserted.ensures
 
 pub opened-returns-in-Assign : goal.opened-returns-in-Assign
@@ -126,7 +126,7 @@ opened-returns-in-Assign t c =
     let leaves = leaves_of c.args.setting.now in
     let here = context_of c.args.setting.now in
     let x = c.args.stmt.now in
-    let start = plain_spot c.args.spot.now in
+    let start = plain_stage c.args.stage.now in
     ok_as c.assigned.result plain_flattened _ _ (open-Assign leaves here start x.place c.in-Assign.target (plain_option plain_written _) (plain_expr c.in-Assign.value) (plain_stmt x) (is-Assign x c.in-Assign.target _ c.in-Assign.value c.in-Assign.is)) c.assigned.ensures
 
 pub opened-returns-in-Augment : goal.opened-returns-in-Augment
@@ -134,7 +134,7 @@ opened-returns-in-Augment t c =
     let leaves = leaves_of c.args.setting.now in
     let here = context_of c.args.setting.now in
     let x = c.args.stmt.now in
-    let start = plain_spot c.args.spot.now in
+    let start = plain_stage c.args.stage.now in
     ok_as c.augmented.result plain_flattened _ _ (open-Augment leaves here start x.place c.in-Augment.target c.in-Augment.op c.in-Augment.op_place (plain_expr c.in-Augment.value) (plain_stmt x) (is-Augment x c.in-Augment.target c.in-Augment.op c.in-Augment.op_place c.in-Augment.value c.in-Augment.is)) c.augmented.ensures
 
 pub opened-returns-in-Pass : goal.opened-returns-in-Pass
@@ -142,7 +142,7 @@ opened-returns-in-Pass t c =
     let leaves = leaves_of c.args.setting.now in
     let here = context_of c.args.setting.now in
     let x = c.args.stmt.now in
-    let start = plain_spot c.args.spot.now in
+    let start = plain_stage c.args.stage.now in
     ok_as c.stepped.result plain_flattened _ _ (ap (λ l. record { code = FMark ∷ plain_flat_stmts l; next = start.next }) c.new.ensures ∙ open-Pass leaves here start x.place (plain_stmt x) (is-Pass x c.in-Pass.is)) c.stepped.ensures
 
 pub opened-returns-in-Break : goal.opened-returns-in-Break
@@ -150,7 +150,7 @@ opened-returns-in-Break t c =
     let leaves = leaves_of c.args.setting.now in
     let here = context_of c.args.setting.now in
     let x = c.args.stmt.now in
-    let start = plain_spot c.args.spot.now in
+    let start = plain_stage c.args.stage.now in
     ok_as c.marked.result plain_flattened _ _ ((λ j. record { code = FMark ∷ plain_flat_stmts (c.new-in-Break.ensures j) ++ flat-Break j ∷ []; next = start.next }) ∙ open-Break leaves here start x.place (plain_stmt x) (is-Break x c.in-Break.is)) c.marked.ensures
 
 pub opened-returns-in-Continue : goal.opened-returns-in-Continue
@@ -158,7 +158,7 @@ opened-returns-in-Continue t c =
     let leaves = leaves_of c.args.setting.now in
     let here = context_of c.args.setting.now in
     let x = c.args.stmt.now in
-    let start = plain_spot c.args.spot.now in
+    let start = plain_stage c.args.stage.now in
     ok_as c.marked-in-Continue.result plain_flattened _ _ ((λ j. record { code = FMark ∷ plain_flat_stmts (c.new-in-Continue.ensures j) ++ flat-Continue j ∷ []; next = start.next }) ∙ open-Continue leaves here start x.place (plain_stmt x) (is-Continue x c.in-Continue.is)) c.marked-in-Continue.ensures
 
 pub opened-returns-in_ok-after-in-If : goal.opened-returns-in_ok-after-in-If
@@ -166,7 +166,7 @@ opened-returns-in_ok-after-in-If t c =
     let leaves = leaves_of c.args.setting.now in
     let here = context_of c.args.setting.now in
     let x = c.args.stmt.now in
-    let start = plain_spot c.args.spot.now in
+    let start = plain_stage c.args.stage.now in
     ok_as c.choice.result plain_flattened _ _ (ap (λ p. choice_code leaves here (arms_of (plain_arms c.in-If.arms)) (stmts_of (plain_stmts c.in-If.other)) p start) c.in_ok-after-in-If.ensures ∙ open-If leaves here start x.place (arms_of (plain_arms c.in-If.arms)) (stmts_of (plain_stmts c.in-If.other)) (plain_stmt x) (is-If x c.in-If.arms c.in-If.other c.in-If.is)) c.choice.ensures
 
 pub opened-returns-in_ok-after-in-While : goal.opened-returns-in_ok-after-in-While
@@ -174,7 +174,7 @@ opened-returns-in_ok-after-in-While t c =
     let leaves = leaves_of c.args.setting.now in
     let here = context_of c.args.setting.now in
     let x = c.args.stmt.now in
-    let start = plain_spot c.args.spot.now in
+    let start = plain_stage c.args.stage.now in
     ok_as c.while_loop.result plain_flattened _ _ (ap (λ p. while_code leaves here (plain_expr c.in-While.test) (stmts_of (plain_stmts c.in-While.body)) p start) c.in_ok-after-in-While.ensures ∙ open-While leaves here start x.place (plain_expr c.in-While.test) (stmts_of (plain_stmts c.in-While.body)) (plain_stmt x) (is-While x c.in-While.test c.in-While.body c.in-While.is)) c.while_loop.ensures
 
 pub opened-returns-in_ok-after-in-For : goal.opened-returns-in_ok-after-in-For
@@ -182,18 +182,18 @@ opened-returns-in_ok-after-in-For t c =
     let leaves = leaves_of c.args.setting.now in
     let here = context_of c.args.setting.now in
     let x = c.args.stmt.now in
-    let start = plain_spot c.args.spot.now in
+    let start = plain_stage c.args.stage.now in
     ok_as c.for_loop.result plain_flattened _ _ (ap (λ p. for_loop leaves here x.place c.in-For.name.name.0 (plain_over c.in-For.over) (stmts_of (plain_stmts c.in-For.body)) p start) c.in_ok-after-in-For.ensures ∙ open-For leaves here start x.place c.in-For.name.name.0 c.in-For.name.place (plain_over c.in-For.over) (stmts_of (plain_stmts c.in-For.body)) (plain_stmt x) (is-For x c.in-For.name c.in-For.over c.in-For.body c.in-For.is)) c.for_loop.ensures
 
 pub choice-returns : goal.choice-returns
 choice-returns t c =
     let leaves = leaves_of c.args.setting.now in
     let here = context_of c.args.setting.now in
-    let start = plain_spot c.args.spot.now in
+    let start = plain_stage c.args.stage.now in
     let made = c.in_ok-made.made in
-    let behind = plain_spot made.behind in
+    let behind = plain_stage made.behind in
     let first : plain_arms_code made ≡ _ = c.in_ok-made.ensures.arms ∙ ap (λ l. flat_arms leaves here (arms_of (plain_arms l)) start) c.as_slice.ensures in
-    let locals : behind.locals ≡ _ = c.in_ok-made.ensures.behind ∙ ap (λ l. (other_spot leaves here (arms_of (plain_arms l)) start).locals) c.as_slice.ensures in
+    let locals : behind.locals ≡ _ = c.in_ok-made.ensures.behind ∙ ap (λ l. (other_stage leaves here (arms_of (plain_arms l)) start).locals) c.as_slice.ensures in
     let last : plain_flattened c.in_ok-other.other ≡ _ = c.in_ok-other.ensures ∙ ap (λ l. flat_all leaves here (stmts_of (plain_stmts l)) behind) c.as_slice-2.ensures in
     ok_as c.marked.result plain_flattened _ _
     ((λ j. record { code = FMark ∷ plain_flat_stmts (c.new.ensures j) ++ flat-If made.arms c.in_ok-other.other.code c.args.after j ∷ []; next = c.in_ok-other.other.next })
@@ -204,10 +204,10 @@ pub while_loop-returns : goal.while_loop-returns
 while_loop-returns t c =
     let leaves = leaves_of c.args.setting.now in
     let here = context_of c.args.setting.now in
-    let start = plain_spot c.args.spot.now in
+    let start = plain_stage c.args.stage.now in
     let made = c.in_ok-made.made in
     let tested = c.in_ok-tested.tested in
-    let head : Spot = record { locals = plain_locals c.in_ok-locals.locals; next = start.next } in
+    let head : Stage = record { locals = plain_locals c.in_ok-locals.locals; next = start.next } in
     ok_as c.marked.result plain_flattened _ _
     ((λ j. record { code = FMark ∷ plain_flat_stmts (c.new.ensures j) ++ flat-While c.in_ok-point.point tested.test made.start made.code c.args.after j ∷ []; next = made.next })
     ∙ while_is leaves here start (plain_expr c.args.decider.now) (stmts_of (plain_stmts c.args.body.now)) (plain_option plain_vars c.args.after) head (plain_vars c.in_ok-point.point) (plain_tested tested) (plain_body made) (λ j. record { locals = c.in_ok-locals.ensures j; next = start.next }) c.in_ok-point.ensures c.in_ok-tested.ensures c.in_ok-made.ensures)
@@ -217,15 +217,15 @@ pub list_loop-returns : goal.list_loop-returns
 list_loop-returns t c =
     let leaves = leaves_of c.args.setting.now in
     let here = context_of c.args.setting.now in
-    let start = plain_spot c.args.spot.now in
+    let start = plain_stage c.args.stage.now in
     let at = c.args.place in
     let name = c.args.name.0 in
     let e = plain_expr c.args.items.now in
     let body = stmts_of (plain_stmts c.args.body.now) in
     let a = (forms leaves here e).value None start in
     let ty : plain_ty c.in_ok-ty.ty ≡ ty_in c.args.setting.now start.locals None e = c.in_ok-ty.ensures in
-    let known : plain_spot c.list_before.new.spot ≡ list_spot (ty_in c.args.setting.now start.locals None e) a.spot = c.in_ok-start.ensures.known ∙ ap (λ ty. list_spot ty a.spot) ty in
-    let inside : plain_spot c.in_ok-inside.inside.spot ≡ _ = c.in_ok-inside.ensures.spot ∙ (λ j. body_spot name ((c.in_ok-item.ensures ∙ ap item_ty ty) j) body (known j)) in
+    let known : plain_stage c.list_before.new.stage ≡ list_stage (ty_in c.args.setting.now start.locals None e) a.stage = c.in_ok-start.ensures.known ∙ ap (λ ty. list_stage ty a.stage) ty in
+    let inside : plain_stage c.in_ok-inside.inside.stage ≡ _ = c.in_ok-inside.ensures.stage ∙ (λ j. body_stage name ((c.in_ok-item.ensures ∙ ap item_ty ty) j) body (known j)) in
     let made : plain_flattened c.in_ok-made.made ≡ _ = c.in_ok-made.ensures ∙ (λ j. flat_all leaves here (stmts_of (plain_stmts (c.as_slice.ensures j))) (inside j)) in
     ok_as c.marked.result plain_flattened _ _
     ((λ j. record { code = FMark ∷ plain_flat_stmts c.in_ok-start.start.before ++ flat-While c.in_ok-inside.inside.head c.in_ok-test.test c.in_ok-inside.inside.start c.in_ok-turn.turn c.args.after j ∷ []; next = c.in_ok-made.made.next })
@@ -237,14 +237,14 @@ pub range_loop-returns : goal.range_loop-returns
 range_loop-returns t c =
     let leaves = leaves_of c.args.setting.now in
     let here = context_of c.args.setting.now in
-    let start = plain_spot c.args.spot.now in
+    let start = plain_stage c.args.stage.now in
     let at = c.args.place in
     let name = c.args.name.0 in
     let from = plain_option plain_expr c.args.start.now in
     let to = plain_expr c.args.end.now in
     let body = stmts_of (plain_stmts c.args.body.now) in
     let known = c.in_ok-range.ensures.known in
-    let inside : plain_spot c.in_ok-inside.inside.spot ≡ _ = c.in_ok-inside.ensures.spot ∙ (λ j. body_spot name (ty-Int j) body (known j)) in
+    let inside : plain_stage c.in_ok-inside.inside.stage ≡ _ = c.in_ok-inside.ensures.stage ∙ (λ j. body_stage name (ty-Int j) body (known j)) in
     let made : plain_flattened c.in_ok-made.made ≡ _ = c.in_ok-made.ensures ∙ (λ j. flat_all leaves here (stmts_of (plain_stmts (c.as_slice.ensures j))) (inside j)) in
     ok_as c.marked.result plain_flattened _ _
     ((λ j. record { code = FMark ∷ plain_flat_stmts c.in_ok-range.range.before ++ flat-While c.in_ok-inside.inside.head c.in_ok-test.test c.in_ok-inside.inside.start c.in_ok-turn.turn c.args.after j ∷ []; next = c.in_ok-made.made.next })

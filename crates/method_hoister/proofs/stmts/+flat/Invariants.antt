@@ -4,24 +4,24 @@ use Rattle.py_tree.specs.Bounded.{stmt_size, stmts_size, arms_size}
 use Rattle.py_tree.specs.PlainStatements.{plain_stmt, plain_stmts, stmts_of, plain_arms, arms_of}
 use Rattle.entity_types.specs.Views.{plain_locals}
 use Rattle.flat_tree.specs.PlainFlat.{plain_flat_stmts, plain_flat_arms}
-use Rattle.hoisting.specs.HoistStatements.{flat_all, flat_arms, other_spot}
-use Rattle.hoisting.specs.Views.{plain_spot, context_of, leaves_of}
+use Rattle.hoisting.specs.HoistStatements.{flat_all, flat_arms, other_stage}
+use Rattle.hoisting.specs.Views.{plain_stage, context_of, leaves_of}
 use Rattle.method_hoister.proofs.StatementsInRow.{after_code, after_arms}
 use Rattle.method_hoister.proofs.stmts.+flat.Given as goal
 
 abbrev pub invariant-flat_all-loop-stmt : goal.invariant-flat_all-loop-stmt
 invariant-flat_all-loop-stmt l =
-    after_code (plain_flat_stmts l.code) (flat_all (leaves_of l.setting) (context_of l.setting) (stmts_of (plain_stmts (drop l.stmt-index l.stmts))) (plain_spot l.spot))
-    ≡ flat_all (leaves_of l.setting) (context_of l.setting) (stmts_of (plain_stmts l.stmts)) (plain_spot l.initial.spot)
+    after_code (plain_flat_stmts l.code) (flat_all (leaves_of l.setting) (context_of l.setting) (stmts_of (plain_stmts (drop l.stmt-index l.stmts))) (plain_stage l.stage))
+    ≡ flat_all (leaves_of l.setting) (context_of l.setting) (stmts_of (plain_stmts l.stmts)) (plain_stage l.initial.stage)
 
 abbrev pub invariant-arms_code-loop-arm : goal.invariant-arms_code-loop-arm
 invariant-arms_code-loop-arm l = record {
   arms :
-      after_arms (plain_flat_arms l.made) (flat_arms (leaves_of l.setting) (context_of l.setting) (arms_of (plain_arms (drop l.arm-index l.arms))) (plain_spot l.behind))
-      ≡ flat_arms (leaves_of l.setting) (context_of l.setting) (arms_of (plain_arms l.arms)) (plain_spot l.spot);
+      after_arms (plain_flat_arms l.made) (flat_arms (leaves_of l.setting) (context_of l.setting) (arms_of (plain_arms (drop l.arm-index l.arms))) (plain_stage l.behind))
+      ≡ flat_arms (leaves_of l.setting) (context_of l.setting) (arms_of (plain_arms l.arms)) (plain_stage l.stage);
   behind :
-      (other_spot (leaves_of l.setting) (context_of l.setting) (arms_of (plain_arms (drop l.arm-index l.arms))) (plain_spot l.behind)).locals
-      ≡ (other_spot (leaves_of l.setting) (context_of l.setting) (arms_of (plain_arms l.arms)) (plain_spot l.spot)).locals;
+      (other_stage (leaves_of l.setting) (context_of l.setting) (arms_of (plain_arms (drop l.arm-index l.arms))) (plain_stage l.behind)).locals
+      ≡ (other_stage (leaves_of l.setting) (context_of l.setting) (arms_of (plain_arms l.arms)) (plain_stage l.stage)).locals;
 }
 
 abbrev pub decreases-statement : goal.decreases-statement

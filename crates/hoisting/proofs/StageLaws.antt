@@ -6,7 +6,7 @@ use Rattle.entity_types.specs.declared.env.Local.{Local}
 use Rattle.entity_types.specs.Views.{plain_local, plain_locals}
 use Rattle.block_code.specs.declared.vars.VarType.{VarType}
 use Rattle.block_code.specs.PlainVars.{plain_vars}
-use Rattle.hoisting.specs.Spots.{var_of, surely}
+use Rattle.hoisting.specs.Stages.{var_of, surely}
 
 pub vars_more : (xs : List Local) (i : ℕ) (x : Local) (old new : List VarType) → i < length xs → x ≡ get_or xs i x → plain_vars old ≡ surely (plain_locals (take i xs)) → plain_vars new ≡ plain_vars old ++ surely (plain_local x ∷ []) → plain_vars new ≡ surely (plain_locals (take (i + 1) xs))
 vars_more xs i x old new within is so_far more =

@@ -6,8 +6,8 @@ ghost use Rattle.py_tree.specs.PlainExpressions.{plain_expr};
 ghost use Rattle.py_tree.specs.ExpressionTypes as types;
 ghost use Rattle.entity_types.specs.Views.{plain_local, plain_locals};
 ghost use Rattle.block_code.specs.PlainVars.{plain_var, plain_vars};
-ghost use Rattle.hoisting.specs.Spots as spec;
-ghost use Rattle.hoisting.specs.Views.{plain_spot};
+ghost use Rattle.hoisting.specs.Stages as spec;
+ghost use Rattle.hoisting.specs.Views.{plain_stage};
 
 use block_code::{VarType, VarTypes};
 use entity_types::narrow_here;
@@ -19,7 +19,7 @@ use std::alloc::{AllocError, Global};
 
 /// What is known at a point: the locals, with the temporaries of the statement at hand behind them.
 #[derive(Drop)]
-pub struct Spot {
+pub struct Stage {
     pub locals: Locals,
     /// The number of the next temporary.
     pub next: u32,
@@ -83,8 +83,8 @@ pub fn where_shown(
     test: &Expr,
     truth: bool,
     next: u32,
-) -> Result<Spot, AllocError>
-    ensures { IfOk result (λ made. plain_spot made ≡ spec.where_shown truth (plain_expr test.now) (plain_locals locals.now) next) }
+) -> Result<Stage, AllocError>
+    ensures { IfOk result (λ made. plain_stage made ≡ spec.where_shown truth (plain_expr test.now) (plain_locals locals.now) next) }
 {
     let mut env = FlowEnv {
         class: 0,
@@ -92,18 +92,18 @@ pub fn where_shown(
         locals: copy_locals(alloc, locals)?,
     };
     narrow_here(&mut env, test, truth);
-    Ok(Spot {
+    Ok(Stage {
         locals: env.locals,
         next,
     })
 }
 
-impl Spot {
-    pub fn copied(&self, alloc: Global) -> Result<Spot, AllocError>
-        ensures { IfOk result (λ made. plain_spot made ≡ plain_spot self.now) }
+impl Stage {
+    pub fn copied(&self, alloc: Global) -> Result<Stage, AllocError>
+        ensures { IfOk result (λ made. plain_stage made ≡ plain_stage self.now) }
     {
         let locals = copy_locals(alloc, &self.locals)?;
-        Ok(Spot {
+        Ok(Stage {
             locals,
             next: self.next,
         })
@@ -112,7 +112,7 @@ impl Spot {
     /// Puts a value of this type into the next temporary. Where no number is left below 2^32, it answers
     /// want of memory.
     pub fn add_temporary(&mut self, alloc: Global, ty: Ty) -> Result<Name, AllocError>
-        ensures known { OnOk result (plain_spot self.new ≡ spec.with_temporary (plain_ty ty) (plain_spot self.old)) }
+        ensures known { OnOk result (plain_stage self.new ≡ spec.with_temporary (plain_ty ty) (plain_stage self.old)) }
         ensures name { IfOk result (λ name. name.0 ≡ self.old.next) }
     {
         if self.next == u32::MAX {

@@ -17,7 +17,7 @@ use Rattle.flat_tree.specs.PlainFlat.{Point}
 use Rattle.flat_tree.specs.declared.tree.Callee.{Callee}
 use Rattle.flat_tree.specs.declared.tree.Created.{Created}
 
-pub record Spot : Type 0 where
+pub record Stage : Type 0 where
   pub locals : List PlainLocal
   pub next : ℕ
 
@@ -34,11 +34,11 @@ abbrev pub temporary : ℕ → PlainTy → PlainLocal
 temporary number ty = record { name = number; ty = ty; assigned = true; not_none = false }
 
 -- with a value of this type in the next temporary
-abbrev pub with_temporary : PlainTy → Spot → Spot
+abbrev pub with_temporary : PlainTy → Stage → Stage
 with_temporary ty h = record { locals = h.locals ++ temporary h.next ty ∷ []; next = h.next + 1 }
 
 -- where an expression is True, or False, and temporaries from this number on are unused
-abbrev pub where_shown : Bool → PlainExpr → List PlainLocal → ℕ → Spot
+abbrev pub where_shown : Bool → PlainExpr → List PlainLocal → ℕ → Stage
 where_shown truth test locals next = record { locals = narrowed (shown truth test) locals; next = next }
 
 -- Types; in a method that keeps the rules there is one
