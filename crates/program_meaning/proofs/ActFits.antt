@@ -10,7 +10,7 @@ use Rattle.py_tree.specs.declared.rule.RuleFault.{RuleFault}
 use Rattle.py_tree.specs.declared.expr.BinOp.{BinOp}
 use Rattle.py_tree.specs.declared.stmt.Target.{Target}
 use Rattle.py_tree.specs.declared.stmt.Target.TheVariants as target
-use Rattle.py_tree.specs.PlainTypes.{PlainTy, TInt, TBool, TNil, TList, TEntity}
+use Rattle.py_tree.specs.PlainTypes.{PlainTy, TInt, TBool, TStr, TNil, TList, TEntity}
 use Rattle.py_tree.specs.PlainExpressions.{PlainExpr, PBool, PSelf, PVar}
 use Rattle.py_tree.specs.PlainStatements.{PlainOver, PRange, PItems, PlainStmt, PPass, PBreak, PContinue, PDo, PReturn, PRaise, PAssert, PAssign, PAugment, PIf, PWhile, PFor, PlainStmts, PNoStmt, PStmt, PArm, PlainArms, PNoArm, PMoreArms}
 use Rattle.py_tree.specs.ClassRules.{PlainTable, is_self}
@@ -149,8 +149,7 @@ module _ (tables : List PlainTable) {W : Type 0} (s : Site W) (WorldFits : W →
   unfolding message
   message_fits b locals None vars w n h v p = got tt p
   message_fits b locals (Some e) vars w n h v p =
-      let a : (ty : PlainTy) × (type_at (ctx b) locals None e ≡ Ok ty) = message_ok (ctx b) locals e h in
-      fit_then WorldFits (Fits tables a.0) _ (eval s e vars w n) _ (typed_fits b locals None e a.0 vars w n a.1 v p) (λ u w n f p. got tt p)
+      fit_then WorldFits (Fits tables TStr) _ (eval s e vars w n) _ (typed_fits b locals None e TStr vars w n (message_ok (ctx b) locals e h) v p) (λ u w n f p. got tt p)
 
   only_literal : (test : PlainExpr) (vars : List Var) (w : W) (n : ℕ) → Only (λ v. is_true_word test ≡ true → is_true v ≡ true) (eval s test vars w n)
   unfolding eval
