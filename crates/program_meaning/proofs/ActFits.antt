@@ -40,7 +40,7 @@ use Rattle.program_meaning.proofs.ValuesFit.{ToldFits, err, failure_fits, told_f
 use Rattle.program_meaning.proofs.EvalFits.{Anywhere, Around, Tests, fit_then, fit_more, fit_both, eval_fits, test_fits}
 use Rattle.program_meaning.proofs.LocalShapes.{shapes, type_in, Within, Sound, within_more, within_both, Grows, alike_grows, grows_on, grows_same, keeps_named, shapes_behind, earlier_is, shapes_narrowed, shapes_at_head, shapes_settled, shapes_more, local_grows, MetFits, met_left, met_right, met_grown, met_here, behind_fits, fits_both, fits_first, fits_second}
 use Rattle.program_meaning.proofs.AssignedFits.{or_left, or_right, Forgets, forgets_first, forgets_second, forgets_both, forgets_at_head, head_fits, kept_fits, local_given}
-use Rattle.program_meaning.proofs.FlowParts.{no_need, items_ok, short_range_ok, range_ok, return_nothing_ok, return_ok, message_ok, LocalTaken, local_ok, field_ok, Augments, augments_ok, stored_ok, put_local_ok, put_field_ok, same_assignable}
+use Rattle.program_meaning.proofs.FlowParts.{no_need, items_ok, short_range_ok, range_ok, return_nothing_ok, return_ok, message_text, LocalTaken, local_ok, field_ok, Augments, augments_ok, stored_ok, put_local_ok, put_field_ok, same_assignable}
 use Rattle.program_meaning.proofs.FlowGrows.{WhileParts, while_parts, ForParts, for_parts, all_parts, last_parts, ArmParts, arm_parts, Follows, follows, follows_all, follows_arms, follows_on, same_way, alike_way, one_or_more, ended_fits, for_shapes}
 
 module _ (tables : List PlainTable) {W : Type 0} (WorldFits : W → Type 0) (result : PlainTy) where
@@ -149,7 +149,7 @@ module _ (tables : List PlainTable) {W : Type 0} (s : Site W) (WorldFits : W →
   unfolding message
   message_fits b locals None vars w n h v p = got tt p
   message_fits b locals (Some e) vars w n h v p =
-      fit_then WorldFits (Fits tables TStr) _ (eval s e vars w n) _ (typed_fits b locals None e TStr vars w n (message_ok (ctx b) locals e h) v p) (λ u w n f p. got tt p)
+      fit_then WorldFits (Fits tables TStr) _ (eval s e vars w n) _ (typed_fits b locals None e TStr vars w n (message_text (ctx b) locals e h) v p) (λ u w n f p. got tt p)
 
   only_literal : (test : PlainExpr) (vars : List Var) (w : W) (n : ℕ) → Only (λ v. is_true_word test ≡ true → is_true v ≡ true) (eval s test vars w n)
   unfolding eval

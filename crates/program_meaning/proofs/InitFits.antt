@@ -42,7 +42,7 @@ use Rattle.program_meaning.proofs.Places.{position_of_more}
 use Rattle.program_meaning.proofs.TypedParts.{done, same_ok, found_ok, not_false, both_true, either_false, condition_ok}
 use Rattle.program_meaning.proofs.ValuesFit.{failure_fits}
 use Rattle.program_meaning.proofs.EvalFits.{Behind, Around, fit_then, fit_more, eval_fits, test_fits}
-use Rattle.program_meaning.proofs.FlowParts.{no_need, value_ok, message_ok}
+use Rattle.program_meaning.proofs.FlowParts.{no_need, value_ok, message_text}
 use Rattle.program_meaning.proofs.FlowGrows.{all_parts}
 use Rattle.program_meaning.proofs.TableFacts.{names_declared, matches, field_names_here, field_found}
 
@@ -201,12 +201,12 @@ module _ (names : List (List ℕ)) (program : PlainProgram) (kept : program_faul
   unfolding message
   text_fits before rest locals None vars fields n parts h free v fit = got tt fit
   text_fits before rest locals (Some e) vars fields n parts h free v fit =
-      fit_then (SoFar before) (Fits tables TStr) _ (eval site e vars fields n) _ (value_fits before rest locals None e TStr vars fields n parts (message_ok ctx locals e h) free v fit) (λ u w n f p. got tt p)
+      fit_then (SoFar before) (Fits tables TStr) _ (eval site e vars fields n) _ (value_fits before rest locals None e TStr vars fields n parts (message_text ctx locals e h) free v fit) (λ u w n f p. got tt p)
 
   -- a message gives a text
   message_gives : (before rest : List PlainStmt) (locals : List PlainLocal) (e : Option PlainExpr) (vars : List Var) → body ≡ before ++ rest → message_fault ctx locals e ≡ None → option_acts program (field_names before) e ≡ false → VarsFit tables vars locals → MessageGives tables src me before vars e
   message_gives before rest locals None vars parts h free v = tt
-  message_gives before rest locals (Some e) vars parts h free v = record { gives = λ fields n fit. value_fits before rest locals None e TStr vars fields n parts (message_ok ctx locals e h) free v fit }
+  message_gives before rest locals (Some e) vars parts h free v = record { gives = λ fields n fit. value_fits before rest locals None e TStr vars fields n parts (message_text ctx locals e h) free v fit }
 
   -- the types of the fields with those of one more statement
   one_declared : (before : List PlainStmt) (at : Place) (f : PlacedName) (ty : PlainWritten) (e : PlainExpr) → declared_types (before ++ PAssign at (Field f) (Some ty) e ∷ []) ≡ declared_types before ++ type_written ty ∷ []
