@@ -26,7 +26,7 @@ use Rattle.block_code.specs.PlainVars.{PlainVar}
 use Rattle.block_code.specs.PlainBlocks.{PlainItem, IMark, ISet, IPut, IGive, IFail, ICode, PlainEnd, EJump, EBranch, ELeave, ECall, EMake, PlainBlock}
 use Rattle.block_code.specs.GraphFits.{Asked, is_var, is_supplied, each_once, var_of_param, Takes, Leads, ItemFits, ItemsFit, EndFits}
 use Rattle.block_code.specs.EventsFit.{item_goes_on, Awaits, awaited, IsKept, awaited_type, result_of_method, entity_of_class}
-use Rattle.block_runs.proofs.Variables.{Kept, each_passes, any_at, not_among, once_behind}
+use Rattle.block_runs.proofs.Variables.{Kept, each_passes, not_among, once_behind}
 use Rattle.block_runs.proofs.NamesOnce.{Once}
 
 -- Places in lists

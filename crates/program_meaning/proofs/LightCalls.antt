@@ -11,13 +11,14 @@ use Rattle.sf_value.specs.Keys.{Key}
 use Rattle.sf_value.specs.Weight.{weight_of}
 use Rattle.sf_value.specs.declared.Act.{Act}
 use Rattle.sf_value.specs.declared.Act.TheVariants as act
+use Rattle.sf_value.specs.declared.Failure.{Failure}
 use Rattle.sf_value.specs.declared.value.Value.{Value}
 use Rattle.sf_value.specs.declared.value.Value.TheVariants as value
 use Rattle.sf_value.proofs.Weights.{weight-Str, weight-Entity}
 use Rattle.sf_value.proofs.Variants.{by_variants}
 use Rattle.program_meaning.specs.declared.vars.Var.{Var}
 use Rattle.program_meaning.specs.ClassTables.{Source, methods_of, key_param_of}
-use Rattle.program_meaning.specs.World.{State, World, Own, Calls, Gives, Got, Fell, Ends, Goes, Returns, Breaks, Continues, Fails, step, with_given, next, next_turn, result_of, reading, value_at}
+use Rattle.program_meaning.specs.World.{State, World, Own, Calls, Gives, Got, Fell, Ends, Goes, Returns, Breaks, Continues, Fails, step, with_given, next, next_turn, caught, result_of, reading, value_at}
 use Rattle.program_meaning.specs.Operations.{text_of}
 use Rattle.program_meaning.specs.Evaluation.{Site, entity}
 use Rattle.program_meaning.specs.Execution.{stepping, value_or_none, act_all}
@@ -69,6 +70,13 @@ module _ {W : Type 0} where
   turn_light (Continues vars w n) f l later = (later vars).always w n
   turn_light (Fails c vars w n) f l later = tt
 
+  caught_light : (e : Ends W) (f : Failure → List Var → W → ℕ → Ends W) → EndsLight e → ((c : Failure) (vars : List Var) → AlwaysLight (f c vars)) → EndsLight (caught f e)
+  caught_light (Goes vars w n) f l later = tt
+  caught_light (Returns v w n) f l later = l
+  caught_light (Breaks vars w n) f l later = tt
+  caught_light (Continues vars w n) f l later = tt
+  caught_light (Fails c vars w n) f l later = (later c vars).always w n
+
   result_light : (e : Ends W) → EndsLight e → GivesLight (result_of e)
   result_light (Goes vars w n) l = nil_light
   result_light (Returns v w n) l = l
@@ -96,6 +104,7 @@ module _ {W : Type 0} where
       uses = λ vars g f any l. record { always = λ w n. uses_light vars (g w n) f l };
       on = λ e f first rest. record { always = λ w n. next_light (e w n) f (first.always w n) rest };
       again = λ e f first rest. record { always = λ w n. turn_light (e w n) f (first.always w n) rest };
+      catches = λ e f first rest. record { always = λ w n. caught_light (e w n) f (first.always w n) rest };
       results = λ e l. record { any = tt };
     }
 

@@ -11,7 +11,7 @@ use Rattle.sf_value.specs.declared.Failure.{Failure}
 use Rattle.sf_value.specs.declared.value.Value.{Value}
 use Rattle.program_meaning.specs.declared.vars.Var.{Var}
 use Rattle.program_meaning.specs.ClassTables.{Source, methods_of, init_of}
-use Rattle.program_meaning.specs.World.{World, Own, Calls, Gives, Got, Fell, ◌>>=◌, told, Ends, Goes, Returns, Breaks, Continues, Fails, step, with_given, next, next_turn, result_of, reading, assertion_error}
+use Rattle.program_meaning.specs.World.{World, Own, Calls, Gives, Got, Fell, ◌>>=◌, told, Ends, Goes, Returns, Breaks, Continues, Fails, step, with_given, next, next_turn, caught, result_of, reading, assertion_error}
 use Rattle.program_meaning.specs.Operations.{is_true}
 use Rattle.program_meaning.specs.Evaluation.{Site, eval}
 use Rattle.program_meaning.specs.Execution.{stepping, value_or_none, message, act_all}
@@ -56,6 +56,13 @@ module _ {W : Type 0} where
   turn_takes n (Continues vars w m) f le rest = let later = (rest vars).most w m in omega (arith, le, later)
   turn_takes n (Fails c vars w m) f le rest = le
 
+  caught_takes : (n : ℕ) (e : Ends W) (f : Failure → List Var → W → ℕ → Ends W) → left_at e ≤ n → ((c : Failure) (vars : List Var) → TakesAt W (f c vars)) → left_at (caught f e) ≤ n
+  caught_takes n (Goes vars w m) f le rest = le
+  caught_takes n (Returns v w m) f le rest = le
+  caught_takes n (Breaks vars w m) f le rest = le
+  caught_takes n (Continues vars w m) f le rest = le
+  caught_takes n (Fails c vars w m) f le rest = let later = (rest c vars).most w m in omega (arith, le, later)
+
   result_takes : (n : ℕ) (e : Ends W) → left_at e ≤ n → left_in (result_of e) ≤ n
   result_takes n (Goes vars w m) le = le
   result_takes n (Returns v w m) le = le
@@ -83,6 +90,7 @@ module _ {W : Type 0} where
       uses = λ vars g f first rest. record { most = λ w n. uses_takes vars n (g w n) f (first.most w n) rest };
       on = λ e f first rest. record { most = λ w n. next_takes n (e w n) f (first.most w n) rest };
       again = λ e f first rest. record { most = λ w n. turn_takes n (e w n) f (first.most w n) rest };
+      catches = λ e f first rest. record { most = λ w n. caught_takes n (e w n) f (first.most w n) rest };
       results = λ e first. record { most = λ w n. result_takes n (e w n) (first.most w n) };
     }
 

@@ -15,7 +15,7 @@ use Rattle.sf_value.specs.declared.value.Value.{Value}
 use Rattle.sf_value.specs.declared.value.Value.TheVariants as value
 use Rattle.program_meaning.specs.declared.vars.Var.{Var}
 use Rattle.program_meaning.specs.ClassTables.{fields_of}
-use Rattle.program_meaning.specs.World.{Gives, Got, Fell, ◌>>=◌, told, Ends, Goes, Returns, Breaks, Continues, Fails, assertion_error, step_limit, with_given, next, next_turn, result_of, local_value, assigned, field_value, with_field}
+use Rattle.program_meaning.specs.World.{Gives, Got, Fell, ◌>>=◌, told, Ends, Goes, Returns, Breaks, Continues, Fails, assertion_error, step_limit, with_given, next, next_turn, caught, result_of, local_value, assigned, field_value, with_field}
 use Rattle.program_meaning.specs.Operations.{in_range, weighed, int_of, is_true, is_nil, items_of, element, combined, text_of, given_by, holds}
 use Rattle.program_meaning.specs.Evaluation.{Site, eval, eval_all, linked, each_is, same_truth, applied, entity, literal, key_in, method_of, class_of}
 use Rattle.program_meaning.specs.Execution.{stepping, store, target_value, augmented, value_or_none, message, Turns, Items, Numbers, start_of, turns_of, turn, over_items, over_numbers, over_turns, counting, while_turns, checked, act, act_all, act_arms}
@@ -42,6 +42,7 @@ pub record PartsKeep {W : Type 0} (P : (A : Type 0) → (W → ℕ → Gives W A
   pub uses : {A : Type 0} (vars : List Var) (g : W → ℕ → Gives W A) (f : A → W → ℕ → Ends W) → P A g → ((x : A) → Q (f x)) → Q (λ w n. with_given vars (g w n) f)
   pub on : (e : W → ℕ → Ends W) (f : List Var → W → ℕ → Ends W) → Q e → ((vars : List Var) → Q (f vars)) → Q (λ w n. next (e w n) f)
   pub again : (e : W → ℕ → Ends W) (f : List Var → W → ℕ → Ends W) → Q e → ((vars : List Var) → Q (f vars)) → Q (λ w n. next_turn (e w n) f)
+  pub catches : (e : W → ℕ → Ends W) (f : Failure → List Var → W → ℕ → Ends W) → Q e → ((c : Failure) (vars : List Var) → Q (f c vars)) → Q (λ w n. caught f (e w n))
   pub results : (e : W → ℕ → Ends W) → Q e → P Value (λ w n. result_of (e w n))
 
 module _ {W : Type 0} (P : (A : Type 0) → (W → ℕ → Gives W A) → Type 0) (Q : (W → ℕ → Ends W) → Type 0) (s : Site W) (k : PartsKeep P Q s) where

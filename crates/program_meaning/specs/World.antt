@@ -116,6 +116,14 @@ next_turn (Breaks vars w n) f = Goes vars w n
 next_turn (Continues vars w n) f = f vars w n
 next_turn (Fails e vars w n) f = Fails e vars w n
 
+-- where statements fail, the failure is taken up, with the locals, the world and the steps of that moment
+abbrev pub caught : {W : Type 0} → (Failure → List Var → W → ℕ → Ends W) → Ends W → Ends W
+caught f (Goes vars w n) = Goes vars w n
+caught f (Returns v w n) = Returns v w n
+caught f (Breaks vars w n) = Breaks vars w n
+caught f (Continues vars w n) = Continues vars w n
+caught f (Fails e vars w n) = f e vars w n
+
 -- a method that falls off its end gives None
 abbrev pub result_of : {W : Type 0} → Ends W → Gives W Value
 result_of (Goes vars w n) = Got value.Nil w n

@@ -1,6 +1,7 @@
 -- Laws of tables of names.
 use Rattle.std.proofs.Common.{◌≡◌, ◌<◌, ◌+◌, ℕ, zero, suc, Bool, true, false, cond, Option, Some, None, List, [], ◌∷◌, ◌++◌, ◌⊎◌, inl, inr, length, map, refl, sym, ap, ◌∙◌, subst, arith, length-append, nat_lt}
 use Rattle.std.specs.Prelude.{not, ◌||◌, is_some, option_map, slice_get, position, bytes_eq, string_bytes, string_eq, String}
+use Rattle.std.specs.Str.{is_utf8}
 use Rattle.std.specs.List.{prefix_len, list_any}
 use Rattle.std.proofs.lemmas.Option.{same_Some}
 use Rattle.std.proofs.lemmas.List.{map-append}
@@ -66,9 +67,10 @@ stands (n ∷ names) new text zero h = inl h
 stands (n ∷ names) new text (suc i) h = elim (stands names new text i h) [ inl e ↦ inl e | inr e ↦ inr (ap suc e.0, e.1) ]
 
 -- a table with a new text at its end is a table
-pub IsTable-more : (names : List (List ℕ)) (text : List ℕ) → IsTable names → place_of names text ≡ None → length names < 4294967295 → IsTable (names ++ text ∷ [])
-IsTable-more names text t new small = record {
+pub IsTable-more : (names : List (List ℕ)) (text : List ℕ) → IsTable names → is_utf8 text ≡ true → place_of names text ≡ None → length names < 4294967295 → IsTable (names ++ text ∷ [])
+IsTable-more names text t real new small = record {
   distinct = λ i other e. elim (stands names text other i e) [ inl k ↦ place-kept names text other i (t.distinct i other k) | inr k ↦ subst (λ n. place_of (names ++ text ∷ []) other ≡ Some n) (sym k.0) (subst (λ w. place_of (names ++ text ∷ []) w ≡ Some (length names)) k.1 (place-end names text new)) ];
+  utf8 = λ i other e. elim (stands names text other i e) [ inl k ↦ t.utf8 i other k | inr k ↦ subst (λ t. is_utf8 t ≡ true) k.1 real ];
   few = omega (arith, length-append names (text ∷ []));
 }
 
@@ -81,9 +83,9 @@ pub with_name-known : (names : List (List ℕ)) (text : List ℕ) (i : ℕ) → 
 with_name-known names text i known = ap (λ o. cond (is_some o) names (names ++ text ∷ [])) known
 
 -- a table that is given a text is a table
-pub IsTable-with_name : (names : List (List ℕ)) (text : List ℕ) → IsTable names → length names < 4294967295 → IsTable (with_name names text)
-IsTable-with_name names text t small =
-    let by_place : (o : Option ℕ) → place_of names text ≡ o → IsTable (with_name names text) = λ o. elim o as (λ z. place_of names text ≡ z → IsTable (with_name names text)) [ None ↦ λ e. subst IsTable (sym (with_name-new names text e)) (IsTable-more names text t e small) | Some i ↦ λ e. subst IsTable (sym (with_name-known names text i e)) t ] in
+pub IsTable-with_name : (names : List (List ℕ)) (text : List ℕ) → IsTable names → is_utf8 text ≡ true → length names < 4294967295 → IsTable (with_name names text)
+IsTable-with_name names text t real small =
+    let by_place : (o : Option ℕ) → place_of names text ≡ o → IsTable (with_name names text) = λ o. elim o as (λ z. place_of names text ≡ z → IsTable (with_name names text)) [ None ↦ λ e. subst IsTable (sym (with_name-new names text e)) (IsTable-more names text t real e small) | Some i ↦ λ e. subst IsTable (sym (with_name-known names text i e)) t ] in
     by_place (place_of names text) refl
 
 mapped : {X Y : Type 0} (f : X → Y) (b : Bool) (xs : List X) (x : X) → map f (cond b xs (xs ++ x ∷ [])) ≡ cond b (map f xs) (map f xs ++ f x ∷ [])

@@ -6,6 +6,7 @@ ghost use Rattle.py_tree.specs.PlainProgram.{plain_program, plain_method};
 ghost use Rattle.py_tree.specs.Bounded.{IsBounded, HasReserved};
 ghost use Rattle.py_tree.specs.Acceptance.{KeepsRules};
 ghost use Rattle.py_tree.specs.ClassIndices.{HasPlaces, AreIndices, Keeps};
+ghost use Rattle.py_tree.specs.NameTable.{IsTable};
 
 use crate::class_index::{ClassIndex, class_names, indices_of, places_of};
 use crate::names::{Name, Names};
@@ -26,6 +27,7 @@ pub struct Checked {
     pub ghost bounded: { ∥ IsBounded names (plain_program program) ∥₁ },
     pub ghost reserved: { ∥ HasReserved names ∥₁ },
     pub ghost rules: { KeepsRules names (plain_program program) },
+    pub ghost table: { IsTable names },
     pub ghost has_classes: { HasPlaces classes (map (λ c. c.name) (plain_program program)) },
     pub ghost are_indices: { AreIndices names (plain_program program) indices.items },
 }
@@ -44,6 +46,8 @@ impl Checked {
         ensures program { IfOk result (λ c. checked_program c ≡ plain_program program) }
         ensures names { IfOk result (λ c. checked_names c ≡ names) }
     {
+        // The table tells of its texts, beside how many there are.
+        let _count = names.count();
         let class_names = class_names(alloc, program.classes.as_slice())?;
         let classes = places_of(alloc, class_names.as_slice())?;
         let indices = indices_of(alloc, &names, program.classes.as_slice())?;

@@ -7,7 +7,7 @@ use Rattle.sf_value.specs.declared.Failure.{Failure}
 use Rattle.sf_value.specs.declared.value.Value.{Value}
 use Rattle.program_meaning.specs.declared.vars.Var.{Var}
 use Rattle.program_meaning.specs.ClassTables.{Source}
-use Rattle.program_meaning.specs.World.{Keys, World, Calls, Gives, Got, Fell, ◌>>=◌, told, Ends, Goes, Returns, Breaks, Continues, Fails, step_limit, with_given, next, next_turn, result_of, record_at, writing}
+use Rattle.program_meaning.specs.World.{Keys, World, Calls, Gives, Got, Fell, ◌>>=◌, told, Ends, Goes, Returns, Breaks, Continues, Fails, step_limit, with_given, next, next_turn, caught, result_of, record_at, writing}
 use Rattle.program_meaning.specs.Execution.{stepping, value_or_none}
 use Rattle.program_meaning.specs.Calls.{in_state, run_body}
 use Rattle.program_meaning.proofs.HereLaws.{world_in, end_world}
@@ -126,6 +126,13 @@ module _ (keys : Keys) (me : Key) where
   turn_follows v (Continues vars u m) h f read first rest = goes_on v u m (Continues vars u m) h (f vars) (λ y. next_turn y f) refl (λ other. refl) read first (rest vars)
   turn_follows v (Fails c vars u m) h f read first rest = stops v (Fails c vars u m) h (λ y. next_turn y f) refl (λ other. refl) first
 
+  caught_follows : (v : World) (e h : Ends World) (f : Failure → List Var → World → ℕ → Ends World) → set.contains v.reads me ≡ true → FollowsAt keys v e h → ((c : Failure) (vars : List Var) → FramedAt keys me (f c vars)) → FollowsAt keys v (caught f e) (caught f h)
+  caught_follows v (Goes vars u m) h f read first rest = stops v (Goes vars u m) h (λ y. caught f y) refl (λ other. refl) first
+  caught_follows v (Returns x u m) h f read first rest = stops v (Returns x u m) h (λ y. caught f y) refl (λ other. refl) first
+  caught_follows v (Breaks vars u m) h f read first rest = stops v (Breaks vars u m) h (λ y. caught f y) refl (λ other. refl) first
+  caught_follows v (Continues vars u m) h f read first rest = stops v (Continues vars u m) h (λ y. caught f y) refl (λ other. refl) first
+  caught_follows v (Fails c vars u m) h f read first rest = goes_on v u m (Fails c vars u m) h (f c vars) (λ y. caught f y) refl (λ other. refl) read first (rest c vars)
+
   step_follows : (vars : List Var) (e : World → ℕ → Ends World) → FramedAt keys me e → (v w : World) (n : ℕ) → set.contains v.reads me ≡ true → Paired keys v w → FollowsAt keys v (stepping vars v n (λ n. e v n)) (stepping vars w n (λ n. e w n))
   step_follows vars e rest v w zero read p = rests_at keys (Fails step_limit vars v zero) w p
   step_follows vars e rest v w (suc n) read p = rest.from v w n read p
@@ -170,6 +177,7 @@ module _ (keys : Keys) (me : Key) where
       uses = λ vars g f first rest. record { from = λ v w n read p. uses_follow vars v (g v n) (g w n) f read (first.from v w n read p) rest };
       on = λ e f first rest. record { from = λ v w n read p. next_follows v (e v n) (e w n) f read (first.from v w n read p) rest };
       again = λ e f first rest. record { from = λ v w n read p. turn_follows v (e v n) (e w n) f read (first.from v w n read p) rest };
+      catches = λ e f first rest. record { from = λ v w n read p. caught_follows v (e v n) (e w n) f read (first.from v w n read p) rest };
       results = λ e first. record { from = λ v w n read p. result_follows v (e v n) (e w n) (first.from v w n read p) };
     }
 
