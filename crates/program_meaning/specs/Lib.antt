@@ -19,3 +19,4 @@ pub mod Reached
 pub mod HereInState
 pub mod HereFits
 pub mod SameLocals
+pub mod WrittenInts
