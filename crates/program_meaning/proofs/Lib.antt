@@ -36,6 +36,13 @@ pub mod LightOperations
 pub mod LightExpressions
 pub mod Traversal
 pub mod LightCalls
+pub mod SilentFailures
+pub mod WrittenLaws
+pub mod KeptKinds
+pub mod KeptExpressions
+pub mod KeptStatements
+pub mod KeptCalls
+pub mod LightRuns
 pub mod StepsTaken
 pub mod TurnsEnough
 pub mod NotReached

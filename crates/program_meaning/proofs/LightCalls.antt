@@ -1,30 +1,24 @@
--- The calls of the source give light values, and so do requests.
-use Rattle.std.proofs.Common.{◌≡◌, ℕ, zero, suc, arith, Bool, true, false, ◌||◌, Option, Some, None, List, [], ◌∷◌, if◌then◌else◌, refl, sym, ◌∙◌}
+-- The calls of the source give light values.
+use Rattle.std.proofs.Common.{◌≡◌, ℕ, zero, suc, arith, Option, Some, None, List, [], ◌∷◌, sym, ◌∙◌}
 use Rattle.std.specs.Prelude.{slice_get}
 use Rattle.std.specs.FinMap as map
-use Rattle.std.specs.List.{list_any}
-use Rattle.std.proofs.lemmas.Bool.{ltb-false}
 use Rattle.py_tree.specs.PlainStatements.{stmts_of}
 use Rattle.py_tree.specs.PlainProgram.{PlainMethod}
 use Rattle.py_tree.specs.ClassRules.{body_of, params_of}
 use Rattle.sf_value.specs.Keys.{Key}
 use Rattle.sf_value.specs.Weight.{weight_of}
-use Rattle.sf_value.specs.declared.Act.{Act}
-use Rattle.sf_value.specs.declared.Act.TheVariants as act
-use Rattle.sf_value.specs.declared.Failure.{Failure}
 use Rattle.sf_value.specs.declared.value.Value.{Value}
 use Rattle.sf_value.specs.declared.value.Value.TheVariants as value
 use Rattle.sf_value.proofs.Weights.{weight-Str, weight-Entity}
 use Rattle.sf_value.proofs.Variants.{by_variants}
 use Rattle.program_meaning.specs.declared.vars.Var.{Var}
 use Rattle.program_meaning.specs.ClassTables.{Source, methods_of, key_param_of}
-use Rattle.program_meaning.specs.World.{State, World, Own, Calls, Gives, Got, Fell, Ends, Goes, Returns, Breaks, Continues, Fails, step, with_given, next, next_turn, caught, result_of, reading, value_at}
+use Rattle.program_meaning.specs.World.{World, Own, Calls, Gives, Got, Fell, Ends, Goes, Returns, Breaks, Continues, Fails, step, with_given, next, next_turn, caught, result_of, reading, value_at}
 use Rattle.program_meaning.specs.Operations.{text_of}
 use Rattle.program_meaning.specs.Evaluation.{Site, entity}
 use Rattle.program_meaning.specs.Execution.{stepping, value_or_none, act_all}
 use Rattle.program_meaning.specs.Calls.{run_body, bound, calls_at, calls_within, enter, create, made, made_record, if_there, new_key, in_state}
-use Rattle.program_meaning.specs.RequestRun.{at_first, steps_at_first, depth_limit, is_heavy, is_too_heavy, begin, ended, refused, run}
-use Rattle.program_meaning.specs.LightValues.{IsLight, AreLight, no_value, one_more, GivesLight, CallsGiveLight, CallsAreLight, OutcomeIsLight, RunsAreLight}
+use Rattle.program_meaning.specs.LightValues.{IsLight, AreLight, no_value, one_more, GivesLight, CallsGiveLight, CallsAreLight}
 use Rattle.program_meaning.proofs.LightOperations.{nil_light}
 use Rattle.program_meaning.proofs.LightExpressions.{value_light}
 use Rattle.program_meaning.proofs.Traversal.{PartsKeep, acts_keep}
@@ -179,33 +173,3 @@ own_calls_are_light own src me (suc d) = record {
       body_light (record { src = src; own = own; calls = calls_within own src me d; me = me }) (own_calls_are_light own src me d) (slice_get (methods_of src me.0) method) args w n);
   make = λ class args w n all. tt;
 }
-
--- Requests
-
-not_heavy : (v : Value) → is_heavy v ≡ false → IsLight v
-not_heavy v light = record { most = ltb-false 65536 (weight_of v) light }
-
-none_heavy : (args : List Value) → list_any is_heavy args ≡ false → AreLight args
-none_heavy [] light = no_value
-none_heavy (v ∷ args) light = one_more (not_heavy v (neither (is_heavy v) (list_any is_heavy args) light).0) (none_heavy args (neither (is_heavy v) (list_any is_heavy args) light).1)
-  where
-    neither : (a b : Bool) → (a || b) ≡ false → (a ≡ false) × (b ≡ false)
-    neither false b e = (refl, e)
-    neither true b e = absurd cc
-
-ended_light : (s : State) (g : Gives World Value) → GivesLight g → OutcomeIsLight (ended s g).outcome
-ended_light s (Got v w n) l = l
-ended_light s (Fell f w n) l = tt
-
-begin_light : (src : Source) (s : State) (asked : Act) → is_too_heavy asked ≡ false → GivesLight (begin src asked s)
-unfolding begin is_too_heavy
-begin_light src s (act.Call class key method args) light = (calls_are_light src depth_limit).call (class, key) method args (at_first s) steps_at_first
-begin_light src s (act.New class args) light = (calls_are_light src depth_limit).make class args (at_first s) steps_at_first (none_heavy args light)
-
-pub runs_are_light : RunsAreLight
-unfolding run
-runs_are_light src s asked = by (is_too_heavy asked) refl
-  where
-    by : (b : Bool) → is_too_heavy asked ≡ b → OutcomeIsLight (if b then refused s else ended s (begin src asked s)).outcome
-    by true e = tt
-    by false e = ended_light s (begin src asked s) (begin_light src s asked e)

@@ -14,7 +14,8 @@ use Rattle.py_tree.specs.Bounded.{IsBounded, IsBoundedClass, IsBoundedMethod, st
 use Rattle.program_meaning.specs.ClassTables.{members_of, members_at, init_of, methods_of}
 use Rattle.program_meaning.specs.Sources.{source_of}
 
-has_each : {X : Type 0} (P : X → Type 0) (xs : List X) (k : ℕ) → All P xs → IfSome (slice_get xs k) P
+-- what holds of each holds of the one at a place, and of the one that is found
+pub has_each : {X : Type 0} (P : X → Type 0) (xs : List X) (k : ℕ) → All P xs → IfSome (slice_get xs k) P
 has_each P [] k all = tt
 has_each P (x ∷ xs) zero all = all 0 x (omega arith)
 has_each P (x ∷ xs) (suc k) all = has_each P xs k (λ j d lt. all (suc j) d (omega arith))
@@ -23,7 +24,7 @@ first_or : {X : Type 0} (P : X → Type 0) (b : Bool) (x : X) (o : Option X) →
 first_or P true x o here there = here
 first_or P false x o here there = there
 
-has_found : {X : Type 0} (P : X → Type 0) (p : X → Bool) (xs : List X) → All P xs → IfSome (find p xs) P
+pub has_found : {X : Type 0} (P : X → Type 0) (p : X → Bool) (xs : List X) → All P xs → IfSome (find p xs) P
 has_found P p [] all = tt
 has_found P p (x ∷ xs) all = first_or P (p x) x (find p xs) (all 0 x (omega arith)) (has_found P p xs (λ j d lt. all (suc j) d (omega arith)))
 

@@ -20,3 +20,4 @@ pub mod Reached
 pub mod HereInState
 pub mod HereFits
 pub mod SameLocals
+pub mod WrittenInts

@@ -1,5 +1,6 @@
 -- Values are light: none that an expression gives weighs more than a value may.
-use Rattle.std.specs.Prelude.{ℕ, ◌≤◌, List, [], ◌∷◌}
+use Rattle.std.specs.Prelude.{ℕ, ◌+◌, ◌≤◌, List, [], ◌∷◌, length}
+use Rattle.std.specs.Str.{encode_utf8_all}
 use Rattle.std.specs.declared.option.Option.{Option}
 use Rattle.py_tree.specs.PlainExpressions.{PlainExpr}
 use Rattle.py_tree.specs.PlainStatements.{PlainOver}
@@ -63,10 +64,11 @@ CallsAreLight = (src : Source) (d : ℕ) → CallsGiveLight (calls_at src d)
 abbrev pub OwnCallsAreLight : Type 0 → Type 0
 OwnCallsAreLight W = (own : Own W) (src : Source) (me : Key) (d : ℕ) → CallsGiveLight (calls_within own src me d)
 
+-- the value weighs no more than it may, or else the message of the failure, which weighs what a value with its text does
 abbrev pub OutcomeIsLight : Outcome → Type 0
 OutcomeIsLight (outcome.Value v) = IsLight v
-OutcomeIsLight (outcome.Failed f) = Unit {0}
+OutcomeIsLight (outcome.Failed f) = 1 + length (encode_utf8_all f.message) ≤ 65536
 
--- what a request gives is light
+-- what a request comes to is light
 abbrev pub RunsAreLight : Type 0
 RunsAreLight = (src : Source) (s : State) (asked : Act) → OutcomeIsLight (run src s asked).outcome

@@ -41,7 +41,7 @@ pub fn names_are_found()
 
 /// Values are light: what an expression gives weighs no more than a value may, where calls give
 /// such values; so do the bodies of methods, the calls of the source, on the state and within one
-/// record, and requests.
+/// record, and requests. The message of a request that fails weighs no more, as a text, either.
 pub fn values_are_light()
     ensures expressions { InEachWorld ExpressionsAreLight }
     ensures items { InEachWorld ItemsAreLight }

@@ -18,9 +18,9 @@ use Rattle.byte_sizes.proofs.Layers.{nests-List}
 use Rattle.byte_sizes.proofs.Light.{size_by_weight}
 use Rattle.byte_sizes.proofs.Small.{small_is_short}
 use Rattle.program_meaning.specs.Fits.{Fits, int, bool, str, nil, list, none, some, entity, AllFit, empty, more, EachFits, no_value, one_more, RecordFits, ResultFits, IsCreated, OutcomeFits}
-use Rattle.program_meaning.specs.LightValues.{IsLight, AreLight, one_more as light_more, OutcomeIsLight}
+use Rattle.program_meaning.specs.LightValues.{IsLight, AreLight, one_more as light_more}
 use Rattle.program_meaning.specs.NothingGoesWrong.{IsKnownAccepted}
-use Rattle.request_json.specs.FittingSpellings.{type_nesting, HasShortMessage, IsCounted}
+use Rattle.request_json.specs.FittingSpellings.{type_nesting, HasLightValue, HasShortMessage, IsCounted}
 use Rattle.request_json.proofs.FlatTypes.{AreFlat, fields_flat, result_flat}
 
 mutual
@@ -74,7 +74,7 @@ module _ (names : List (List ℕ)) (program : PlainProgram) (accepted : IsKnownA
   answer_nests (act.Call class key method args) v fits = result_nests class method v fits
   answer_nests (act.New class args) v fits = created_nests class args v fits
 
-  pub outcome_spelt : (asked : Act) (o : Outcome) → OutcomeFits tables asked o → OutcomeIsLight o → HasShortMessage o → IsRealOutcome o → IsReadOutcome o
+  pub outcome_spelt : (asked : Act) (o : Outcome) → OutcomeFits tables asked o → HasLightValue o → HasShortMessage o → IsRealOutcome o → IsReadOutcome o
   outcome_spelt asked (outcome.Value v) fits light short real = ((light_short v light, answer_nests asked v fits), real)
   outcome_spelt asked (outcome.Failed f) fits light short real = (((fits.least, fits.most), short), real)
 

@@ -10,7 +10,7 @@ use Rattle.sf_value.specs.declared.Outcome.{Outcome}
 use Rattle.sf_value.specs.declared.Outcome.TheVariants as outcome
 use Rattle.byte_sizes.specs.Spelt.{IsShortText, NestsWithin, IsReal, IsRealOutcome, IsRealHeld, IsReadValue, IsReadOutcome, IsReadHeld}
 use Rattle.program_meaning.specs.Fits.{Fits, RecordFits, OutcomeFits}
-use Rattle.program_meaning.specs.LightValues.{IsLight, AreLight, OutcomeIsLight}
+use Rattle.program_meaning.specs.LightValues.{IsLight, AreLight}
 use Rattle.program_meaning.specs.NothingGoesWrong.{IsKnownAccepted}
 
 -- how deep a type nests
@@ -31,6 +31,11 @@ ValuesNestAsTypes = (tables : List PlainTable) (ty : PlainTy) (v : Value) (level
 abbrev pub ValuesHaveSpellings : Type 0
 ValuesHaveSpellings = (tables : List PlainTable) (ty : PlainTy) (v : Value) → Fits tables ty v → type_nesting ty ≤ 64 → IsLight v → IsReal v → IsReadValue v
 
+-- the value that a request comes to is light
+abbrev pub HasLightValue : Outcome → Type 0
+HasLightValue (outcome.Value v) = IsLight v
+HasLightValue (outcome.Failed f) = Unit {0}
+
 -- the message of a failure can be counted
 abbrev pub HasShortMessage : Outcome → Type 0
 HasShortMessage (outcome.Value v) = Unit {0}
@@ -40,7 +45,7 @@ HasShortMessage (outcome.Failed f) = IsShortText f.message
 abbrev pub OutcomesHaveSpellings : Type 0
 OutcomesHaveSpellings =
     (names : List (List ℕ)) (program : PlainProgram) → IsKnownAccepted names program → (asked : Act) (o : Outcome) → OutcomeFits (tables_of names program) asked o
-    → OutcomeIsLight o → HasShortMessage o → IsRealOutcome o → IsReadOutcome o
+    → HasLightValue o → HasShortMessage o → IsRealOutcome o → IsReadOutcome o
 
 -- a record's key and fields can be counted
 pub record IsCounted (held : Held) : Type 0 where

@@ -5,3 +5,6 @@ pub mod ShortExpressions
 pub mod ShortStatements
 pub mod ShortCalls
 pub mod RunsShort
+pub mod RealValues
+pub mod RealKinds
+pub mod RunsReal

@@ -1,1 +1,2 @@
 pub mod ShortRuns
+pub mod RealRuns

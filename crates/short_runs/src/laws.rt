@@ -1,5 +1,6 @@
-//! What requests come to, and the state that they leave, is short.
+//! What requests come to, and the state that they leave, is short and real.
 
+ghost use Rattle.short_runs.specs.RealRuns.{FirstIsReal, RunsAreReal, SerialIsReal};
 ghost use Rattle.short_runs.specs.ShortRuns.{FirstIsShort, RunsAreShort, SerialIsShort};
 
 /// The empty state is short. From a short state each request comes to a short outcome and leaves a
@@ -10,4 +11,15 @@ pub fn runs_are_short()
     ensures first { FirstIsShort }
     ensures runs { RunsAreShort }
     ensures serial { SerialIsShort }
+{}
+
+/// The empty state is real. In an accepted program whose written ints have 128 bits and whose names
+/// are UTF-8, each real request on a real state comes to a real outcome and leaves a real state; so
+/// do any number of them, one after another. For ints that are made are within range, texts are
+/// joined of real ones, and a light text or list has few parts to count. The message of a failure is
+/// part of the outcome.
+pub fn runs_are_real()
+    ensures first { FirstIsReal }
+    ensures runs { RunsAreReal }
+    ensures serial { SerialIsReal }
 {}

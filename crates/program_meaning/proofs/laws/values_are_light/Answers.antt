@@ -1,5 +1,6 @@
 use Rattle.program_meaning.proofs.LightExpressions.{eval_light, turns_light}
-use Rattle.program_meaning.proofs.LightCalls.{body_light, calls_are_light, own_calls_are_light, runs_are_light}
+use Rattle.program_meaning.proofs.LightCalls.{body_light, calls_are_light, own_calls_are_light}
+use Rattle.program_meaning.proofs.LightRuns.{runs_are_light}
 use Rattle.program_meaning.proofs.laws.values_are_light.Goals as goal
 
 pub returns : goal.returns
