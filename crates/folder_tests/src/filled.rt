@@ -2,7 +2,8 @@
 
 use sf_outside::{Disk, Failed, MountFault, StoreFile};
 use std::alloc::Global;
-use std::fs::{File, Files};
+use std::fs::{self, File, Files};
+use std::io;
 use store_folder::Folder;
 
 /// What is written into each file from its third byte on.
@@ -12,6 +13,14 @@ const FILES: [(StoreFile, [u8; 3]); 4] = [
     (StoreFile::Snap0, [b's', b'i', b'x']),
     (StoreFile::Snap1, [b't', b'e', b'n']),
 ];
+
+/// Makes an empty folder of this name, in place of what an earlier run may have left.
+pub fn make_empty<R: Files + AllocGlobal>(rt: &R, name: &str) -> io::Result<()> {
+    if fs::exists(rt, name)? {
+        fs::remove_dir_all(rt, name)?;
+    }
+    fs::create_dir(rt, name)
+}
 
 /// The folder of this name, mounted.
 pub fn mounted<R: Files<File = File> + Drop>(
