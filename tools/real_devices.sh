@@ -147,4 +147,22 @@ stateflow check missing.py >out 2>&-
 status=$?
 compare "a closed error stream is a write fault" 4
 
+# A word has to be a text in UTF-8, and the name that the program is called by doesn't.
+wants "" "usage: stateflow check FILE | compile FILE | local FILE | run FILE [options] | gen [options]$line"
+stateflow check "$(printf '\377')" >out 2>err
+status=$?
+compare "a word that is no text is told the usage line" 2
+
+stateflow run counter.py "--store=$(printf '\377')" >out 2>err
+status=$?
+compare "a folder's name that is no text is told the usage line" 2
+
+wants "ok: 1 classes, 1 methods$line" ""
+elsewhere=$(printf 'folder\377')
+mkdir "$elsewhere"
+ln -s "$program" "$elsewhere/stateflow"
+timeout 30 "$elsewhere/stateflow" check counter.py >out 2>err
+status=$?
+compare "a program in a folder whose name is no text is called as any other" 0
+
 exit $failed

@@ -1,9 +1,13 @@
-//! The program: the top call on the standard streams and the files of the system.
+//! The program: the top call on the standard streams, the files and the folders of the system.
 #![tactic(auto)]
 
+mod system_devices;
+mod words;
+
+use crate::system_devices::SystemDevices;
+use crate::words::words_of;
 use operator_graph::NoWatch;
-use stateflow_cli::{Generator, NamedFiles, Reading, Writing, stateflow};
-use std::env;
+use stateflow_cli::{Generator, NamedFiles, Reading, Writing};
 use std::process::ExitCode;
 use store_folder::Folder;
 
@@ -11,31 +15,17 @@ use store_folder::Folder;
 const NO_MEMORY: u8 = 8;
 
 fn main(rt: HostRuntime) -> ExitCode {
-    let alloc = rt.alloc();
-    let Ok(mut words) = env::args(&rt) else {
+    let Ok(words) = words_of(rt.alloc(), rt) else {
         return ExitCode::from(NO_MEMORY);
     };
-    let _program = words.next();
-    let Ok(words) = words.collect::<Vec<String>>(alloc) else {
-        return ExitCode::from(NO_MEMORY);
+    let mut devices = SystemDevices {
+        files: NamedFiles::new(rt),
+        input: Reading::new(rt.stdin()),
+        out: Writing::new(rt.stdout()),
+        err: Writing::new(rt.stderr()),
+        disk: Folder::new(rt.alloc(), rt),
+        chooser: Generator::new(),
+        watch: NoWatch,
     };
-    let mut files = NamedFiles::new(&rt);
-    let mut input = Reading::new(rt.stdin());
-    let mut out = Writing::new(rt.stdout());
-    let mut err = Writing::new(rt.stderr());
-    let mut disk = Folder::new(rt.alloc(), &rt);
-    let mut chooser = Generator::new();
-    let mut watch = NoWatch;
-    let status = stateflow(
-        rt.alloc(),
-        words.as_slice(),
-        &mut files,
-        &mut input,
-        &mut out,
-        &mut err,
-        &mut disk,
-        &mut chooser,
-        &mut watch,
-    );
-    ExitCode::from(status)
+    devices.answer(rt.alloc(), words.as_slice())
 }

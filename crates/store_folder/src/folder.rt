@@ -5,23 +5,24 @@ ghost use Rattle.sf_outside.specs.Causes.{Rose, next_count};
 ghost use Rattle.sf_outside.specs.DiskModel.{untold};
 ghost use Rattle.sf_outside.specs.MountState.{mounts_of};
 
-use crate::open_files::{OpenFiles, open_folder};
+use crate::open_files::{OpenFiles, open_folder, paths_in};
 use sf_outside::{Disk, Failed, MountBook, MountFault, StoreFile};
 use std::alloc::Global;
-use std::fs::Files;
+use std::fs::{File, Files};
 
 /// A folder of the system, whose files `log0`, `log1`, `snap0` and `snap1` are those of a store. What they hold isn't told.
 ///
-/// Two programs that work on one folder at a time destroy it: nothing here keeps them apart.
+/// Two programs that work on one folder at a time would destroy it. So `log0` is locked as long as the folder is mounted, and a mount is refused where
+/// someone else has it locked. The system gives the lock up with the file, at the latest where the process ends, however it does.
 #[derive(Drop)]
-pub struct Folder<R: Files> {
+pub struct Folder<R> {
     system: R,
-    files: Option<OpenFiles<R::File>>,
+    files: Option<OpenFiles<File>>,
     faults: u64,
     mounts: MountBook,
 }
 
-impl<R: Files> Folder<R> {
+impl<R: Files<File = File>> Folder<R> {
     /// No folder is mounted yet.
     pub fn new(alloc: Global, system: R) -> Folder<R>
         ensures faults { result.faults ≡ 0 }
@@ -45,7 +46,7 @@ impl<R: Files> Folder<R> {
     }
 }
 
-impl<R: Files> Disk for Folder<R> {
+impl<R: Files<File = File>> Disk for Folder<R> {
     ghost facts = { λ _. untold };
 
     ghost found = { λ _ _. None };
@@ -56,7 +57,8 @@ impl<R: Files> Disk for Folder<R> {
 
     fn mount(&mut self, alloc: Global, name: &str) -> Result<(), MountFault> {
         let taken = String::from_str(alloc, name)?;
-        match open_folder(alloc, &self.system, name) {
+        let paths = paths_in(alloc, name)?;
+        match open_folder(&self.system, name, &paths) {
             Ok(files) => {
                 self.files = Some(files);
                 self.mounts.succeed(taken, 0);

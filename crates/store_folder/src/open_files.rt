@@ -1,11 +1,12 @@
-//! The four files of a store, open for reading and writing.
+//! The files of a store, open for reading and writing, and their paths in a folder.
 
+ghost use Rattle.std.specs.Prelude.{◌≡◌, ◌++◌, codes, string_bytes, IfOk};
 ghost use Rattle.std.specs.Io.{ReadsAtMost};
 
 use crate::file_access::{file_length, read_whole_at, write_whole_at};
 use sf_outside::StoreFile;
-use std::alloc::Global;
-use std::fs::{self, Files, OpenFile, OpenOptions};
+use std::alloc::{AllocError, Global};
+use std::fs::{self, File, Files, OpenFile, OpenOptions};
 use std::io::{self, Read, Seek, Write};
 
 /// The files `log0`, `log1`, `snap0` and `snap1` of a folder.
@@ -58,29 +59,59 @@ impl<F: Read + Write + Seek + OpenFile + Drop> OpenFiles<F> {
     }
 }
 
-/// Opens the files of the folder of this name, which must be there. Those that are missing are made. What the files hold, and that the folder has them, is on
-/// the medium when it returns.
-pub(crate) fn open_folder<R: Files>(
-    alloc: Global,
+/// The paths of the files of a folder.
+#[derive(Drop)]
+pub(crate) struct FilePaths {
+    log0: String,
+    log1: String,
+    snap0: String,
+    snap1: String,
+}
+
+/// Makes the paths of the files of the folder of this name. What opens them takes no memory of its own.
+pub(crate) fn paths_in(alloc: Global, folder: &str) -> Result<FilePaths, AllocError> {
+    Ok(FilePaths {
+        log0: path_in(alloc, folder, "log0")?,
+        log1: path_in(alloc, folder, "log1")?,
+        snap0: path_in(alloc, folder, "snap0")?,
+        snap1: path_in(alloc, folder, "snap1")?,
+    })
+}
+
+/// The path of a file in a folder.
+fn path_in(alloc: Global, folder: &str, name: &str) -> Result<String, AllocError>
+    ensures { IfOk result (λ path. string_bytes path ≡ folder.now ++ codes "/" ++ name.now) }
+{
+    let mut path = String::from_str(alloc, folder)?;
+    path.push('/')?;
+    path.push_str(name)?;
+    Ok(path)
+}
+
+/// Opens the files of the folder of this name, which must be there, and makes those that are missing. Nobody else has `log0` locked then, and nobody can
+/// lock it while it is open. What the files hold, and that the folder has them, is on the medium when it returns.
+pub(crate) fn open_folder<R: Files<File = File>>(
     system: &R,
     folder: &str,
-) -> io::Result<OpenFiles<R::File>> {
+    paths: &FilePaths,
+) -> io::Result<OpenFiles<File>> {
+    let log0 = open_file(system, paths.log0.as_str())?;
+    log0.try_lock()?;
     let files = OpenFiles {
-        log0: open_file(alloc, system, folder, "log0")?,
-        log1: open_file(alloc, system, folder, "log1")?,
-        snap0: open_file(alloc, system, folder, "snap0")?,
-        snap1: open_file(alloc, system, folder, "snap1")?,
+        log0,
+        log1: open_file(system, paths.log1.as_str())?,
+        snap0: open_file(system, paths.snap0.as_str())?,
+        snap1: open_file(system, paths.snap1.as_str())?,
     };
     fs::open(system, folder)?.sync_all()?;
     Ok(files)
 }
 
-/// Opens a file of a folder, and makes it where it is missing.
-fn open_file<R: Files>(alloc: Global, system: &R, folder: &str, name: &str) -> io::Result<R::File> {
-    let path = format!(in alloc; "{folder}/{name}")?;
+/// Opens a file, and makes it where it is missing.
+fn open_file<R: Files<File = File>>(system: &R, path: &str) -> io::Result<File> {
     let mut how = OpenOptions::new();
     how.read(true).write(true).create(true);
-    let file = how.open(system, path.as_str())?;
+    let file = how.open(system, path)?;
     file.sync_all()?;
     Ok(file)
 }
