@@ -79,8 +79,8 @@ class Drawer:
         return parameters, self.one_of([*self.kinds, "None", "int", "int"])
 
     def program(self):
-        """The text of a program."""
-        lines = ["from typing import List, Optional", "from stateflow import entity"]
+        """The text of a program, which is a module of CPython too."""
+        lines = ["from __future__ import annotations", "from typing import List, Optional", "from stateflow import entity"]
         for name in self.classes:
             self.class_name = name
             lines += ["", "", "@entity", f"class {name}:", *indented(self.creation(name))]
