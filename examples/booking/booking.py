@@ -9,7 +9,7 @@ class Room:
         self.seats: int = seats
         self.hours: List[int] = []
 
-    def __key__(self) -> str:
+    def __key__(self):
         return self.name
 
     def is_free(self, hour: int) -> bool:
@@ -30,7 +30,7 @@ class Guest:
         self.name: str = name
         self.bookings: int = 0
 
-    def __key__(self) -> str:
+    def __key__(self):
         return self.name
 
     @transactional
