@@ -146,7 +146,7 @@ class Drawer:
         """A creation whose arguments are short. An entity or a list of entities among them has to be there already."""
         parameters = self.parameters[name]
         wanted = {item_of(kind) if kind.startswith("List") else kind for kind in parameters.values()}
-        if self.is_creation or not all(self.names_of(kind) for kind in wanted & {*self.classes}):
+        if self.is_creation or not all(self.names_of(kind) for kind in sorted(wanted & {*self.classes})):
             raise Undrawn
         return self.called(name, parameters, 0)
 
