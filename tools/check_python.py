@@ -54,10 +54,11 @@ def cases():
     """What is tried, by name, and whether it holds; none where it was skipped."""
     mypy = mypy_words()
     for folder in sorted(glob.glob(os.path.join(HERE, "examples/*"))):
-        files = sorted(glob.glob(os.path.join(folder, "*.py")))
-        for file in files:
+        name = os.path.basename(folder)
+        for file in sorted(glob.glob(os.path.join(folder, f"{name}.py")) + glob.glob(os.path.join(folder, "test_*.py"))):
             yield os.path.relpath(file, HERE), calls(sys.executable, file)
         # a folder at a time, since each has a module of the name of its program
+        files = sorted(glob.glob(os.path.join(folder, "*.py")))
         yield f"mypy, {os.path.relpath(folder, HERE)}", with_mypy(mypy, "--check-untyped-defs", *files)
     yield "tests of python", calls(sys.executable, "-m", "unittest", folder=MARKS)
     yield "mypy, python", with_mypy(mypy, "--strict", "stateflow", "tests", "build_wheel_file.py", folder=MARKS)

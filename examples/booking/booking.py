@@ -11,7 +11,7 @@ class Day:
         self.seats: int = seats
         self.hours: List[int] = []
 
-    def __key__(self) -> str:
+    def __key__(self):
         return self.name
 
     def is_free(self, hour: int) -> bool:
@@ -47,7 +47,7 @@ class Guest:
         self.name: str = name
         self.bookings: int = 0
 
-    def __key__(self) -> str:
+    def __key__(self):
         return self.name
 
     @transactional

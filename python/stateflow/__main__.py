@@ -1,12 +1,14 @@
 """The commands of the package: python3 -m stateflow."""
 
 import argparse
+import json
 import sys
 from collections.abc import Sequence
 from pathlib import Path
 
 from stateflow.check import like_program, report_lines
-from stateflow.language.program import read
+from stateflow.describe import description_of, openapi_of
+from stateflow.language.program import Reading, read
 
 REFUSED, UNREADABLE = 1, 3
 
@@ -17,16 +19,30 @@ def parser() -> argparse.ArgumentParser:
     check = commands.add_parser("check", help="tell all faults of a program in words, and what mends each")
     check.add_argument("file", metavar="FILE")
     check.add_argument("--like-program", action="store_true", help="print the line that `stateflow check` prints, and nothing else")
+    describe = commands.add_parser("describe", help="print the classes of a program, their methods, parameters and results as JSON")
+    describe.add_argument("file", metavar="FILE")
+    describe.add_argument("--openapi", action="store_true", help="print an OpenAPI page of a service over HTTP instead")
     return words
 
 
-def check(file: str, content: bytes, is_like_program: bool) -> int:
-    reading = read(content)
+def checked(file: str, content: bytes, reading: Reading, is_like_program: bool) -> int:
+    """Prints what `check` says, and gives its status."""
     if is_like_program:
         print(like_program(file, reading), file=sys.stderr if reading.faults else sys.stdout)
     else:
-        print("\n".join(report_lines(file, content)), end="")
+        print("\n".join(report_lines(file, content, reading)), end="")
     return REFUSED if reading.faults else 0
+
+
+def described(file: str, content: bytes, reading: Reading, is_openapi: bool) -> int:
+    """Prints what an accepted program has, and of another one its faults."""
+    if reading.faults:
+        print("\n".join(report_lines(file, content, reading)), end="", file=sys.stderr)
+        return REFUSED
+    description = description_of(reading)
+    page = openapi_of(description, Path(file).stem) if is_openapi else description
+    print(json.dumps(page, indent=2, ensure_ascii=False))
+    return 0
 
 
 def main(words: Sequence[str] | None = None) -> int:
@@ -34,9 +50,13 @@ def main(words: Sequence[str] | None = None) -> int:
     try:
         content = Path(given.file).read_bytes()
     except OSError as error:
-        print("stateflow: read fault" if getattr(given, "like_program", False) else f"stateflow: {given.file}: {error.strerror}", file=sys.stderr)
+        is_like_program = given.command == "check" and given.like_program
+        print("stateflow: read fault" if is_like_program else f"stateflow: {given.file}: {error.strerror}", file=sys.stderr)
         return UNREADABLE
-    return check(given.file, content, given.like_program)
+    reading = read(content)
+    if given.command == "check":
+        return checked(given.file, content, reading, given.like_program)
+    return described(given.file, content, reading, given.openapi)
 
 
 if __name__ == "__main__":

@@ -3,7 +3,7 @@
 from collections.abc import Iterator
 
 from stateflow.language.faults import Fault, Place
-from stateflow.language.program import Reading, read
+from stateflow.language.program import Reading
 
 
 def line_at(content: bytes, place: Place) -> tuple[str, str]:
@@ -31,9 +31,8 @@ def counted(count: int) -> str:
     return "1 fault" if count == 1 else f"{count} faults"
 
 
-def report_lines(file: str, content: bytes) -> Iterator[str]:
+def report_lines(file: str, content: bytes, reading: Reading) -> Iterator[str]:
     """What `check` prints of a text, each fault and then how many they are, or what the program has."""
-    reading = read(content)
     for fault in reading.in_text_order():
         yield in_words(file, content, fault)
     yield f"{counted(len(reading.faults))}\n" if reading.faults else f"{reading.tree.count()}\n"

@@ -79,8 +79,8 @@ class Drawer:
         return parameters, self.one_of([*self.kinds, "None", "int", "int"])
 
     def program(self):
-        """The text of a program."""
-        lines = ["from typing import List, Optional", "from stateflow import entity"]
+        """The text of a program, which is a module of CPython too."""
+        lines = ["from __future__ import annotations", "from typing import List, Optional", "from stateflow import entity"]
         for name in self.classes:
             self.class_name = name
             lines += ["", "", "@entity", f"class {name}:", *indented(self.creation(name))]
@@ -146,7 +146,7 @@ class Drawer:
         """A creation whose arguments are short. An entity or a list of entities among them has to be there already."""
         parameters = self.parameters[name]
         wanted = {item_of(kind) if kind.startswith("List") else kind for kind in parameters.values()}
-        if self.is_creation or not all(self.names_of(kind) for kind in wanted & {*self.classes}):
+        if self.is_creation or not all(self.names_of(kind) for kind in sorted(wanted & {*self.classes})):
             raise Undrawn
         return self.called(name, parameters, 0)
 

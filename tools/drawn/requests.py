@@ -2,12 +2,19 @@
 
 import dataclasses
 
-from drawn.meaning import Entity
 from drawn.programs import item_of
 
 KEYS = "ab"
 NUMBERS = [0, 1, 2, 3, -1, 5, 63, 100, 2**63, -(2**63), 2**64 - 1, 2**127 - 1, -(2**127)]
 TEXTS = ["a", "b", "", "é", 'k"\\\n', "\u0001", "x" * 100]
+
+
+@dataclasses.dataclass(frozen=True)
+class Entity:
+    """A class and a key, as an argument."""
+
+    class_name: str
+    key: str
 
 
 @dataclasses.dataclass

@@ -127,7 +127,7 @@ class Parser:
     def program(self) -> tree.Program:
         program = tree.Program()
         if self.peek().kind is Kind.STRING and self.peek().indent == 0:
-            self.part_of_program(self.text_alone)
+            self.part_of_program(lambda: self.text_alone(program))
         while self.peek().kind is not Kind.TEXT_END:
             if self.peek().indent == 0 and self.looks_at("@", "class"):
                 self.part_of_program(lambda: program.classes.append(self.class_()))
@@ -144,8 +144,9 @@ class Parser:
             self.pass_over_line(start)
             self.deeper_lines(0)
 
-    def text_alone(self) -> None:
-        self.take()
+    def text_alone(self, owner: tree.Program | tree.Class) -> None:
+        """The text at the head of the program, or of a class."""
+        owner.text = str(self.take().value)
         self.expect_line_end("text")
 
     def import_(self) -> None:
@@ -227,7 +228,7 @@ class Parser:
         """The members of a class, which stand deeper than it."""
         column = max(1, self.peek().indent or 0)
         if self.peek().kind is Kind.STRING and self.peek().indent == column:
-            self.member(owner, column, self.text_alone)
+            self.member(owner, column, lambda: self.text_alone(owner))
         if (self.peek().indent or 0) < column:
             owner.is_broken = True
             self.blame("class body")

@@ -6,7 +6,8 @@ from collections.abc import Iterator
 from dataclasses import dataclass
 
 from stateflow.language import tree
-from stateflow.language.class_rules import Tables, look_at_classes
+from stateflow.language.class_rules import look_at_classes
+from stateflow.language.effects import MethodName, changing
 from stateflow.language.faults import Fault, Report
 from stateflow.language.grammar import program_of
 from stateflow.language.tokens import tokens_of
@@ -20,10 +21,11 @@ LAYOUT = frozenset(["TooLong", "NotUtf8", "TabIndent", "BadDedent", "OpenString"
 
 @dataclass(frozen=True, slots=True)
 class Reading:
-    """What a text is read as. The faults stand in the order in which they are told: those of words, of the grammar, of classes, and of types."""
+    """What a text is read as, with the methods that may change something. The faults stand in the order in which they are told: those of words, of the
+    grammar, of classes, and of types."""
 
     tree: tree.Program
-    tables: Tables
+    changing: frozenset[MethodName]
     faults: list[Fault]
 
     def in_text_order(self) -> list[Fault]:
@@ -46,10 +48,10 @@ def read(content: bytes) -> Reading:
     with deep_stack():
         tokens = tokens_of(content, lexical)
         if any(fault.kind in LAYOUT for fault in lexical.faults):
-            return Reading(tree.Program(), {}, lexical.faults)
+            return Reading(tree.Program(), frozenset(), lexical.faults)
         program = program_of(tokens, grammatical)
         lines = {fault.place.line for fault in lexical.faults}
         told = [*lexical.faults, *[fault for fault in grammatical.faults if fault.place.line not in lines]]
         tables = look_at_classes(program, ruled)
-        look_at_methods(program, tables, ruled)
-    return Reading(program, tables, [*told, *[fault for fault in ruled.faults if fault.place.line not in lines]])
+        effects = look_at_methods(program, tables, ruled)
+    return Reading(program, changing(effects), [*told, *[fault for fault in ruled.faults if fault.place.line not in lines]])

@@ -319,6 +319,7 @@ class Class:
     place: Place
     methods: list[Method]
     is_broken: bool = False
+    text: str = ""
 
     def method(self, name: str) -> Method | None:
         """The first method of a name."""
@@ -328,6 +329,7 @@ class Class:
 @dataclass(slots=True)
 class Program:
     classes: list[Class] = field(default_factory=list)
+    text: str = ""
 
     def count(self) -> str:
         """How many classes and methods it has, in the words of `check`."""
@@ -335,8 +337,14 @@ class Program:
         return f"ok: {len(self.classes)} classes, {methods} methods"
 
 
+def text_of(statements: Sequence[Statement]) -> str | None:
+    """The text that may stand at the head of a method."""
+    match statements:
+        case [Evaluate(value=Literal(value=str(text))), *_]:
+            return text
+    return None
+
+
 def without_text(statements: Sequence[Statement]) -> Statements:
     """A method's statements without the text that may stand at its head."""
-    first = statements[0] if statements else None
-    is_text = isinstance(first, Evaluate) and isinstance(first.value, Literal) and isinstance(first.value.value, str)
-    return list(statements[1:] if is_text else statements)
+    return list(statements if text_of(statements) is None else statements[1:])

@@ -7,6 +7,7 @@ from collections.abc import Sequence
 from stateflow.language import tree
 from stateflow.language import type_words as words
 from stateflow.language.class_rules import RESERVED, ClassRules, ClassTable, Signature, Tables, is_self
+from stateflow.language.effects import Effects, MethodName
 from stateflow.language.faults import Advice, Place, Report
 from stateflow.language.flow import Names, State, assigned, is_endless, meeting, narrowed
 from stateflow.language.kinds import (
@@ -43,6 +44,7 @@ class MethodRules:
         self.state: State | None = State(frozenset(self.kinds), frozenset())
         self.breaks: list[list[State | None]] = []
         self.is_whole = not method.is_broken
+        self.effects = Effects()
 
     def fault(self, kind: str, place: Place, advice: Advice) -> None:
         self.report.add(kind, place, advice.message, advice.mend)
@@ -235,6 +237,7 @@ class MethodRules:
         elif isinstance(kind, Entity) and kind.name in self.tables:
             table = self.tables[kind.name]
             if node.name in table.methods:
+                self.effects.calls.add((kind.name, node.name))
                 return self.arguments(node.name, node.name_place, node.arguments, table.methods[node.name])
             if table.is_known:
                 self.fault("UnknownMethod", node.name_place, words.unknown_method(node.name, table))
@@ -243,6 +246,7 @@ class MethodRules:
     def kind_of_call(self, node: tree.Call) -> Kind:
         name = node.name
         if name in self.tables:
+            self.effects.changes = True
             self.arguments(name, node.place, node.arguments, self.tables[name].creation)
             return Entity(name)
         if name not in FUNCTIONS:
@@ -340,6 +344,7 @@ class MethodRules:
         self.fields.setdefault(target.name, kind)
 
     def assigned_field(self, target: tree.FieldTarget) -> Kind:
+        self.effects.changes = True
         kind = self.field(target.name, target.name_place)
         if target.name in self.fields and target.name == self.table.key:
             self.fault("KeyAssigned", target.place, words.key_assigned(target.name))
@@ -466,11 +471,15 @@ class MethodRules:
             self.fault("MissingReturn", self.method.place, words.missing_return(self.method.name, self.result))
 
 
-def look_at_methods(program: tree.Program, tables: Tables, report: Report) -> None:
-    """Looks at the rules on types and statements: class after class, `__init__` first, and then the methods in text order."""
+def look_at_methods(program: tree.Program, tables: Tables, report: Report) -> dict[MethodName, Effects]:
+    """Looks at the rules on types and statements: class after class, `__init__` first, and then the methods in text order. Gives what each does."""
     classes = ClassRules(program, report)
+    effects: dict[MethodName, Effects] = {}
     for found in program.classes:
         creations = [method for method in found.methods if method.name == "__init__"]
         others = [method for method in found.methods if method.name not in ("__init__", "__key__")]
         for method in [*creations[:1], *others]:
-            MethodRules(classes, tables, tables[found.name], method, report).look()
+            rules = MethodRules(classes, tables, tables[found.name], method, report)
+            rules.look()
+            effects.setdefault((found.name, method.name), rules.effects)
+    return effects
