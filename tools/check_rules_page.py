@@ -1,7 +1,9 @@
 #!/usr/bin/env python3
-"""Asks `check` of each broken and mended line of docs/RULES.md, in the program that stands above their table, and the reading of the package in python/.
+"""Asks `check`, and the reading of the package in python/, of each broken and mended line of docs/RULES.md, and of what the tables of docs/LANGUAGE.md for those
+who come from Python say that it refuses.
 
-The program is the first word, and without one that which ./stateflow has built. Prints one line a row, and fails where a row is wrong.
+Each is put into the program that stands above the table of docs/RULES.md. The program that is asked is the first word, and without one that which ./stateflow has
+built. Prints one line a row of docs/RULES.md and a text of docs/LANGUAGE.md, and fails where one is wrong.
 """
 
 import os
@@ -15,9 +17,13 @@ sys.path.insert(0, os.path.join(HERE, "python"))
 from stateflow.language.program import read  # noqa: E402, it stands in that folder
 
 
+def text_of(page):
+    with open(os.path.join(HERE, "docs", page), encoding="utf-8") as file:
+        return file.read()
+
+
 def page():
-    with open(os.path.join(HERE, "docs/RULES.md"), encoding="utf-8") as file:
-        return file.read().split("## A broken line and its mend")[1]
+    return text_of("RULES.md").split("## A broken line and its mend")[1]
 
 
 def frame(text):
@@ -30,6 +36,24 @@ def rows(text):
     table = text.split("```")[2].split("Of these the broken line stands elsewhere")[0]
     for kind, broken, mended in re.findall(r"^\| `(\w+)` \| `(.*?)` \| `(.*?)` \|$", table, re.M):
         yield kind, broken, mended
+
+
+def refused(text):
+    """Where each text of the tables for those who come from Python stands, the text, and the kind that is said to be told of it."""
+    for where, table in re.findall(r"^\| (In a method|In a class|At the top) \|.*\n\|[-|]+\n((?:\|.*\n)+)", text, re.M):
+        for texts, kind in re.findall(r"^\| (`.*?`) \| `(\w+)` \|", table, re.M):
+            for typed in re.findall(r"`(.*?)`", texts):
+                yield where, typed.replace("\\|", "|"), kind
+
+
+def placed(program, where, lines):
+    """The program with these lines where they are to stand."""
+    if where == "In a method":
+        return program.replace("LINE", lines)
+    whole = program.replace("LINE", "pass")
+    if where == "In a class":
+        return whole.replace("    def m(", f"    {lines}\n    def m(")
+    return whole.replace("@entity", f"{lines}\n\n@entity", 1)
 
 
 def told(program, text):
@@ -60,13 +84,19 @@ def main():
     for kind, broken, mended in rows(text):
         results = []
         for line in (broken, mended):
-            whole = frame(text).replace("LINE", line.replace("↵", "\n").replace("⇥", "\t"))
+            lines = line.replace("↵", "\n").replace("⇥", "\t")
+            whole = placed(frame(text), "In a method", lines)
             results += [told(program, whole), told_in_python(whole)]
         if results == [kind, kind, "ok", "ok"]:
             print(f"ok: {kind}")
         else:
             print(f"FAILED: {kind}: told {results[0]}, in Python {results[1]}, and {results[2]}, in Python {results[3]}, of the mended one")
             failed += 1
+    for where, typed, kind in refused(text_of("LANGUAGE.md")):
+        whole = placed(frame(text), where, typed.replace("↵", "\n"))
+        results = [told(program, whole), told_in_python(whole)]
+        failed += results != [kind, kind]
+        print(f"ok: {typed}" if results == [kind, kind] else f"FAILED: {typed}: told {results[0]}, in Python {results[1]}, and not {kind}")
     return 1 if failed else 0
 
 

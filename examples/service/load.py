@@ -20,7 +20,7 @@ import time
 import uuid
 from concurrent.futures import ThreadPoolExecutor
 from dataclasses import dataclass
-from typing import Any, Dict, List, Tuple
+from typing import Any, Dict, List, Optional, Tuple
 
 ACCOUNTS = 100
 OPENED_WITH = 1000
@@ -74,8 +74,10 @@ class Caller:
         status, members = self.exchange("POST", asked.path, body, {"Idempotency-Key": asked.key})
         return Answered(asked, status, members, time.monotonic() - begun)
 
-    def child(self) -> Dict[str, Any]:
-        return self.exchange("GET", "/ready", None, {})[1]
+    def child(self) -> Optional[int]:
+        """The process of the service's child, or None where it isn't ready."""
+        status, members = self.exchange("GET", "/ready", None, {})
+        return members["pid"] if status == 200 else None
 
     def exchange(self, method: str, path: str, body: Any, headers: Dict[str, str]) -> Tuple[int, Dict[str, Any]]:
         """Sends and receives; a connection that was closed while nothing was asked is opened anew."""
@@ -111,15 +113,13 @@ def deposits(name: str, count: int) -> List[Asked]:
 
 
 def kill_children(caller: Caller, seconds: float, done: threading.Event) -> int:
-    """Kills the service's child each time so many seconds have gone, and answers how often."""
+    """Kills the service's child, where it is ready, each time so many seconds have gone, and answers how often."""
     kills = 0
     while not done.wait(seconds):
-        pid = caller.child()["pid"]
-        try:
-            os.kill(pid, signal.SIGKILL)
+        child = caller.child()
+        if child is not None:
+            os.kill(child, signal.SIGKILL)
             kills += 1
-        except ProcessLookupError:
-            pass
     return kills
 
 

@@ -76,7 +76,7 @@ class Handler(BaseHTTPRequestHandler):
 
     def answer(self, answer: Answer) -> None:
         status, members = answer
-        body = json.dumps(members).encode()
+        body = json.dumps(members).encode() + b"\n"
         self.send_response(status)
         self.send_header("Content-Type", "application/json")
         self.send_header("Content-Length", str(len(body)))
