@@ -9,7 +9,7 @@ use source_meaning::{Ended, eval_here, run_here};
 use std::alloc::{AllocError, Global};
 use std::process::Abort;
 use std::test::Fail;
-use test_support::{Setting, rows, text_in};
+use test_support::{Case, Setting, hold_cases, hold_table, text_in};
 use text_trees::{last_method, tree_in, written};
 use value_texts::{failure_told, outcome_told, value_told, values_told};
 
@@ -148,31 +148,20 @@ fn lines_told(alloc: Global, program: &Checked, text: &str, wrote: bool) -> Resu
     Ok(told?)
 }
 
-/// The first row that ends otherwise or leaves something else, or nothing.
-fn other_in(alloc: Global, program: &Checked, table: &str, wrote: bool) -> Result<String, Fail> {
-    let rows = rows(alloc, table)?;
-    for row in &rows {
-        let told = lines_told(alloc, program, row.text.as_str(), wrote)?;
-        if told.as_str() != row.wanted {
-            return Ok(format!(in alloc; "{}: {told}", row.label)?);
-        }
-    }
-    Ok(String::new(alloc))
-}
-
-/// The same in the program of the class A.
-fn other(alloc: Global, table: &str, wrote: bool) -> Result<String, Fail> {
+/// Asserts that a table has so many rows, and of each how its lines end in the program of the class A, and what they leave.
+fn hold(
+    rt: &impl Abort,
+    alloc: Global,
+    table: &str,
+    count: usize,
+    wrote: bool,
+) -> Result<(), Fail> {
     let program = program(alloc)?;
-    let other = other_in(alloc, &program, table, wrote);
+    let held = hold_table(rt, alloc, table, count, |alloc, text| {
+        lines_told(alloc, &program, text, wrote)
+    });
     drop(program);
-    other
-}
-
-/// Asserts that each row is as it says.
-fn hold(rt: &impl Abort, alloc: Global, table: &str, wrote: bool) -> Result<(), Fail> {
-    let other = other(alloc, table, wrote)?;
-    assert_eq!(rt; other.as_str(), "");
-    Ok(())
+    held
 }
 
 const UNWRITTEN: &str = "
@@ -183,7 +172,7 @@ const UNWRITTEN: &str = "
 
 #[test]
 fn a_record_is_written_where_a_field_is_assigned(rt: HostRuntime) -> Result<(), Fail> {
-    hold(&rt, rt.alloc(), UNWRITTEN, false)
+    hold(&rt, rt.alloc(), UNWRITTEN, 3, false)
 }
 
 const WRITTEN: &str = "
@@ -194,7 +183,7 @@ const WRITTEN: &str = "
 fn a_failing_statement_leaves_the_locals_and_the_steps_of_that_moment(
     rt: HostRuntime,
 ) -> Result<(), Fail> {
-    hold(&rt, rt.alloc(), WRITTEN, true)
+    hold(&rt, rt.alloc(), WRITTEN, 1, true)
 }
 
 /// Computes an expression with so many calls open, and gives what it comes to.
@@ -250,61 +239,59 @@ fn expr_told(alloc: Global, program: &Checked, text: &str, depth: u32) -> Result
     Ok(told?)
 }
 
-/// A text, how many calls are open, and what it comes to and leaves.
-type Row<'a> = (&'a str, u32, &'a str);
+/// A label, an expression and how many calls are open, and what it comes to and leaves.
+type ExprCase = Case<'static, (&'static str, u32)>;
 
-/// The first row that comes to something else, or nothing.
-fn other_expr(alloc: Global, program: &Checked, rows: &[Row<'_>]) -> Result<String, Fail> {
-    for (text, depth, wanted) in rows {
-        let told = expr_told(alloc, program, text, *depth)?;
-        if told.as_str() != *wanted {
-            return Ok(format!(in alloc; "{text} at {depth}: {told}")?);
-        }
-    }
-    Ok(String::new(alloc))
+/// Asserts what the expression of each case comes to in a program, and what it leaves.
+fn hold_exprs(
+    rt: &impl Abort,
+    alloc: Global,
+    program: Checked,
+    cases: &[ExprCase],
+) -> Result<(), Fail> {
+    let held = hold_cases(rt, alloc, cases, |alloc, (text, depth)| {
+        expr_told(alloc, &program, text, *depth)
+    });
+    drop(program);
+    held
 }
 
 #[test]
 fn a_call_fails_where_64_are_open(rt: HostRuntime) -> Result<(), Fail> {
-    let rows = [
-        ("self.g()", 63, "None: 'a', 5 as it was, leaves 8"),
-        ("self.g()", 64, "RecursionError: 'a', 5 as it was, leaves 9"),
-        ("self.g()", 65, "RecursionError: 'a', 5 as it was, leaves 9"),
+    let failed = "RecursionError: 'a', 5 as it was, leaves 9";
+    let cases = [
+        (
+            "63 open",
+            ("self.g()", 63),
+            "None: 'a', 5 as it was, leaves 8",
+        ),
+        ("64 open", ("self.g()", 64), failed),
+        ("65 open", ("self.g()", 65), failed),
     ];
-    let program = program(rt.alloc())?;
-    let other = other_expr(rt.alloc(), &program, &rows);
-    drop(program);
-    assert_eq!(rt; other?.as_str(), "");
-    Ok(())
+    hold_exprs(&rt, rt.alloc(), program(rt.alloc())?, &cases)
 }
 
 #[test]
 fn a_call_of_no_method_gives_none_or_fails_where_64_are_open(rt: HostRuntime) -> Result<(), Fail> {
-    let rows = [
-        ("self.x()", 63, "None: 'a', 5 as it was, leaves 9"),
-        ("self.x()", 64, "RecursionError: 'a', 5 as it was, leaves 9"),
-        ("self.x()", 65, "RecursionError: 'a', 5 as it was, leaves 9"),
+    let failed = "RecursionError: 'a', 5 as it was, leaves 9";
+    let cases = [
+        (
+            "63 open",
+            ("self.x()", 63),
+            "None: 'a', 5 as it was, leaves 9",
+        ),
+        ("64 open", ("self.x()", 64), failed),
+        ("65 open", ("self.x()", 65), failed),
     ];
-    let program = accepted(rt.alloc(), "")?;
-    let other = other_expr(rt.alloc(), &program, &rows);
-    drop(program);
-    assert_eq!(rt; other?.as_str(), "");
-    Ok(())
+    hold_exprs(&rt, rt.alloc(), accepted(rt.alloc(), "")?, &cases)
 }
 
 #[test]
 fn a_creation_fails_without_a_step(rt: HostRuntime) -> Result<(), Fail> {
-    let rows = [
-        ("x()", 1, "RecursionError: 'a', 5 as it was, leaves 10"),
-        (
-            "A(self.k, 1)",
-            1,
-            "RecursionError: 'a', 5 as it was, leaves 10",
-        ),
+    let failed = "RecursionError: 'a', 5 as it was, leaves 10";
+    let cases = [
+        ("no class", ("x()", 1), failed),
+        ("a class", ("A(self.k, 1)", 1), failed),
     ];
-    let program = program(rt.alloc())?;
-    let other = other_expr(rt.alloc(), &program, &rows);
-    drop(program);
-    assert_eq!(rt; other?.as_str(), "");
-    Ok(())
+    hold_exprs(&rt, rt.alloc(), program(rt.alloc())?, &cases)
 }

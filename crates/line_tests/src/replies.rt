@@ -7,9 +7,8 @@ use sf_list::Sequence;
 use sf_value::{Bytes, Outcome, Ref, Reply, Text, Value};
 use source_meaning::Local;
 use std::alloc::{AllocError, Global};
-use std::process::Abort;
 use std::test::Fail;
-use test_support::{Setting, rows, text_in};
+use test_support::{Setting, hold_table, hold_text, text_in};
 
 /// A row has the result of a method f of the class A, and its body.
 const RESULT: Setting = Setting {
@@ -56,24 +55,18 @@ fn replied(alloc: Global, text: &str) -> Result<Bytes, Fail> {
     line
 }
 
-/// The label of the first row with another line, or nothing.
-fn other(alloc: Global, table: &str) -> Result<String, Fail> {
-    let rows = rows(alloc, table)?;
-    for row in &rows {
-        let line = replied(alloc, row.text.as_str())?;
-        let wanted = format!(in alloc; "{}\n", row.wanted)?;
-        if line.as_slice() != wanted.as_bytes() {
-            return Ok(String::from_str(alloc, row.label)?);
-        }
-    }
-    Ok(String::new(alloc))
+/// A line without its end.
+fn line_told(alloc: Global, line: &Bytes) -> Result<String, AllocError> {
+    let text = str::from_utf8(line.as_slice()).unwrap_or("no text");
+    String::from_str(alloc, text.strip_suffix("\n").unwrap_or("no line"))
 }
 
-/// Asserts that each row is as it says.
-fn hold(rt: &impl Abort, alloc: Global, table: &str) -> Result<(), Fail> {
-    let other = other(alloc, table)?;
-    assert_eq!(rt; other.as_str(), "");
-    Ok(())
+/// The line of the reply to a call of f.
+fn told(alloc: Global, text: &str) -> Result<String, Fail> {
+    let line = replied(alloc, text)?;
+    let told = line_told(alloc, &line);
+    drop(line);
+    Ok(told?)
 }
 
 const VALUES: &str = r#"
@@ -89,7 +82,7 @@ const VALUES: &str = r#"
 
 #[test]
 fn lines_of_values(rt: HostRuntime) -> Result<(), Fail> {
-    hold(&rt, rt.alloc(), VALUES)
+    hold_table(&rt, rt.alloc(), VALUES, 8, told)
 }
 
 const FAILURES: &str = r#"
@@ -100,7 +93,7 @@ const FAILURES: &str = r#"
 
 #[test]
 fn lines_of_failures(rt: HostRuntime) -> Result<(), Fail> {
-    hold(&rt, rt.alloc(), FAILURES)
+    hold_table(&rt, rt.alloc(), FAILURES, 3, told)
 }
 
 /// A list of an entity and a list without elements, which no program makes.
@@ -115,25 +108,33 @@ fn mixed(alloc: Global) -> Result<Value, AllocError> {
     Ok(Value::List(items))
 }
 
+/// The line of the reply with that list, without its end.
+fn mixed_line(alloc: Global, program: &Checked) -> Result<String, AllocError> {
+    let outcome = Outcome::Value(mixed(alloc)?);
+    let line = reply_line(alloc, program, outcome)?;
+    let told = line_told(alloc, &line);
+    drop(line);
+    told
+}
+
 #[test]
 fn line_of_a_list_whose_elements_differ(rt: HostRuntime) -> Result<(), Fail> {
     let program = accepted(rt.alloc(), "")?;
-    let outcome = Outcome::Value(mixed(rt.alloc())?);
-    let line = reply_line(rt.alloc(), &program, outcome);
+    let told = mixed_line(rt.alloc(), &program);
     drop(program);
-    assert_eq!(rt;
-        line?.as_slice(),
-        b"{\"id\":\"r1\",\"ok\":[\"apple\",[]],\"seq\":7}\n".as_slice()
-    );
-    Ok(())
+    hold_text(&rt, told, r#"{"id":"r1","ok":["apple",[]],"seq":7}"#)
+}
+
+/// The line of a refusal, without its end.
+fn refused_line(alloc: Global) -> Result<String, AllocError> {
+    let line = write_bad(alloc, "argument type", 7)?;
+    let told = line_told(alloc, &line);
+    drop(line);
+    told
 }
 
 #[test]
 fn line_of_a_refusal(rt: HostRuntime) -> Result<(), Fail> {
-    let refused = write_bad(rt.alloc(), "argument type", 7)?;
-    assert_eq!(rt;
-        refused.as_slice(),
-        b"{\"bad\":\"argument type\",\"line\":7}\n".as_slice()
-    );
-    Ok(())
+    let wanted = r#"{"bad":"argument type","line":7}"#;
+    hold_text(&rt, refused_line(rt.alloc()), wanted)
 }

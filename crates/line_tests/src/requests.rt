@@ -5,9 +5,8 @@ use py_tree::Checked;
 use sf_value::Ref;
 use source_meaning::{Attempt, Local};
 use std::alloc::{AllocError, Global};
-use std::process::Abort;
 use std::test::Fail;
-use test_support::{NUM, rows};
+use test_support::{NUM, hold_cases, hold_table};
 use value_texts::outcome_told;
 
 /// The line of a request that is told as a key, a method and its arguments, or as `new` and what the
@@ -91,25 +90,6 @@ fn told(alloc: Global, request: &str) -> Result<String, Fail> {
     told
 }
 
-/// The first row whose request comes to something else, or nothing.
-fn other(alloc: Global, table: &str) -> Result<String, Fail> {
-    let rows = rows(alloc, table)?;
-    for row in &rows {
-        let told = told(alloc, row.text.as_str())?;
-        if told.as_str() != row.wanted {
-            return Ok(format!(in alloc; "{}: {told}", row.label)?);
-        }
-    }
-    Ok(String::new(alloc))
-}
-
-/// Asserts that each row is as it says.
-fn hold(rt: &impl Abort, alloc: Global, table: &str) -> Result<(), Fail> {
-    let other = other(alloc, table)?;
-    assert_eq!(rt; other.as_str(), "");
-    Ok(())
-}
-
 const ARITHMETIC: &str = r#"
     a quotient below 0        | p div [-7,2]                                          | -4 reads p writes none leaves 99998
     a rest of what is below 0 | p mod [-7,2]                                          | 1 reads p writes none leaves 99998
@@ -123,7 +103,7 @@ const ARITHMETIC: &str = r#"
 
 #[test]
 fn arithmetic_is_floored_and_stays_in_range(rt: HostRuntime) -> Result<(), Fail> {
-    hold(&rt, rt.alloc(), ARITHMETIC)
+    hold_table(&rt, rt.alloc(), ARITHMETIC, 8, told)
 }
 
 const LIMITS: &str = "
@@ -135,7 +115,7 @@ const LIMITS: &str = "
 
 #[test]
 fn steps_and_depth_have_limits(rt: HostRuntime) -> Result<(), Fail> {
-    hold(&rt, rt.alloc(), LIMITS)
+    hold_table(&rt, rt.alloc(), LIMITS, 4, told)
 }
 
 const INDEXES: &str = "
@@ -147,33 +127,36 @@ const INDEXES: &str = "
 
 #[test]
 fn index_counts_from_either_end_within_the_list(rt: HostRuntime) -> Result<(), Fail> {
-    hold(&rt, rt.alloc(), INDEXES)
+    hold_table(&rt, rt.alloc(), INDEXES, 4, told)
 }
 
 /// What a call comes to that is to double a text of so many letters.
-fn doubled(alloc: Global, count: usize) -> Result<String, Fail> {
-    let mut request = String::from_str(alloc, "p twice [\"")?;
-    for _ in 0..count {
-        request.push('a')?;
-    }
-    request.push_str("\"]")?;
+fn doubled(alloc: Global, count: &usize) -> Result<String, Fail> {
+    let letters = "a".repeat(alloc, *count)?;
+    let request = format!(in alloc; "p twice [\"{letters}\"]")?;
     told(alloc, request.as_str())
 }
 
 #[test]
 fn values_weigh_at_most_so_much(rt: HostRuntime) -> Result<(), Fail> {
-    for (count, wanted) in [
+    let cases = [
         (
+            "32,767 letters",
             32_767,
             "a text of 65534 bytes reads p writes none leaves 99998",
         ),
-        (32_768, "SizeLimit reads p writes none leaves 99998"),
-        (65_536, "SizeLimit reads none writes none leaves 100000"),
-    ] {
-        let told = doubled(rt.alloc(), count)?;
-        assert_eq!(rt; told.as_str(), wanted, "{count}");
-    }
-    Ok(())
+        (
+            "32,768 letters",
+            32_768,
+            "SizeLimit reads p writes none leaves 99998",
+        ),
+        (
+            "65,536 letters",
+            65_536,
+            "SizeLimit reads none writes none leaves 100000",
+        ),
+    ];
+    hold_cases(&rt, rt.alloc(), &cases, doubled)
 }
 
 const EFFECTS: &str = r#"
@@ -186,5 +169,5 @@ const EFFECTS: &str = r#"
 
 #[test]
 fn failed_requests_write_nothing_and_keep_their_reads(rt: HostRuntime) -> Result<(), Fail> {
-    hold(&rt, rt.alloc(), EFFECTS)
+    hold_table(&rt, rt.alloc(), EFFECTS, 5, told)
 }

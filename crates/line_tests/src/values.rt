@@ -23,8 +23,8 @@ fn pair_weight(alloc: Global, text: &str) -> Result<u64, AllocError> {
 
 #[test]
 fn a_list_weighs_one_and_its_elements(rt: HostRuntime) -> Result<(), Fail> {
-    assert_eq!(rt; pair_weight(rt.alloc(), "ab")?, 5);
-    assert_eq!(rt; text_weight("ab"), 3);
+    let pair = pair_weight(rt.alloc(), "ab")?;
+    assert_eq!(rt; (pair, text_weight("ab")), (5, 3));
     Ok(())
 }
 
@@ -50,9 +50,10 @@ fn is_same_as_its_copy(alloc: Global, text: &str) -> Result<bool, AllocError> {
 
 #[test]
 fn lists_with_equal_elements_are_the_same(rt: HostRuntime) -> Result<(), Fail> {
-    assert_eq!(rt; are_same_pairs(rt.alloc(), "ab", "ab")?, true);
-    assert_eq!(rt; are_same_pairs(rt.alloc(), "ab", "ba")?, false);
-    assert_eq!(rt; is_same_as_its_copy(rt.alloc(), "ab")?, true);
+    let same = are_same_pairs(rt.alloc(), "ab", "ab")?;
+    let other = are_same_pairs(rt.alloc(), "ab", "ba")?;
+    let copy = is_same_as_its_copy(rt.alloc(), "ab")?;
+    assert_eq!(rt; (same, other, copy), (true, false, true));
     Ok(())
 }
 
@@ -81,8 +82,9 @@ fn are_same_calls(alloc: Global, first: u32, second: u32) -> Result<bool, AllocE
 
 #[test]
 fn a_request_differs_from_one_of_another_method(rt: HostRuntime) -> Result<(), Fail> {
-    assert_eq!(rt; are_same_calls(rt.alloc(), 0, 0)?, true);
-    assert_eq!(rt; are_same_calls(rt.alloc(), 0, 1)?, false);
+    let same = are_same_calls(rt.alloc(), 0, 0)?;
+    let other = are_same_calls(rt.alloc(), 0, 1)?;
+    assert_eq!(rt; (same, other), (true, false));
     Ok(())
 }
 
@@ -102,7 +104,7 @@ fn quotients_are_rounded_down(rt: HostRuntime) {
         ("least by 1", LEAST, 1, Some(LEAST), Some(0)),
         ("least by most", LEAST, MOST, Some(-2), Some(MOST - 1)),
     ] {
-        assert_eq!(rt; floor_div(x, y), quotient, "{label}");
-        assert_eq!(rt; floor_mod(x, y), remainder, "{label}");
+        let found = (floor_div(x, y), floor_mod(x, y));
+        assert_eq!(rt; found, (quotient, remainder), "{label}");
     }
 }

@@ -1,8 +1,13 @@
 //! Calls of the program over devices in memory, for the crates of tests.
 #![tactic(auto)]
 
-use operator_graph::MemWatch;
-use sf_outside::{Chooser, ListChooser, MemDisk, MemFiles, MemSink, MemSource, Source};
+mod holding;
+
+pub use holding::{Call, Wanted, hold_answer, hold_call};
+use operator_graph::{MemWatch, NoWatch};
+use sf_outside::{
+    Chooser, Files, ListChooser, MemDisk, MemFiles, MemSink, MemSource, Sink, Source,
+};
 pub use stateflow_cli::{Generator, NamedFiles, Reading, Writing, stateflow};
 use std::alloc::{AllocError, Global};
 
@@ -124,4 +129,31 @@ pub fn call(
 ) -> Result<Answer, AllocError> {
     let mut input = MemSource::new(alloc, input, faults.input)?;
     call_beside(alloc, words, file, text, &mut input, faults)
+}
+
+/// Makes a call with these words on these devices and an empty disk, and gives its status. The watch keeps nothing.
+pub fn call_devices<F: Files, S: Source, K: Sink>(
+    alloc: Global,
+    words: &[&str],
+    files: &mut F,
+    input: &mut S,
+    out: &mut K,
+    err: &mut MemSink,
+) -> Result<u8, AllocError> {
+    let words = words_of(alloc, words)?;
+    let mut disk = MemDisk::new(alloc, 0, 0, &[])?;
+    let status = stateflow(
+        alloc,
+        words.as_slice(),
+        files,
+        input,
+        out,
+        err,
+        &mut disk,
+        &mut Generator::new(),
+        &mut NoWatch,
+    );
+    drop(disk);
+    drop(words);
+    Ok(status)
 }

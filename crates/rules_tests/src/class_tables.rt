@@ -8,7 +8,7 @@ use sf_list::TryClone;
 use std::alloc::{AllocError, Global};
 use std::process::Abort;
 use std::test::Fail;
-use test_support::{Setting, rows};
+use test_support::{Setting, hold_cases, hold_table};
 use text_trees::tree_in;
 
 /// A row has what stands behind the class Item, from line 8 on.
@@ -107,23 +107,17 @@ fn told_in(alloc: Global, setting: Setting, text: &str) -> Result<String, Fail> 
     Ok(told?)
 }
 
-/// The first row that has other tables or breaks another rule, or nothing.
-fn other(alloc: Global, setting: Setting, table: &str) -> Result<String, Fail> {
-    let rows = rows(alloc, table)?;
-    for row in &rows {
-        let told = told_in(alloc, setting, row.text.as_str())?;
-        if told.as_str() != row.wanted {
-            return Ok(format!(in alloc; "{}: {told}", row.label)?);
-        }
-    }
-    Ok(String::new(alloc))
-}
-
-/// Asserts that no row is another one than it says.
-fn hold(rt: &impl Abort, other: Result<String, Fail>) -> Result<(), Fail> {
-    let other = other?;
-    assert_eq!(rt; other.as_str(), "");
-    Ok(())
+/// Asserts that a table has so many rows, and of each its tables or the rule that it breaks.
+fn hold(
+    rt: &impl Abort,
+    alloc: Global,
+    setting: Setting,
+    table: &str,
+    count: usize,
+) -> Result<(), Fail> {
+    hold_table(rt, alloc, table, count, |alloc, text| {
+        told_in(alloc, setting, text)
+    })
 }
 
 const ITEM: &str = "
@@ -132,7 +126,7 @@ const ITEM: &str = "
 
 #[test]
 fn an_item_has_its_table(rt: HostRuntime) -> Result<(), Fail> {
-    hold(&rt, other(rt.alloc(), MEMBERS, ITEM))
+    hold(&rt, rt.alloc(), MEMBERS, ITEM, 1)
 }
 
 const CLASSES: &str = "
@@ -143,7 +137,7 @@ const CLASSES: &str = "
 
 #[test]
 fn names_of_classes_come_first(rt: HostRuntime) -> Result<(), Fail> {
-    hold(&rt, other(rt.alloc(), BEHIND, CLASSES))
+    hold(&rt, rt.alloc(), BEHIND, CLASSES, 3)
 }
 
 const PARAMETERS: &str = "
@@ -155,7 +149,7 @@ const PARAMETERS: &str = "
 
 #[test]
 fn parameters_are_told_in_order(rt: HostRuntime) -> Result<(), Fail> {
-    hold(&rt, other(rt.alloc(), MEMBERS, PARAMETERS))
+    hold(&rt, rt.alloc(), MEMBERS, PARAMETERS, 4)
 }
 
 const METHODS: &str = "
@@ -167,7 +161,7 @@ const METHODS: &str = "
 
 #[test]
 fn methods_have_names_and_results(rt: HostRuntime) -> Result<(), Fail> {
-    hold(&rt, other(rt.alloc(), MEMBERS, METHODS))
+    hold(&rt, rt.alloc(), MEMBERS, METHODS, 4)
 }
 
 const RESULTS: &str = "
@@ -177,7 +171,7 @@ const RESULTS: &str = "
 
 #[test]
 fn types_are_told_at_their_parts(rt: HostRuntime) -> Result<(), Fail> {
-    hold(&rt, other(rt.alloc(), MEMBERS, RESULTS))
+    hold(&rt, rt.alloc(), MEMBERS, RESULTS, 2)
 }
 
 const INIT_RESULTS: &str = "
@@ -188,7 +182,7 @@ const INIT_RESULTS: &str = "
 
 #[test]
 fn an_init_gives_nothing(rt: HostRuntime) -> Result<(), Fail> {
-    hold(&rt, other(rt.alloc(), CLASS, INIT_RESULTS))
+    hold(&rt, rt.alloc(), CLASS, INIT_RESULTS, 3)
 }
 
 const DECLARED: &str = "
@@ -201,7 +195,7 @@ const DECLARED: &str = "
 
 #[test]
 fn an_init_declares_fields(rt: HostRuntime) -> Result<(), Fail> {
-    hold(&rt, other(rt.alloc(), INIT, DECLARED))
+    hold(&rt, rt.alloc(), INIT, DECLARED, 5)
 }
 
 const COMPUTED: &str = "
@@ -212,7 +206,7 @@ const COMPUTED: &str = "
 
 #[test]
 fn an_init_only_computes(rt: HostRuntime) -> Result<(), Fail> {
-    hold(&rt, other(rt.alloc(), INIT, COMPUTED))
+    hold(&rt, rt.alloc(), INIT, COMPUTED, 3)
 }
 
 const KEYS: &str = "
@@ -224,7 +218,7 @@ const KEYS: &str = "
 
 #[test]
 fn a_key_is_one_field(rt: HostRuntime) -> Result<(), Fail> {
-    hold(&rt, other(rt.alloc(), KEY, KEYS))
+    hold(&rt, rt.alloc(), KEY, KEYS, 4)
 }
 
 const NO_KEYS: &str = "
@@ -234,7 +228,7 @@ const NO_KEYS: &str = "
 
 #[test]
 fn a_class_has_a_key(rt: HostRuntime) -> Result<(), Fail> {
-    hold(&rt, other(rt.alloc(), CLASS, NO_KEYS))
+    hold(&rt, rt.alloc(), CLASS, NO_KEYS, 2)
 }
 
 /// A piece so many times, with its number in place of `#`.
@@ -249,14 +243,10 @@ fn pieces(alloc: Global, piece: &str, count: usize) -> Result<String, AllocError
 }
 
 /// What is told of so many pieces in their setting.
-fn told_of_many(
-    alloc: Global,
-    setting: Setting,
-    piece: &str,
-    count: usize,
-) -> Result<String, Fail> {
-    let text = pieces(alloc, piece, count)?;
-    let told = told_in(alloc, setting, text.as_str());
+fn told_of_many(alloc: Global, many: &(Setting, &str, usize)) -> Result<String, Fail> {
+    let (setting, piece, count) = many;
+    let text = pieces(alloc, piece, *count)?;
+    let told = told_in(alloc, *setting, text.as_str());
     drop(text);
     told
 }
@@ -286,33 +276,20 @@ const PROGRAM: Setting = Setting {
 #[test]
 fn there_are_256_of_a_kind(rt: HostRuntime) -> Result<(), Fail> {
     let class = "@entity\nclass C#:\n    def f(self): pass\n";
-    let rows = [
+    let method = "def m#(self) -> int: return 1\n";
+    let cases = [
         (
             "parameters",
-            LAST_PARAMETERS,
-            "a#: int,\n",
-            257,
+            (LAST_PARAMETERS, "a#: int,\n", 257),
             "TooMany 264:9",
         ),
         (
             "fields",
-            INIT,
-            "self.f#: int = cost\n",
-            255,
+            (INIT, "self.f#: int = cost\n", 255),
             "TooMany 260:14",
         ),
-        (
-            "methods",
-            CLASS,
-            "def m#(self) -> int: return 1\n",
-            257,
-            "TooMany 259:9",
-        ),
-        ("classes", PROGRAM, class, 257, "TooMany 770:7"),
+        ("methods", (CLASS, method, 257), "TooMany 259:9"),
+        ("classes", (PROGRAM, class, 257), "TooMany 770:7"),
     ];
-    for (label, setting, piece, count, wanted) in rows {
-        let told = told_of_many(rt.alloc(), setting, piece, count)?;
-        assert_eq!(rt; told.as_str(), wanted, "{label}");
-    }
-    Ok(())
+    hold_cases(&rt, rt.alloc(), &cases, told_of_many)
 }

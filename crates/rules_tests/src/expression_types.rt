@@ -7,9 +7,8 @@ use entity_types::{FlowEnv, Tables, condition, narrow, narrow_here, type_expr};
 use py_parser::Parsed;
 use py_tree::{Expr, Stmt, StmtKind, Ty};
 use std::alloc::Global;
-use std::process::Abort;
 use std::test::Fail;
-use test_support::{Setting, rows};
+use test_support::{Setting, hold_table};
 use text_trees::written;
 
 /// A row has the lines of a method f, from line 10 on. Of its parameters `sure` stands for a local that
@@ -71,25 +70,6 @@ fn told(alloc: Global, text: &str) -> Result<String, Fail> {
     told
 }
 
-/// The first row that has another type or breaks another rule, or nothing.
-fn other(alloc: Global, table: &str) -> Result<String, Fail> {
-    let rows = rows(alloc, table)?;
-    for row in &rows {
-        let told = told(alloc, row.text.as_str())?;
-        if told.as_str() != row.wanted {
-            return Ok(format!(in alloc; "{}: {told}", row.label)?);
-        }
-    }
-    Ok(String::new(alloc))
-}
-
-/// Asserts that each row is as it says.
-fn hold(rt: &impl Abort, alloc: Global, table: &str) -> Result<(), Fail> {
-    let other = other(alloc, table)?;
-    assert_eq!(rt; other.as_str(), "");
-    Ok(())
-}
-
 const NAMES: &str = "
     a number                | 5        | int
     None                    | None     | None
@@ -105,7 +85,7 @@ const NAMES: &str = "
 
 #[test]
 fn a_name_is_a_local_that_is_assigned(rt: HostRuntime) -> Result<(), Fail> {
-    hold(&rt, rt.alloc(), NAMES)
+    hold_table(&rt, rt.alloc(), NAMES, 10, told)
 }
 
 const FIELDS: &str = "
@@ -117,7 +97,7 @@ const FIELDS: &str = "
 
 #[test]
 fn a_field_is_one_of_self(rt: HostRuntime) -> Result<(), Fail> {
-    hold(&rt, rt.alloc(), FIELDS)
+    hold_table(&rt, rt.alloc(), FIELDS, 4, told)
 }
 
 const CALLS: &str = "
@@ -130,7 +110,7 @@ const CALLS: &str = "
 
 #[test]
 fn a_call_is_of_a_method_of_an_entity(rt: HostRuntime) -> Result<(), Fail> {
-    hold(&rt, rt.alloc(), CALLS)
+    hold_table(&rt, rt.alloc(), CALLS, 5, told)
 }
 
 const ARGUMENTS: &str = "
@@ -142,7 +122,7 @@ const ARGUMENTS: &str = "
 
 #[test]
 fn arguments_are_told_one_by_one(rt: HostRuntime) -> Result<(), Fail> {
-    hold(&rt, rt.alloc(), ARGUMENTS)
+    hold_table(&rt, rt.alloc(), ARGUMENTS, 4, told)
 }
 
 const CREATIONS: &str = "
@@ -154,7 +134,7 @@ const CREATIONS: &str = "
 
 #[test]
 fn a_creation_takes_what_init_takes(rt: HostRuntime) -> Result<(), Fail> {
-    hold(&rt, rt.alloc(), CREATIONS)
+    hold_table(&rt, rt.alloc(), CREATIONS, 4, told)
 }
 
 const FUNCTIONS: &str = "
@@ -169,7 +149,7 @@ const FUNCTIONS: &str = "
 
 #[test]
 fn functions_ask_for_their_operands(rt: HostRuntime) -> Result<(), Fail> {
-    hold(&rt, rt.alloc(), FUNCTIONS)
+    hold_table(&rt, rt.alloc(), FUNCTIONS, 7, told)
 }
 
 const INDEXES: &str = "
@@ -181,7 +161,7 @@ const INDEXES: &str = "
 
 #[test]
 fn an_index_is_an_int_into_a_list(rt: HostRuntime) -> Result<(), Fail> {
-    hold(&rt, rt.alloc(), INDEXES)
+    hold_table(&rt, rt.alloc(), INDEXES, 4, told)
 }
 
 const LISTS: &str = "
@@ -194,7 +174,7 @@ const LISTS: &str = "
 
 #[test]
 fn a_list_has_a_type_for_its_elements(rt: HostRuntime) -> Result<(), Fail> {
-    hold(&rt, rt.alloc(), LISTS)
+    hold_table(&rt, rt.alloc(), LISTS, 5, told)
 }
 
 const OPERATORS: &str = "
@@ -209,7 +189,7 @@ const OPERATORS: &str = "
 
 #[test]
 fn an_operator_has_two_sides_of_one_type(rt: HostRuntime) -> Result<(), Fail> {
-    hold(&rt, rt.alloc(), OPERATORS)
+    hold_table(&rt, rt.alloc(), OPERATORS, 7, told)
 }
 
 const TRUTHS: &str = "
@@ -224,7 +204,7 @@ const TRUTHS: &str = "
 
 #[test]
 fn operands_know_what_those_before_show(rt: HostRuntime) -> Result<(), Fail> {
-    hold(&rt, rt.alloc(), TRUTHS)
+    hold_table(&rt, rt.alloc(), TRUTHS, 7, told)
 }
 
 const COMPARISONS: &str = "
@@ -238,7 +218,7 @@ const COMPARISONS: &str = "
 
 #[test]
 fn a_comparison_has_sides_that_compare(rt: HostRuntime) -> Result<(), Fail> {
-    hold(&rt, rt.alloc(), COMPARISONS)
+    hold_table(&rt, rt.alloc(), COMPARISONS, 6, told)
 }
 
 const CONDITIONALS: &str = "
@@ -251,7 +231,7 @@ const CONDITIONALS: &str = "
 
 #[test]
 fn a_conditional_joins_its_parts(rt: HostRuntime) -> Result<(), Fail> {
-    hold(&rt, rt.alloc(), CONDITIONALS)
+    hold_table(&rt, rt.alloc(), CONDITIONALS, 5, told)
 }
 
 /// The test that is the row's line of this number.
@@ -279,20 +259,21 @@ fn narrowed(alloc: Global, point: &Point) -> Result<String, Fail> {
     Ok(format!(in alloc; "{so}; {not_so}; {still}")?)
 }
 
+/// The same of the test that is a row.
+fn told_of_test(alloc: Global, text: &str) -> Result<String, Fail> {
+    let point = point_of(alloc, METHOD, text)?;
+    let told = narrowed(alloc, &point);
+    drop(point);
+    told
+}
+
 const NARROWED: &str = "
     not None | not (maybe is None) | maybe,sure; sure; sure
 ";
 
 #[test]
 fn a_test_narrows_a_copy(rt: HostRuntime) -> Result<(), Fail> {
-    let rows = rows(rt.alloc(), NARROWED)?;
-    for row in &rows {
-        let point = point_of(rt.alloc(), METHOD, row.text.as_str())?;
-        let told = narrowed(rt.alloc(), &point);
-        drop(point);
-        assert_eq!(rt; told?.as_str(), row.wanted, "{}", row.label);
-    }
-    Ok(())
+    hold_table(&rt, rt.alloc(), NARROWED, 1, told_of_test)
 }
 
 /// The names that are surely not None once a test holds, and once it doesn't either.
@@ -305,20 +286,21 @@ fn narrowed_here(alloc: Global, tree: &Parsed, env: &mut FlowEnv) -> Result<Stri
     Ok(format!(in alloc; "{so}; {then}")?)
 }
 
+/// The same of the test that is a row.
+fn told_here(alloc: Global, text: &str) -> Result<String, Fail> {
+    let mut point = point_of(alloc, METHOD, text)?;
+    let told = narrowed_here(alloc, &point.tree, &mut point.env);
+    drop(point);
+    told
+}
+
 const NARROWED_HERE: &str = "
     or shows where it doesn't hold | flag or maybe is None | sure; maybe,sure
 ";
 
 #[test]
 fn a_test_narrows_in_place(rt: HostRuntime) -> Result<(), Fail> {
-    let rows = rows(rt.alloc(), NARROWED_HERE)?;
-    for row in &rows {
-        let mut point = point_of(rt.alloc(), METHOD, row.text.as_str())?;
-        let told = narrowed_here(rt.alloc(), &point.tree, &mut point.env);
-        drop(point);
-        assert_eq!(rt; told?.as_str(), row.wanted, "{}", row.label);
-    }
-    Ok(())
+    hold_table(&rt, rt.alloc(), NARROWED_HERE, 1, told_here)
 }
 
 /// Whether the last line is a condition where those before hold, or the rule that it breaks.
@@ -340,6 +322,14 @@ fn judged(
     }
 }
 
+/// The same of the lines of a row.
+fn told_of_conditions(alloc: Global, text: &str) -> Result<String, Fail> {
+    let mut point = point_of(alloc, METHOD, text)?;
+    let told = judged(alloc, &point.tree, &point.tables, &mut point.env);
+    drop(point);
+    told
+}
+
 const CONDITIONS: &str = "
     what may be None     | maybe < 5                     | NoneUse 10:15
     what is shown before | not (maybe is None)↵maybe < 5 | a condition
@@ -348,12 +338,5 @@ const CONDITIONS: &str = "
 
 #[test]
 fn a_condition_is_bool(rt: HostRuntime) -> Result<(), Fail> {
-    let rows = rows(rt.alloc(), CONDITIONS)?;
-    for row in &rows {
-        let mut point = point_of(rt.alloc(), METHOD, row.text.as_str())?;
-        let told = judged(rt.alloc(), &point.tree, &point.tables, &mut point.env);
-        drop(point);
-        assert_eq!(rt; told?.as_str(), row.wanted, "{}", row.label);
-    }
-    Ok(())
+    hold_table(&rt, rt.alloc(), CONDITIONS, 3, told_of_conditions)
 }

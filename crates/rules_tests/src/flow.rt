@@ -17,7 +17,7 @@ use sf_list::{Sequence, TryClone};
 use std::alloc::{AllocError, Global};
 use std::process::Abort;
 use std::test::Fail;
-use test_support::{Setting, rows};
+use test_support::{Setting, hold_table};
 use text_trees::{last_method, tree_in, written};
 
 /// A row has the lines of a method f that gives nothing, from line 8 on.
@@ -113,23 +113,17 @@ fn told(alloc: Global, setting: Setting, text: &str) -> Result<String, Fail> {
     told
 }
 
-/// The first row that has other locals or breaks another rule, or nothing.
-fn other(alloc: Global, setting: Setting, table: &str) -> Result<String, Fail> {
-    let rows = rows(alloc, table)?;
-    for row in &rows {
-        let told = told(alloc, setting, row.text.as_str())?;
-        if told.as_str() != row.wanted {
-            return Ok(format!(in alloc; "{}: {told}", row.label)?);
-        }
-    }
-    Ok(String::new(alloc))
-}
-
-/// Asserts that no row is another one than it says.
-fn hold(rt: &impl Abort, other: Result<String, Fail>) -> Result<(), Fail> {
-    let other = other?;
-    assert_eq!(rt; other.as_str(), "");
-    Ok(())
+/// Asserts that a table has so many rows, and of each its locals or the rule that it breaks.
+fn hold(
+    rt: &impl Abort,
+    alloc: Global,
+    setting: Setting,
+    table: &str,
+    count: usize,
+) -> Result<(), Fail> {
+    hold_table(rt, alloc, table, count, |alloc, text| {
+        told(alloc, setting, text)
+    })
 }
 
 const TYPED: &str = "
@@ -142,7 +136,7 @@ const TYPED: &str = "
 
 #[test]
 fn a_local_keeps_the_type_of_its_first_assignment(rt: HostRuntime) -> Result<(), Fail> {
-    hold(&rt, other(rt.alloc(), ENDS, TYPED))
+    hold(&rt, rt.alloc(), ENDS, TYPED, 5)
 }
 
 const NARROWED: &str = "
@@ -152,7 +146,7 @@ const NARROWED: &str = "
 
 #[test]
 fn an_assignment_narrows_and_widens(rt: HostRuntime) -> Result<(), Fail> {
-    hold(&rt, other(rt.alloc(), ENDS, NARROWED))
+    hold(&rt, rt.alloc(), ENDS, NARROWED, 2)
 }
 
 const WAYS: &str = "
@@ -164,7 +158,7 @@ const WAYS: &str = "
 
 #[test]
 fn a_name_is_assigned_where_it_is_on_each_way(rt: HostRuntime) -> Result<(), Fail> {
-    hold(&rt, other(rt.alloc(), ENDS, WAYS))
+    hold(&rt, rt.alloc(), ENDS, WAYS, 4)
 }
 
 const FORS: &str = "
@@ -175,7 +169,7 @@ const FORS: &str = "
 
 #[test]
 fn the_name_of_a_for_is_as_assigned_as_before(rt: HostRuntime) -> Result<(), Fail> {
-    hold(&rt, other(rt.alloc(), ENDS, FORS))
+    hold(&rt, rt.alloc(), ENDS, FORS, 3)
 }
 
 const HEADS: &str = "
@@ -185,7 +179,7 @@ const HEADS: &str = "
 
 #[test]
 fn the_head_of_a_loop_forgets_what_its_body_assigns(rt: HostRuntime) -> Result<(), Fail> {
-    hold(&rt, other(rt.alloc(), ENDS, HEADS))
+    hold(&rt, rt.alloc(), ENDS, HEADS, 2)
 }
 
 const LOOPS: &str = "
@@ -196,7 +190,7 @@ const LOOPS: &str = "
 
 #[test]
 fn behind_while_true_only_breaks_count(rt: HostRuntime) -> Result<(), Fail> {
-    hold(&rt, other(rt.alloc(), ENDS, LOOPS))
+    hold(&rt, rt.alloc(), ENDS, LOOPS, 3)
 }
 
 const UNREACHED: &str = "
@@ -206,7 +200,7 @@ const UNREACHED: &str = "
 
 #[test]
 fn what_cannot_be_reached_is_not_looked_at(rt: HostRuntime) -> Result<(), Fail> {
-    hold(&rt, other(rt.alloc(), ENDS, UNREACHED))
+    hold(&rt, rt.alloc(), ENDS, UNREACHED, 2)
 }
 
 const LOOP_WORDS: &str = "
@@ -217,7 +211,7 @@ const LOOP_WORDS: &str = "
 
 #[test]
 fn break_and_continue_stand_in_loops(rt: HostRuntime) -> Result<(), Fail> {
-    hold(&rt, other(rt.alloc(), ENDS, LOOP_WORDS))
+    hold(&rt, rt.alloc(), ENDS, LOOP_WORDS, 3)
 }
 
 const FIELDS: &str = "
@@ -230,7 +224,7 @@ const FIELDS: &str = "
 
 #[test]
 fn a_field_is_assigned_unless_it_is_the_key(rt: HostRuntime) -> Result<(), Fail> {
-    hold(&rt, other(rt.alloc(), ENDS, FIELDS))
+    hold(&rt, rt.alloc(), ENDS, FIELDS, 5)
 }
 
 const COMBINED: &str = "
@@ -242,7 +236,7 @@ const COMBINED: &str = "
 
 #[test]
 fn what_is_combined_is_read_first(rt: HostRuntime) -> Result<(), Fail> {
-    hold(&rt, other(rt.alloc(), ENDS, COMBINED))
+    hold(&rt, rt.alloc(), ENDS, COMBINED, 4)
 }
 
 const ENDED: &str = "
@@ -251,7 +245,7 @@ const ENDED: &str = "
 
 #[test]
 fn a_method_of_nothing_may_end(rt: HostRuntime) -> Result<(), Fail> {
-    hold(&rt, other(rt.alloc(), ENDS, ENDED))
+    hold(&rt, rt.alloc(), ENDS, ENDED, 1)
 }
 
 const GIVEN: &str = "
@@ -264,7 +258,7 @@ const GIVEN: &str = "
 
 #[test]
 fn a_method_gives_what_it_is_to_give(rt: HostRuntime) -> Result<(), Fail> {
-    hold(&rt, other(rt.alloc(), GIVES, GIVEN))
+    hold(&rt, rt.alloc(), GIVES, GIVEN, 5)
 }
 
 /// A row has the declarations behind that of the key.
@@ -292,6 +286,14 @@ fn judged(alloc: Global, tree: &Parsed) -> Result<String, Fail> {
     }
 }
 
+/// The same of the declarations of a row.
+fn told_of_init(alloc: Global, text: &str) -> Result<String, Fail> {
+    let tree = tree_in(alloc, INIT, text)?;
+    let told = judged(alloc, &tree);
+    drop(tree);
+    told
+}
+
 const DECLARED: &str = "
     a number            | self.cost: int = 0    | keeps
     a text for a number | self.cost: int = code | Mismatch 5:26
@@ -299,14 +301,7 @@ const DECLARED: &str = "
 
 #[test]
 fn a_program_is_checked_with_its_init(rt: HostRuntime) -> Result<(), Fail> {
-    let rows = rows(rt.alloc(), DECLARED)?;
-    for row in &rows {
-        let tree = tree_in(rt.alloc(), INIT, row.text.as_str())?;
-        let told = judged(rt.alloc(), &tree);
-        drop(tree);
-        assert_eq!(rt; told?.as_str(), row.wanted, "{}", row.label);
-    }
-    Ok(())
+    hold_table(&rt, rt.alloc(), DECLARED, 2, told_of_init)
 }
 
 /// A row has the lines of a method f, from line 7 on. Its parameter `sure` is surely not None.
@@ -353,6 +348,14 @@ fn walked(
     }
 }
 
+/// The same of the lines of a row.
+fn told_of_walk(alloc: Global, text: &str) -> Result<String, Fail> {
+    let mut point = point_of(alloc, KNOWING, text)?;
+    let told = walked(alloc, &point.tree, &point.tables, &mut point.env);
+    drop(point);
+    Ok(told?)
+}
+
 const WALKED: &str = "
     None is given             | sure = None       | goes on, n,sure,flag are assigned
     a number is given         | sure = 1          | goes on, n,sure,flag are assigned, sure are not None
@@ -362,14 +365,7 @@ const WALKED: &str = "
 
 #[test]
 fn a_body_is_walked_step_by_step(rt: HostRuntime) -> Result<(), Fail> {
-    let rows = rows(rt.alloc(), WALKED)?;
-    for row in &rows {
-        let mut point = point_of(rt.alloc(), KNOWING, row.text.as_str())?;
-        let told = walked(rt.alloc(), &point.tree, &point.tables, &mut point.env);
-        drop(point);
-        assert_eq!(rt; told?.as_str(), row.wanted, "{}", row.label);
-    }
-    Ok(())
+    hold_table(&rt, rt.alloc(), WALKED, 4, told_of_walk)
 }
 
 /// What is known at the head of a loop.
@@ -381,13 +377,21 @@ fn head_of(alloc: Global, env: &FlowEnv, line: &Stmt) -> Result<FlowEnv, Fail> {
     }
 }
 
-/// The same of the loop that is a row.
+/// The same of the loop that is the first line.
 fn head_told(alloc: Global, point: &Point) -> Result<String, Fail> {
     let line = written(&point.tree).get(0).ok_or("no line")?;
     let head = head_of(alloc, &point.env, line)?;
     let told = known(alloc, &point.tree.names, &head);
     drop(head);
     Ok(told?)
+}
+
+/// The same of the loop that is a row.
+fn told_of_loop(alloc: Global, text: &str) -> Result<String, Fail> {
+    let point = point_of(alloc, KNOWING, text)?;
+    let told = head_told(alloc, &point);
+    drop(point);
+    told
 }
 
 const LOOP_HEADS: &str = "
@@ -398,12 +402,5 @@ const LOOP_HEADS: &str = "
 
 #[test]
 fn a_loop_begins_with_what_stays_known(rt: HostRuntime) -> Result<(), Fail> {
-    let rows = rows(rt.alloc(), LOOP_HEADS)?;
-    for row in &rows {
-        let point = point_of(rt.alloc(), KNOWING, row.text.as_str())?;
-        let told = head_told(rt.alloc(), &point);
-        drop(point);
-        assert_eq!(rt; told?.as_str(), row.wanted, "{}", row.label);
-    }
-    Ok(())
+    hold_table(&rt, rt.alloc(), LOOP_HEADS, 3, told_of_loop)
 }

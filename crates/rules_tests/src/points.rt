@@ -59,10 +59,26 @@ fn env_of(alloc: Global, names: &Names, tables: &Tables) -> Result<FlowEnv, Fail
     })
 }
 
+/// The tables of a tree, and what is known where its last method begins.
+fn known_of(alloc: Global, tree: &Parsed) -> Result<(Tables, FlowEnv), Fail> {
+    let tables = tables_of(alloc, tree)?;
+    match env_of(alloc, &tree.names, &tables) {
+        Ok(env) => Ok((tables, env)),
+        Err(fail) => {
+            drop(tables);
+            Err(fail)
+        }
+    }
+}
+
 /// The point of a row in its setting.
 pub fn point_of(alloc: Global, setting: Setting, lines: &str) -> Result<Point, Fail> {
     let tree = tree_in(alloc, setting, lines)?;
-    let tables = tables_of(alloc, &tree)?;
-    let env = env_of(alloc, &tree.names, &tables)?;
-    Ok(Point { tree, tables, env })
+    match known_of(alloc, &tree) {
+        Ok((tables, env)) => Ok(Point { tree, tables, env }),
+        Err(fail) => {
+            drop(tree);
+            Err(fail)
+        }
+    }
 }

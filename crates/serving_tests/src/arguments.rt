@@ -1,39 +1,35 @@
 //! Arguments and results of every type, by calls that give back what they take.
 
-use crate::echo::answers;
+use crate::echo::{answers, between};
 use std::alloc::{AllocError, Global};
-use std::process::Abort;
 use std::test::Fail;
-use test_support::rows;
+use test_support::hold_table;
 
-/// The first row of a table whose call is answered otherwise. A row has a method with its arguments,
-/// and the result, or the words of the refusal.
-fn other_call(alloc: Global, table: &str, count: usize) -> Result<String, AllocError> {
-    let rows = rows(alloc, table)?;
-    for row in &rows {
-        let (method, args) = row.text.as_str().split_once(" ").unwrap_or(("", ""));
-        let lines = format!(in alloc;
-            "{{\"id\":\"a\",\"class\":\"Thing\",\"new\":[\"x\"]}}\n{{\"id\":\"b\",\"class\":\"Thing\",\"key\":\"x\",\"method\":\"{method}\",\"args\":{args}}}\n"
-        )?;
-        let found = answers(alloc, lines.as_bytes())?;
-        let made = "{\"id\":\"a\",\"ok\":\"x\",\"seq\":1}\n";
-        let given = format!(in alloc; "{made}{{\"id\":\"b\",\"ok\":{},\"seq\":2}}\n", row.wanted)?;
-        let refused = format!(in alloc; "{made}{{\"bad\":\"{}\",\"line\":2}}\n", row.wanted)?;
-        if found.as_slice() != given.as_bytes() && found.as_slice() != refused.as_bytes() {
-            return String::from_str(alloc, row.label);
-        }
-    }
-    if rows.len() != count {
-        return format!(in alloc; "there are {} rows", rows.len());
-    }
-    Ok(String::new(alloc))
+/// The creation of `x`, and a call of it, with this method and these arguments.
+fn lines_of(alloc: Global, method: &str, args: &str) -> Result<String, AllocError> {
+    format!(in alloc;
+        "{{\"id\":\"a\",\"class\":\"Thing\",\"new\":[\"x\"]}}\n{{\"id\":\"b\",\"class\":\"Thing\",\"key\":\"x\",\"method\":\"{method}\",\"args\":{args}}}\n"
+    )
 }
 
-/// Asserts that each row is as it says.
-fn hold_call(rt: &impl Abort, alloc: Global, table: &str, count: usize) -> Result<(), Fail> {
-    let other = other_call(alloc, table, count)?;
-    assert_eq!(rt; other.as_str(), "");
-    Ok(())
+/// The result of the call, or the words of its refusal.
+fn result_of(answers: &str) -> Option<&str> {
+    let second = answers.strip_prefix("{\"id\":\"a\",\"ok\":\"x\",\"seq\":1}\n")?;
+    match between(second, "{\"id\":\"b\",\"ok\":", ",\"seq\":2}\n") {
+        Some(result) => Some(result),
+        None => between(second, "{\"bad\":\"", "\",\"line\":2}\n"),
+    }
+}
+
+/// What is answered to a method with its arguments.
+fn called(alloc: Global, text: &str) -> Result<String, Fail> {
+    let (method, args) = text.split_once(" ").unwrap_or(("", ""));
+    let lines = lines_of(alloc, method, args)?;
+    let answers = answers(alloc, lines.as_bytes())?;
+    Ok(String::from_str(
+        alloc,
+        result_of(answers.as_str()).unwrap_or("another answer"),
+    )?)
 }
 
 const INTS: &str = r#"
@@ -72,7 +68,7 @@ const INTS: &str = r#"
 
 #[test]
 fn ints_are_numbers_of_64_bits_or_texts(rt: HostRuntime) -> Result<(), Fail> {
-    hold_call(&rt, rt.alloc(), INTS, 31)
+    hold_table(&rt, rt.alloc(), INTS, 31, called)
 }
 
 const TYPES: &str = r#"
@@ -111,5 +107,5 @@ const TYPES: &str = r#"
 
 #[test]
 fn values_have_the_form_of_their_type(rt: HostRuntime) -> Result<(), Fail> {
-    hold_call(&rt, rt.alloc(), TYPES, 31)
+    hold_table(&rt, rt.alloc(), TYPES, 31, called)
 }

@@ -1,7 +1,8 @@
 //! A program of the greatest length, and one with one byte more.
 
-use memory_calls::{NO_FAULTS, call};
+use memory_calls::{Call, NO_FAULTS, Wanted, hold_call};
 use std::alloc::{AllocError, Global};
+use std::process::Abort;
 use std::test::Fail;
 use test_support::COUNTER;
 
@@ -18,19 +19,34 @@ fn long_counter(alloc: Global, length: usize) -> Result<Vec<u8>, AllocError> {
     Ok(text)
 }
 
+/// Asserts that a run of the counter with this length ends with a status, with nothing on its output, and tells this line.
+fn hold_length(
+    rt: &impl Abort,
+    alloc: Global,
+    length: usize,
+    status: u8,
+    line: &[u8],
+) -> Result<(), Fail> {
+    let text = long_counter(alloc, length)?;
+    assert_eq!(rt; text.len(), length);
+    let made = Call {
+        words: &RUN,
+        file: "counter.py",
+        text: &text,
+        input: b"",
+        faults: NO_FAULTS,
+    };
+    let wanted = Wanted {
+        status,
+        out: b"",
+        err: line,
+    };
+    hold_call(rt, alloc, "a program of this length", made, wanted)
+}
+
 #[test]
 fn longest_program_is_run_and_a_longer_one_refused(rt: HostRuntime) -> Result<(), Fail> {
-    let refusal = b"stateflow: counter.py:1:1: TooLong\n".as_slice();
-    for (length, status, line) in [
-        (LONGEST_PROGRAM, 0, b"".as_slice()),
-        (LONGEST_PROGRAM + 1, 1, refusal),
-    ] {
-        let text = long_counter(rt.alloc(), length)?;
-        assert_eq!(rt; text.len(), length);
-        let answer = call(rt.alloc(), &RUN, "counter.py", &text, b"", NO_FAULTS)?;
-        assert_eq!(rt; answer.status, status, "at {length}");
-        assert_eq!(rt; answer.out.bytes(), b"".as_slice());
-        assert_eq!(rt; answer.err.bytes(), line);
-    }
-    Ok(())
+    let refusal = b"stateflow: counter.py:1:1: TooLong\n";
+    hold_length(&rt, rt.alloc(), LONGEST_PROGRAM, 0, b"")?;
+    hold_length(&rt, rt.alloc(), LONGEST_PROGRAM + 1, 1, refusal)
 }

@@ -1,7 +1,8 @@
 //! The counter served by `run` and by `local`: whole, and where each call of a device fails in turn.
 
-use memory_calls::{Answer, Faults, NO_FAULTS, call};
-use std::alloc::{AllocError, Global};
+use memory_calls::{Call, Faults, NO_FAULTS, Wanted, hold_call};
+use std::alloc::Global;
+use std::process::Abort;
 use std::test::Fail;
 use test_support::COUNTER;
 
@@ -19,59 +20,126 @@ pub const REPLIES: &[u8] = b"{\"id\":\"a\",\"ok\":\"x\",\"seq\":1}
 {\"bad\":\"id reused\",\"line\":5}
 ";
 
-/// Calls with these words on the counter and its requests.
-fn serve_counter(alloc: Global, words: &[&str], faults: Faults<'_>) -> Result<Answer, AllocError> {
-    let text = COUNTER.as_bytes();
-    call(alloc, words, "counter.py", text, REQUESTS, faults)
+/// A run of the counter on its requests, one at a time.
+fn run() -> Call<'static> {
+    Call {
+        words: &["run", "counter.py", "--batch", "1"],
+        file: "counter.py",
+        text: COUNTER.as_bytes(),
+        input: REQUESTS,
+        faults: NO_FAULTS,
+    }
 }
 
-/// Runs the counter on its requests, with this word for the size of a batch.
-fn run_counter(alloc: Global, size: &str, faults: Faults<'_>) -> Result<Answer, AllocError> {
-    serve_counter(alloc, &["run", "counter.py", "--batch", size], faults)
+/// The counter and its requests, served directly.
+fn local() -> Call<'static> {
+    Call {
+        words: &["local", "counter.py"],
+        ..run()
+    }
 }
 
-/// Serves the counter and its requests directly.
-fn local_counter(alloc: Global, faults: Faults<'_>) -> Result<Answer, AllocError> {
-    serve_counter(alloc, &["local", "counter.py"], faults)
+const SERVED: Wanted<'static> = Wanted {
+    status: 0,
+    out: REPLIES,
+    err: b"",
+};
+
+const READ_FAULT: Wanted<'static> = Wanted {
+    status: 3,
+    out: b"",
+    err: b"stateflow: read fault\n",
+};
+
+const WRITE_FAULT: Wanted<'static> = Wanted {
+    status: 4,
+    out: b"",
+    err: b"stateflow: write fault\n",
+};
+
+/// A label, the calls of the devices that are to fail, and what is wanted then.
+type FaultRow = (&'static str, Faults<'static>, Wanted<'static>);
+
+/// Asserts that a call does what each row wants where the row's calls of the devices fail.
+fn hold_faults(
+    rt: &impl Abort,
+    alloc: Global,
+    made: Call<'_>,
+    rows: &[FaultRow],
+) -> Result<(), Fail> {
+    for (label, faults, wanted) in rows {
+        let made = Call {
+            faults: *faults,
+            ..made
+        };
+        hold_call(rt, alloc, label, made, *wanted)?;
+    }
+    Ok(())
+}
+
+/// The faults where these calls of the file fail.
+fn of_file(calls: &'static [u64]) -> Faults<'static> {
+    Faults {
+        file: calls,
+        ..NO_FAULTS
+    }
+}
+
+/// The faults where these calls of the input fail.
+fn of_input(calls: &'static [u64]) -> Faults<'static> {
+    Faults {
+        input: calls,
+        ..NO_FAULTS
+    }
+}
+
+/// The faults where these calls of the output fail.
+fn of_out(calls: &'static [u64]) -> Faults<'static> {
+    Faults {
+        out: calls,
+        ..NO_FAULTS
+    }
 }
 
 #[test]
 fn counter_answers_its_requests(rt: HostRuntime) -> Result<(), Fail> {
-    let answer = run_counter(rt.alloc(), "1", NO_FAULTS)?;
-    assert_eq!(rt; answer.status, 0);
-    assert_eq!(rt; answer.out.bytes(), REPLIES);
-    assert_eq!(rt; answer.err.bytes(), b"".as_slice());
-    Ok(())
+    hold_call(&rt, rt.alloc(), "run", run(), SERVED)
 }
 
 #[test]
 fn failed_read_of_the_file_is_status_3(rt: HostRuntime) -> Result<(), Fail> {
-    for call in [1, 2] {
-        let faults = Faults {
-            file: &[call],
-            ..NO_FAULTS
-        };
-        let answer = run_counter(rt.alloc(), "1", faults)?;
-        assert_eq!(rt; answer.status, 3);
-        assert_eq!(rt; answer.out.bytes(), b"".as_slice());
-        assert_eq!(rt; answer.err.bytes(), b"stateflow: read fault\n".as_slice());
-    }
-    Ok(())
+    let rows = [
+        ("the first read", of_file(&[1]), READ_FAULT),
+        ("the second read", of_file(&[2]), READ_FAULT),
+    ];
+    hold_faults(&rt, rt.alloc(), run(), &rows)
 }
 
 #[test]
 fn failed_read_of_the_input_leaves_whole_lines(rt: HostRuntime) -> Result<(), Fail> {
-    for (call, replies) in [(1, b"".as_slice()), (2, REPLIES)] {
-        let faults = Faults {
-            input: &[call],
-            ..NO_FAULTS
-        };
-        let answer = run_counter(rt.alloc(), "1", faults)?;
-        assert_eq!(rt; answer.status, 3);
-        assert_eq!(rt; answer.out.bytes(), replies);
-        assert_eq!(rt; answer.err.bytes(), b"stateflow: read fault\n".as_slice());
-    }
-    Ok(())
+    let replied = Wanted {
+        out: REPLIES,
+        ..READ_FAULT
+    };
+    let rows = [
+        ("the first read", of_input(&[1]), READ_FAULT),
+        ("the second read", of_input(&[2]), replied),
+    ];
+    hold_faults(&rt, rt.alloc(), run(), &rows)
+}
+
+/// Asserts that of the replies so many bytes are written where this call of the output fails.
+fn hold_written(rt: &impl Abort, alloc: Global, call: u64, written: usize) -> Result<(), Fail> {
+    let faults = Faults {
+        out: &[call],
+        ..NO_FAULTS
+    };
+    let wanted = Wanted {
+        out: &REPLIES[..written.min(REPLIES.len())],
+        ..WRITE_FAULT
+    };
+    let made = Call { faults, ..run() };
+    hold_call(rt, alloc, "a write", made, wanted)
 }
 
 /// The output is flushed behind the lines of each batch, and at the end.
@@ -89,71 +157,47 @@ fn failed_write_leaves_the_lines_before(rt: HostRuntime) -> Result<(), Fail> {
         (9, 162),
     ];
     for (call, written) in rows {
-        let faults = Faults {
-            out: &[call],
-            ..NO_FAULTS
-        };
-        let answer = run_counter(rt.alloc(), "1", faults)?;
-        assert_eq!(rt; answer.status, 4);
-        assert_eq!(rt; answer.out.bytes().len(), written);
-        assert!(rt; REPLIES.starts_with(answer.out.bytes()));
-        assert_eq!(rt; answer.err.bytes(), b"stateflow: write fault\n".as_slice());
+        hold_written(&rt, rt.alloc(), call, written)?;
     }
     Ok(())
+}
+
+/// The faults where these calls of the error stream fail.
+fn of_err(calls: &'static [u64]) -> Faults<'static> {
+    Faults {
+        err: calls,
+        ..NO_FAULTS
+    }
 }
 
 #[test]
 fn failed_error_stream_is_status_4(rt: HostRuntime) -> Result<(), Fail> {
-    let once = Faults {
-        err: &[1],
-        ..NO_FAULTS
+    let made = Call {
+        words: &["run", "counter.py", "--batch", "0"],
+        ..run()
     };
-    let answer = run_counter(rt.alloc(), "0", once)?;
-    assert_eq!(rt; answer.status, 4);
-    assert_eq!(rt; answer.err.bytes(), b"stateflow: write fault\n".as_slice());
-    let twice = Faults {
-        err: &[1, 2],
-        ..NO_FAULTS
+    let untold = Wanted {
+        err: b"",
+        ..WRITE_FAULT
     };
-    let answer = run_counter(rt.alloc(), "0", twice)?;
-    assert_eq!(rt; answer.status, 4);
-    assert_eq!(rt; answer.err.bytes(), b"".as_slice());
-    Ok(())
+    let rows = [
+        ("once", of_err(&[1]), WRITE_FAULT),
+        ("twice", of_err(&[1, 2]), untold),
+    ];
+    hold_faults(&rt, rt.alloc(), made, &rows)
 }
 
 #[test]
 fn local_serves_the_counter(rt: HostRuntime) -> Result<(), Fail> {
-    let answer = local_counter(rt.alloc(), NO_FAULTS)?;
-    assert_eq!(rt; answer.status, 0);
-    assert_eq!(rt; answer.out.bytes(), REPLIES);
-    assert_eq!(rt; answer.err.bytes(), b"".as_slice());
-    Ok(())
+    hold_call(&rt, rt.alloc(), "local", local(), SERVED)
 }
 
 #[test]
 fn local_tells_a_fault_of_a_device(rt: HostRuntime) -> Result<(), Fail> {
-    let file = Faults {
-        file: &[1],
-        ..NO_FAULTS
-    };
-    let input = Faults {
-        input: &[1],
-        ..NO_FAULTS
-    };
-    let out = Faults {
-        out: &[1],
-        ..NO_FAULTS
-    };
     let rows = [
-        (file, 3, b"stateflow: read fault\n".as_slice()),
-        (input, 3, b"stateflow: read fault\n"),
-        (out, 4, b"stateflow: write fault\n"),
+        ("the file", of_file(&[1]), READ_FAULT),
+        ("the input", of_input(&[1]), READ_FAULT),
+        ("the output", of_out(&[1]), WRITE_FAULT),
     ];
-    for (faults, status, line) in rows {
-        let answer = local_counter(rt.alloc(), faults)?;
-        assert_eq!(rt; answer.status, status);
-        assert_eq!(rt; answer.out.bytes(), b"".as_slice());
-        assert_eq!(rt; answer.err.bytes(), line);
-    }
-    Ok(())
+    hold_faults(&rt, rt.alloc(), local(), &rows)
 }

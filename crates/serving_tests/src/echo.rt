@@ -1,7 +1,8 @@
 //! A program that gives back what it takes, and what is answered to lines on it.
 
-use memory_calls::{NO_FAULTS, call};
+use memory_calls::{Answer, NO_FAULTS, call};
 use std::alloc::{AllocError, Global};
+use std::test::Fail;
 
 /// Methods that give back what they take, of every type.
 const ECHO: &str = "from typing import List, Optional
@@ -23,8 +24,23 @@ class Thing:
 ";
 
 /// What `local` writes for these lines.
-pub fn answers(alloc: Global, lines: &[u8]) -> Result<Vec<u8>, AllocError> {
+pub fn answers(alloc: Global, lines: &[u8]) -> Result<String, Fail> {
     let words = ["local", "a.py"];
     let answer = call(alloc, &words, "a.py", ECHO.as_bytes(), lines, NO_FAULTS)?;
-    Vec::from_slice(alloc, answer.out.bytes())
+    let told = written(alloc, &answer);
+    drop(answer);
+    Ok(told?)
+}
+
+/// What a call wrote on its output.
+pub fn written(alloc: Global, answer: &Answer) -> Result<String, AllocError> {
+    String::from_str(
+        alloc,
+        str::from_utf8(answer.out.bytes()).unwrap_or("no text"),
+    )
+}
+
+/// What stands in a text between its front and its back.
+pub fn between<'a>(text: &'a str, front: &str, back: &str) -> Option<&'a str> {
+    text.strip_prefix(front)?.strip_suffix(back)
 }

@@ -1,7 +1,8 @@
 //! A program of two classes, whose entities make and call one another.
 
-use memory_calls::{Answer, NO_FAULTS, call};
-use std::alloc::{AllocError, Global};
+use memory_calls::{Call, NO_FAULTS, Wanted, hold_call};
+use std::alloc::Global;
+use std::process::Abort;
 use std::test::Fail;
 
 /// A clerk makes a box of its own at the first call, and adds to it in a loop.
@@ -60,24 +61,29 @@ const REPLIES: &[u8] = b"{\"id\":\"a\",\"ok\":\"ann\",\"seq\":1}
 {\"error\":\"NoEntity\",\"id\":\"f\",\"message\":\"\",\"seq\":6}
 ";
 
-fn serve_boxes(alloc: Global, words: &[&str]) -> Result<Answer, AllocError> {
-    call(alloc, words, "boxes.py", BOXES, REQUESTS, NO_FAULTS)
+/// Asserts what is answered to the requests by a call with these words.
+fn hold_boxes(rt: &impl Abort, alloc: Global, words: &[&str]) -> Result<(), Fail> {
+    let made = Call {
+        words,
+        file: "boxes.py",
+        text: BOXES,
+        input: REQUESTS,
+        faults: NO_FAULTS,
+    };
+    let wanted = Wanted {
+        status: 0,
+        out: REPLIES,
+        err: b"",
+    };
+    hold_call(rt, alloc, "the boxes", made, wanted)
 }
 
 #[test]
 fn run_serves_entities_that_call_one_another(rt: HostRuntime) -> Result<(), Fail> {
-    let answer = serve_boxes(rt.alloc(), &["run", "boxes.py", "--batch", "1"])?;
-    assert_eq!(rt; answer.status, 0);
-    assert_eq!(rt; answer.out.bytes(), REPLIES);
-    assert_eq!(rt; answer.err.bytes(), b"".as_slice());
-    Ok(())
+    hold_boxes(&rt, rt.alloc(), &["run", "boxes.py", "--batch", "1"])
 }
 
 #[test]
 fn local_serves_them_the_same(rt: HostRuntime) -> Result<(), Fail> {
-    let answer = serve_boxes(rt.alloc(), &["local", "boxes.py"])?;
-    assert_eq!(rt; answer.status, 0);
-    assert_eq!(rt; answer.out.bytes(), REPLIES);
-    assert_eq!(rt; answer.err.bytes(), b"".as_slice());
-    Ok(())
+    hold_boxes(&rt, rt.alloc(), &["local", "boxes.py"])
 }

@@ -6,48 +6,56 @@ use operator_graph::NoWatch;
 use sf_outside::{ListChooser, MemSink, MemSource};
 use std::alloc::Global;
 use std::test::Fail;
-use test_support::COUNTER;
+use test_support::{COUNTER, hold_cases};
 
-/// Runs the counter on these bytes, of which three may come.
-fn run_bytes(alloc: Global, bytes: &[u8]) -> Result<Result<Tally, SessionFault>, Fail> {
+const SETTINGS: RunSettings = RunSettings {
+    batch: 64,
+    partitions: 4,
+    schedule: 0,
+    history: 10,
+    limit: 3,
+    trace: true,
+};
+
+/// Runs the counter on an input, of which three bytes may come.
+fn run_counter(
+    alloc: Global,
+    input: &mut MemSource,
+    out: &mut MemSink,
+    err: &mut MemSink,
+    chooser: &mut ListChooser,
+) -> Result<Result<Tally, SessionFault>, Fail> {
     let Ok(compiled) = compile(alloc, COUNTER.as_bytes()) else {
         return Err(Fail::from("the counter isn't compiled"));
     };
-    let settings = RunSettings {
-        batch: 64,
-        partitions: 4,
-        schedule: 0,
-        history: 10,
-        limit: 3,
-        trace: true,
-    };
-    let mut input = MemSource::new(alloc, bytes, &[])?;
-    let mut out = MemSink::new(alloc, 1000, &[])?;
-    let mut err = MemSink::new(alloc, 1000, &[])?;
-    let mut chooser = ListChooser::new(alloc, &[])?;
     Ok(run_program(
         alloc,
         compiled,
-        &settings,
-        &mut input,
-        &mut out,
-        &mut err,
-        &mut chooser,
+        &SETTINGS,
+        input,
+        out,
+        err,
+        chooser,
         &mut NoWatch,
     ))
 }
 
+/// What a run of the counter on these bytes comes to.
+fn told(alloc: Global, bytes: &str) -> Result<String, Fail> {
+    let mut input = MemSource::new(alloc, bytes.as_bytes(), &[])?;
+    let mut out = MemSink::new(alloc, 1000, &[])?;
+    let mut err = MemSink::new(alloc, 1000, &[])?;
+    let mut chooser = ListChooser::new(alloc, &[])?;
+    let answered = run_counter(alloc, &mut input, &mut out, &mut err, &mut chooser);
+    Ok(format!(in alloc; "{:?}", answered?)?)
+}
+
 #[test]
 fn limit_of_three_bytes_takes_three(rt: HostRuntime) -> Result<(), Fail> {
-    let nothing = Tally {
-        batches: 0,
-        events: 0,
-        failed: 0,
-    };
-    assert_eq!(rt; run_bytes(rt.alloc(), b"\n\n\n")?, Ok(nothing));
-    assert_eq!(rt;
-        run_bytes(rt.alloc(), b"\n\n\n\n")?,
-        Err(SessionFault::InputTooLong)
-    );
-    Ok(())
+    let three = "Ok(Tally { batches: 0, events: 0, failed: 0 })";
+    let cases = [
+        ("three bytes", "\n\n\n", three),
+        ("four bytes", "\n\n\n\n", "Err(InputTooLong)"),
+    ];
+    hold_cases(&rt, rt.alloc(), &cases, |alloc, bytes| told(alloc, bytes))
 }

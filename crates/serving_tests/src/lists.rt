@@ -1,6 +1,6 @@
 //! Elements and lengths of lists that stand in fields and in locals.
 
-use memory_calls::{NO_FAULTS, call};
+use memory_calls::{Call, NO_FAULTS, Wanted, hold_call};
 use std::test::Fail;
 
 const ROWS: &[u8] = b"from stateflow import entity
@@ -77,10 +77,17 @@ const REPLIES: &[u8] = b"{\"id\":\"a\",\"ok\":\"r\",\"seq\":1}
 
 #[test]
 fn list_is_read_before_its_index(rt: HostRuntime) -> Result<(), Fail> {
-    let words = ["local", "rows.py"];
-    let answer = call(rt.alloc(), &words, "rows.py", ROWS, REQUESTS, NO_FAULTS)?;
-    assert_eq!(rt; answer.status, 0);
-    assert_eq!(rt; answer.out.bytes(), REPLIES);
-    assert_eq!(rt; answer.err.bytes(), b"".as_slice());
-    Ok(())
+    let made = Call {
+        words: &["local", "rows.py"],
+        file: "rows.py",
+        text: ROWS,
+        input: REQUESTS,
+        faults: NO_FAULTS,
+    };
+    let wanted = Wanted {
+        status: 0,
+        out: REPLIES,
+        err: b"",
+    };
+    hold_call(&rt, rt.alloc(), "the lists", made, wanted)
 }

@@ -3,13 +3,12 @@
 ghost use Rattle.std.specs.Prelude.{None};
 
 use crate::counter::REQUESTS;
-use memory_calls::{stateflow, words_of};
-use operator_graph::NoWatch;
-use sf_outside::{Failed, ListChooser, MemDisk, MemFiles, MemSink, MemSource, Sink, Source};
+use memory_calls::call_devices;
+use sf_outside::{Failed, MemFiles, MemSink, MemSource, Sink, Source};
 use std::alloc::{AllocError, Global};
 use std::cell::Cell;
 use std::test::Fail;
-use test_support::COUNTER;
+use test_support::{COUNTER, hold_cases};
 
 /// An output that counts the bytes that it is given, for the input to see. It tells no content.
 #[derive(Drop)]
@@ -64,27 +63,17 @@ impl Source for WatchingSource<'_> {
 /// How many bytes the output had when the second piece of the input was asked for, where so many requests make a batch.
 fn written_before_second(alloc: Global, size: &str) -> Result<u64, AllocError> {
     let written = Cell::new(0);
-    let mut files = MemFiles::new(alloc, &["counter.py"], &[COUNTER.as_bytes()], &[])?;
     let mut input = WatchingSource {
         inner: MemSource::new(alloc, REQUESTS, &[])?,
         written: &written,
         reads: 0,
         at_second: 0,
     };
-    let mut out = CountingSink { written: &written };
+    let mut files = MemFiles::new(alloc, &["counter.py"], &[COUNTER.as_bytes()], &[])?;
     let mut err = MemSink::new(alloc, 1000, &[])?;
-    let words = words_of(alloc, &["run", "counter.py", "--batch", size])?;
-    let _status = stateflow(
-        alloc,
-        words.as_slice(),
-        &mut files,
-        &mut input,
-        &mut out,
-        &mut err,
-        &mut MemDisk::new(alloc, 0, 0, &[])?,
-        &mut ListChooser::new(alloc, &[])?,
-        &mut NoWatch,
-    );
+    let mut out = CountingSink { written: &written };
+    let words = ["run", "counter.py", "--batch", size];
+    call_devices(alloc, &words, &mut files, &mut input, &mut out, &mut err)?;
     Ok(input.at_second)
 }
 
@@ -92,9 +81,13 @@ fn written_before_second(alloc: Global, size: &str) -> Result<u64, AllocError> {
 /// the way of, waits on.
 #[test]
 fn lines_of_a_piece_are_answered_before_the_next_is_read(rt: HostRuntime) -> Result<(), Fail> {
-    for (size, bytes) in [("1", 54), ("2", 28), ("3", 0)] {
-        let at_second = written_before_second(rt.alloc(), size)?;
-        assert_eq!(rt; at_second, bytes, "{size}");
-    }
-    Ok(())
+    let cases = [
+        ("one at a time", "1", "54"),
+        ("two at a time", "2", "28"),
+        ("three at a time", "3", "0"),
+    ];
+    hold_cases(&rt, rt.alloc(), &cases, |alloc, size| {
+        let written = written_before_second(alloc, size)?;
+        Ok(format!(in alloc; "{written}")?)
+    })
 }

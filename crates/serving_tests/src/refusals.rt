@@ -1,33 +1,29 @@
 //! The words in which a line is refused, one cause and two together, and bytes that are no JSON.
 
-use crate::echo::answers;
-use std::alloc::{AllocError, Global};
-use std::process::Abort;
+use crate::echo::{answers, between};
+use std::alloc::Global;
 use std::test::Fail;
-use test_support::rows;
+use test_support::{Case, hold_cases, hold_table};
 
-/// The first row of a table whose line is answered otherwise than in these words.
-fn other_words(alloc: Global, table: &str, count: usize) -> Result<String, AllocError> {
-    let rows = rows(alloc, table)?;
-    for row in &rows {
-        let found = answers(alloc, row.text.as_bytes())?;
-        let refused = format!(in alloc; "{{\"bad\":\"{}\",\"line\":1}}\n", row.wanted)?;
-        let given = format!(in alloc; "{{\"id\":\"a\",\"ok\":\"{}\",\"seq\":1}}\n", row.wanted)?;
-        if found.as_slice() != refused.as_bytes() && found.as_slice() != given.as_bytes() {
-            return String::from_str(alloc, row.label);
-        }
+/// The words in which the only line is refused, or the entity that it makes with this id.
+fn answer_of<'a>(answers: &'a str, made: &str) -> &'a str {
+    match between(answers, "{\"bad\":\"", "\",\"line\":1}\n") {
+        Some(words) => words,
+        None => between(answers, made, "\",\"seq\":1}\n").unwrap_or("another answer"),
     }
-    if rows.len() != count {
-        return format!(in alloc; "there are {} rows", rows.len());
-    }
-    Ok(String::new(alloc))
 }
 
-/// Asserts that each row is as it says.
-fn hold_words(rt: &impl Abort, alloc: Global, table: &str, count: usize) -> Result<(), Fail> {
-    let other = other_words(alloc, table, count)?;
-    assert_eq!(rt; other.as_str(), "");
-    Ok(())
+/// What is answered to a line, which may make an entity with the id `a`.
+fn told_of_bytes(alloc: Global, line: &[u8]) -> Result<String, Fail> {
+    let answers = answers(alloc, line)?;
+    Ok(String::from_str(
+        alloc,
+        answer_of(answers.as_str(), "{\"id\":\"a\",\"ok\":\""),
+    )?)
+}
+
+fn told(alloc: Global, line: &str) -> Result<String, Fail> {
+    told_of_bytes(alloc, line.as_bytes())
 }
 
 const REFUSED: &str = r#"
@@ -67,57 +63,66 @@ const REFUSED: &str = r#"
 
 #[test]
 fn the_first_refusal_in_order_is_told(rt: HostRuntime) -> Result<(), Fail> {
-    hold_words(&rt, rt.alloc(), REFUSED, 32)
+    hold_table(&rt, rt.alloc(), REFUSED, 32, told)
 }
 
 /// What is answered to bytes that no row can hold.
 #[test]
 fn bytes_that_are_no_json_are_refused(rt: HostRuntime) -> Result<(), Fail> {
-    let not_json = "{\"bad\":\"not json\",\"line\":1}\n".as_bytes();
-    let lines: [&[u8]; 5] = [
-        b"\xef\xbb\xbf{\"id\":\"a\",\"class\":\"Thing\",\"new\":[\"x\"]}",
-        b"{\"id\":\"\xff\",\"class\":\"Thing\",\"new\":[\"x\"]}",
-        b"{\"id\":\"a\x01\",\"class\":\"Thing\",\"new\":[\"x\"]}",
-        b"   ",
-        b"\r",
+    let cases: [Case<'_, &[u8]>; 5] = [
+        (
+            "a mark of byte order",
+            b"\xef\xbb\xbf{\"id\":\"a\",\"class\":\"Thing\",\"new\":[\"x\"]}",
+            "not json",
+        ),
+        (
+            "a byte that is no text",
+            b"{\"id\":\"\xff\",\"class\":\"Thing\",\"new\":[\"x\"]}",
+            "not json",
+        ),
+        (
+            "a byte of 1",
+            b"{\"id\":\"a\x01\",\"class\":\"Thing\",\"new\":[\"x\"]}",
+            "not json",
+        ),
+        ("blanks", b"   ", "not json"),
+        ("a return", b"\r", "not json"),
     ];
-    for line in lines {
-        let found = answers(rt.alloc(), line)?;
-        assert_eq!(rt; found.as_slice(), not_json, "{line:?}");
+    hold_cases(&rt, rt.alloc(), &cases, |alloc, line| {
+        told_of_bytes(alloc, line)
+    })
+}
+
+/// What is answered to so many lists, each in the one before.
+fn told_of_nested(alloc: Global, depth: &usize) -> Result<String, Fail> {
+    let mut line = String::new(alloc);
+    for bracket in ["[", "]"] {
+        line.push_str(bracket.repeat(alloc, *depth)?.as_str())?;
     }
-    Ok(())
+    told(alloc, line.as_str())
 }
 
 #[test]
 fn json_nests_127_deep(rt: HostRuntime) -> Result<(), Fail> {
-    for (depth, words) in [(127, "not a request"), (128, "not json")] {
-        let mut line = String::new(rt.alloc());
-        for _ in 0..depth {
-            line.push('[')?;
-        }
-        for _ in 0..depth {
-            line.push(']')?;
-        }
-        let found = answers(rt.alloc(), line.as_bytes())?;
-        let wanted = format!(in rt.alloc(); "{{\"bad\":\"{words}\",\"line\":1}}\n")?;
-        assert_eq!(rt; found.as_slice(), wanted.as_bytes(), "{depth}");
-    }
-    Ok(())
+    let cases = [("127", 127, "not a request"), ("128", 128, "not json")];
+    hold_cases(&rt, rt.alloc(), &cases, told_of_nested)
+}
+
+/// What is answered to a creation whose id has 63 bytes with this end behind them.
+fn told_of_id(alloc: Global, end: &&str) -> Result<String, Fail> {
+    let most = "0123456789abcdef0123456789abcdef0123456789abcdef0123456789abcde";
+    let line = format!(in alloc; "{{\"id\":\"{most}{end}\",\"class\":\"Thing\",\"new\":[\"x\"]}}")?;
+    let made = format!(in alloc; "{{\"id\":\"{most}{end}\",\"ok\":\"")?;
+    let answers = answers(alloc, line.as_bytes())?;
+    Ok(String::from_str(alloc, answer_of(answers.as_str(), made.as_str()))?)
 }
 
 #[test]
 fn an_id_has_1_to_64_bytes(rt: HostRuntime) -> Result<(), Fail> {
-    let alloc = rt.alloc();
-    let most = "0123456789abcdef0123456789abcdef0123456789abcdef0123456789abcde";
-    for (end, is_id) in [("f", true), ("ff", false), ("é", false)] {
-        let line = format!(in alloc;
-            "{{\"id\":\"{most}{end}\",\"class\":\"Thing\",\"new\":[\"x\"]}}"
-        )?;
-        let found = answers(alloc, line.as_bytes())?;
-        let given = format!(in alloc; "{{\"id\":\"{most}{end}\",\"ok\":\"x\",\"seq\":1}}\n")?;
-        let refused = "{\"bad\":\"not a request\",\"line\":1}\n";
-        let wanted = if is_id { given.as_str() } else { refused };
-        assert_eq!(rt; found.as_slice(), wanted.as_bytes(), "{end}");
-    }
-    Ok(())
+    let cases = [
+        ("64 bytes", "f", "x"),
+        ("65 bytes", "ff", "not a request"),
+        ("64 letters in 65 bytes", "é", "not a request"),
+    ];
+    hold_cases(&rt, rt.alloc(), &cases, told_of_id)
 }

@@ -1,6 +1,6 @@
 //! Lines with an id that was used before.
 
-use memory_calls::{NO_FAULTS, call};
+use memory_calls::{Call, NO_FAULTS, Wanted, hold_call};
 use std::test::Fail;
 use test_support::COUNTER;
 
@@ -33,10 +33,17 @@ const ANSWERED: &str = r#"{"id":"a","ok":"x","seq":1}
 
 #[test]
 fn a_repeat_is_answered_by_its_line_again(rt: HostRuntime) -> Result<(), Fail> {
-    let words = ["run", "a.py", "--batch", "1"];
-    let (text, input) = (COUNTER.as_bytes(), REPEATED.as_bytes());
-    let answer = call(rt.alloc(), &words, "a.py", text, input, NO_FAULTS)?;
-    assert_eq!(rt; answer.status, 0);
-    assert_eq!(rt; answer.out.bytes(), ANSWERED.as_bytes());
-    Ok(())
+    let made = Call {
+        words: &["run", "a.py", "--batch", "1"],
+        file: "a.py",
+        text: COUNTER.as_bytes(),
+        input: REPEATED.as_bytes(),
+        faults: NO_FAULTS,
+    };
+    let wanted = Wanted {
+        status: 0,
+        out: ANSWERED.as_bytes(),
+        err: b"",
+    };
+    hold_call(&rt, rt.alloc(), "the repeats", made, wanted)
 }

@@ -1,17 +1,10 @@
 //! Lines that are requests and lines that are none, by what is answered to them.
 
+use crate::echo::{between, written};
 use memory_calls::{NO_FAULTS, call};
-use std::alloc::{AllocError, Global};
-use std::process::Abort;
+use std::alloc::Global;
 use std::test::Fail;
-use test_support::{COUNTER, rows};
-
-/// What is answered to a line, where this text is run.
-fn answer_to(alloc: Global, text: &str, line: &[u8]) -> Result<Vec<u8>, AllocError> {
-    let words = ["run", "a.py", "--batch", "1"];
-    let answer = call(alloc, &words, "a.py", text.as_bytes(), line, NO_FAULTS)?;
-    Vec::from_slice(alloc, answer.out.bytes())
-}
+use test_support::{COUNTER, hold_cases, hold_table};
 
 /// What a table calls an answer that refuses the one line of the input.
 const REFUSALS: [&str; 7] = [
@@ -24,56 +17,36 @@ const REFUSALS: [&str; 7] = [
     "argument type",
 ];
 
-/// The answer to the creation `a` of the entity `x`.
-const MADE: &[u8] = b"{\"id\":\"a\",\"ok\":\"x\",\"seq\":1}\n";
-
-/// The answer to the call `b` of an entity that isn't there.
-const NO_ENTITY: &[u8] = b"{\"error\":\"NoEntity\",\"id\":\"b\",\"message\":\"\",\"seq\":1}\n";
-
 /// The refusal that an answer is, where it is one.
-fn refusal_of(alloc: Global, answer: &[u8]) -> Result<Option<&'static str>, AllocError> {
-    for refusal in REFUSALS {
-        let line = format!(in alloc; "{{\"bad\":\"{refusal}\",\"line\":1}}\n")?;
-        if answer == line.as_bytes() {
-            return Ok(Some(refusal));
-        }
+fn refusal_of(answer: &str) -> Option<&str> {
+    let words = between(answer, "{\"bad\":\"", "\",\"line\":1}\n")?;
+    if REFUSALS.contains(&words) {
+        return Some(words);
     }
-    Ok(None)
+    None
 }
 
-/// What a table calls an answer.
-fn name_of(alloc: Global, answer: &[u8]) -> Result<&'static str, AllocError> {
-    if answer == MADE {
-        return Ok("made");
+/// What a table calls an answer: the creation `a` of the entity `x`, the call `b` of an entity that isn't there, or a refusal.
+fn name_of(answer: &str) -> &str {
+    match answer {
+        "{\"id\":\"a\",\"ok\":\"x\",\"seq\":1}\n" => "made",
+        "{\"error\":\"NoEntity\",\"id\":\"b\",\"message\":\"\",\"seq\":1}\n" => "no entity",
+        _ => refusal_of(answer).unwrap_or("another"),
     }
-    if answer == NO_ENTITY {
-        return Ok("no entity");
-    }
-    Ok(refusal_of(alloc, answer)?.unwrap_or("another"))
 }
 
-/// The first row of a table whose line is answered otherwise, where this text is run, or nothing
-/// where a table of so many rows has none.
-fn other(alloc: Global, text: &str, table: &str, count: usize) -> Result<String, AllocError> {
-    let rows = rows(alloc, table)?;
-    for row in &rows {
-        let answer = answer_to(alloc, text, row.text.as_bytes())?;
-        let found = name_of(alloc, &answer)?;
-        if found != row.wanted {
-            return format!(in alloc; "{} is answered by {found}", row.label);
-        }
-    }
-    if rows.len() != count {
-        return format!(in alloc; "there are {} rows", rows.len());
-    }
-    Ok(String::new(alloc))
+/// What is answered to a line, where this text is run.
+fn told_by(alloc: Global, text: &str, line: &[u8]) -> Result<String, Fail> {
+    let words = ["run", "a.py", "--batch", "1"];
+    let answer = call(alloc, &words, "a.py", text.as_bytes(), line, NO_FAULTS)?;
+    let written = written(alloc, &answer);
+    drop(answer);
+    Ok(String::from_str(alloc, name_of(written?.as_str()))?)
 }
 
-/// Asserts that each row is as it says.
-fn hold(rt: &impl Abort, alloc: Global, text: &str, table: &str, count: usize) -> Result<(), Fail> {
-    let other = other(alloc, text, table, count)?;
-    assert_eq!(rt; other.as_str(), "");
-    Ok(())
+/// The same where the counter is run.
+fn told(alloc: Global, line: &str) -> Result<String, Fail> {
+    told_by(alloc, COUNTER, line.as_bytes())
 }
 
 const REQUESTS: &str = r#"
@@ -86,11 +59,18 @@ const REQUESTS: &str = r#"
 
 #[test]
 fn lines_that_are_requests(rt: HostRuntime) -> Result<(), Fail> {
-    hold(&rt, rt.alloc(), COUNTER, REQUESTS, 5)?;
+    hold_table(&rt, rt.alloc(), REQUESTS, 5, told)
+}
+
+#[test]
+fn blanks_around_a_request_are_no_matter(rt: HostRuntime) -> Result<(), Fail> {
     let spaced = r#" {"new" : ["\u0078",-3], "class":"Counter","id":"a"} "#;
-    let answer = answer_to(rt.alloc(), COUNTER, spaced.as_bytes())?;
-    assert_eq!(rt; answer.as_slice(), MADE);
-    Ok(())
+    hold_cases(
+        &rt,
+        rt.alloc(),
+        &[("blanks", spaced, "made")],
+        |alloc, line| told(alloc, line),
+    )
 }
 
 const NO_REQUESTS: &str = r#"
@@ -119,25 +99,36 @@ const NO_REQUESTS: &str = r#"
 
 #[test]
 fn lines_that_are_none(rt: HostRuntime) -> Result<(), Fail> {
-    hold(&rt, rt.alloc(), COUNTER, NO_REQUESTS, 21)?;
-    let no_text = b"{\"id\":\"\xff\",\"class\":\"Counter\",\"new\":[\"x\",3]}";
-    let answer = answer_to(rt.alloc(), COUNTER, no_text)?;
-    assert_eq!(rt; name_of(rt.alloc(), &answer)?, "not json");
-    Ok(())
+    hold_table(&rt, rt.alloc(), NO_REQUESTS, 21, told)
+}
+
+#[test]
+fn a_line_that_is_no_text_is_none(rt: HostRuntime) -> Result<(), Fail> {
+    let no_text: &[u8] = b"{\"id\":\"\xff\",\"class\":\"Counter\",\"new\":[\"x\",3]}";
+    hold_cases(
+        &rt,
+        rt.alloc(),
+        &[("a byte of 255", no_text, "not json")],
+        |alloc, line| told_by(alloc, COUNTER, line),
+    )
+}
+
+/// What is answered to a creation whose id has 63 bytes with this end behind them.
+fn told_of_id(alloc: Global, end: &&str) -> Result<String, Fail> {
+    let id = "0123456789abcdef0123456789abcdef0123456789abcdef0123456789abcde";
+    let line = format!(in alloc;
+        "{{\"id\":\"{id}{end}\",\"class\":\"Counter\",\"new\":[\"x\",3]}}"
+    )?;
+    told(alloc, line.as_str())
 }
 
 #[test]
 fn an_id_has_at_most_64_bytes(rt: HostRuntime) -> Result<(), Fail> {
-    let alloc = rt.alloc();
-    let id = "0123456789abcdef0123456789abcdef0123456789abcdef0123456789abcde";
-    for (end, wanted) in [("f", "another"), ("é", "not a request")] {
-        let line = format!(in alloc;
-            "{{\"id\":\"{id}{end}\",\"class\":\"Counter\",\"new\":[\"x\",3]}}"
-        )?;
-        let answer = answer_to(alloc, COUNTER, line.as_bytes())?;
-        assert_eq!(rt; name_of(alloc, &answer)?, wanted, "{end}");
-    }
-    Ok(())
+    let cases = [
+        ("64 bytes", "f", "another"),
+        ("65 bytes", "é", "not a request"),
+    ];
+    hold_cases(&rt, rt.alloc(), &cases, told_of_id)
 }
 
 /// Methods and creations that take values of each type.
@@ -192,5 +183,7 @@ const TYPED_LINES: &str = r#"
 
 #[test]
 fn declared_types_decide_what_can_be_asked_for(rt: HostRuntime) -> Result<(), Fail> {
-    hold(&rt, rt.alloc(), TYPED, TYPED_LINES, 19)
+    hold_table(&rt, rt.alloc(), TYPED_LINES, 19, |alloc, line| {
+        told_by(alloc, TYPED, line.as_bytes())
+    })
 }

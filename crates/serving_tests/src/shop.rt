@@ -1,6 +1,8 @@
 //! Requests with values of every type: a shop, and a class of numbers.
 
-use memory_calls::{NO_FAULTS, call};
+use memory_calls::{Call, NO_FAULTS, Wanted, hold_call};
+use std::alloc::Global;
+use std::process::Abort;
 use std::test::Fail;
 use test_support::{NUM, SHOP};
 
@@ -60,29 +62,37 @@ const COUNTED: &str = r#"{"id":"a","ok":"p","seq":1}
 {"id":"l","ok":null,"seq":11}
 "#;
 
+/// Asserts what is answered to an input on a program, by `local` and by `run`.
+fn hold_served(
+    rt: &impl Abort,
+    alloc: Global,
+    label: &str,
+    program: &str,
+    input: &str,
+    replies: &str,
+) -> Result<(), Fail> {
+    let local = Call {
+        words: &["local", "a.py"],
+        file: "a.py",
+        text: program.as_bytes(),
+        input: input.as_bytes(),
+        faults: NO_FAULTS,
+    };
+    let run = Call {
+        words: &["run", "a.py", "--batch", "1"],
+        ..local
+    };
+    let wanted = Wanted {
+        status: 0,
+        out: replies.as_bytes(),
+        err: b"",
+    };
+    hold_call(rt, alloc, label, local, wanted)?;
+    hold_call(rt, alloc, label, run, wanted)
+}
+
 #[test]
 fn values_of_each_type_are_passed_and_printed(rt: HostRuntime) -> Result<(), Fail> {
-    let tables = [
-        ("shop", SHOP, SHOPPING, SHOPPED),
-        ("num", NUM, COUNTING, COUNTED),
-    ];
-    for (label, program, input, replies) in tables {
-        for command in [
-            ["local", "a.py"].as_slice(),
-            ["run", "a.py", "--batch", "1"].as_slice(),
-        ] {
-            let text = program.as_bytes();
-            let answer = call(
-                rt.alloc(),
-                command,
-                "a.py",
-                text,
-                input.as_bytes(),
-                NO_FAULTS,
-            )?;
-            assert_eq!(rt; answer.status, 0, "{label}");
-            assert_eq!(rt; answer.out.bytes(), replies.as_bytes(), "{label}");
-        }
-    }
-    Ok(())
+    hold_served(&rt, rt.alloc(), "shop", SHOP, SHOPPING, SHOPPED)?;
+    hold_served(&rt, rt.alloc(), "num", NUM, COUNTING, COUNTED)
 }

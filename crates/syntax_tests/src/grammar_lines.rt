@@ -1,7 +1,8 @@
 //! Each line of the grammar in its shortest and in a long form.
 
-use crate::outcome::parsed;
+use crate::outcome::hold_parsed;
 use std::test::Fail;
+use test_support::Case;
 
 const IMPORTS: &[u8] = b"import stateflow
 from typing import List
@@ -91,22 +92,19 @@ class A:
 
 #[test]
 fn each_line_of_the_grammar_has_a_tree(rt: HostRuntime) -> Result<(), Fail> {
-    let rows: [(&str, &[u8]); 12] = [
-        ("no line", b""),
-        ("a docstring", b"'a module'\n"),
-        ("imports", IMPORTS),
-        ("a short class", SHORT_CLASS),
-        ("a long class", LONG_CLASS),
-        ("statements that end", ENDS),
-        ("assignments", ASSIGNMENTS),
-        ("branches", BRANCHES),
-        ("loops", LOOPS),
-        ("truths", TRUTHS),
-        ("terms and atoms", TERMS),
-        ("two classes", TWO_CLASSES),
+    let cases: [Case<'_, &[u8]>; 12] = [
+        ("no line", b"", "tree"),
+        ("a docstring", b"'a module'\n", "tree"),
+        ("imports", IMPORTS, "tree"),
+        ("a short class", SHORT_CLASS, "tree"),
+        ("a long class", LONG_CLASS, "tree"),
+        ("statements that end", ENDS, "tree"),
+        ("assignments", ASSIGNMENTS, "tree"),
+        ("branches", BRANCHES, "tree"),
+        ("loops", LOOPS, "tree"),
+        ("truths", TRUTHS, "tree"),
+        ("terms and atoms", TERMS, "tree"),
+        ("two classes", TWO_CLASSES, "tree"),
     ];
-    for (label, text) in rows {
-        assert_eq!(rt; parsed(rt.alloc(), text)?.as_str(), "tree", "{label}");
-    }
-    Ok(())
+    hold_parsed(&rt, rt.alloc(), &cases)
 }

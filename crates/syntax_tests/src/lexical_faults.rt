@@ -4,46 +4,42 @@ use crate::outcome::lexed;
 use std::alloc::{AllocError, Global};
 use std::process::Abort;
 use std::test::Fail;
+use test_support::{Case, hold_cases, hold_text};
 
-/// A label, a text, and the place of its fault.
-type Row<'a> = (&'a str, &'a [u8], &'a str);
-
-/// The first row of a text that has not a fault of this kind at this place, or nothing.
-fn other(alloc: Global, kind: &str, rows: &[Row<'_>]) -> Result<String, AllocError> {
-    for (label, text, place) in rows {
-        let found = lexed(alloc, text)?;
-        let wanted = format!(in alloc; "{place}: {kind}")?;
-        if found.as_str() != wanted.as_str() {
-            return format!(in alloc; "{label} has {found}");
-        }
+/// The place of a text's fault, where it is of this kind, or what the text is.
+fn placed(alloc: Global, kind: &str, text: &[u8]) -> Result<String, Fail> {
+    let found = lexed(alloc, text)?;
+    match found.as_str().split_once(": ") {
+        Some((place, told)) if told == kind => Ok(String::from_str(alloc, place)?),
+        _ => Ok(found),
     }
-    Ok(String::new(alloc))
 }
 
-/// Asserts that each row is as it says.
-fn hold(rt: &impl Abort, alloc: Global, kind: &str, rows: &[Row<'_>]) -> Result<(), Fail> {
-    let other = other(alloc, kind, rows)?;
-    assert_eq!(rt; other.as_str(), "");
-    Ok(())
+/// Asserts that the text of each case has a fault of this kind, at the place that is wanted.
+fn hold(rt: &impl Abort, alloc: Global, kind: &str, cases: &[Case<'_, &[u8]>]) -> Result<(), Fail> {
+    hold_cases(rt, alloc, cases, |alloc, text| placed(alloc, kind, text))
 }
 
 #[test]
 fn texts_without_a_token_have_lines(rt: HostRuntime) -> Result<(), Fail> {
-    let rows: [(&str, &[u8]); 4] = [
-        ("nothing", b""),
-        ("an empty line", b"\n"),
-        ("blanks and comments", b"\n   \n\t\n\t # c\n  # d\n"),
-        ("lines that a return ends", b"\r\n\r\n"),
+    let cases: [Case<'_, &[u8]>; 4] = [
+        ("nothing", b"", "lines"),
+        ("an empty line", b"\n", "lines"),
+        (
+            "blanks and comments",
+            b"\n   \n\t\n\t # c\n  # d\n",
+            "lines",
+        ),
+        ("lines that a return ends", b"\r\n\r\n", "lines"),
     ];
-    for (label, text) in rows {
-        assert_eq!(rt; lexed(rt.alloc(), text)?.as_str(), "lines", "{label}");
-    }
-    Ok(())
+    hold_cases(&rt, rt.alloc(), &cases, |alloc, text| {
+        Ok(lexed(alloc, text)?)
+    })
 }
 
 #[test]
 fn bytes_that_are_no_text_are_told(rt: HostRuntime) -> Result<(), Fail> {
-    let rows: [(&str, &[u8], &str); 9] = [
+    let rows: [Case<'_, &[u8]>; 9] = [
         ("in a comment", b"# abc \xff\n", "1:7"),
         ("a character that is cut", b"# \xe2\x82", "1:3"),
         ("two bytes for one", b"\xc0\xaf", "1:1"),
@@ -60,7 +56,7 @@ fn bytes_that_are_no_text_are_told(rt: HostRuntime) -> Result<(), Fail> {
 #[test]
 fn tabs_before_a_token_are_told(rt: HostRuntime) -> Result<(), Fail> {
     let method = b"@entity\nclass A:\n\tdef f(self): pass\n";
-    let rows: [(&str, &[u8], &str); 5] = [
+    let rows: [Case<'_, &[u8]>; 5] = [
         ("before a return", b"\t\rx", "1:1"),
         ("before a byte of 0", b"\t\x00", "1:1"),
         ("before a method", method, "3:1"),
@@ -73,7 +69,7 @@ fn tabs_before_a_token_are_told(rt: HostRuntime) -> Result<(), Fail> {
 #[test]
 fn dedents_to_no_open_column_are_told(rt: HostRuntime) -> Result<(), Fail> {
     let method = b"@entity\nclass L:\n    def f(self) -> None:\n        pass\n      pass\n";
-    let rows: [(&str, &[u8], &str); 5] = [
+    let rows: [Case<'_, &[u8]>; 5] = [
         ("in a method", method, "5:7"),
         ("before a bad character", b"    a\n  $\n", "2:3"),
         ("before an open string", b"    a\n  'b\n", "2:3"),
@@ -85,7 +81,7 @@ fn dedents_to_no_open_column_are_told(rt: HostRuntime) -> Result<(), Fail> {
 
 #[test]
 fn escapes_that_are_none_are_told(rt: HostRuntime) -> Result<(), Fail> {
-    let rows: [(&str, &[u8], &str); 7] = [
+    let rows: [Case<'_, &[u8]>; 7] = [
         ("before a bad byte", b"\"\\\xff\"", "1:2"),
         ("one digit", b"x = \"\\x4\"\n", "1:6"),
         ("at the end", b"\"\\", "1:2"),
@@ -99,7 +95,7 @@ fn escapes_that_are_none_are_told(rt: HostRuntime) -> Result<(), Fail> {
 
 #[test]
 fn strings_without_an_end_are_told(rt: HostRuntime) -> Result<(), Fail> {
-    let rows: [(&str, &[u8], &str); 5] = [
+    let rows: [Case<'_, &[u8]>; 5] = [
         ("before a bad byte", b"\"a\n\xff", "1:1"),
         ("behind an escaped quote", b"'a\\'\n", "1:1"),
         ("in brackets over lines", b"(\n\"a\n)\n", "2:1"),
@@ -113,7 +109,7 @@ fn strings_without_an_end_are_told(rt: HostRuntime) -> Result<(), Fail> {
 fn numbers_that_are_none_are_told(rt: HostRuntime) -> Result<(), Fail> {
     let leading = b"x = 099999999999999999999999999999999999999999999999999\n";
     let with_a_letter = b"x = 99999999999999999999999999999999999999999999999999a\n";
-    let rows: [(&str, &[u8], &str); 7] = [
+    let rows: [Case<'_, &[u8]>; 7] = [
         ("with a point", b"x = 1.5\n", "1:5"),
         ("of another base", b"x = 0b1\n", "1:5"),
         ("0 and more digits", b"x = -0_7\n", "1:6"),
@@ -130,7 +126,7 @@ fn numbers_above_the_greatest_are_told(rt: HostRuntime) -> Result<(), Fail> {
     let parted =
         b"x = 1_7_0_1_4_1_1_8_3_4_6_0_4_6_9_2_3_1_7_3_1_6_8_7_3_0_3_7_1_5_8_8_4_1_0_5_7_2_8\n";
     let whole = b"170141183460469231731687303715884105728";
-    let rows: [(&str, &[u8], &str); 2] = [
+    let rows: [Case<'_, &[u8]>; 2] = [
         ("one above it, in parts", parted, "1:5"),
         ("one above it", whole, "1:1"),
     ];
@@ -139,7 +135,7 @@ fn numbers_above_the_greatest_are_told(rt: HostRuntime) -> Result<(), Fail> {
 
 #[test]
 fn characters_of_no_token_are_told(rt: HostRuntime) -> Result<(), Fail> {
-    let rows: [(&str, &[u8], &str); 19] = [
+    let rows: [Case<'_, &[u8]>; 19] = [
         ("a dollar, before a bad byte", b"$ \xff", "1:1"),
         ("a letter behind a number", b"x = 1\xc3\xa9\n", "1:6"),
         ("a dollar", b"x = a $ b\n", "1:7"),
@@ -165,7 +161,7 @@ fn characters_of_no_token_are_told(rt: HostRuntime) -> Result<(), Fail> {
 
 #[test]
 fn brackets_that_stay_open_are_told(rt: HostRuntime) -> Result<(), Fail> {
-    let rows: [(&str, &[u8], &str); 5] = [
+    let rows: [Case<'_, &[u8]>; 5] = [
         ("one", b"(", "1:1"),
         ("the last of two", b"([", "1:2"),
         ("behind one that closes none", b")(\n", "1:2"),
@@ -183,9 +179,6 @@ fn comment_of(alloc: Global, length: usize) -> Result<String, AllocError> {
 
 #[test]
 fn a_text_may_have_a_mebibyte(rt: HostRuntime) -> Result<(), Fail> {
-    let longest = comment_of(rt.alloc(), 1_048_576)?;
-    assert_eq!(rt; longest.as_str(), "lines");
-    let longer = comment_of(rt.alloc(), 1_048_577)?;
-    assert_eq!(rt; longer.as_str(), "1:1: TooLong");
-    Ok(())
+    hold_text(&rt, comment_of(rt.alloc(), 1_048_576), "lines")?;
+    hold_text(&rt, comment_of(rt.alloc(), 1_048_577), "1:1: TooLong")
 }

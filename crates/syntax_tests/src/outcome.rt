@@ -3,11 +3,17 @@
 use py_lexer::{LexError, lex};
 use py_parser::{SyntaxError, parse};
 use std::alloc::{AllocError, Global};
+use std::process::Abort;
+use std::test::Fail;
+use test_support::{Case, hold_cases};
 
 /// The place and kind of a text's lexical fault, or that it has lines.
 pub fn lexed(alloc: Global, text: &[u8]) -> Result<String, AllocError> {
     match lex(alloc, text) {
-        Ok(_) => String::from_str(alloc, "lines"),
+        Ok(lines) => {
+            drop(lines);
+            String::from_str(alloc, "lines")
+        }
         Err(LexError::Fault(fault)) => format!(in alloc;
             "{}:{}: {:?}",
             fault.place.line, fault.place.col, fault.kind
@@ -18,16 +24,27 @@ pub fn lexed(alloc: Global, text: &[u8]) -> Result<String, AllocError> {
 
 /// The place and kind of a text's first refused token, or that it has a tree, or no lines.
 pub fn parsed(alloc: Global, text: &[u8]) -> Result<String, AllocError> {
-    match lex(alloc, text) {
-        Ok(lines) => match parse(alloc, &lines, text) {
-            Ok(_) => String::from_str(alloc, "tree"),
-            Err(SyntaxError::Fault(fault)) => format!(in alloc;
-                "{}:{}: {:?}",
-                fault.place.line, fault.place.col, fault.kind
-            ),
-            Err(SyntaxError::NoMemory) => Err(AllocError),
-        },
-        Err(LexError::Fault(_)) => String::from_str(alloc, "no lines"),
-        Err(LexError::NoMemory) => Err(AllocError),
+    let lines = match lex(alloc, text) {
+        Ok(lines) => lines,
+        Err(LexError::Fault(_)) => return String::from_str(alloc, "no lines"),
+        Err(LexError::NoMemory) => return Err(AllocError),
+    };
+    let tree = parse(alloc, &lines, text);
+    drop(lines);
+    match tree {
+        Ok(tree) => {
+            drop(tree);
+            String::from_str(alloc, "tree")
+        }
+        Err(SyntaxError::Fault(fault)) => format!(in alloc;
+            "{}:{}: {:?}",
+            fault.place.line, fault.place.col, fault.kind
+        ),
+        Err(SyntaxError::NoMemory) => Err(AllocError),
     }
+}
+
+/// Asserts what the texts of cases are by the lexical rules and the grammar.
+pub fn hold_parsed(rt: &impl Abort, alloc: Global, cases: &[Case<'_, &[u8]>]) -> Result<(), Fail> {
+    hold_cases(rt, alloc, cases, |alloc, text| Ok(parsed(alloc, text)?))
 }

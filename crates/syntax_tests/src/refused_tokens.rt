@@ -4,7 +4,7 @@ use crate::outcome::parsed;
 use std::alloc::{AllocError, Global};
 use std::process::Abort;
 use std::test::Fail;
-use test_support::rows;
+use test_support::hold_table;
 
 /// Nothing, so that a row has a whole text.
 const WHOLE: &str = "";
@@ -25,22 +25,7 @@ fn behind(alloc: Global, front: &str, text: &str) -> Result<Vec<u8>, AllocError>
     Ok(whole)
 }
 
-/// The first row whose text is refused elsewhere, or nothing where a table of so many rows has none.
-fn other(alloc: Global, front: &str, table: &str, count: usize) -> Result<String, AllocError> {
-    let rows = rows(alloc, table)?;
-    for row in &rows {
-        let found = parsed(alloc, &behind(alloc, front, row.text.as_str())?)?;
-        if found.as_str() != row.wanted {
-            return format!(in alloc; "{} has {found}", row.label);
-        }
-    }
-    if rows.len() != count {
-        return format!(in alloc; "there are {} rows", rows.len());
-    }
-    Ok(String::new(alloc))
-}
-
-/// Asserts that each row is as it says.
+/// Asserts that a table has so many rows, and of each what a front with its text behind it is.
 fn hold(
     rt: &impl Abort,
     alloc: Global,
@@ -48,9 +33,10 @@ fn hold(
     table: &str,
     count: usize,
 ) -> Result<(), Fail> {
-    let other = other(alloc, front, table, count)?;
-    assert_eq!(rt; other.as_str(), "");
-    Ok(())
+    hold_table(rt, alloc, table, count, |alloc, text| {
+        let whole = behind(alloc, front, text)?;
+        Ok(parsed(alloc, whole.as_slice())?)
+    })
 }
 
 const IMPORTS: &str = "

@@ -1,22 +1,29 @@
 //! A program of three classes, whole and with a token dropped, doubled or replaced.
 
 use crate::outcome::parsed;
-use py_lexer::{LexError, Token, lex};
+use py_lexer::{LexError, Line, Token, lex};
 use py_parser::{SyntaxError, parse};
 use std::alloc::{AllocError, Global};
+use std::process::Abort;
 use std::test::Fail;
-use test_support::SHOP;
+use test_support::{SHOP, hold_text};
 
 /// The line on which a fault of a text stands, or 0 where it has a tree.
 fn line_of_fault(alloc: Global, text: &[u8]) -> Result<u32, AllocError> {
-    match lex(alloc, text) {
-        Ok(lines) => match parse(alloc, &lines, text) {
-            Ok(_) => Ok(0),
-            Err(SyntaxError::Fault(fault)) => Ok(fault.place.line),
-            Err(SyntaxError::NoMemory) => Err(AllocError),
-        },
-        Err(LexError::Fault(fault)) => Ok(fault.place.line),
-        Err(LexError::NoMemory) => Err(AllocError),
+    let lines = match lex(alloc, text) {
+        Ok(lines) => lines,
+        Err(LexError::Fault(fault)) => return Ok(fault.place.line),
+        Err(LexError::NoMemory) => return Err(AllocError),
+    };
+    let tree = parse(alloc, &lines, text);
+    drop(lines);
+    match tree {
+        Ok(tree) => {
+            drop(tree);
+            Ok(0)
+        }
+        Err(SyntaxError::Fault(fault)) => Ok(fault.place.line),
+        Err(SyntaxError::NoMemory) => Err(AllocError),
     }
 }
 
@@ -50,6 +57,42 @@ fn is_told_each_way(alloc: Global, token: &Token) -> Result<bool, AllocError> {
     )
 }
 
+/// How many tokens of a line of the program stand on these lines, if each is told.
+fn tokens_of_line(
+    alloc: Global,
+    line: &Line,
+    from: u32,
+    upto: u32,
+) -> Result<Option<u32>, AllocError> {
+    let mut count = 0u32;
+    for token in line.tokens.as_slice() {
+        if from <= token.place.line && token.place.line < upto {
+            if !is_told_each_way(alloc, token)? {
+                return Ok(None);
+            }
+            count = count.saturating_add(1);
+        }
+    }
+    Ok(Some(count))
+}
+
+/// How many tokens of these lines of tokens stand on these lines of the program, if each is told.
+fn tokens_of_lines(
+    alloc: Global,
+    lines: &[Line],
+    from: u32,
+    upto: u32,
+) -> Result<Option<u32>, AllocError> {
+    let mut count = 0u32;
+    for line in lines {
+        match tokens_of_line(alloc, line, from, upto)? {
+            Some(more) => count = count.saturating_add(more),
+            None => return Ok(None),
+        }
+    }
+    Ok(Some(count))
+}
+
 /// How many tokens stand on these lines of the program, if each is told.
 fn tokens_told(alloc: Global, from: u32, upto: u32) -> Result<Option<u32>, AllocError> {
     let lines = match lex(alloc, SHOP.as_bytes()) {
@@ -57,58 +100,55 @@ fn tokens_told(alloc: Global, from: u32, upto: u32) -> Result<Option<u32>, Alloc
         Err(LexError::Fault(_)) => return Ok(None),
         Err(LexError::NoMemory) => return Err(AllocError),
     };
-    let mut count = 0u32;
-    for line in lines.as_slice() {
-        for token in line.tokens.as_slice() {
-            if from <= token.place.line && token.place.line < upto {
-                if !is_told_each_way(alloc, token)? {
-                    return Ok(None);
-                }
-                count = count.saturating_add(1);
-            }
-        }
-    }
-    Ok(Some(count))
+    let count = tokens_of_lines(alloc, lines.as_slice(), from, upto);
+    drop(lines);
+    count
+}
+
+/// Asserts that so many tokens stand on these lines of the program, and that each is told.
+fn hold_tokens(
+    rt: &impl Abort,
+    alloc: Global,
+    from: u32,
+    upto: u32,
+    count: u32,
+) -> Result<(), Fail> {
+    let told = tokens_told(alloc, from, upto)?;
+    assert_eq!(rt; told, Some(count));
+    Ok(())
 }
 
 #[test]
 fn the_shop_has_a_tree(rt: HostRuntime) -> Result<(), Fail> {
-    assert_eq!(rt; parsed(rt.alloc(), SHOP.as_bytes())?.as_str(), "tree");
-    Ok(())
+    hold_text(&rt, parsed(rt.alloc(), SHOP.as_bytes()), "tree")
 }
 
 #[test]
 fn tokens_of_lines_1_to_11_are_told_each_way(rt: HostRuntime) -> Result<(), Fail> {
-    assert_eq!(rt; tokens_told(rt.alloc(), 1, 12)?, Some(50));
-    Ok(())
+    hold_tokens(&rt, rt.alloc(), 1, 12, 50)
 }
 
 #[test]
 fn tokens_of_lines_12_to_21_are_told_each_way(rt: HostRuntime) -> Result<(), Fail> {
-    assert_eq!(rt; tokens_told(rt.alloc(), 12, 22)?, Some(50));
-    Ok(())
+    hold_tokens(&rt, rt.alloc(), 12, 22, 50)
 }
 
 #[test]
 fn tokens_of_lines_22_to_32_are_told_each_way(rt: HostRuntime) -> Result<(), Fail> {
-    assert_eq!(rt; tokens_told(rt.alloc(), 22, 33)?, Some(41));
-    Ok(())
+    hold_tokens(&rt, rt.alloc(), 22, 33, 41)
 }
 
 #[test]
 fn tokens_of_lines_33_to_43_are_told_each_way(rt: HostRuntime) -> Result<(), Fail> {
-    assert_eq!(rt; tokens_told(rt.alloc(), 33, 44)?, Some(56));
-    Ok(())
+    hold_tokens(&rt, rt.alloc(), 33, 44, 56)
 }
 
 #[test]
 fn tokens_of_lines_44_to_53_are_told_each_way(rt: HostRuntime) -> Result<(), Fail> {
-    assert_eq!(rt; tokens_told(rt.alloc(), 44, 54)?, Some(34));
-    Ok(())
+    hold_tokens(&rt, rt.alloc(), 44, 54, 34)
 }
 
 #[test]
 fn tokens_of_lines_54_to_69_are_told_each_way(rt: HostRuntime) -> Result<(), Fail> {
-    assert_eq!(rt; tokens_told(rt.alloc(), 54, 70)?, Some(56));
-    Ok(())
+    hold_tokens(&rt, rt.alloc(), 54, 70, 56)
 }

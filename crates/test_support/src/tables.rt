@@ -37,7 +37,9 @@ pub fn rows<'a>(alloc: Global, table: &'a str) -> Result<Vec<Row<'a>>, AllocErro
 
 #[cfg(test)]
 mod tests {
-    use super::rows;
+    use super::{Row, rows};
+    use crate::holding::hold_text;
+    use std::alloc::{AllocError, Global};
     use std::test::Fail;
 
     const TABLE: &str = "
@@ -47,23 +49,25 @@ mod tests {
         a line with fewer parts
     ";
 
+    /// How many rows there are, and the parts of each.
+    fn rows_told(alloc: Global, rows: &[Row<'_>]) -> Result<String, AllocError> {
+        let mut told = format!(in alloc; "{}:", rows.len())?;
+        for row in rows {
+            let text = row.text.as_str();
+            told.push_str(format!(in alloc; "{};{text};{};", row.label, row.wanted)?.as_str())?;
+        }
+        Ok(told)
+    }
+
     #[test]
     fn a_row_has_three_parts(rt: HostRuntime) -> Result<(), Fail> {
         let rows = rows(rt.alloc(), TABLE)?;
-        assert_eq!(rt; rows.len(), 3);
-        let mut told = String::new(rt.alloc());
-        for row in &rows {
-            told.push_str(row.label)?;
-            told.push(';')?;
-            told.push_str(row.text.as_str())?;
-            told.push(';')?;
-            told.push_str(row.wanted)?;
-            told.push(';')?;
-        }
-        assert_eq!(rt;
-            told.as_str(),
-            "a label;one\n  two;1:2 wanted;b;  three;ok;a label;        a line with fewer parts;three parts;"
-        );
-        Ok(())
+        let told = rows_told(rt.alloc(), rows.as_slice());
+        drop(rows);
+        hold_text(
+            &rt,
+            told,
+            "3:a label;one\n  two;1:2 wanted;b;  three;ok;a label;        a line with fewer parts;three parts;",
+        )
     }
 }
