@@ -2,56 +2,69 @@
 use Rattle.std.proofs.Common.{◌≡◌, ◌≢◌, inl, inr, ⊎_elim, ℕ, List, length, Some, None, refl, sym, ap, ◌∙◌, subst, arith, IsSomeAnd}
 use Rattle.std.specs.declared.option.Option.{Option}
 use Rattle.sf_outside.specs.declared.store_disk.StoreFile.{StoreFile}
-use Rattle.sf_outside.specs.declared.store_disk.StoreFile.TheVariants.{Log0, Log1, Snap0, Snap1}
-use Rattle.sf_outside.specs.DiskModel.{Four, Image, DiskFacts, of_file, with_file, written, Torn, TornFile, Elapses, LeavesOnly, Stays, KnownStep, SeenWritten, SeenTorn, ImagesTorn, IsDurable, IsClean}
+use Rattle.sf_outside.specs.declared.store_disk.StoreFile.TheVariants.{Log0, Log1, Snap0, Snap1, Hist}
+use Rattle.sf_outside.specs.DiskModel.{PerFile, Image, DiskFacts, of_file, with_file, written, Torn, TornFile, Elapses, LeavesOnly, Stays, KnownStep, SeenWritten, SeenTorn, ImagesTorn, IsDurable, IsClean}
 
 -- the file that was put is there
-pub of_file-same : {A : Type 0} (file : StoreFile) (x : A) (four : Four A) → of_file file (with_file file x four) ≡ x
-of_file-same Log0 x four = refl
-of_file-same Log1 x four = refl
-of_file-same Snap0 x four = refl
-of_file-same Snap1 x four = refl
+pub of_file-same : {A : Type 0} (file : StoreFile) (x : A) (things : PerFile A) → of_file file (with_file file x things) ≡ x
+of_file-same Log0 x things = refl
+of_file-same Log1 x things = refl
+of_file-same Snap0 x things = refl
+of_file-same Snap1 x things = refl
+of_file-same Hist x things = refl
 
 -- and every other is as before
-pub of_file-other : {A : Type 0} (file other : StoreFile) (x : A) (four : Four A) → other ≢ file → of_file other (with_file file x four) ≡ of_file other four
-of_file-other Log0 Log0 x four differs = absurd (differs refl)
-of_file-other Log0 Log1 x four differs = refl
-of_file-other Log0 Snap0 x four differs = refl
-of_file-other Log0 Snap1 x four differs = refl
-of_file-other Log1 Log0 x four differs = refl
-of_file-other Log1 Log1 x four differs = absurd (differs refl)
-of_file-other Log1 Snap0 x four differs = refl
-of_file-other Log1 Snap1 x four differs = refl
-of_file-other Snap0 Log0 x four differs = refl
-of_file-other Snap0 Log1 x four differs = refl
-of_file-other Snap0 Snap0 x four differs = absurd (differs refl)
-of_file-other Snap0 Snap1 x four differs = refl
-of_file-other Snap1 Log0 x four differs = refl
-of_file-other Snap1 Log1 x four differs = refl
-of_file-other Snap1 Snap0 x four differs = refl
-of_file-other Snap1 Snap1 x four differs = absurd (differs refl)
+pub of_file-other : {A : Type 0} (file other : StoreFile) (x : A) (things : PerFile A) → other ≢ file → of_file other (with_file file x things) ≡ of_file other things
+of_file-other Log0 Log0 x things differs = absurd (differs refl)
+of_file-other Log0 Log1 x things differs = refl
+of_file-other Log0 Snap0 x things differs = refl
+of_file-other Log0 Snap1 x things differs = refl
+of_file-other Log0 Hist x things differs = refl
+of_file-other Log1 Log0 x things differs = refl
+of_file-other Log1 Log1 x things differs = absurd (differs refl)
+of_file-other Log1 Snap0 x things differs = refl
+of_file-other Log1 Snap1 x things differs = refl
+of_file-other Log1 Hist x things differs = refl
+of_file-other Snap0 Log0 x things differs = refl
+of_file-other Snap0 Log1 x things differs = refl
+of_file-other Snap0 Snap0 x things differs = absurd (differs refl)
+of_file-other Snap0 Snap1 x things differs = refl
+of_file-other Snap0 Hist x things differs = refl
+of_file-other Snap1 Log0 x things differs = refl
+of_file-other Snap1 Log1 x things differs = refl
+of_file-other Snap1 Snap0 x things differs = refl
+of_file-other Snap1 Snap1 x things differs = absurd (differs refl)
+of_file-other Snap1 Hist x things differs = refl
+of_file-other Hist Log0 x things differs = refl
+of_file-other Hist Log1 x things differs = refl
+of_file-other Hist Snap0 x things differs = refl
+of_file-other Hist Snap1 x things differs = refl
+of_file-other Hist Hist x things differs = absurd (differs refl)
 
 -- to put what is there changes nothing
-pub with_file-same : {A : Type 0} (file : StoreFile) (four : Four A) → with_file file (of_file file four) four ≡ four
-with_file-same Log0 four = refl
-with_file-same Log1 four = refl
-with_file-same Snap0 four = refl
-with_file-same Snap1 four = refl
+pub with_file-same : {A : Type 0} (file : StoreFile) (things : PerFile A) → with_file file (of_file file things) things ≡ things
+with_file-same Log0 things = refl
+with_file-same Log1 things = refl
+with_file-same Snap0 things = refl
+with_file-same Snap1 things = refl
+with_file-same Hist things = refl
 
 -- the last that was put counts
-pub with_file-again : {A : Type 0} (file : StoreFile) (x y : A) (four : Four A) → with_file file y (with_file file x four) ≡ with_file file y four
-with_file-again Log0 x y four = refl
-with_file-again Log1 x y four = refl
-with_file-again Snap0 x y four = refl
-with_file-again Snap1 x y four = refl
+pub with_file-again : {A : Type 0} (file : StoreFile) (x y : A) (things : PerFile A) → with_file file y (with_file file x things) ≡ with_file file y things
+with_file-again Log0 x y things = refl
+with_file-again Log1 x y things = refl
+with_file-again Snap0 x y things = refl
+with_file-again Snap1 x y things = refl
+with_file-again Hist x y things = refl
 
--- fours whose files are the same are one
-pub same_files : {A : Type 0} (a b : Four A) → ((file : StoreFile) → of_file file a ≡ of_file file b) → a ≡ b
+-- what is the same for each file is one
+pub same_files : {A : Type 0} (a b : PerFile A) → ((file : StoreFile) → of_file file a ≡ of_file file b) → a ≡ b
 same_files a b same =
-    ap (λ x. record { log0 = x; log1 = a.log1; snap0 = a.snap0; snap1 = a.snap1 }) (same Log0)
-    ∙ ap (λ x. record { log0 = b.log0; log1 = x; snap0 = a.snap0; snap1 = a.snap1 }) (same Log1)
-    ∙ ap (λ x. record { log0 = b.log0; log1 = b.log1; snap0 = x; snap1 = a.snap1 }) (same Snap0)
-    ∙ ap (λ x. record { log0 = b.log0; log1 = b.log1; snap0 = b.snap0; snap1 = x }) (same Snap1)
+    ap (λ x. record { log0 = x; log1 = a.log1; snap0 = a.snap0; snap1 = a.snap1; hist = a.hist }) (same Log0)
+    ∙ ap (λ x. record { log0 = b.log0; log1 = x; snap0 = a.snap0; snap1 = a.snap1; hist = a.hist }) (same Log1)
+    ∙ ap (λ x. record { log0 = b.log0; log1 = b.log1; snap0 = x; snap1 = a.snap1; hist = a.hist }) (same Snap0)
+    ∙ ap (λ x. record { log0 = b.log0; log1 = b.log1; snap0 = b.snap0; snap1 = x; hist = a.hist }) (same Snap1)
+    ∙ ap (λ x. record { log0 = b.log0; log1 = b.log1; snap0 = b.snap0; snap1 = b.snap1; hist = x }) (same Hist)
 
 -- a torn file is torn in its own bytes
 pub TornFile-torn : (file : StoreFile) (at n : ℕ) (old new : Image) → TornFile file at n old new → Torn at n (of_file file old) (of_file file new)

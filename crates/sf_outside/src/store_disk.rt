@@ -35,6 +35,7 @@ pub enum StoreFile {
     Log1,
     Snap0,
     Snap1,
+    Hist,
 }
 
 /// A disk with the files of a store. It is mounted first, and where that is refused no other call is made.

@@ -1,4 +1,4 @@
-//! The four files of a store, open for reading and writing.
+//! The files of a store, open for reading and writing.
 
 ghost use Rattle.std.specs.Io.{ReadsAtMost};
 
@@ -8,13 +8,14 @@ use std::alloc::Global;
 use std::fs::{self, Files, OpenFile, OpenOptions};
 use std::io::{self, Read, Seek, Write};
 
-/// The files `log0`, `log1`, `snap0` and `snap1` of a folder.
+/// The files `log0`, `log1`, `snap0`, `snap1` and `hist` of a folder.
 #[derive(Drop)]
 pub(crate) struct OpenFiles<F> {
     log0: F,
     log1: F,
     snap0: F,
     snap1: F,
+    hist: F,
 }
 
 impl<F: Read + Write + Seek + OpenFile + Drop> OpenFiles<F> {
@@ -24,6 +25,7 @@ impl<F: Read + Write + Seek + OpenFile + Drop> OpenFiles<F> {
             StoreFile::Log1 => file_length(&mut self.log1),
             StoreFile::Snap0 => file_length(&mut self.snap0),
             StoreFile::Snap1 => file_length(&mut self.snap1),
+            StoreFile::Hist => file_length(&mut self.hist),
         }
     }
 
@@ -35,6 +37,7 @@ impl<F: Read + Write + Seek + OpenFile + Drop> OpenFiles<F> {
             StoreFile::Log1 => read_whole_at(&mut self.log1, at, buf),
             StoreFile::Snap0 => read_whole_at(&mut self.snap0, at, buf),
             StoreFile::Snap1 => read_whole_at(&mut self.snap1, at, buf),
+            StoreFile::Hist => read_whole_at(&mut self.hist, at, buf),
         }
     }
 
@@ -44,6 +47,7 @@ impl<F: Read + Write + Seek + OpenFile + Drop> OpenFiles<F> {
             StoreFile::Log1 => write_whole_at(&mut self.log1, at, bytes),
             StoreFile::Snap0 => write_whole_at(&mut self.snap0, at, bytes),
             StoreFile::Snap1 => write_whole_at(&mut self.snap1, at, bytes),
+            StoreFile::Hist => write_whole_at(&mut self.hist, at, bytes),
         }
     }
 
@@ -54,6 +58,7 @@ impl<F: Read + Write + Seek + OpenFile + Drop> OpenFiles<F> {
             StoreFile::Log1 => self.log1.sync_all(),
             StoreFile::Snap0 => self.snap0.sync_all(),
             StoreFile::Snap1 => self.snap1.sync_all(),
+            StoreFile::Hist => self.hist.sync_all(),
         }
     }
 }
@@ -70,6 +75,7 @@ pub(crate) fn open_folder<R: Files>(
         log1: open_file(alloc, system, folder, "log1")?,
         snap0: open_file(alloc, system, folder, "snap0")?,
         snap1: open_file(alloc, system, folder, "snap1")?,
+        hist: open_file(alloc, system, folder, "hist")?,
     };
     fs::open(system, folder)?.sync_all()?;
     Ok(files)
