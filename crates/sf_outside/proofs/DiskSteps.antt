@@ -4,11 +4,12 @@ use Rattle.std.proofs.lemmas.List.{take-append-le, take_all}
 use Rattle.std.proofs.lemmas.Bool.{cases_lt}
 use Rattle.sf_outside.specs.declared.store_disk.StoreFile.{StoreFile}
 use Rattle.sf_outside.specs.declared.store_disk.StoreFile.TheVariants.{Log0, Log1, Snap0, Snap1, Hist}
-use Rattle.sf_outside.specs.DiskModel.{PerFile, Image, of_file, with_file, written, Torn, Elapses, Stays, SeenWritten, ImagesTorn, IsDurable, IsClean}
+use Rattle.sf_outside.specs.DiskModel.{PerFile, Image, of_file, with_file, written, Torn, Elapses, LeavesOnly, Stays, SeenWritten, IsDurable, IsClean}
+use Rattle.sf_outside.specs.ImageSteps.{ComesTorn}
 use Rattle.sf_outside.specs.SinceMoments.{SomeSince}
 use Rattle.sf_outside.specs.DiskCalls.{DiskCall, Quiet, Write, Sync, Mount, FileHistory, file_after_write, file_after_sync, after_call, after_calls, files_after, new_files, bytes_now, FileLeaves, Leaves, reads_each, facts_after}
 use Rattle.sf_outside.proofs.Writes.{written-torn}
-use Rattle.sf_outside.proofs.DiskLaws.{of_file-same, of_file-other, with_file-same, with_file-again, same_files}
+use Rattle.sf_outside.proofs.DiskLaws.{of_file-same, of_file-other, with_file-same, with_file-again, same_files, TornFile-none, LeavesOnly-start, LeavesOnly-next}
 
 -- what holds of the new thing for one file, and of the old ones for the others, holds of each
 pub changed_each : {A : Type 0} (P : StoreFile → A → Type 0) (file : StoreFile) (x : A) (things : PerFile A) → P file x → ((other : StoreFile) → other ≢ file → P other (of_file other things))
@@ -138,8 +139,8 @@ bytes_now-write Hist at bytes files = refl
 pub SeenWritten-write : (file : StoreFile) (at : ℕ) (bytes : List ℕ) (calls : List DiskCall) → SeenWritten file at bytes (facts_after calls) (facts_after (calls ++ Write file at bytes ∷ []))
 SeenWritten-write file at bytes calls = ap bytes_now (after_calls-more calls (Write file at bytes) new_files) ∙ bytes_now-write file at bytes (files_after calls)
 
-pub ImagesTorn-write : (file : StoreFile) (at : ℕ) (bytes : List ℕ) (calls : List DiskCall) → ImagesTorn file at (length bytes) (facts_after calls) (facts_after (calls ++ Write file at bytes ∷ []))
-ImagesTorn-write file at bytes calls image leaves =
+written_comes : (file : StoreFile) (at : ℕ) (bytes : List ℕ) (calls : List DiskCall) (image : Image) → Leaves (files_after (calls ++ Write file at bytes ∷ [])) image → ComesTorn file at (length bytes) (facts_after calls) image
+written_comes file at bytes calls image leaves =
     let files = files_after calls in
     let changed = file_after_write at bytes (of_file file files) in
     let all : Leaves (after_call (Write file at bytes) files) image = subst (λ f. Leaves f image) (after_calls-more calls (Write file at bytes) new_files) leaves in
@@ -156,6 +157,16 @@ ImagesTorn-write file at bytes calls image leaves =
         image = sym (with_file-again file here.0 (of_file file image) image ∙ with_file-same file image);
       },
     )
+
+-- and so at each moment
+pub LeavesOnly-write : (file : StoreFile) (at : ℕ) (bytes : List ℕ) (calls : List DiskCall)
+    → LeavesOnly (facts_after calls) (facts_after (calls ++ Write file at bytes ∷ [])) (ComesTorn file at (length bytes) (facts_after calls))
+LeavesOnly-write file at bytes calls =
+    let old = facts_after calls in
+    let Comes = ComesTorn file at (length bytes) old in
+    LeavesOnly-next old old (facts_after (calls ++ Write file at bytes ∷ [])) Comes
+    (LeavesOnly-start old Comes (λ image left. (image, left, TornFile-none file at (length bytes) image)))
+    (Elapses-call calls (Write file at bytes)) (written_comes file at bytes calls)
 
 -- ---- bytes that are what a read gives are so after one call more
 

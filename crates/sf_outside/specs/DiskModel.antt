@@ -118,10 +118,6 @@ SeenWritten file at bytes old new = KnownStep (λ before now. now ≡ with_file 
 abbrev pub SeenTorn : StoreFile → ℕ → ℕ → DiskFacts → DiskFacts → Type 0
 SeenTorn file at n old new = KnownStep (TornFile file at n) old.seen new.seen
 
--- each image after a write is one from before it with this file torn
-abbrev pub ImagesTorn : StoreFile → ℕ → ℕ → DiskFacts → DiskFacts → Type 0
-ImagesTorn file at n old new = (image : Image) → new.may_leave image → (before : Image) × old.may_leave before × TornFile file at n before image
-
 -- a crash leaves this file as a read gives it
 abbrev pub IsDurable : StoreFile → DiskFacts → Type 0
 IsDurable file facts = (image : Image) → facts.may_leave image → IsSomeAnd facts.seen (λ now. of_file file image ≡ of_file file now)
