@@ -1,4 +1,4 @@
--- That four files are one store at most.
+-- That the files of a disk are one store at most.
 use Rattle.std.specs.Prelude.{ℕ, ◌≡◌, List}
 use Rattle.sf_outside.specs.DiskModel.{Image}
 use Rattle.sf_outside.specs.declared.store_disk.StoreFile.{StoreFile}

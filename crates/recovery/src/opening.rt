@@ -41,7 +41,8 @@ fn sync_all<D: Disk>(disk: &mut D) -> Result<(), Failed>
     disk.sync(StoreFile::Log0)?;
     disk.sync(StoreFile::Log1)?;
     disk.sync(StoreFile::Snap0)?;
-    disk.sync(StoreFile::Snap1)
+    disk.sync(StoreFile::Snap1)?;
+    disk.sync(StoreFile::Hist)
 }
 
 /// What a store has whose newest snapshot this is.

@@ -2,11 +2,11 @@
 use Rattle.std.proofs.Common.{◌≡◌, inl, inr, ℕ, ◌+◌, ◌≤◌, ◌<◌, ◌^◌, List, [], ◌∷◌, length, get_or, take, min, refl, sym, ap, ◌∙◌, subst, arith, IfSome, length-take}
 use Rattle.std.proofs.lemmas.Bool.{cases_eq}
 use Rattle.sf_outside.specs.declared.store_disk.StoreFile.{StoreFile}
-use Rattle.sf_outside.specs.DiskModel.{Image, DiskFacts, of_file, Torn, TornFile, LeavesOnly, Elapses, ImagesTorn, SeenWritten, IsDurable}
-use Rattle.sf_outside.proofs.DiskLaws.{with_file-same, TornFile-torn, LeavesOnly-start, LeavesOnly-write, LeavesOnly-then, LeavesOnly-weaker}
+use Rattle.sf_outside.specs.DiskModel.{Image, DiskFacts, of_file, Torn, TornFile, LeavesOnly, SeenWritten, IsDurable}
+use Rattle.sf_outside.proofs.DiskLaws.{with_file-same, TornFile-torn, left_now, LeavesOnly-start, LeavesOnly-then, LeavesOnly-weaker}
 use Rattle.sf_outside.proofs.Writes.{Torn-front}
 use Rattle.sf_outside.specs.ImageSteps.{ComesTorn, ComesBy}
-use Rattle.sf_outside.proofs.ImageSteps.{left_now, seen_has, torn_others, written_stands}
+use Rattle.sf_outside.proofs.ImageSteps.{seen_has, torn_others, written_stands}
 use Rattle.sf_bytes.specs.Gates.{open_gate, StandsAt, ClosedAt}
 use Rattle.sf_bytes.proofs.Stands.{front-shorter, Stands-same, Stands-byte, Stands-both, Closed-length}
 use Rattle.request_log.specs.Appends.{behind_gate, HasRecord, StaysOrHasRecord}
@@ -49,16 +49,13 @@ module _ (file : StoreFile) (at : ℕ) (old : DiskFacts) (closed : (image : Imag
       LeavesOnly-then old mid new Staged so_far
       (LeavesOnly-weaker mid new (ComesTorn file p n mid) Staged more (λ image torn. staged_torn p n torn.0 image behind (left_now old mid Staged so_far torn.0 torn.1) torn.2))
 
-  staged_write : (mid new : DiskFacts) (p n : ℕ) → at + 1 ≤ p → LeavesOnly old mid Staged → Elapses mid new → ImagesTorn file p n mid new → LeavesOnly old new Staged
-  staged_write mid new p n behind so_far time images = staged_then mid new p n behind so_far (LeavesOnly-write file p n mid new time images)
-
   -- the length was written, whole or not
-  pub staged_length : (first : DiskFacts) (n : ℕ) → Elapses old first → ImagesTorn file (at + 1) n old first → LeavesOnly old first Staged
-  staged_length first n time images = staged_write old first (at + 1) n (omega arith) staged_start time images
+  pub staged_length : (first : DiskFacts) (n : ℕ) → LeavesOnly old first (ComesTorn file (at + 1) n old) → LeavesOnly old first Staged
+  staged_length first n put = staged_then old first (at + 1) n (omega arith) staged_start put
 
   -- and then the body
-  pub staged_body : (first second : DiskFacts) (n m : ℕ) → Elapses old first → ImagesTorn file (at + 1) n old first → Elapses first second → ImagesTorn file (at + 5) m first second → LeavesOnly old second Staged
-  staged_body first second n m time images later more = staged_write first second (at + 5) m (omega arith) (staged_length first n time images) later more
+  pub staged_body : (first second : DiskFacts) (n m : ℕ) → LeavesOnly old first (ComesTorn file (at + 1) n old) → LeavesOnly first second (ComesTorn file (at + 5) m first) → LeavesOnly old second Staged
+  staged_body first second n m put more = staged_then first second (at + 5) m (omega arith) (staged_length first n put) more
 
   -- what a read gives reaches past the gate
   pub seen_reaches : IfSome old.seen (λ now. at + 1 ≤ length (of_file file now))

@@ -2,7 +2,7 @@
 use Rattle.std.proofs.Common.{◌≡◌, ℕ, Bool, true, false, List, inl, inr, Some, None, sym, ap, ◌∙◌, subst, ◌⊎◌}
 use Rattle.std.specs.declared.option.Option.{Option}
 use Rattle.sf_outside.specs.DiskModel.{DiskFacts}
-use Rattle.sf_outside.proofs.ImageSteps.{left_now}
+use Rattle.sf_outside.proofs.DiskLaws.{left_now}
 use Rattle.sf_value.specs.declared.BatchRecord.{BatchRecord}
 use Rattle.program_meaning.specs.ClassTables.{Source}
 use Rattle.quiet_methods.specs.MarksKeepWithin.{source}

@@ -2,56 +2,70 @@
 use Rattle.std.proofs.Common.{◌≡◌, ◌≢◌, inl, inr, ⊎_elim, ℕ, List, length, Some, None, refl, sym, ap, ◌∙◌, subst, arith, IsSomeAnd}
 use Rattle.std.specs.declared.option.Option.{Option}
 use Rattle.sf_outside.specs.declared.store_disk.StoreFile.{StoreFile}
-use Rattle.sf_outside.specs.declared.store_disk.StoreFile.TheVariants.{Log0, Log1, Snap0, Snap1}
-use Rattle.sf_outside.specs.DiskModel.{Four, Image, DiskFacts, of_file, with_file, written, Torn, TornFile, Elapses, LeavesOnly, Stays, KnownStep, SeenWritten, SeenTorn, ImagesTorn, IsDurable, IsClean}
+use Rattle.sf_outside.specs.declared.store_disk.StoreFile.TheVariants.{Log0, Log1, Snap0, Snap1, Hist}
+use Rattle.sf_outside.specs.DiskModel.{PerFile, Image, DiskFacts, of_file, with_file, written, Torn, TornFile, Elapses, LeavesOnly, Stays, KnownStep, SeenWritten, SeenTorn, IsDurable, IsClean}
+use Rattle.sf_outside.specs.ImageSteps.{ComesTorn}
 
 -- the file that was put is there
-pub of_file-same : {A : Type 0} (file : StoreFile) (x : A) (four : Four A) → of_file file (with_file file x four) ≡ x
-of_file-same Log0 x four = refl
-of_file-same Log1 x four = refl
-of_file-same Snap0 x four = refl
-of_file-same Snap1 x four = refl
+pub of_file-same : {A : Type 0} (file : StoreFile) (x : A) (things : PerFile A) → of_file file (with_file file x things) ≡ x
+of_file-same Log0 x things = refl
+of_file-same Log1 x things = refl
+of_file-same Snap0 x things = refl
+of_file-same Snap1 x things = refl
+of_file-same Hist x things = refl
 
 -- and every other is as before
-pub of_file-other : {A : Type 0} (file other : StoreFile) (x : A) (four : Four A) → other ≢ file → of_file other (with_file file x four) ≡ of_file other four
-of_file-other Log0 Log0 x four differs = absurd (differs refl)
-of_file-other Log0 Log1 x four differs = refl
-of_file-other Log0 Snap0 x four differs = refl
-of_file-other Log0 Snap1 x four differs = refl
-of_file-other Log1 Log0 x four differs = refl
-of_file-other Log1 Log1 x four differs = absurd (differs refl)
-of_file-other Log1 Snap0 x four differs = refl
-of_file-other Log1 Snap1 x four differs = refl
-of_file-other Snap0 Log0 x four differs = refl
-of_file-other Snap0 Log1 x four differs = refl
-of_file-other Snap0 Snap0 x four differs = absurd (differs refl)
-of_file-other Snap0 Snap1 x four differs = refl
-of_file-other Snap1 Log0 x four differs = refl
-of_file-other Snap1 Log1 x four differs = refl
-of_file-other Snap1 Snap0 x four differs = refl
-of_file-other Snap1 Snap1 x four differs = absurd (differs refl)
+pub of_file-other : {A : Type 0} (file other : StoreFile) (x : A) (things : PerFile A) → other ≢ file → of_file other (with_file file x things) ≡ of_file other things
+of_file-other Log0 Log0 x things differs = absurd (differs refl)
+of_file-other Log0 Log1 x things differs = refl
+of_file-other Log0 Snap0 x things differs = refl
+of_file-other Log0 Snap1 x things differs = refl
+of_file-other Log0 Hist x things differs = refl
+of_file-other Log1 Log0 x things differs = refl
+of_file-other Log1 Log1 x things differs = absurd (differs refl)
+of_file-other Log1 Snap0 x things differs = refl
+of_file-other Log1 Snap1 x things differs = refl
+of_file-other Log1 Hist x things differs = refl
+of_file-other Snap0 Log0 x things differs = refl
+of_file-other Snap0 Log1 x things differs = refl
+of_file-other Snap0 Snap0 x things differs = absurd (differs refl)
+of_file-other Snap0 Snap1 x things differs = refl
+of_file-other Snap0 Hist x things differs = refl
+of_file-other Snap1 Log0 x things differs = refl
+of_file-other Snap1 Log1 x things differs = refl
+of_file-other Snap1 Snap0 x things differs = refl
+of_file-other Snap1 Snap1 x things differs = absurd (differs refl)
+of_file-other Snap1 Hist x things differs = refl
+of_file-other Hist Log0 x things differs = refl
+of_file-other Hist Log1 x things differs = refl
+of_file-other Hist Snap0 x things differs = refl
+of_file-other Hist Snap1 x things differs = refl
+of_file-other Hist Hist x things differs = absurd (differs refl)
 
 -- to put what is there changes nothing
-pub with_file-same : {A : Type 0} (file : StoreFile) (four : Four A) → with_file file (of_file file four) four ≡ four
-with_file-same Log0 four = refl
-with_file-same Log1 four = refl
-with_file-same Snap0 four = refl
-with_file-same Snap1 four = refl
+pub with_file-same : {A : Type 0} (file : StoreFile) (things : PerFile A) → with_file file (of_file file things) things ≡ things
+with_file-same Log0 things = refl
+with_file-same Log1 things = refl
+with_file-same Snap0 things = refl
+with_file-same Snap1 things = refl
+with_file-same Hist things = refl
 
 -- the last that was put counts
-pub with_file-again : {A : Type 0} (file : StoreFile) (x y : A) (four : Four A) → with_file file y (with_file file x four) ≡ with_file file y four
-with_file-again Log0 x y four = refl
-with_file-again Log1 x y four = refl
-with_file-again Snap0 x y four = refl
-with_file-again Snap1 x y four = refl
+pub with_file-again : {A : Type 0} (file : StoreFile) (x y : A) (things : PerFile A) → with_file file y (with_file file x things) ≡ with_file file y things
+with_file-again Log0 x y things = refl
+with_file-again Log1 x y things = refl
+with_file-again Snap0 x y things = refl
+with_file-again Snap1 x y things = refl
+with_file-again Hist x y things = refl
 
--- fours whose files are the same are one
-pub same_files : {A : Type 0} (a b : Four A) → ((file : StoreFile) → of_file file a ≡ of_file file b) → a ≡ b
+-- what is the same for each file is one
+pub same_files : {A : Type 0} (a b : PerFile A) → ((file : StoreFile) → of_file file a ≡ of_file file b) → a ≡ b
 same_files a b same =
-    ap (λ x. record { log0 = x; log1 = a.log1; snap0 = a.snap0; snap1 = a.snap1 }) (same Log0)
-    ∙ ap (λ x. record { log0 = b.log0; log1 = x; snap0 = a.snap0; snap1 = a.snap1 }) (same Log1)
-    ∙ ap (λ x. record { log0 = b.log0; log1 = b.log1; snap0 = x; snap1 = a.snap1 }) (same Snap0)
-    ∙ ap (λ x. record { log0 = b.log0; log1 = b.log1; snap0 = b.snap0; snap1 = x }) (same Snap1)
+    ap (λ x. record { log0 = x; log1 = a.log1; snap0 = a.snap0; snap1 = a.snap1; hist = a.hist }) (same Log0)
+    ∙ ap (λ x. record { log0 = b.log0; log1 = x; snap0 = a.snap0; snap1 = a.snap1; hist = a.hist }) (same Log1)
+    ∙ ap (λ x. record { log0 = b.log0; log1 = b.log1; snap0 = x; snap1 = a.snap1; hist = a.hist }) (same Snap0)
+    ∙ ap (λ x. record { log0 = b.log0; log1 = b.log1; snap0 = b.snap0; snap1 = x; hist = a.hist }) (same Snap1)
+    ∙ ap (λ x. record { log0 = b.log0; log1 = b.log1; snap0 = b.snap0; snap1 = b.snap1; hist = x }) (same Hist)
 
 -- a torn file is torn in its own bytes
 pub TornFile-torn : (file : StoreFile) (at n : ℕ) (old new : Image) → TornFile file at n old new → Torn at n (of_file file old) (of_file file new)
@@ -93,6 +107,10 @@ LeavesOnly-weaker old new P Q leaves weaker = record {
   before = λ since image le left. ⊎_elim (λ was. inl was) (λ has. inr (weaker image has)) (leaves.before since image le left);
 }
 
+-- each image that a crash left by the end of a run has what all had that it left meanwhile
+pub left_now : (old new : DiskFacts) (P : Image → Type 0) → LeavesOnly old new P → (image : Image) → new.may_leave image → P image
+left_now old new P leaves image left = leaves.each image (new.counts_now old.moment image leaves.later left)
+
 -- nothing was called
 pub Stays-refl : (facts : DiskFacts) → Stays facts facts
 Stays-refl facts = record {
@@ -131,9 +149,6 @@ SeenTorn-stays file at n old new stays = subst (KnownStep (TornFile file at n) o
     torn_same None = tt
     torn_same (Some image) = TornFile-none file at n image
 
-pub ImagesTorn-stays : (file : StoreFile) (at n : ℕ) (old new : DiskFacts) → Stays old new → ImagesTorn file at n old new
-ImagesTorn-stays file at n old new stays image leaves = (image, stays.images image leaves, TornFile-none file at n image)
-
 -- after calls that change nothing a file is as durable as before
 pub IsDurable-stays : (file : StoreFile) (old new : DiskFacts) → IsDurable file old → Stays old new → IsDurable file new
 IsDurable-stays file old new durable stays image leaves = subst (λ seen. IsSomeAnd seen (λ now. of_file file image ≡ of_file file now)) (sym stays.seen) (durable image (stays.images image leaves))
@@ -162,37 +177,31 @@ module _ (file other : StoreFile) (differs : other ≢ file) where
   seen_other image Step same (Some before) (Some now) step was = was ∙ sym (same before now step)
 
   durable_other : (at n : ℕ) (Step : Image → Image → Type 0) → ((before now : Image) → Step before now → of_file other now ≡ of_file other before) → (old new : DiskFacts) → IsDurable other old
-      → KnownStep Step old.seen new.seen → ImagesTorn file at n old new → IsDurable other new
-  durable_other at n Step same old new durable step images image leaves =
-      let from = images image leaves in
+      → KnownStep Step old.seen new.seen → LeavesOnly old new (ComesTorn file at n old) → IsDurable other new
+  durable_other at n Step same old new durable step moments image leaves =
+      let from = left_now old new (ComesTorn file at n old) moments image leaves in
       seen_other image Step same old.seen new.seen step
       (subst (λ bytes. IsSomeAnd old.seen (λ now. bytes ≡ of_file other now)) (sym (TornFile-other file other at n from.0 image from.2 differs)) (durable from.0 from.1))
 
-  pub IsDurable-written : (at : ℕ) (bytes : List ℕ) (old new : DiskFacts) → IsDurable other old → SeenWritten file at bytes old new → ImagesTorn file at (length bytes) old new → IsDurable other new
-  IsDurable-written at bytes old new durable seen images =
+  pub IsDurable-written : (at : ℕ) (bytes : List ℕ) (old new : DiskFacts) → IsDurable other old → SeenWritten file at bytes old new
+      → LeavesOnly old new (ComesTorn file at (length bytes) old) → IsDurable other new
+  IsDurable-written at bytes old new durable seen moments =
       durable_other at (length bytes) (λ before now. now ≡ with_file file (written (of_file file before) at bytes) before)
-      (λ before now step. ap (of_file other) step ∙ of_file-other file other (written (of_file file before) at bytes) before differs) old new durable seen images
+      (λ before now step. ap (of_file other) step ∙ of_file-other file other (written (of_file file before) at bytes) before differs) old new durable seen moments
 
-  pub IsDurable-torn : (at n : ℕ) (old new : DiskFacts) → IsDurable other old → SeenTorn file at n old new → ImagesTorn file at n old new → IsDurable other new
-  IsDurable-torn at n old new durable seen images =
-      durable_other at n (TornFile file at n) (λ before now step. TornFile-other file other at n before now step differs) old new durable seen images
+  pub IsDurable-torn : (at n : ℕ) (old new : DiskFacts) → IsDurable other old → SeenTorn file at n old new → LeavesOnly old new (ComesTorn file at n old) → IsDurable other new
+  IsDurable-torn at n old new durable seen moments =
+      durable_other at n (TornFile file at n) (λ before now step. TornFile-other file other at n before now step differs) old new durable seen moments
 
--- What a crash leaves after a write to a file that was durable: the file as it read, torn by the write.
-pub torn_from_durable : (file : StoreFile) (at n : ℕ) (old new : DiskFacts) → IsDurable file old → ImagesTorn file at n old new → (image : Image) → new.may_leave image → IsSomeAnd old.seen (λ now. Torn at n (of_file file now) (of_file file image))
-torn_from_durable file at n old new durable images image leaves =
-    let from = images image leaves in
-    torn_at old.seen from.0 (durable from.0 from.1) (TornFile-torn file at n from.0 image from.2)
-  where
-    torn_at : (seen : Option Image) (before : Image) → IsSomeAnd seen (λ now. of_file file before ≡ of_file file now) → Torn at n (of_file file before) (of_file file image) → IsSomeAnd seen (λ now. Torn at n (of_file file now) (of_file file image))
-    torn_at None before same torn = same
-    torn_at (Some now) before same torn = subst (λ bytes. Torn at n bytes (of_file file image)) same torn
-
--- A run of a write, one call: each image is one from before it with the file torn.
-pub LeavesOnly-write : (file : StoreFile) (at n : ℕ) (old new : DiskFacts) → Elapses old new → ImagesTorn file at n old new → LeavesOnly old new (λ image. (before : Image) × old.may_leave before × TornFile file at n before image)
-LeavesOnly-write file at n old new time images =
-    LeavesOnly-next old old new (λ image. (before : Image) × old.may_leave before × TornFile file at n before image)
-    (LeavesOnly-start old (λ image. (before : Image) × old.may_leave before × TornFile file at n before image) (λ image leaves. (image, leaves, TornFile-none file at n image))) time images
-
--- and of calls that change nothing: an image from before them
+-- a run of calls that change nothing leaves an image from before them
 pub LeavesOnly-stays : (old new : DiskFacts) → Stays old new → LeavesOnly old new old.may_leave
 LeavesOnly-stays old new stays = LeavesOnly-next old old new old.may_leave (LeavesOnly-start old old.may_leave (λ image leaves. leaves)) stays.time stays.images
+
+-- so it may stand for a write that isn't whole
+pub LeavesOnly-unwritten : (file : StoreFile) (at n : ℕ) (old new : DiskFacts) → Stays old new → LeavesOnly old new (ComesTorn file at n old)
+LeavesOnly-unwritten file at n old new stays =
+    LeavesOnly-weaker old new old.may_leave (ComesTorn file at n old) (LeavesOnly-stays old new stays) (λ image left. (image, left, TornFile-none file at n image))
+
+-- and calls that change nothing may follow a run
+pub LeavesOnly-and-stays : (old mid new : DiskFacts) (P : Image → Type 0) → LeavesOnly old mid P → Stays mid new → LeavesOnly old new P
+LeavesOnly-and-stays old mid new P moments stays = LeavesOnly-next old mid new P moments stays.time (λ image left. left_now old mid P moments image (stays.images image left))

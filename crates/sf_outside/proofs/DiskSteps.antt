@@ -3,35 +3,46 @@ use Rattle.std.proofs.Common.{◌≡◌, ◌≢◌, ◌⊎◌, inl, inr, ℕ, Li
 use Rattle.std.proofs.lemmas.List.{take-append-le, take_all}
 use Rattle.std.proofs.lemmas.Bool.{cases_lt}
 use Rattle.sf_outside.specs.declared.store_disk.StoreFile.{StoreFile}
-use Rattle.sf_outside.specs.declared.store_disk.StoreFile.TheVariants.{Log0, Log1, Snap0, Snap1}
-use Rattle.sf_outside.specs.DiskModel.{Four, Image, of_file, with_file, written, Torn, Elapses, Stays, SeenWritten, ImagesTorn, IsDurable, IsClean}
+use Rattle.sf_outside.specs.declared.store_disk.StoreFile.TheVariants.{Log0, Log1, Snap0, Snap1, Hist}
+use Rattle.sf_outside.specs.DiskModel.{PerFile, Image, of_file, with_file, written, Torn, Elapses, LeavesOnly, Stays, SeenWritten, IsDurable, IsClean}
+use Rattle.sf_outside.specs.ImageSteps.{ComesTorn}
 use Rattle.sf_outside.specs.SinceMoments.{SomeSince}
 use Rattle.sf_outside.specs.DiskCalls.{DiskCall, Quiet, Write, Sync, Mount, FileHistory, file_after_write, file_after_sync, after_call, after_calls, files_after, new_files, bytes_now, FileLeaves, Leaves, reads_each, facts_after}
 use Rattle.sf_outside.proofs.Writes.{written-torn}
-use Rattle.sf_outside.proofs.DiskLaws.{of_file-same, of_file-other, with_file-same, with_file-again, same_files}
+use Rattle.sf_outside.proofs.DiskLaws.{of_file-same, of_file-other, with_file-same, with_file-again, same_files, TornFile-none, LeavesOnly-start, LeavesOnly-next}
 
 -- what holds of the new thing for one file, and of the old ones for the others, holds of each
-pub changed_each : {A : Type 0} (P : StoreFile → A → Type 0) (file : StoreFile) (x : A) (four : Four A) → P file x → ((other : StoreFile) → other ≢ file → P other (of_file other four)) → (other : StoreFile) → P other (of_file other (with_file file x four))
-changed_each P Log0 x four here there Log0 = here
-changed_each P Log0 x four here there Log1 = there Log1 (λ same. cc)
-changed_each P Log0 x four here there Snap0 = there Snap0 (λ same. cc)
-changed_each P Log0 x four here there Snap1 = there Snap1 (λ same. cc)
-changed_each P Log1 x four here there Log0 = there Log0 (λ same. cc)
-changed_each P Log1 x four here there Log1 = here
-changed_each P Log1 x four here there Snap0 = there Snap0 (λ same. cc)
-changed_each P Log1 x four here there Snap1 = there Snap1 (λ same. cc)
-changed_each P Snap0 x four here there Log0 = there Log0 (λ same. cc)
-changed_each P Snap0 x four here there Log1 = there Log1 (λ same. cc)
-changed_each P Snap0 x four here there Snap0 = here
-changed_each P Snap0 x four here there Snap1 = there Snap1 (λ same. cc)
-changed_each P Snap1 x four here there Log0 = there Log0 (λ same. cc)
-changed_each P Snap1 x four here there Log1 = there Log1 (λ same. cc)
-changed_each P Snap1 x four here there Snap0 = there Snap0 (λ same. cc)
-changed_each P Snap1 x four here there Snap1 = here
+pub changed_each : {A : Type 0} (P : StoreFile → A → Type 0) (file : StoreFile) (x : A) (things : PerFile A) → P file x → ((other : StoreFile) → other ≢ file → P other (of_file other things))
+    → (other : StoreFile) → P other (of_file other (with_file file x things))
+changed_each P Log0 x things here there Log0 = here
+changed_each P Log0 x things here there Log1 = there Log1 (λ same. cc)
+changed_each P Log0 x things here there Snap0 = there Snap0 (λ same. cc)
+changed_each P Log0 x things here there Snap1 = there Snap1 (λ same. cc)
+changed_each P Log0 x things here there Hist = there Hist (λ same. cc)
+changed_each P Log1 x things here there Log0 = there Log0 (λ same. cc)
+changed_each P Log1 x things here there Log1 = here
+changed_each P Log1 x things here there Snap0 = there Snap0 (λ same. cc)
+changed_each P Log1 x things here there Snap1 = there Snap1 (λ same. cc)
+changed_each P Log1 x things here there Hist = there Hist (λ same. cc)
+changed_each P Snap0 x things here there Log0 = there Log0 (λ same. cc)
+changed_each P Snap0 x things here there Log1 = there Log1 (λ same. cc)
+changed_each P Snap0 x things here there Snap0 = here
+changed_each P Snap0 x things here there Snap1 = there Snap1 (λ same. cc)
+changed_each P Snap0 x things here there Hist = there Hist (λ same. cc)
+changed_each P Snap1 x things here there Log0 = there Log0 (λ same. cc)
+changed_each P Snap1 x things here there Log1 = there Log1 (λ same. cc)
+changed_each P Snap1 x things here there Snap0 = there Snap0 (λ same. cc)
+changed_each P Snap1 x things here there Snap1 = here
+changed_each P Snap1 x things here there Hist = there Hist (λ same. cc)
+changed_each P Hist x things here there Log0 = there Log0 (λ same. cc)
+changed_each P Hist x things here there Log1 = there Log1 (λ same. cc)
+changed_each P Hist x things here there Snap0 = there Snap0 (λ same. cc)
+changed_each P Hist x things here there Snap1 = there Snap1 (λ same. cc)
+changed_each P Hist x things here there Hist = here
 
 -- ---- the files after one call more
 
-pub after_calls-more : (calls : List DiskCall) (call : DiskCall) (files : Four FileHistory) → after_calls (calls ++ call ∷ []) files ≡ after_call call (after_calls calls files)
+pub after_calls-more : (calls : List DiskCall) (call : DiskCall) (files : PerFile FileHistory) → after_calls (calls ++ call ∷ []) files ≡ after_call call (after_calls calls files)
 after_calls-more [] call files = refl
 after_calls-more (first ∷ calls) call files = after_calls-more calls call (after_call first files)
 
@@ -56,11 +67,11 @@ Elapses-call calls call = record {
 
 -- ---- what each call leaves
 
-bytes_now-quiet : (calls : List DiskCall) (call : DiskCall) → ((files : Four FileHistory) → bytes_now (after_call call files) ≡ bytes_now files) → bytes_now (files_after (calls ++ call ∷ [])) ≡ bytes_now (files_after calls)
+bytes_now-quiet : (calls : List DiskCall) (call : DiskCall) → ((files : PerFile FileHistory) → bytes_now (after_call call files) ≡ bytes_now files) → bytes_now (files_after (calls ++ call ∷ [])) ≡ bytes_now (files_after calls)
 bytes_now-quiet calls call same = ap bytes_now (after_calls-more calls call new_files) ∙ same (files_after calls)
 
 -- a call that leaves the bytes as they are, and no image but those from before
-stays_with : (calls : List DiskCall) (call : DiskCall) → ((files : Four FileHistory) → bytes_now (after_call call files) ≡ bytes_now files) → ((files : Four FileHistory) (image : Image) → Leaves (after_call call files) image → Leaves files image)
+stays_with : (calls : List DiskCall) (call : DiskCall) → ((files : PerFile FileHistory) → bytes_now (after_call call files) ≡ bytes_now files) → ((files : PerFile FileHistory) (image : Image) → Leaves (after_call call files) image → Leaves files image)
     → Stays (facts_after calls) (facts_after (calls ++ call ∷ []))
 stays_with calls call same fewer = record {
   seen = ap Some (bytes_now-quiet calls call same);
@@ -71,11 +82,12 @@ stays_with calls call same fewer = record {
 pub Stays-quiet : (calls : List DiskCall) → Stays (facts_after calls) (facts_after (calls ++ Quiet ∷ []))
 Stays-quiet calls = stays_with calls Quiet (λ files. refl) (λ files image leaves. leaves)
 
-bytes_now-sync : (file : StoreFile) (files : Four FileHistory) → bytes_now (with_file file (file_after_sync (of_file file files)) files) ≡ bytes_now files
+bytes_now-sync : (file : StoreFile) (files : PerFile FileHistory) → bytes_now (with_file file (file_after_sync (of_file file files)) files) ≡ bytes_now files
 bytes_now-sync Log0 files = refl
 bytes_now-sync Log1 files = refl
 bytes_now-sync Snap0 files = refl
 bytes_now-sync Snap1 files = refl
+bytes_now-sync Hist files = refl
 
 synced_leaves : (file : FileHistory) (bytes : List ℕ) → FileLeaves (file_after_sync file) bytes → bytes ≡ file.now
 synced_leaves file bytes (inl now) = now
@@ -99,11 +111,12 @@ IsDurable-sync file calls image leaves =
 pub bytes_now-mount : (calls : List DiskCall) → bytes_now (files_after (calls ++ Mount ∷ [])) ≡ bytes_now (files_after calls)
 bytes_now-mount calls = bytes_now-quiet calls Mount (λ files. refl)
 
-mount_each : (files : Four FileHistory) (image : Image) → Leaves (after_call Mount files) image → (file : StoreFile) → of_file file (bytes_now files) ≡ of_file file image
+mount_each : (files : PerFile FileHistory) (image : Image) → Leaves (after_call Mount files) image → (file : StoreFile) → of_file file (bytes_now files) ≡ of_file file image
 mount_each files image leaves Log0 = sym (synced_leaves files.log0 image.log0 (leaves.each Log0))
 mount_each files image leaves Log1 = sym (synced_leaves files.log1 image.log1 (leaves.each Log1))
 mount_each files image leaves Snap0 = sym (synced_leaves files.snap0 image.snap0 (leaves.each Snap0))
 mount_each files image leaves Snap1 = sym (synced_leaves files.snap1 image.snap1 (leaves.each Snap1))
+mount_each files image leaves Hist = sym (synced_leaves files.hist image.hist (leaves.each Hist))
 
 pub IsClean-mount : (calls : List DiskCall) → IsClean (facts_after (calls ++ Mount ∷ []))
 IsClean-mount calls image leaves =
@@ -115,18 +128,19 @@ write_leaves : (at : ℕ) (bytes : List ℕ) (file : FileHistory) (left : List �
 write_leaves at bytes file left (inl now) = (file.now, inl refl, subst (Torn at (length bytes) file.now) (sym now) (written-torn file.now at bytes))
 write_leaves at bytes file left (inr torn) = (torn.0, inr torn.1, torn.2)
 
-bytes_now-write : (file : StoreFile) (at : ℕ) (bytes : List ℕ) (files : Four FileHistory)
+bytes_now-write : (file : StoreFile) (at : ℕ) (bytes : List ℕ) (files : PerFile FileHistory)
     → bytes_now (with_file file (file_after_write at bytes (of_file file files)) files) ≡ with_file file (written (of_file file (bytes_now files)) at bytes) (bytes_now files)
 bytes_now-write Log0 at bytes files = refl
 bytes_now-write Log1 at bytes files = refl
 bytes_now-write Snap0 at bytes files = refl
 bytes_now-write Snap1 at bytes files = refl
+bytes_now-write Hist at bytes files = refl
 
 pub SeenWritten-write : (file : StoreFile) (at : ℕ) (bytes : List ℕ) (calls : List DiskCall) → SeenWritten file at bytes (facts_after calls) (facts_after (calls ++ Write file at bytes ∷ []))
 SeenWritten-write file at bytes calls = ap bytes_now (after_calls-more calls (Write file at bytes) new_files) ∙ bytes_now-write file at bytes (files_after calls)
 
-pub ImagesTorn-write : (file : StoreFile) (at : ℕ) (bytes : List ℕ) (calls : List DiskCall) → ImagesTorn file at (length bytes) (facts_after calls) (facts_after (calls ++ Write file at bytes ∷ []))
-ImagesTorn-write file at bytes calls image leaves =
+written_comes : (file : StoreFile) (at : ℕ) (bytes : List ℕ) (calls : List DiskCall) (image : Image) → Leaves (files_after (calls ++ Write file at bytes ∷ [])) image → ComesTorn file at (length bytes) (facts_after calls) image
+written_comes file at bytes calls image leaves =
     let files = files_after calls in
     let changed = file_after_write at bytes (of_file file files) in
     let all : Leaves (after_call (Write file at bytes) files) image = subst (λ f. Leaves f image) (after_calls-more calls (Write file at bytes) new_files) leaves in
@@ -143,6 +157,16 @@ ImagesTorn-write file at bytes calls image leaves =
         image = sym (with_file-again file here.0 (of_file file image) image ∙ with_file-same file image);
       },
     )
+
+-- and so at each moment
+pub LeavesOnly-write : (file : StoreFile) (at : ℕ) (bytes : List ℕ) (calls : List DiskCall)
+    → LeavesOnly (facts_after calls) (facts_after (calls ++ Write file at bytes ∷ [])) (ComesTorn file at (length bytes) (facts_after calls))
+LeavesOnly-write file at bytes calls =
+    let old = facts_after calls in
+    let Comes = ComesTorn file at (length bytes) old in
+    LeavesOnly-next old old (facts_after (calls ++ Write file at bytes ∷ [])) Comes
+    (LeavesOnly-start old Comes (λ image left. (image, left, TornFile-none file at (length bytes) image)))
+    (Elapses-call calls (Write file at bytes)) (written_comes file at bytes calls)
 
 -- ---- bytes that are what a read gives are so after one call more
 

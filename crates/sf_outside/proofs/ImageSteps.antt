@@ -2,9 +2,9 @@
 use Rattle.std.proofs.Common.{◌≡◌, ◌≢◌, ℕ, List, length, take, drop, Some, None, Result, Ok, Err, OnOk, sym, ap, ◌∙◌, subst, IsSome, IsSomeAnd, IfSome, true≢false}
 use Rattle.std.specs.declared.option.Option.{Option}
 use Rattle.sf_outside.specs.declared.store_disk.StoreFile.{StoreFile}
-use Rattle.sf_outside.specs.DiskModel.{Image, DiskFacts, of_file, with_file, written, Torn, TornFile, LeavesOnly, KnownStep, SeenWritten, ImagesTorn, Stays, IsDurable}
+use Rattle.sf_outside.specs.DiskModel.{Image, DiskFacts, of_file, with_file, written, Torn, TornFile, LeavesOnly, KnownStep, SeenWritten, Stays, IsDurable}
 use Rattle.sf_outside.specs.ImageSteps.{ComesTorn, ComesBy}
-use Rattle.sf_outside.proofs.DiskLaws.{of_file-same, of_file-other, with_file-same, with_file-again, TornFile-torn}
+use Rattle.sf_outside.proofs.DiskLaws.{of_file-same, of_file-other, with_file-same, with_file-again, TornFile-torn, left_now}
 use Rattle.sf_outside.proofs.WrittenBytes.{written-stands}
 
 -- what follows from what holds where a call succeeded
@@ -25,10 +25,6 @@ if_one (Some x) P Q follows p = follows x p
 pub if_both : {A : Type 0} (some : Option A) (P Q R : A → Type 0) → ((x : A) → P x → Q x → R x) → IfSome some P → IfSome some Q → IfSome some R
 if_both None P Q R follows p q = tt
 if_both (Some x) P Q R follows p q = follows x p q
-
--- each image that a crash left by the end of a run has what all had that it left meanwhile
-pub left_now : (old new : DiskFacts) (P : Image → Type 0) → LeavesOnly old new P → (image : Image) → new.may_leave image → P image
-left_now old new P leaves image left = leaves.each image (new.counts_now old.moment image leaves.later left)
 
 -- what holds of each image holds of what a read gives
 pub seen_has : (P : Image → Type 0) (facts : DiskFacts) → ((image : Image) → facts.may_leave image → P image) → IfSome facts.seen P
@@ -125,8 +121,8 @@ written_stands file at bytes (Some x) (Some y) image told step same =
     subst (λ f. take (length bytes) (drop at f) ≡ bytes) (sym (same ∙ ap (of_file file) step ∙ of_file-same file put x)) (written-stands (of_file file x) at bytes)
 
 -- a file that is safe after a write holds what was written, in each image
-pub safe_stands : (file : StoreFile) (at : ℕ) (bytes : List ℕ) (old mid new : DiskFacts) → SeenWritten file at bytes old mid → ImagesTorn file at (length bytes) old mid → Stays mid new → IsDurable file new
+pub safe_stands : (file : StoreFile) (at : ℕ) (bytes : List ℕ) (old mid new : DiskFacts) → SeenWritten file at bytes old mid → LeavesOnly old mid (ComesTorn file at (length bytes) old) → Stays mid new → IsDurable file new
     → (image : Image) → new.may_leave image → take (length bytes) (drop at (of_file file image)) ≡ bytes
-safe_stands file at bytes old mid new put torn stays durable image left =
-    let from = torn image (stays.images image left) in
+safe_stands file at bytes old mid new put moments stays durable image left =
+    let from = left_now old mid (ComesTorn file at (length bytes) old) moments image (stays.images image left) in
     written_stands file at bytes old.seen new.seen image (old.told from.0 from.1) (subst (KnownStep (Writes file at bytes) old.seen) (sym stays.seen) put) (durable image left)

@@ -23,7 +23,7 @@ module _ {X : Type 0} (name : X → List ℕ) where
       let facts = position-Some (λ x. bytes_eq (name x) q) xs i d (sym found) in
       record { within = facts.0; here = facts.1; before = facts.2 }
 
-  rest_first : (x : X) (xs : List X) (q : List ℕ) (i : ℕ) (d : X) → FirstAt name (x ∷ xs) q (suc i) d → FirstAt name xs q i d
+  pub rest_first : (x : X) (xs : List X) (q : List ℕ) (i : ℕ) (d : X) → FirstAt name (x ∷ xs) q (suc i) d → FirstAt name xs q i d
   rest_first x xs q i d first = record { within = omega (arith, first.within); here = first.here; before = λ k lt. first.before (suc k) (omega (arith, lt)) }
 
   pub none_named : (xs : List X) (q : List ℕ) → None ≡ position (λ x. bytes_eq (name x) q) xs → (k : ℕ) (d : X) → k < length xs → bytes_eq (name (get_or xs k d)) q ≡ false

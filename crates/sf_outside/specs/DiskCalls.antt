@@ -1,9 +1,9 @@
 -- A disk in memory: the calls that it had, and what each of them leaves.
 use Rattle.std.specs.Prelude.{ℕ, ◌≡◌, ◌⊎◌, List, [], ◌∷◌, length, Some, refl}
 use mathlib.Core.Logic.{inl}
-use Rattle.sf_outside.specs.DiskModel.{Four, Image, DiskFacts, Torn, of_file, with_file, written}
+use Rattle.sf_outside.specs.DiskModel.{PerFile, Image, DiskFacts, Torn, of_file, with_file, written}
 use Rattle.sf_outside.specs.declared.store_disk.StoreFile.{StoreFile}
-use Rattle.sf_outside.specs.declared.store_disk.StoreFile.TheVariants.{Log0, Log1, Snap0, Snap1}
+use Rattle.sf_outside.specs.declared.store_disk.StoreFile.TheVariants.{Log0, Log1, Snap0, Snap1, Hist}
 use Rattle.sf_outside.specs.SinceMoments.{SomeSince, counts_last, last_only}
 
 -- a call: one that changes nothing on the disk, a write that was done, a sync, or a mount
@@ -28,10 +28,10 @@ file_after_write at bytes file = record { now = written file.now at bytes; synce
 abbrev pub file_after_sync : FileHistory → FileHistory
 file_after_sync file = record { now = file.now; synced = file.now; writes = [] }
 
-abbrev pub new_files : Four FileHistory
-new_files = record { log0 = new_file; log1 = new_file; snap0 = new_file; snap1 = new_file }
+abbrev pub new_files : PerFile FileHistory
+new_files = record { log0 = new_file; log1 = new_file; snap0 = new_file; snap1 = new_file; hist = new_file }
 
-abbrev pub after_call : DiskCall → Four FileHistory → Four FileHistory
+abbrev pub after_call : DiskCall → PerFile FileHistory → PerFile FileHistory
 after_call Quiet files = files
 after_call (Write file at bytes) files = with_file file (file_after_write at bytes (of_file file files)) files
 after_call (Sync file) files = with_file file (file_after_sync (of_file file files)) files
@@ -40,20 +40,21 @@ after_call Mount files = record {
   log1 = file_after_sync files.log1;
   snap0 = file_after_sync files.snap0;
   snap1 = file_after_sync files.snap1;
+  hist = file_after_sync files.hist;
 }
 
 -- the files after these calls, from the first on
-abbrev pub after_calls : List DiskCall → Four FileHistory → Four FileHistory
+abbrev pub after_calls : List DiskCall → PerFile FileHistory → PerFile FileHistory
 after_calls [] files = files
 after_calls (call ∷ calls) files = after_calls calls (after_call call files)
 
 -- the files of a disk that had these calls
-abbrev pub files_after : List DiskCall → Four FileHistory
+abbrev pub files_after : List DiskCall → PerFile FileHistory
 files_after calls = after_calls calls new_files
 
 -- what a read gives
-abbrev pub bytes_now : Four FileHistory → Image
-bytes_now files = record { log0 = files.log0.now; log1 = files.log1.now; snap0 = files.snap0.now; snap1 = files.snap1.now }
+abbrev pub bytes_now : PerFile FileHistory → Image
+bytes_now files = record { log0 = files.log0.now; log1 = files.log1.now; snap0 = files.snap0.now; snap1 = files.snap1.now; hist = files.hist.now }
 
 -- torn by these writes, the newest first
 abbrev pub TornBy : List (ℕ × ℕ) → List ℕ → List ℕ → Type 0
@@ -65,18 +66,19 @@ abbrev pub FileLeaves : FileHistory → List ℕ → Type 0
 FileLeaves file bytes = (bytes ≡ file.now) ⊎ TornBy file.writes file.synced bytes
 
 -- each file for itself
-pub record Leaves (files : Four FileHistory) (image : Image) : Type 0 where
+pub record Leaves (files : PerFile FileHistory) (image : Image) : Type 0 where
   pub each : (file : StoreFile) → FileLeaves (of_file file files) (of_file file image)
 
 -- file by file
-pub reads_each : (files : Four FileHistory) (file : StoreFile) → of_file file (bytes_now files) ≡ (of_file file files).now
+pub reads_each : (files : PerFile FileHistory) (file : StoreFile) → of_file file (bytes_now files) ≡ (of_file file files).now
 reads_each files Log0 = refl
 reads_each files Log1 = refl
 reads_each files Snap0 = refl
 reads_each files Snap1 = refl
+reads_each files Hist = refl
 
 -- a disk as it reads is one of its images
-pub leaves_now : (files : Four FileHistory) → Leaves files (bytes_now files)
+pub leaves_now : (files : PerFile FileHistory) → Leaves files (bytes_now files)
 leaves_now files = record { each = λ file. inl (reads_each files file) }
 
 -- what is told of a disk that had these calls: a moment is the number of calls so far

@@ -7,7 +7,7 @@ pub record FileRoom : Type 0 where
   pub bytes : List ℕ
   pub room : ℕ
 
--- the four files, and how many bytes each can hold
+-- the files, and how many bytes each can hold
 pub record FilesRoom : Type 0 where
   pub image : Image
   pub room : ℕ

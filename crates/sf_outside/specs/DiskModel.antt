@@ -1,33 +1,36 @@
--- A disk with the four files of a store: what a read gives, what a crash may leave, and what each call does to both.
+-- A disk with the files of a store: what a read gives, what a crash may leave, and what each call does to both.
 use Rattle.std.specs.Prelude.{ℕ, ◌≡◌, ◌≢◌, ◌⊎◌, ◌+◌, ◌-◌, ◌≤◌, ◌==◌, List, [], ◌∷◌, ◌++◌, length, take, drop, replicate, min, max, ⊤, None, Some, IfSome, IsSome, IsSomeAnd, if◌then◌else◌}
 use Rattle.std.specs.declared.option.Option.{Option}
 use Rattle.sf_outside.specs.Causes.{next_count}
 use Rattle.sf_outside.specs.declared.store_disk.StoreFile.{StoreFile}
-use Rattle.sf_outside.specs.declared.store_disk.StoreFile.TheVariants.{Log0, Log1, Snap0, Snap1}
+use Rattle.sf_outside.specs.declared.store_disk.StoreFile.TheVariants.{Log0, Log1, Snap0, Snap1, Hist}
 
 -- one thing for each file
-pub record Four (A : Type 0) : Type 0 where
+pub record PerFile (A : Type 0) : Type 0 where
   pub log0 : A
   pub log1 : A
   pub snap0 : A
   pub snap1 : A
+  pub hist : A
 
--- the bytes of the four files
+-- the bytes of each file
 abbrev pub Image : Type 0
-Image = Four (List ℕ)
+Image = PerFile (List ℕ)
 
-abbrev pub of_file : {A : Type 0} → StoreFile → Four A → A
-of_file Log0 four = four.log0
-of_file Log1 four = four.log1
-of_file Snap0 four = four.snap0
-of_file Snap1 four = four.snap1
+abbrev pub of_file : {A : Type 0} → StoreFile → PerFile A → A
+of_file Log0 things = things.log0
+of_file Log1 things = things.log1
+of_file Snap0 things = things.snap0
+of_file Snap1 things = things.snap1
+of_file Hist things = things.hist
 
 -- another thing for this file, and the same for the others
-abbrev pub with_file : {A : Type 0} → StoreFile → A → Four A → Four A
-with_file Log0 x four = record { log0 = x; log1 = four.log1; snap0 = four.snap0; snap1 = four.snap1 }
-with_file Log1 x four = record { log0 = four.log0; log1 = x; snap0 = four.snap0; snap1 = four.snap1 }
-with_file Snap0 x four = record { log0 = four.log0; log1 = four.log1; snap0 = x; snap1 = four.snap1 }
-with_file Snap1 x four = record { log0 = four.log0; log1 = four.log1; snap0 = four.snap0; snap1 = x }
+abbrev pub with_file : {A : Type 0} → StoreFile → A → PerFile A → PerFile A
+with_file Log0 x things = record { log0 = x; log1 = things.log1; snap0 = things.snap0; snap1 = things.snap1; hist = things.hist }
+with_file Log1 x things = record { log0 = things.log0; log1 = x; snap0 = things.snap0; snap1 = things.snap1; hist = things.hist }
+with_file Snap0 x things = record { log0 = things.log0; log1 = things.log1; snap0 = x; snap1 = things.snap1; hist = things.hist }
+with_file Snap1 x things = record { log0 = things.log0; log1 = things.log1; snap0 = things.snap0; snap1 = x; hist = things.hist }
+with_file Hist x things = record { log0 = things.log0; log1 = things.log1; snap0 = things.snap0; snap1 = things.snap1; hist = x }
 
 -- a file after a whole write: zeros fill what lies between its end and the place, and no bytes change nothing
 abbrev pub written : List ℕ → ℕ → List ℕ → List ℕ
@@ -114,10 +117,6 @@ SeenWritten file at bytes old new = KnownStep (λ before now. now ≡ with_file 
 -- what a read gives after a write that failed
 abbrev pub SeenTorn : StoreFile → ℕ → ℕ → DiskFacts → DiskFacts → Type 0
 SeenTorn file at n old new = KnownStep (TornFile file at n) old.seen new.seen
-
--- each image after a write is one from before it with this file torn
-abbrev pub ImagesTorn : StoreFile → ℕ → ℕ → DiskFacts → DiskFacts → Type 0
-ImagesTorn file at n old new = (image : Image) → new.may_leave image → (before : Image) × old.may_leave before × TornFile file at n before image
 
 -- a crash leaves this file as a read gives it
 abbrev pub IsDurable : StoreFile → DiskFacts → Type 0

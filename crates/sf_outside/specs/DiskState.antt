@@ -32,6 +32,10 @@ after_done call disk = record disk { calls = disk.calls ++ call ∷ []; made = n
 abbrev pub calls_quiet : DiskState → List DiskCall
 calls_quiet disk = if nat_le disk.limit (length disk.calls) then disk.calls else disk.calls ++ Quiet ∷ []
 
+-- a call was made that did nothing
+abbrev pub after_quiet : DiskState → DiskState
+after_quiet disk = record disk { calls = calls_quiet disk; made = next_count disk.made }
+
 -- a call failed
 abbrev pub after_fault : DiskState → DiskState
 after_fault disk = record disk { calls = calls_quiet disk; made = next_count disk.made; faults = next_count disk.faults }

@@ -73,6 +73,7 @@ pub struct DiskFiles {
     log1: DiskFile,
     snap0: DiskFile,
     snap1: DiskFile,
+    hist: DiskFile,
 }
 
 impl Model for DiskFiles {
@@ -82,17 +83,18 @@ impl Model for DiskFiles {
     ghost Value = { FilesRoom };
 
     ghost view = { λ files. record {
-      image = record { log0 = files.log0.bytes; log1 = files.log1.bytes; snap0 = files.snap0.bytes; snap1 = files.snap1.bytes };
+      image = record { log0 = files.log0.bytes; log1 = files.log1.bytes; snap0 = files.snap0.bytes; snap1 = files.snap1.bytes; hist = files.hist.bytes };
       room = files.log0.room;
     } };
 
-    ghost invariant = { λ files. (files.log1.room ≡ files.log0.room) × (files.snap0.room ≡ files.log0.room) × (files.snap1.room ≡ files.log0.room) };
+    ghost invariant = { λ files. (files.log1.room ≡ files.log0.room) × (files.snap0.room ≡ files.log0.room) × (files.snap1.room ≡ files.log0.room)
+        × (files.hist.room ≡ files.log0.room) };
 }
 
 impl DiskFiles {
     /// Empty files.
     pub fn new(alloc: Global, room: u64) -> Result<DiskFiles, AllocError>
-        ensures { IfOk result (λ made. made ≡ record { image = record { log0 = []; log1 = []; snap0 = []; snap1 = [] }; room = room }) }
+        ensures { IfOk result (λ made. made ≡ record { image = record { log0 = []; log1 = []; snap0 = []; snap1 = []; hist = [] }; room = room }) }
     {
         let room = room as usize;
         Ok(DiskFiles {
@@ -100,6 +102,7 @@ impl DiskFiles {
             log1: DiskFile::new(alloc, room)?,
             snap0: DiskFile::new(alloc, room)?,
             snap1: DiskFile::new(alloc, room)?,
+            hist: DiskFile::new(alloc, room)?,
         })
     }
 
@@ -111,6 +114,7 @@ impl DiskFiles {
             StoreFile::Log1 => self.log1.bytes(),
             StoreFile::Snap0 => self.snap0.bytes(),
             StoreFile::Snap1 => self.snap1.bytes(),
+            StoreFile::Hist => self.hist.bytes(),
         }
     }
 
@@ -125,6 +129,7 @@ impl DiskFiles {
             StoreFile::Log1 => self.log1.write_at(at, bytes),
             StoreFile::Snap0 => self.snap0.write_at(at, bytes),
             StoreFile::Snap1 => self.snap1.write_at(at, bytes),
+            StoreFile::Hist => self.hist.write_at(at, bytes),
         }
     }
 }

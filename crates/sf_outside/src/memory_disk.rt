@@ -1,14 +1,15 @@
 //! A disk in memory. It notes each call, and so tells what a crash at each moment may have left.
 
-ghost use Rattle.std.specs.Prelude.{◌≡◌, ◌+◌, ◌^◌, ◌≤◌, ◌||◌, ℕ, List, None, Some, [], length, is_err, true, false, not, nat_lt, if◌then◌else◌, IfOk, IfSome, OnOk, OnErr, IsErrOf};
+ghost use Rattle.std.specs.Prelude.{◌≡◌, ◌+◌, ◌^◌, ◌≤◌, ◌||◌, ◌⊎◌, ℕ, List, None, Some, [], length, is_err, true, false, not, nat_lt, if◌then◌else◌, IfOk, IfSome, OnOk, OnErr, IsErrOf};
 ghost use Rattle.std.specs.Io.{ReadsAtMost};
 ghost use Rattle.sf_outside.specs.Bytes.{CopiedAll};
 ghost use Rattle.sf_outside.specs.Causes.{HasCause, Rose, next_count};
-ghost use Rattle.sf_outside.specs.DiskModel.{of_file, Elapses, Stays, SeenWritten, SeenTorn, ImagesTorn, IsDurable, IsClean, mounted, NotMounted};
+ghost use Rattle.sf_outside.specs.DiskModel.{of_file, LeavesOnly, Stays, SeenWritten, SeenTorn, IsDurable, IsClean, mounted, NotMounted};
+ghost use Rattle.sf_outside.specs.ImageSteps.{ComesTorn};
 ghost use Rattle.sf_outside.specs.DiskCalls.{Quiet, Write, Sync, Mount, facts_after};
-ghost use Rattle.sf_outside.specs.DiskState.{fails_next, after_begin, after_done, after_fault, calls_quiet};
+ghost use Rattle.sf_outside.specs.DiskState.{fails_next, after_begin, after_done, after_quiet, after_fault, calls_quiet};
 ghost use Rattle.sf_outside.specs.LogState.{bytes_written};
-ghost use Rattle.sf_outside.specs.MountState.{mounts_of, refusals_of, with_mount};
+ghost use Rattle.sf_outside.specs.MountState.{mounts_of, refusals_of, with_mount, with_refusal};
 
 use crate::call_log::CallLog;
 use crate::calls::Calls;
@@ -134,6 +135,8 @@ impl Disk for MemDisk {
         ensures succeeds { OnOk result (fails_next self.old ≡ false) }
         ensures fails { IsErrOf result MountFault.Failed → fails_next self.old ≡ true }
         ensures exact { OnOk result (self.new ≡ record (after_done Mount self.old) { mounts = with_mount self.old.mounts name.now (length self.new.calls) }) }
+        ensures refused { IsErrOf result MountFault.Failed → self.new ≡ record (after_quiet self.old) { mounts = with_refusal self.old.mounts name.now } }
+        ensures no_memory { IsErrOf result MountFault.NoMemory → (self.new ≡ self.old) ⊎ (self.new ≡ after_quiet self.old) }
         ensures settings { (self.new.limit ≡ self.old.limit) × (self.new.room ≡ self.old.room) × (self.new.fail_at ≡ self.old.fail_at) }
     {
         let taken = String::from_str(alloc, name)?;
@@ -183,8 +186,8 @@ impl Disk for MemDisk {
         requires { at + length bytes.now ≤ 2 ^ 62 }
         ensures ok { OnOk result (SeenWritten file at bytes.now (facts_after self.old.calls) (facts_after self.new.calls)) }
         ensures err { OnErr result (SeenTorn file at (length bytes.now) (facts_after self.old.calls) (facts_after self.new.calls)) }
-        ensures images { ImagesTorn file at (length bytes.now) (facts_after self.old.calls) (facts_after self.new.calls) }
-        ensures time { Elapses (facts_after self.old.calls) (facts_after self.new.calls) }
+        ensures moments { LeavesOnly (facts_after self.old.calls) (facts_after self.new.calls)
+            (ComesTorn file at (length bytes.now) (facts_after self.old.calls)) }
         ensures cause { HasCause self.old.faults self.new.faults result }
         ensures mounts { mounts_of self.new.mounts ≡ mounts_of self.old.mounts }
         ensures fails { is_err result ≡ (fails_next self.old || nat_lt self.old.room (at + length bytes.now) || nat_lt self.old.room

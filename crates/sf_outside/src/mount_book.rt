@@ -4,7 +4,7 @@ ghost use Rattle.std.specs.Prelude.{◌≡◌, ◌≤◌, None, [], bytes_eq, st
 ghost use Rattle.std.specs.List.{position};
 ghost use Rattle.sf_outside.specs.Causes.{next_count};
 ghost use Rattle.sf_outside.specs.DiskModel.{NotMounted};
-ghost use Rattle.sf_outside.specs.MountState.{mounts_of, refusals_of, with_mount};
+ghost use Rattle.sf_outside.specs.MountState.{mounts_of, refusals_of, with_mount, with_refusal};
 
 use std::alloc::{AllocError, Global};
 use std::marker::Model;
@@ -95,6 +95,7 @@ impl MountBook {
     pub fn refuse(&mut self, alloc: Global, name: &str) -> Result<(), AllocError>
         ensures refused { NotMounted name.now (mounts_of self.old) (mounts_of self.new) }
         ensures ok { OnOk result (refusals_of self.new.refusals name.now ≡ next_count (refusals_of self.old.refusals name.now)) }
+        ensures exact { OnOk result (self.new ≡ with_refusal self.old name.now) }
         ensures err { OnErr result (self.new ≡ self.old) }
     {
         if let Some(place) = self.place_of(name) {

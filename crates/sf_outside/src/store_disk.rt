@@ -5,7 +5,8 @@ ghost use Rattle.std.specs.declared.option.Option.{Option};
 ghost use Rattle.std.specs.Io.{ReadsAtMost};
 ghost use Rattle.sf_outside.specs.Bytes.{CopiedAll};
 ghost use Rattle.sf_outside.specs.Causes.{HasCause, Rose};
-ghost use Rattle.sf_outside.specs.DiskModel.{Image, DiskFacts, Mounts, of_file, Elapses, Stays, SeenWritten, SeenTorn, ImagesTorn, IsDurable, IsClean, mounted, NotMounted};
+ghost use Rattle.sf_outside.specs.DiskModel.{Image, DiskFacts, Mounts, of_file, LeavesOnly, Stays, SeenWritten, SeenTorn, IsDurable, IsClean, mounted, NotMounted};
+ghost use Rattle.sf_outside.specs.ImageSteps.{ComesTorn};
 
 use crate::devices::Failed;
 use std::alloc::{AllocError, Global};
@@ -35,6 +36,7 @@ pub enum StoreFile {
     Log1,
     Snap0,
     Snap1,
+    Hist,
 }
 
 /// A disk with the files of a store. It is mounted first, and where that is refused no other call is made.
@@ -83,8 +85,7 @@ pub trait Disk {
         requires { at + length bytes.now ≤ 2 ^ 62 }
         ensures ok { OnOk result (SeenWritten file at bytes.now (facts self.old) (facts self.new)) }
         ensures err { OnErr result (SeenTorn file at (length bytes.now) (facts self.old) (facts self.new)) }
-        ensures images { ImagesTorn file at (length bytes.now) (facts self.old) (facts self.new) }
-        ensures time { Elapses (facts self.old) (facts self.new) }
+        ensures moments { LeavesOnly (facts self.old) (facts self.new) (ComesTorn file at (length bytes.now) (facts self.old)) }
         ensures cause { HasCause (faults self.old) (faults self.new) result }
         ensures mounts { mounts self.new ≡ mounts self.old };
 

@@ -4,10 +4,10 @@ use Rattle.std.specs.declared.option.Option.{Option}
 use Rattle.sf_bytes.specs.ByteForms.{long_bytes}
 use Rattle.sf_bytes.proofs.Stands.{Stands-length, Stands-same}
 use Rattle.sf_outside.specs.declared.store_disk.StoreFile.{StoreFile}
-use Rattle.sf_outside.specs.DiskModel.{Image, DiskFacts, written, Torn, Elapses, LeavesOnly, ImagesTorn, SeenWritten, IsDurable}
+use Rattle.sf_outside.specs.DiskModel.{Image, DiskFacts, written, Torn, LeavesOnly, SeenWritten, IsDurable}
 use Rattle.sf_outside.specs.ImageSteps.{ComesTorn, ComesBy}
-use Rattle.sf_outside.proofs.DiskLaws.{LeavesOnly-write, LeavesOnly-then, LeavesOnly-weaker}
-use Rattle.sf_outside.proofs.ImageSteps.{left_now, comes_torn, comes_weaker, comes_then, seen_then, written_stands}
+use Rattle.sf_outside.proofs.DiskLaws.{left_now, LeavesOnly-then, LeavesOnly-weaker}
+use Rattle.sf_outside.proofs.ImageSteps.{comes_torn, comes_weaker, comes_then, seen_then, written_stands}
 use Rattle.sf_outside.proofs.WrittenBytes.{written-then}
 use Rattle.snapshot_store.specs.SlotFile.{behind_gate}
 use Rattle.snapshot_store.specs.SlotSteps.{KeepsGate, Fills}
@@ -25,21 +25,15 @@ module _ (slot : StoreFile) where
   Staged old image = ComesBy slot KeepsGate old image
 
   -- a write behind the gate
-  staged_torn : (at n : ℕ) → 1 ≤ at → (old new : DiskFacts) → LeavesOnly old new (ComesTorn slot at n old) → LeavesOnly old new (Staged old)
-  staged_torn at n behind old new moments = LeavesOnly-weaker old new (ComesTorn slot at n old) (Staged old) moments (λ image torn. comes_torn slot at n KeepsGate old image (gate_kept at n behind) torn)
-
-  pub staged_write : (at n : ℕ) → 1 ≤ at → (old new : DiskFacts) → Elapses old new → ImagesTorn slot at n old new → LeavesOnly old new (Staged old)
-  staged_write at n behind old new time images = staged_torn at n behind old new (LeavesOnly-write slot at n old new time images)
+  pub staged_write : (at n : ℕ) → 1 ≤ at → (old new : DiskFacts) → LeavesOnly old new (ComesTorn slot at n old) → LeavesOnly old new (Staged old)
+  staged_write at n behind old new moments = LeavesOnly-weaker old new (ComesTorn slot at n old) (Staged old) moments (λ image torn. comes_torn slot at n KeepsGate old image (gate_kept at n behind) torn)
 
   -- and one more
   pub staged_then : (at n : ℕ) → 1 ≤ at → (old mid new : DiskFacts) → LeavesOnly old mid (Staged old) → LeavesOnly mid new (ComesTorn slot at n mid) → LeavesOnly old new (Staged old)
   staged_then at n behind old mid new so_far more =
       LeavesOnly-then old mid new (Staged old) so_far
-      (LeavesOnly-weaker mid new (Staged mid) (Staged old) (staged_torn at n behind mid new more)
+      (LeavesOnly-weaker mid new (Staged mid) (Staged old) (staged_write at n behind mid new more)
       (λ image came. comes_then slot KeepsGate KeepsGate KeepsGate (λ a b c first second gate stands. second gate (first gate stands)) old mid image (left_now old mid (Staged old) so_far) came))
-
-  pub staged_next : (at n : ℕ) → 1 ≤ at → (old mid new : DiskFacts) → LeavesOnly old mid (Staged old) → Elapses mid new → ImagesTorn slot at n mid new → LeavesOnly old new (Staged old)
-  staged_next at n behind old mid new so_far time images = staged_then at n behind old mid new so_far (LeavesOnly-write slot at n mid new time images)
 
   -- what a read gives after the three writes
   pub seen_behind : (epoch : ℕ) (body first_bytes second_bytes : List ℕ) (old first second new : DiskFacts) → first_bytes ≡ long_bytes epoch → second_bytes ≡ long_bytes (length body)

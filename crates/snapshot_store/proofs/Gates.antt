@@ -7,8 +7,8 @@ use Rattle.sf_bytes.proofs.Stands.{Stands-byte}
 use Rattle.sf_outside.specs.declared.store_disk.StoreFile.{StoreFile}
 use Rattle.sf_outside.specs.DiskModel.{Image, DiskFacts, of_file, Torn, LeavesOnly, SeenWritten, Stays, IsDurable}
 use Rattle.sf_outside.specs.ImageSteps.{ComesTorn, ComesBy}
-use Rattle.sf_outside.proofs.DiskLaws.{LeavesOnly-stays, LeavesOnly-then, LeavesOnly-weaker}
-use Rattle.sf_outside.proofs.ImageSteps.{left_now, comes_torn, comes_torn_at, comes_weaker, comes_earlier, comes_same, written_stands}
+use Rattle.sf_outside.proofs.DiskLaws.{left_now, LeavesOnly-stays, LeavesOnly-then, LeavesOnly-weaker}
+use Rattle.sf_outside.proofs.ImageSteps.{comes_torn, comes_torn_at, comes_weaker, comes_earlier, comes_same, written_stands}
 use Rattle.sf_outside.proofs.Writes.{Torn-length}
 use Rattle.snapshot_store.specs.SlotFile.{IsOpenSlot}
 use Rattle.snapshot_store.specs.SlotSteps.{GateChanges, StaysOrCloses, Closes, Opens}

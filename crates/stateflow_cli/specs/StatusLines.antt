@@ -10,7 +10,7 @@ use Rattle.py_lexer.specs.declared.fault.LexKind.TheVariants as lex
 use Rattle.batch_run.specs.Vocabulary.{SessionFault}
 use Rattle.batch_run.specs.SessionFaultVariants as stop
 use Rattle.sf_outside.specs.declared.store_disk.StoreFile.{StoreFile}
-use Rattle.sf_outside.specs.declared.store_disk.StoreFile.TheVariants.{Log0, Log1, Snap0, Snap1}
+use Rattle.sf_outside.specs.declared.store_disk.StoreFile.TheVariants.{Log0, Log1, Snap0, Snap1, Hist}
 use Rattle.store_opening.specs.declared.stop.OpenStop.{OpenStop}
 use Rattle.store_opening.specs.declared.stop.OpenStop.TheVariants as of_store
 use Rattle.program_text.specs.declared.fault.ProgramFault.{ProgramFault}
@@ -121,6 +121,7 @@ file_name Log0 = codes "log0"
 file_name Log1 = codes "log1"
 file_name Snap0 = codes "snap0"
 file_name Snap1 = codes "snap1"
+file_name Hist = codes "hist"
 
 -- `stateflow: bad store: NAME at PLACE`
 abbrev pub bad_store_line : List ℕ → List ℕ → List ℕ

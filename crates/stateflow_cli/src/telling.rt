@@ -104,6 +104,7 @@ fn name_of_file(file: StoreFile) -> &'static [u8]
         StoreFile::Log1 => b"log1",
         StoreFile::Snap0 => b"snap0",
         StoreFile::Snap1 => b"snap1",
+        StoreFile::Hist => b"hist",
     }
 }
 

@@ -10,7 +10,7 @@ use sf_outside::{Disk, Failed, MountBook, MountFault, StoreFile};
 use std::alloc::Global;
 use std::fs::{File, Files};
 
-/// A folder of the system, whose files `log0`, `log1`, `snap0` and `snap1` are those of a store. What they hold isn't told.
+/// A folder of the system, whose files `log0`, `log1`, `snap0`, `snap1` and `hist` are those of a store. What they hold isn't told.
 ///
 /// Two programs that work on one folder at a time would destroy it. So `log0` is locked as long as the folder is mounted, and a mount is refused where
 /// someone else has it locked. The system gives the lock up with the file, at the latest where the process ends, however it does.

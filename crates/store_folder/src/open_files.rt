@@ -9,13 +9,14 @@ use std::alloc::{AllocError, Global};
 use std::fs::{self, File, Files, OpenFile, OpenOptions};
 use std::io::{self, Read, Seek, Write};
 
-/// The files `log0`, `log1`, `snap0` and `snap1` of a folder.
+/// The files `log0`, `log1`, `snap0`, `snap1` and `hist` of a folder.
 #[derive(Drop)]
 pub(crate) struct OpenFiles<F> {
     log0: F,
     log1: F,
     snap0: F,
     snap1: F,
+    hist: F,
 }
 
 impl<F: Read + Write + Seek + OpenFile + Drop> OpenFiles<F> {
@@ -25,6 +26,7 @@ impl<F: Read + Write + Seek + OpenFile + Drop> OpenFiles<F> {
             StoreFile::Log1 => file_length(&mut self.log1),
             StoreFile::Snap0 => file_length(&mut self.snap0),
             StoreFile::Snap1 => file_length(&mut self.snap1),
+            StoreFile::Hist => file_length(&mut self.hist),
         }
     }
 
@@ -36,6 +38,7 @@ impl<F: Read + Write + Seek + OpenFile + Drop> OpenFiles<F> {
             StoreFile::Log1 => read_whole_at(&mut self.log1, at, buf),
             StoreFile::Snap0 => read_whole_at(&mut self.snap0, at, buf),
             StoreFile::Snap1 => read_whole_at(&mut self.snap1, at, buf),
+            StoreFile::Hist => read_whole_at(&mut self.hist, at, buf),
         }
     }
 
@@ -45,6 +48,7 @@ impl<F: Read + Write + Seek + OpenFile + Drop> OpenFiles<F> {
             StoreFile::Log1 => write_whole_at(&mut self.log1, at, bytes),
             StoreFile::Snap0 => write_whole_at(&mut self.snap0, at, bytes),
             StoreFile::Snap1 => write_whole_at(&mut self.snap1, at, bytes),
+            StoreFile::Hist => write_whole_at(&mut self.hist, at, bytes),
         }
     }
 
@@ -55,6 +59,7 @@ impl<F: Read + Write + Seek + OpenFile + Drop> OpenFiles<F> {
             StoreFile::Log1 => self.log1.sync_all(),
             StoreFile::Snap0 => self.snap0.sync_all(),
             StoreFile::Snap1 => self.snap1.sync_all(),
+            StoreFile::Hist => self.hist.sync_all(),
         }
     }
 }
@@ -66,6 +71,7 @@ pub(crate) struct FilePaths {
     log1: String,
     snap0: String,
     snap1: String,
+    hist: String,
 }
 
 /// Makes the paths of the files of the folder of this name. What opens them takes no memory of its own.
@@ -75,6 +81,7 @@ pub(crate) fn paths_in(alloc: Global, folder: &str) -> Result<FilePaths, AllocEr
         log1: path_in(alloc, folder, "log1")?,
         snap0: path_in(alloc, folder, "snap0")?,
         snap1: path_in(alloc, folder, "snap1")?,
+        hist: path_in(alloc, folder, "hist")?,
     })
 }
 
@@ -102,6 +109,7 @@ pub(crate) fn open_folder<R: Files<File = File>>(
         log1: open_file(system, paths.log1.as_str())?,
         snap0: open_file(system, paths.snap0.as_str())?,
         snap1: open_file(system, paths.snap1.as_str())?,
+        hist: open_file(system, paths.hist.as_str())?,
     };
     fs::open(system, folder)?.sync_all()?;
     Ok(files)

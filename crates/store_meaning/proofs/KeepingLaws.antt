@@ -6,8 +6,7 @@ use Rattle.sf_bytes.specs.Gates.{ClosedAt}
 use Rattle.sf_outside.specs.DiskModel.{Image, DiskFacts, of_file, LeavesOnly, Stays}
 use Rattle.sf_outside.specs.declared.store_disk.StoreFile.{StoreFile}
 use Rattle.sf_outside.specs.ImageSteps.{ComesBy}
-use Rattle.sf_outside.proofs.DiskLaws.{LeavesOnly-weaker}
-use Rattle.sf_outside.proofs.ImageSteps.{left_now}
+use Rattle.sf_outside.proofs.DiskLaws.{left_now, LeavesOnly-weaker}
 use Rattle.sf_value.specs.declared.BatchRecord.{BatchRecord}
 use Rattle.sf_value.specs.declared.Snapshot.{Snapshot}
 use Rattle.request_log.specs.Appends.{HasRecord, StaysOrHasRecord}

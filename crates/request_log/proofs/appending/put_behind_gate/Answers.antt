@@ -9,12 +9,12 @@ use Rattle.request_log.proofs.appending.put_behind_gate.Goals as goal
 
 pub returns-in_err-write_at-clause-moments : goal.returns-in_err-write_at-clause-moments
 returns-in_err-write_at-clause-moments g c =
-    staged_length c.args.file c.args.at (g.D.Disk.facts c.args.disk.now) c.requires.closed (g.D.Disk.facts c.write_at.new.self) (length c.to_be_bytes.result) c.write_at.ensures.time c.write_at.ensures.images
+    staged_length c.args.file c.args.at (g.D.Disk.facts c.args.disk.now) c.requires.closed (g.D.Disk.facts c.write_at.new.self) (length c.to_be_bytes.result) c.write_at.ensures.moments
 
 pub returns-in_err-write_at-2-clause-moments : goal.returns-in_err-write_at-2-clause-moments
 returns-in_err-write_at-2-clause-moments g c =
     staged_body c.args.file c.args.at (g.D.Disk.facts c.args.disk.now) c.requires.closed (g.D.Disk.facts c.write_at.new.self) (g.D.Disk.facts c.write_at-2.new.self) (length c.to_be_bytes.result) (length c.args.body.now)
-    c.write_at.ensures.time c.write_at.ensures.images c.write_at-2.ensures.time c.write_at-2.ensures.images
+    c.write_at.ensures.moments c.write_at-2.ensures.moments
 
 pub returns-clause-seen : goal.returns-clause-seen
 unfolding number_bytes
@@ -34,5 +34,5 @@ returns-clause-moments g c =
     let old = g.D.Disk.facts c.args.disk.now in
     let second = g.D.Disk.facts c.write_at-2.new.self in
     let so_far = staged_body c.args.file c.args.at old c.requires.closed (g.D.Disk.facts c.write_at.new.self) second (length c.to_be_bytes.result) (length c.args.body.now)
-    c.write_at.ensures.time c.write_at.ensures.images c.write_at-2.ensures.time c.write_at-2.ensures.images in
+    c.write_at.ensures.moments c.write_at-2.ensures.moments in
     staged_then c.args.file c.args.at old c.requires.closed second (g.D.Disk.facts c.put_synced.new.disk) (c.args.at + 5 + length c.args.body.now) 1 (omega arith) so_far c.put_synced.ensures.moments

@@ -4,20 +4,20 @@ use Rattle.sf_outside.specs.DiskModel.{SeenWritten}
 use Rattle.sf_outside.proofs.DiskLaws.{IsDurable-written}
 use Rattle.sf_outside.proofs.ImageSteps.{on_ok}
 use Rattle.snapshot_store.specs.SlotFile.{behind_gate}
-use Rattle.snapshot_store.proofs.Fillings.{staged_write, staged_next, staged_then, seen_behind}
+use Rattle.snapshot_store.proofs.Fillings.{staged_write, staged_then, seen_behind}
 use Rattle.snapshot_store.proofs.checkpoints.put_behind_gate.Goals as goal
 
 pub returns-in_err-write_at-clause-moments : goal.returns-in_err-write_at-clause-moments
 returns-in_err-write_at-clause-moments g c =
-    staged_write c.args.slot 1 (length c.to_be_bytes.result) (omega arith) (g.D.Disk.facts c.args.disk.now) (g.D.Disk.facts c.write_at.new.self) c.write_at.ensures.time c.write_at.ensures.images
+    staged_write c.args.slot 1 (length c.to_be_bytes.result) (omega arith) (g.D.Disk.facts c.args.disk.now) (g.D.Disk.facts c.write_at.new.self) c.write_at.ensures.moments
 
 pub returns-in_err-write_at-2-clause-moments : goal.returns-in_err-write_at-2-clause-moments
 returns-in_err-write_at-2-clause-moments g c =
     let old = g.D.Disk.facts c.args.disk.now in
     let first = g.D.Disk.facts c.write_at.new.self in
-    staged_next c.args.slot 9 (length c.to_be_bytes-2.result) (omega arith) old first (g.D.Disk.facts c.write_at-2.new.self)
-    (staged_write c.args.slot 1 (length c.to_be_bytes.result) (omega arith) old first c.write_at.ensures.time c.write_at.ensures.images)
-    c.write_at-2.ensures.time c.write_at-2.ensures.images
+    staged_then c.args.slot 9 (length c.to_be_bytes-2.result) (omega arith) old first (g.D.Disk.facts c.write_at-2.new.self)
+    (staged_write c.args.slot 1 (length c.to_be_bytes.result) (omega arith) old first c.write_at.ensures.moments)
+    c.write_at-2.ensures.moments
 
 pub returns-clause-seen : goal.returns-clause-seen
 unfolding long_bytes
@@ -39,9 +39,9 @@ returns-clause-moments g c =
     let old = g.D.Disk.facts c.args.disk.now in
     let first = g.D.Disk.facts c.write_at.new.self in
     let second = g.D.Disk.facts c.write_at-2.new.self in
-    let so_far = staged_next c.args.slot 9 (length c.to_be_bytes-2.result) (omega arith) old first second
-    (staged_write c.args.slot 1 (length c.to_be_bytes.result) (omega arith) old first c.write_at.ensures.time c.write_at.ensures.images)
-    c.write_at-2.ensures.time c.write_at-2.ensures.images in
+    let so_far = staged_then c.args.slot 9 (length c.to_be_bytes-2.result) (omega arith) old first second
+    (staged_write c.args.slot 1 (length c.to_be_bytes.result) (omega arith) old first c.write_at.ensures.moments)
+    c.write_at-2.ensures.moments in
     staged_then c.args.slot 17 (length c.args.body.now) (omega arith) old second (g.D.Disk.facts c.put_synced.new.disk) so_far c.put_synced.ensures.moments
 
 pub returns-clause-others : goal.returns-clause-others
@@ -52,5 +52,5 @@ returns-clause-others g c = λ other differs durable.
     let second = g.D.Disk.facts c.write_at-2.new.self in
     c.put_synced.ensures.others other differs
     (IsDurable-written slot other differs 9 c.to_be_bytes-2.result first second
-    (IsDurable-written slot other differs 1 c.to_be_bytes.result old first durable c.in_ok-write_at.ensures.ok c.write_at.ensures.images)
-    c.in_ok-write_at-2.ensures.ok c.write_at-2.ensures.images)
+    (IsDurable-written slot other differs 1 c.to_be_bytes.result old first durable c.in_ok-write_at.ensures.ok c.write_at.ensures.moments)
+    c.in_ok-write_at-2.ensures.ok c.write_at-2.ensures.moments)
