@@ -143,7 +143,7 @@ class _Child:
 
     def __init__(self, words: Sequence[str], handles: Tuple[int, ...]) -> None:
         pipe = subprocess.PIPE
-        # (in a session of its own, so that an interrupt at the terminal reaches the caller alone)
+        # (apart from the caller, whom alone an interrupt at the terminal is to reach)
         self.process = subprocess.Popen(words, stdin=pipe, stdout=pipe, stderr=pipe, pass_fds=handles, start_new_session=True)
         self.lines_written = 0
         self.last_barrier = 0
@@ -392,7 +392,7 @@ class Client:
                 try:
                     if line.endswith(b"\n"):
                         self._take(child, json.loads(line))
-                except ValueError:
+                except (ValueError, TypeError, KeyError):
                     child.said = f"{self._words[0]} is no program of StateFlow: it writes {line!r}"
                     break
         listener.join()
@@ -402,15 +402,16 @@ class Client:
             self._changed.notify_all()
 
     def _take(self, child: _Child, told: Dict[str, Any]) -> None:
+        reply = None if "bad" in told else Reply(**told)
         with self._changed:
-            id = child.ids.get(told["line"]) if "bad" in told else told["id"]
+            id = child.ids.get(told["line"]) if reply is None else reply.id
             if id is None:
                 child.take_barrier(told["line"])
             asked = None if id is None else self._asked.pop(id, None)
             self._changed.notify_all()
         if asked is None:
             return
-        if "bad" in told:
+        if reply is None:
             asked.promise.set_exception(Refused(told["bad"]))
         else:
-            asked.promise.set_result(Reply(**told))
+            asked.promise.set_result(reply)
