@@ -152,6 +152,7 @@ class _Child:
         self.said = ""
         self.ended = False
         self.ready = False
+        self.has_answered = False
 
     @property
     def is_through(self) -> bool:
@@ -161,6 +162,11 @@ class _Child:
     @property
     def status(self) -> int:
         return self.process.wait()
+
+    @property
+    def got_on(self) -> bool:
+        """Whether it answered anything before its end, or was killed as it served: so that the next one may get further."""
+        return self.has_answered or (self.ready and self.status < 0)
 
     def numbered(self, group: Sequence[_Asked]) -> bytes:
         """The lines of a group with its barrier, which are counted as written."""
@@ -221,8 +227,8 @@ def _locked(folder: Union[str, Path], seconds: float) -> int:
 class Client:
     """Serves a class file, by one child at a time.
 
-    `options` are further words of `run`, such as `("--batch", "1")`. `starts` is how many children in a row may end before they were ready, and
-    `lock_seconds` how long another run on the store is waited for.
+    `options` are further words of `run`, such as `("--batch", "1")`. `starts` is how many children in a row may end by themselves without an answer,
+    or be killed before they were ready, and `lock_seconds` how long another run on the store is waited for.
     """
 
     def __init__(
@@ -324,10 +330,16 @@ class Client:
 
     def _serve(self) -> None:
         """Runs children until the client is closed or can't go on, and then tells so to all that wait."""
+        end = Stopped(-1, "the client broke off")
         try:
             end = self._run_children()
         except OSError as error:
             end = Stopped(-1, f"the program doesn't start: {error}")
+        finally:
+            self._settle(end)
+
+    def _settle(self, end: Stopped) -> None:
+        """Gives the store free, and tells all that wait, and all that will ask, that nothing is served any more."""
         for handle in self._handles:
             os.close(handle)
         with self._changed:
@@ -342,7 +354,7 @@ class Client:
         while True:
             child = self._start_child()
             self._feed(child)
-            in_vain = 0 if child.ready else in_vain + 1
+            in_vain = 0 if child.got_on else in_vain + 1
             if self._closing and not self._asked:
                 return Stopped(0, CLOSED)
             if child.status in LASTING_STATUSES or not self._may_restart or in_vain == self._starts_allowed:
@@ -407,6 +419,7 @@ class Client:
             id = child.ids.get(told["line"]) if reply is None else reply.id
             if id is None:
                 child.take_barrier(told["line"])
+            child.has_answered = child.has_answered or reply is not None
             asked = None if id is None else self._asked.pop(id, None)
             self._changed.notify_all()
         if asked is None:
