@@ -12,10 +12,10 @@ use std::io::{self, Read, Seek, Write};
 /// The files `log0`, `log1`, `snap0` and `snap1` of a folder.
 #[derive(Drop)]
 pub(crate) struct OpenFiles<F> {
-    log0: F,
-    log1: F,
-    snap0: F,
-    snap1: F,
+    pub(crate) log0: F,
+    pub(crate) log1: F,
+    pub(crate) snap0: F,
+    pub(crate) snap1: F,
 }
 
 impl<F: Read + Write + Seek + OpenFile + Drop> OpenFiles<F> {
