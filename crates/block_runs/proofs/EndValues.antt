@@ -32,7 +32,7 @@ use Rattle.program_meaning.proofs.HereFits.{expressions_here_fit}
 use Rattle.program_meaning.proofs.TypedParts.{found_ok, passes_ok, either_false}
 use Rattle.block_code.specs.GraphFits.{HasType, ArgsFit}
 use Rattle.block_runs.specs.BlockRuns.{parts_of_call, method_called, name_if_there}
-use Rattle.block_runs.proofs.NamesApart.{same_class, IsMethod, method_is}
+use Rattle.program_meaning.proofs.NamesApart.{same_class, IsMethod, method_is}
 use Rattle.block_runs.proofs.Items.{value_fits}
 
 module _ (names : List (List ℕ)) (program : PlainProgram) (accepted : IsKnownAccepted names program) (me : Key) (leaves : Leaving) (within : KeepsWithin (record { program = program; names = names }) me.0 leaves) (d number : ℕ) where

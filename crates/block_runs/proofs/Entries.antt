@@ -19,6 +19,7 @@ use Rattle.program_meaning.specs.Calls.{bound}
 use Rattle.program_meaning.specs.Fits.{Fits, EachFits, one_more, param_types}
 use Rattle.program_meaning.specs.PointFits.{HasValue}
 use Rattle.program_meaning.proofs.FitsLaws.{fits_inside, fits_wider}
+use Rattle.program_meaning.proofs.Places.{any_at}
 use Rattle.program_meaning.proofs.LocalsFit.{has_new, keeps_other}
 use Rattle.program_meaning.proofs.LocalShapes.{given_if, new_local, not_none_value}
 use Rattle.program_meaning.proofs.TypedParts.{both_true}
@@ -26,7 +27,7 @@ use Rattle.block_code.specs.PlainVars.{PlainVar}
 use Rattle.block_code.specs.PlainBlocks.{PlainItem, IMark, ISet, IPut, IGive, IFail, ICode, PlainEnd, EJump, EBranch, ELeave, ECall, EMake, PlainBlock}
 use Rattle.block_code.specs.GraphFits.{Asked, is_var, is_supplied, each_once, var_of_param, Takes, Leads, ItemFits, ItemsFit, EndFits}
 use Rattle.block_code.specs.EventsFit.{item_goes_on, Awaits, awaited, IsKept, awaited_type, result_of_method, entity_of_class}
-use Rattle.block_runs.proofs.Variables.{Kept, each_passes, any_at, not_among, once_behind}
+use Rattle.block_runs.proofs.Variables.{Kept, each_passes, not_among, once_behind}
 use Rattle.block_runs.proofs.NamesOnce.{Once}
 
 -- Places in lists

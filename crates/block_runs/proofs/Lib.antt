@@ -1,7 +1,6 @@
 pub mod FuelLaws
 pub mod Steps
 pub mod FallLaws
-pub mod NamesApart
 pub mod Assigning
 pub mod NamesOnce
 pub mod Variables

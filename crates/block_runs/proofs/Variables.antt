@@ -16,7 +16,7 @@ use Rattle.program_meaning.specs.PointFits.{ValueFits, VarsFit, no_local, one_lo
 use Rattle.program_meaning.proofs.FitsLaws.{fits_same, fits_wider}
 use Rattle.program_meaning.proofs.LocalsFit.{local_fits}
 use Rattle.program_meaning.proofs.LocalShapes.{Shape, shape, shapes, type_in, type_found, Within, all_in, one_in, Sound, given_if, new_local}
-use Rattle.program_meaning.proofs.Places.{found_at, found_passes}
+use Rattle.program_meaning.proofs.Places.{found_at, found_passes, any_at}
 use Rattle.program_meaning.proofs.TypedParts.{both_true}
 use Rattle.block_code.specs.PlainVars.{PlainVar}
 use Rattle.block_code.specs.GraphFits.{Asked, is_var, is_inside, local_at, at_start, is_supplied, supplied, each_once, is_param_of}
@@ -32,15 +32,6 @@ each_passes p (y ∷ xs) (suc k) x h is = each_passes p xs k x (both_true (p y) 
 pub all_of_each : {A : Type 0} (P : A → Type 0) (xs : List A) → ((k : ℕ) (x : A) → slice_get xs k ≡ Some x → P x) → All P xs
 all_of_each P [] h = All-nil P
 all_of_each P (x ∷ xs) h = All-cons P x xs (h 0 x refl) (all_of_each P xs (λ k y is. h (suc k) y is))
-
-pub any_at : {A : Type 0} (p : A → Bool) (xs : List A) (k : ℕ) (x : A) → slice_get xs k ≡ Some x → p x ≡ true → list_any p xs ≡ true
-any_at p [] k x is h = absurd (none-some x is)
-any_at p (y ∷ xs) zero x is h = ap (λ b. b || list_any p xs) (subst (λ z. p z ≡ true) (sym (same_Some _ _ is)) h)
-any_at p (y ∷ xs) (suc k) x is h = by (p y) (any_at p xs k x is h)
-  where
-    by : (b : Bool) → list_any p xs ≡ true → (b || list_any p xs) ≡ true
-    by true e = refl
-    by false e = e
 
 -- Variables of one name each
 

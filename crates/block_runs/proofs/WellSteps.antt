@@ -40,7 +40,7 @@ use Rattle.block_runs.specs.BlockRuns.{run_blocks}
 use Rattle.block_runs.specs.EventStep.{Part, Gave, Failed, Asks, Wants, waiting, has_room, kept_if, kept_at, Lasts, lasts, resumed, Step, target_of, block_of, given, caught, thrown, frame, site, finish, finished, from, created, go_on, awaited_by, catch, caught_by, resume, step_of}
 use Rattle.block_runs.specs.StepFits.{HeldFits, IsThere, IsReady, StepsWell, EventsStepWell}
 use Rattle.block_runs.proofs.Variables.{Kept, all_of_each, filter_passes}
-use Rattle.block_runs.proofs.NamesApart.{IsMethod, method_is}
+use Rattle.program_meaning.proofs.NamesApart.{IsMethod, method_is}
 use Rattle.block_runs.proofs.NamesOnce.{Once, once_stays, once_filtered}
 use Rattle.block_runs.proofs.Ranks.{above}
 use Rattle.block_runs.proofs.Parts.{catch_found, Waits, PartFits, Comes, blocks_well}

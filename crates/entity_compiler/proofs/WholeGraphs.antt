@@ -18,7 +18,7 @@ use Rattle.entity_compiler.specs.Compiling.{IsGraphOf}
 
 -- what is known of an accepted program
 abbrev pub known : (p : Checked) → IsKnownAccepted (checked_names p) (checked_program p)
-known p = record { bounded = p.bounded; rules = p.rules }
+known p = record { bounded = p.bounded; rules = p.rules; table = p.table }
 
 module _ (p : Checked) (marks : List (List Bool)) (exact : IsGraph (checked_names p) (checked_program p) marks) where
   -- compiled blocks fit the program

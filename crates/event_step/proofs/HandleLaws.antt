@@ -29,7 +29,7 @@ use Rattle.block_runs.specs.EventStep.{lasts, Step, StepsTo, target_of}
 use Rattle.block_runs.specs.StepFits.{HeldFits, IsReady, StepsWell}
 use Rattle.block_runs.proofs.FuelLaws.{steps_are_one}
 use Rattle.block_runs.proofs.Frames.{lasts_fit}
-use Rattle.block_runs.proofs.NamesApart.{IsMethod, method_is}
+use Rattle.program_meaning.proofs.NamesApart.{IsMethod, method_is}
 use Rattle.block_runs.proofs.WellSteps.{events_step_well}
 use Rattle.event_step.specs.declared.entered.Code.{Code}
 use Rattle.event_step.specs.Turns.{RankFalls, RanksFall}

@@ -22,6 +22,8 @@ pub mod FlowGrows
 pub mod ActFits
 pub mod TableFacts
 pub mod MethodFacts
+pub mod NamesApart
+pub mod NamesAreFound
 pub mod InitFits
 pub mod CallsFit
 pub mod KeyFacts

@@ -1,7 +1,7 @@
 -- Where something stands in a list, and what is found there.
-use Rattle.std.proofs.Common.{◌≡◌, ℕ, suc, arith, ◌+◌, Bool, true, false, cond, Some, List, [], ◌∷◌, map as over, refl, sym, ap, ◌∙◌, subst}
-use Rattle.std.specs.Prelude.{find, position, slice_get, option_map}
-use Rattle.std.specs.List.{position_from}
+use Rattle.std.proofs.Common.{◌≡◌, ℕ, zero, suc, arith, ◌+◌, Bool, true, false, cond, Some, List, [], ◌∷◌, map as over, refl, sym, ap, ◌∙◌, subst}
+use Rattle.std.specs.Prelude.{◌||◌, find, position, slice_get, option_map}
+use Rattle.std.specs.List.{list_any, position_from}
 use Rattle.std.proofs.lemmas.Option.{same_Some, none-some}
 use Rattle.std.proofs.lemmas.Iterator.Adapters.{position_from-zero}
 
@@ -61,3 +61,13 @@ named_at name p (x ∷ xs) a h = by (p (name x)) refl h (named_at name p xs a)
     by false e h rest =
         let r : (k : ℕ) × (position p (over name xs) ≡ Some k) × (slice_get xs k ≡ Some a) = rest h in
         (suc r.0, position_of_more p (name x) (over name xs) ∙ ap (λ b. cond b (Some 0) (option_map suc (position p (over name xs)))) e ∙ ap (option_map suc) r.1, r.2)
+
+-- where one passes, any does
+pub any_at : {A : Type 0} (p : A → Bool) (xs : List A) (k : ℕ) (x : A) → slice_get xs k ≡ Some x → p x ≡ true → list_any p xs ≡ true
+any_at p [] k x is h = absurd (none-some x is)
+any_at p (y ∷ xs) zero x is h = ap (λ b. b || list_any p xs) (subst (λ z. p z ≡ true) (sym (same_Some _ _ is)) h)
+any_at p (y ∷ xs) (suc k) x is h = by (p y) (any_at p xs k x is h)
+  where
+    by : (b : Bool) → list_any p xs ≡ true → (b || list_any p xs) ≡ true
+    by true e = refl
+    by false e = e

@@ -89,4 +89,4 @@ pub inits_fit : InitsFit
 inits_fit names program accepted at args n fit = made_told (tables_of names program) at.0 _ _ (record_made_fits names program accepted at args n fit)
 
 pub checked_are_known : CheckedAreKnown
-checked_are_known c = record { bounded = c.bounded; rules = c.rules }
+checked_are_known c = record { bounded = c.bounded; rules = c.rules; table = c.table }

@@ -12,6 +12,7 @@ pub mod Purity
 pub mod Fits
 pub mod PointFits
 pub mod NothingGoesWrong
+pub mod NamesAreFound
 pub mod Here
 pub mod LightValues
 pub mod StepsLeft

@@ -16,6 +16,7 @@ use Rattle.py_tree.specs.Acceptance.{KeepsRules}
 use Rattle.py_tree.specs.declared.checked.Checked.{Checked}
 use Rattle.py_tree.specs.CheckedViews.{checked_program, checked_names}
 use Rattle.sf_value.specs.Keys.{Key}
+use Rattle.py_tree.specs.NameTable.{IsTable}
 use Rattle.sf_value.specs.declared.value.Value.{Value}
 use Rattle.sf_value.specs.declared.Act.{Act}
 use Rattle.program_meaning.specs.declared.vars.Var.{Var}
@@ -28,7 +29,7 @@ use Rattle.program_meaning.specs.Serial.{no_state, serial_state}
 use Rattle.program_meaning.specs.Fits.{Fits, RecordFits, StateFits, NewFits, ActFits, FailureFits, OutcomeFits}
 use Rattle.program_meaning.specs.PointFits.{VarsFit, GivesFit, CallsFit, Since, OneType, EndsFit}
 
--- what whoever holds an accepted program knows of it: that it keeps every rule, and that it is bounded
+-- what whoever holds an accepted program knows of it: that it keeps every rule, that it is bounded, and that its names are a table
 pub record IsKnownAccepted (names : List (List ℕ)) (program : PlainProgram) : Type 0 where
   pub bounded : ∥ IsBounded names program ∥₁
   pub rules : KeepsRules names program
@@ -36,6 +37,7 @@ pub record IsKnownAccepted (names : List (List ℕ)) (program : PlainProgram) : 
 -- the state without entities fits
 abbrev pub FirstFits : Type 0
 FirstFits = (names : List (List ℕ)) (program : PlainProgram) → StateFits (tables_of names program) map.empty
+  pub table : IsTable names
 
 -- a run on a state and a request that fit leaves a state that fits, and comes to what fits the request
 abbrev pub RunsFit : Type 0

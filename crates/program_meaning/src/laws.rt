@@ -7,6 +7,7 @@ ghost use Rattle.program_meaning.specs.LightValues.{ExpressionsAreLight, ItemsAr
 ghost use Rattle.program_meaning.specs.Reached.{PointsAreReached};
 ghost use Rattle.program_meaning.specs.SameLocals.{ExpressionsAgree, StatementsAgree};
 ghost use Rattle.program_meaning.specs.StepsLeft.{ExpressionsTakeSteps, StatementsTakeSteps, SourceTakesSteps, OwnCallsTakeSteps, TurnsAreEnough, NumbersAreEnough};
+ghost use Rattle.program_meaning.specs.NamesAreFound.{ClassesAreFound, MethodsAreFound};
 ghost use Rattle.program_meaning.specs.NothingGoesWrong.{FirstFits, RunsFit, HistoriesFit, ExpressionsFit, StatementsFit, CallsKeepFit, InitsFit, CheckedAreKnown};
 
 /// Nothing goes wrong in an accepted program. In its methods what an expression gives fits the
@@ -27,6 +28,13 @@ pub fn nothing_goes_wrong()
     ensures here_expressions { ExpressionsHereFit }
     ensures here_statements { StatementsHereFit }
     ensures checked { CheckedAreKnown }
+{}
+
+/// The texts of an accepted program's names lead back: that of a class to its number, and that of a
+/// method to its number in its class.
+pub fn names_are_found()
+    ensures classes { ClassesAreFound }
+    ensures methods { MethodsAreFound }
 {}
 
 /// Values are light: what an expression gives weighs no more than a value may, where calls give

@@ -11,7 +11,7 @@ use Rattle.py_tree.specs.Flow.{with_local}
 use Rattle.sf_value.specs.declared.value.Value.{Value}
 use Rattle.program_meaning.specs.declared.vars.Var.{Var}
 use Rattle.program_meaning.specs.World.{is_named, var_at, local_value, assigned}
-use Rattle.program_meaning.proofs.Places.{position_of_more, found_at, found_passes}
+use Rattle.program_meaning.proofs.Places.{position_of_more, found_at, found_passes, any_at}
 use Rattle.program_meaning.proofs.SameLocals.{assigned_value}
 use Rattle.program_meaning.proofs.TypedParts.{both_true}
 use Rattle.block_code.specs.PlainVars.{PlainVar}
@@ -19,7 +19,7 @@ use Rattle.block_code.specs.PlainBlocks.{PlainCatch, PlainBlock}
 use Rattle.block_code.specs.GraphFits.{is_var, local_at, at_start, is_supplied, supplied}
 use Rattle.block_code.specs.EventsFit.{Awaits, params_if_there, kept_params}
 use Rattle.block_runs.specs.EventStep.{kept}
-use Rattle.block_runs.proofs.Variables.{each_passes, any_at, other_local}
+use Rattle.block_runs.proofs.Variables.{each_passes, other_local}
 use Rattle.block_runs.proofs.Entries.{Among, among_first, among_second, among_passing, among_flat}
 use Rattle.assigned_locals.specs.AssignedLocals.{AgreeOnAssigned}
 

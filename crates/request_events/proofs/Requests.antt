@@ -33,7 +33,7 @@ use Rattle.block_code.specs.GraphFits.{GraphFits, MethodFits}
 use Rattle.block_code.specs.EventsFit.{FramesFit, EventFits}
 use Rattle.block_runs.specs.BlockRuns.{run_blocks, recursing, ComesTo}
 use Rattle.block_runs.specs.EventStep.{has_room, up_to, event, ref_of, created, thrown}
-use Rattle.block_runs.proofs.NamesApart.{IsMethod, method_is}
+use Rattle.program_meaning.proofs.NamesApart.{IsMethod, method_is}
 use Rattle.request_events.specs.RequestEvents.{steps_behind_first, asked_for, first_event, Handles, behind, ended_as}
 use Rattle.request_events.specs.GraphMeans.{EndsAsRun, MethodsMean, EventsMeanTheirSource}
 use Rattle.request_events.proofs.Handling.{only_read, Reaches, reaches_same, reaches_by, handled, back, ComesBack}

@@ -38,7 +38,7 @@ use Rattle.block_runs.specs.EventStep.{Part, Asks, Wants, waiting, has_room, Las
 use Rattle.block_runs.proofs.Steps.{Went, all_takes, items_take, parts_take, items_went}
 use Rattle.block_runs.proofs.Ranks.{lower, lower_rank}
 use Rattle.block_runs.proofs.Parts.{catch_found}
-use Rattle.block_runs.proofs.NamesApart.{IsMethod, method_is}
+use Rattle.program_meaning.proofs.NamesApart.{IsMethod, method_is}
 use Rattle.block_runs.proofs.Frames.{LastFits, lasts_fit}
 use Rattle.interleaving.specs.AsAlone.{sum_of}
 use Rattle.transaction_steps.specs.Transactions.{above_ranks, enough}

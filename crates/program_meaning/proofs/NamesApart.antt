@@ -14,9 +14,9 @@ use Rattle.py_tree.proofs.ClassRuleLaws.{head_none, rest_none, not_broken, class
 use Rattle.program_meaning.specs.ClassTables.{Source, methods_of}
 use Rattle.program_meaning.specs.Evaluation.{method_of}
 use Rattle.program_meaning.specs.Fits.{HasTable}
+use Rattle.program_meaning.proofs.Places.{any_at}
 use Rattle.program_meaning.proofs.TableFacts.{none_before, class_at, methods_here, mapped_at, table_methods}
 use Rattle.program_meaning.proofs.TypedParts.{both_true, either_false}
-use Rattle.block_runs.proofs.Variables.{any_at}
 
 -- each name stands once
 abbrev pub distinct : {A : Type 0} → (A → ℕ) → List A → Bool
@@ -107,7 +107,7 @@ module _ (names : List (List ℕ)) (program : PlainProgram) (kept : program_faul
       let twice : Option RuleFault = broken DuplicateClass c.place (is_class before c.name) in
       not_broken DuplicateClass c.place (is_class before c.name) (head_none twice [] (rest_none reserved (twice ∷ []) (rest_none (broken TooMany c.place (is_full _)) (reserved ∷ twice ∷ []) none)))
 
-  classes_distinct : distinct (λ (c : PlainClass). c.name) program ≡ true
+  pub classes_distinct : distinct (λ (c : PlainClass). c.name) program ≡ true
   unfolding program_fault
   classes_distinct = faultless_distinct (λ (c : PlainClass). c.name) class_name_fault class_apart [] program (head_none (first_in class_name_fault program) (first_in (λ before c. class_fault names program c) program ∷ []) kept)
 
@@ -131,7 +131,7 @@ module _ (names : List (List ℕ)) (program : PlainProgram) (kept : program_faul
       let twice : Option RuleFault = broken DuplicateMember m.place (is_member before m.name) in
       not_broken DuplicateMember m.place (is_member before m.name) (head_none twice [] (rest_none reserved (twice ∷ []) (rest_none (broken TooMany m.place _) (reserved ∷ twice ∷ []) name)))
 
-  methods_distinct : (k : ℕ) (c : PlainClass) → slice_get program k ≡ Some c → distinct (λ (m : PlainMethod). m.name) (methods_among names c.members) ≡ true
+  pub methods_distinct : (k : ℕ) (c : PlainClass) → slice_get program k ≡ Some c → distinct (λ (m : PlainMethod). m.name) (methods_among names c.members) ≡ true
   unfolding methods_among class_fault
   methods_distinct k c is =
       distinct_filtered (λ (m : PlainMethod). m.name) _ c.members
