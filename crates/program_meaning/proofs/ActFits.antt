@@ -10,7 +10,7 @@ use Rattle.py_tree.specs.declared.rule.RuleFault.{RuleFault}
 use Rattle.py_tree.specs.declared.expr.BinOp.{BinOp}
 use Rattle.py_tree.specs.declared.stmt.Target.{Target}
 use Rattle.py_tree.specs.declared.stmt.Target.TheVariants as target
-use Rattle.py_tree.specs.PlainTypes.{PlainTy, TInt, TBool, TNil, TList, TEntity}
+use Rattle.py_tree.specs.PlainTypes.{PlainTy, TInt, TBool, TStr, TNil, TList, TEntity}
 use Rattle.py_tree.specs.PlainExpressions.{PlainExpr, PBool, PSelf, PVar}
 use Rattle.py_tree.specs.PlainStatements.{PlainOver, PRange, PItems, PlainStmt, PPass, PBreak, PContinue, PDo, PReturn, PRaise, PAssert, PAssign, PAugment, PIf, PWhile, PFor, PlainStmts, PNoStmt, PStmt, PArm, PlainArms, PNoArm, PMoreArms}
 use Rattle.py_tree.specs.ClassRules.{PlainTable, is_self}
@@ -40,7 +40,7 @@ use Rattle.program_meaning.proofs.ValuesFit.{ToldFits, err, failure_fits, told_f
 use Rattle.program_meaning.proofs.EvalFits.{Anywhere, Around, Tests, fit_then, fit_more, fit_both, eval_fits, test_fits}
 use Rattle.program_meaning.proofs.LocalShapes.{shapes, type_in, Within, Sound, within_more, within_both, Grows, alike_grows, grows_on, grows_same, keeps_named, shapes_behind, earlier_is, shapes_narrowed, shapes_at_head, shapes_settled, shapes_more, local_grows, MetFits, met_left, met_right, met_grown, met_here, behind_fits, fits_both, fits_first, fits_second}
 use Rattle.program_meaning.proofs.AssignedFits.{or_left, or_right, Forgets, forgets_first, forgets_second, forgets_both, forgets_at_head, head_fits, kept_fits, local_given}
-use Rattle.program_meaning.proofs.FlowParts.{no_need, items_ok, short_range_ok, range_ok, return_nothing_ok, return_ok, message_ok, LocalTaken, local_ok, field_ok, Augments, augments_ok, stored_ok, put_local_ok, put_field_ok, same_assignable}
+use Rattle.program_meaning.proofs.FlowParts.{no_need, items_ok, short_range_ok, range_ok, return_nothing_ok, return_ok, message_text, LocalTaken, local_ok, field_ok, Augments, augments_ok, stored_ok, put_local_ok, put_field_ok, same_assignable}
 use Rattle.program_meaning.proofs.FlowGrows.{WhileParts, while_parts, ForParts, for_parts, all_parts, last_parts, ArmParts, arm_parts, Follows, follows, follows_all, follows_arms, follows_on, same_way, alike_way, one_or_more, ended_fits, for_shapes}
 
 module _ (tables : List PlainTable) {W : Type 0} (WorldFits : W → Type 0) (result : PlainTy) where
@@ -149,8 +149,7 @@ module _ (tables : List PlainTable) {W : Type 0} (s : Site W) (WorldFits : W →
   unfolding message
   message_fits b locals None vars w n h v p = got tt p
   message_fits b locals (Some e) vars w n h v p =
-      let a : (ty : PlainTy) × (type_at (ctx b) locals None e ≡ Ok ty) = message_ok (ctx b) locals e h in
-      fit_then WorldFits (Fits tables a.0) _ (eval s e vars w n) _ (typed_fits b locals None e a.0 vars w n a.1 v p) (λ u w n f p. got tt p)
+      fit_then WorldFits (Fits tables TStr) _ (eval s e vars w n) _ (typed_fits b locals None e TStr vars w n (message_text (ctx b) locals e h) v p) (λ u w n f p. got tt p)
 
   only_literal : (test : PlainExpr) (vars : List Var) (w : W) (n : ℕ) → Only (λ v. is_true_word test ≡ true → is_true v ≡ true) (eval s test vars w n)
   unfolding eval

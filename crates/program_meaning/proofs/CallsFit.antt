@@ -184,17 +184,32 @@ module _ (names : List (List ℕ)) (program : PlainProgram) (accepted : IsKnownA
   abbrev pub TextsTold : ℕ → List Value → Type 0
   TextsTold k args = (name p : ℕ) → slice_get (filter_map (source_in name) (body_of (init_of src k))) 0 ≡ Some p → Fits tables TStr (local_value (bound (params_of (init_of src k)) args) p)
 
-  -- `__init__` makes a record that fits its class
-  pub record_made_fits : (at : Key) (args : List Value) (n : ℕ) → NewFits tables at.0 args
-      → Makes (λ fields. RecordFits tables at.0 fields × TextsTold at.0 args) (declare_all src at (body_of (init_of src at.0)) (bound (params_of (init_of src at.0)) args) [] n)
-  unfolding class_fault whole_fault init_among table_of fields_of init_body_fault
-  record_made_fits at args n h = made_so
-    where
-      k : ℕ
-      k = at.0
+  -- what the rules say of the `__init__` of a class
+  pub record InitKnown (k : ℕ) (table : PlainTable) : Type 0 where
+    pub members : List PlainMethod
+    pub method : PlainMethod
+    pub here : init_of src k ≡ Some method
+    pub is_body : fields_of method.body ≡ table.fields
+    pub body : init_body_fault names program members method.body ≡ None
+    pub after : Way
+    pub flows : flow_all (in_init tables k) (begun (init_locals tables k)) (stmts_of method.body) ≡ Ok after
+    pub first_locals : (args : List Value) → EachFits tables (param_types table.init) args → VarsFit tables (bound method.params args) (init_locals tables k)
 
-      c : (c : PlainClass) × (slice_get program k ≡ Some c) × (table_of names c ≡ h.table)
-      c = class_at names program accepted.rules.classes k h.table h.has_table
+  pub init_known : (k : ℕ) (table : PlainTable) → HasTable tables k table → InitKnown k table
+  unfolding class_fault whole_fault init_among table_of fields_of init_body_fault
+  init_known k table has = record {
+    members = c.0.members;
+    method = m.0;
+    here = ap (λ o. init_among names (members_of o)) c.1 ∙ m.1;
+    is_body = ap (λ o. fields_of (body_of o)) (sym m.1) ∙ ap (λ (u : PlainTable). u.fields) c.2;
+    body = body_kept names program accepted.rules.classes accepted.rules.flow k i.0 c.0 m.0 c.1 i.2 is_the_init;
+    after = flows.0;
+    flows = flows.1;
+    first_locals = λ args fit. subst (λ ls. VarsFit tables (bound m.0.params args) ls) first_is (bound_fits tables program m.0.params args params (subst (λ ps. EachFits tables (param_types ps) args) (sym is_params) fit));
+  }
+    where
+      c : (c : PlainClass) × (slice_get program k ≡ Some c) × (table_of names c ≡ table)
+      c = class_at names program accepted.rules.classes k table has
 
       init : Option PlainMethod
       init = init_among names c.0.members
@@ -220,32 +235,25 @@ module _ (names : List (List ℕ)) (program : PlainProgram) (accepted : IsKnownA
       params : first_in (param_fault program) m.0.params ≡ None
       params = params_kept names program accepted.rules.classes accepted.rules.flow k i.0 c.0 m.0 c.1 i.2
 
-      body : init_body_fault names program c.0.members m.0.body ≡ None
-      body = body_kept names program accepted.rules.classes accepted.rules.flow k i.0 c.0 m.0 c.1 i.2 is_the_init
-
-      here : init_of src k ≡ Some m.0
-      here = ap (λ o. init_among names (members_of o)) c.1 ∙ m.1
-
-      is_body : fields_of m.0.body ≡ h.table.fields
-      is_body = ap (λ o. fields_of (body_of o)) (sym m.1) ∙ ap (λ (u : PlainTable). u.fields) c.2
-
       flows : (after : Way) × (flow_all (in_init tables k) (begun (init_locals tables k)) (stmts_of m.0.body) ≡ Ok after)
       flows = subst (λ o. (after : Way) × (flow_all (in_init tables k) (begun (init_locals tables k)) (stmts_of (body_of o)) ≡ Ok after)) m.1 (init_flows names program accepted.rules.classes accepted.rules.flow k c.0 c.1)
 
-      is_params : sig_params m.0.params ≡ h.table.init
+      is_params : sig_params m.0.params ≡ table.init
       is_params = ap (λ o. sig_params (params_of o)) (sym m.1) ∙ ap (λ (u : PlainTable). u.init) c.2
 
       first_is : over param_local (sig_params m.0.params) ≡ init_locals tables k
-      first_is = ap (over param_local) is_params ∙ sym (ap (λ o. unwrap_or (option_map (λ (t : PlainTable). over param_local t.init) o) []) h.has_table)
+      first_is = ap (over param_local) is_params ∙ sym (ap (λ o. unwrap_or (option_map (λ (t : PlainTable). over param_local t.init) o) []) has)
 
-      first_locals : VarsFit tables (bound m.0.params args) (init_locals tables k)
-      first_locals = subst (λ ls. VarsFit tables (bound m.0.params args) ls) first_is (bound_fits tables program m.0.params args params (subst (λ ps. EachFits tables (param_types ps) args) (sym is_params) h.fit))
-
-      made_so : Makes (λ fields. RecordFits tables at.0 fields × TextsTold at.0 args) (declare_all src at (body_of (init_of src at.0)) (bound (params_of (init_of src at.0)) args) [] n)
-      made_so = subst (λ o. Makes (λ fields. RecordFits tables at.0 fields × ((name p : ℕ) → slice_get (filter_map (source_in name) (body_of o)) 0 ≡ Some p → Fits tables TStr (local_value (bound (params_of o) args) p))) (declare_all src at (body_of o) (bound (params_of o) args) [] n)) (sym here)
-          (makes_so _ _ (declare_all src at m.0.body (bound m.0.params args) [] n)
-          (λ fields fit. (record { table = h.table; has_table = h.has_table; fit = subst (λ fs. EachFits tables (over (λ (f : PlainField). f.ty) fs) fields) is_body fit.0 }, fit.1))
-          (declared_fit names program accepted.rules.classes at h.table m.0.body h.has_table is_body c.0.members m.0.body [] (begun (init_locals tables k)) flows.0 (bound m.0.params args) [] n refl body flows.1 first_locals no_value))
+  -- `__init__` makes a record that fits its class
+  pub record_made_fits : (at : Key) (args : List Value) (n : ℕ) → NewFits tables at.0 args
+      → Makes (λ fields. RecordFits tables at.0 fields × TextsTold at.0 args) (declare_all src at (body_of (init_of src at.0)) (bound (params_of (init_of src at.0)) args) [] n)
+  unfolding fields_of init_body_fault
+  record_made_fits at args n h =
+      let i : InitKnown at.0 h.table = init_known at.0 h.table h.has_table in
+      subst (λ o. Makes (λ fields. RecordFits tables at.0 fields × ((name p : ℕ) → slice_get (filter_map (source_in name) (body_of o)) 0 ≡ Some p → Fits tables TStr (local_value (bound (params_of o) args) p))) (declare_all src at (body_of o) (bound (params_of o) args) [] n)) (sym i.here)
+      (makes_so _ _ (declare_all src at i.method.body (bound i.method.params args) [] n)
+      (λ fields fit. (record { table = h.table; has_table = h.has_table; fit = subst (λ fs. EachFits tables (over (λ (f : PlainField). f.ty) fs) fields) i.is_body fit.0 }, fit.1))
+      (declared_fit names program accepted.rules.classes at h.table i.method.body h.has_table i.is_body i.members i.method.body [] (begun (init_locals tables at.0)) i.after (bound i.method.params args) [] n refl i.body i.flows (i.first_locals args h.fit) no_value))
 
   pub create_fits : (s : State) (at : Key) (args : List Value) (w : World) (n : ℕ) → NewFits tables at.0 args → Since tables s w → GivesFit (Since tables s) (λ v. (v ≡ entity at) × TextsTold at.0 args) (create src at args w n)
   unfolding create

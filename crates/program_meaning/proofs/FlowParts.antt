@@ -82,13 +82,16 @@ module _ (c : Context) (locals : List PlainLocal) where
       let b : (type_at c locals (Some (result_at c)) e ≡ Ok a.0) × (assignable a.0 (result_at c) ≡ true) = value_ok (result_at c) e a.0 a.1 in
       (a.0, b.0, b.1)
 
-  pub message_ok : (e : PlainExpr) → message_fault c locals (Some e) ≡ None → (ty : PlainTy) × (type_at c locals None e ≡ Ok ty)
+  pub message_text : (e : PlainExpr) → message_fault c locals (Some e) ≡ None → type_at c locals None e ≡ Ok TStr
   unfolding message_fault
-  message_ok e h =
+  message_text e h =
       let then_str : PlainTy → Result PlainTy RuleFault = λ ty. refuse_if (not (is_str ty)) Mismatch (place_of e) (Ok ty) in
       let a : (ty : PlainTy) × (with_found (type_at c locals None e) then_str ≡ Ok ty) = no_fault (with_found (type_at c locals None e) then_str) h in
       let b : (t : PlainTy) × (type_at c locals None e ≡ Ok t) × (then_str t ≡ Ok a.0) = found_ok (type_at c locals None e) then_str a.0 a.1 in
-      (b.0, b.1)
+      b.1 ∙ ap Ok (str_is b.0 (passes_ok (is_str b.0) Mismatch (place_of e) (Ok b.0) a.0 b.2).0)
+
+  pub message_ok : (e : PlainExpr) → message_fault c locals (Some e) ≡ None → (ty : PlainTy) × (type_at c locals None e ≡ Ok ty)
+  message_ok e h = (TStr, message_text e h)
 
   -- an assignment to a local: the value has a type that keeps to the one from before, and the local gets it
   pub record LocalTaken (x : PlacedName) (e : PlainExpr) (after : List PlainLocal) : Type 0 where

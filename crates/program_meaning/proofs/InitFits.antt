@@ -34,13 +34,15 @@ use Rattle.program_meaning.specs.Execution.{message}
 use Rattle.program_meaning.specs.Calls.{making, declare, declare_all}
 use Rattle.program_meaning.specs.Fits.{HasTable, Fits, EachFits, no_value, one_more, FailureFits}
 use Rattle.program_meaning.specs.PointFits.{VarsFit, GivesFit, got, fell, CallsFit}
+use Rattle.program_meaning.specs.NothingGoesWrong as init
+use Rattle.program_meaning.specs.NothingGoesWrong.{DeclaredFit, MessageGives, InitStmtFits}
 use Rattle.program_meaning.proofs.FitsLaws.{each_at, each_behind, fits_wider}
 use Rattle.program_meaning.proofs.LocalsFit.{narrowed_fits, name_fits}
 use Rattle.program_meaning.proofs.Places.{position_of_more}
 use Rattle.program_meaning.proofs.TypedParts.{done, same_ok, found_ok, not_false, both_true, either_false, condition_ok}
 use Rattle.program_meaning.proofs.ValuesFit.{failure_fits}
-use Rattle.program_meaning.proofs.EvalFits.{Behind, Around, fit_then, eval_fits, test_fits}
-use Rattle.program_meaning.proofs.FlowParts.{no_need, value_ok, message_ok}
+use Rattle.program_meaning.proofs.EvalFits.{Behind, Around, fit_then, fit_more, eval_fits, test_fits}
+use Rattle.program_meaning.proofs.FlowParts.{no_need, value_ok, message_text}
 use Rattle.program_meaning.proofs.FlowGrows.{all_parts}
 use Rattle.program_meaning.proofs.TableFacts.{names_declared, matches, field_names_here, field_found}
 
@@ -109,6 +111,20 @@ prefix_at name p (x ∷ xs) ys a any h = by (p (name x)) refl any h (prefix_at n
 
 -- What the making of a record comes to
 
+no_fall : (f : Failure) (w : List Value) (m : ℕ) (v : Value) (fields : List Value) (n : ℕ) → Fell f w m ≡ Got v fields n → ⊥
+no_fall f w m v fields n h = absurd (true≢false (sym (ap is_got h)))
+  where
+    is_got : Gives (List Value) Value → Bool
+    is_got (Got v w n) = true
+    is_got (Fell f w n) = false
+
+got_fields : (v u : Value) (fields given : List Value) (n m : ℕ) → Got v fields n ≡ Got u given m → fields ≡ given
+got_fields v u fields given n m h = ap world_of h
+  where
+    world_of : Gives (List Value) Value → List Value
+    world_of (Got v w n) = w
+    world_of (Fell f w n) = w
+
 pub data Makes (P : List Value → Type 0) : Gives (List Value) Value → Type 0 where
   makes : {v : Value} {fields : List Value} {n : ℕ} → P fields → Makes P (Got v fields n)
   breaks_off : {f : Failure} {fields : List Value} {n : ℕ} → FailureFits f → Makes P (Fell f fields n)
@@ -140,8 +156,8 @@ module _ (names : List (List ℕ)) (program : PlainProgram) (kept : program_faul
   site = making src me
 
   -- the values of the fields that are declared so far
-  abbrev SoFar : List PlainStmt → List Value → Type 0
-  SoFar before fields = EachFits tables (declared_types before) fields
+  abbrev pub SoFar : List PlainStmt → List Value → Type 0
+  SoFar before fields = DeclaredFit tables before fields
 
   so_far_read : (before rest : List PlainStmt) (x : ℕ) (ty : PlainTy) (values : List Value) → body ≡ before ++ rest → is_field (field_names before) x ≡ true → field_of tables me.0 x ≡ Some ty → SoFar before values → Fits tables ty (field_value (field_names_of src me.0) values x)
   unfolding is_field field_value
@@ -176,7 +192,7 @@ module _ (names : List (List ℕ)) (program : PlainProgram) (kept : program_faul
   abbrev ctx : Context
   ctx = in_init tables me.0
 
-  value_fits : (before rest : List PlainStmt) (locals : List PlainLocal) (wanted : Option PlainTy) (e : PlainExpr) (ty : PlainTy) (vars : List Var) (fields : List Value) (n : ℕ) → body ≡ before ++ rest → type_at ctx locals wanted e ≡ Ok ty → acts program (field_names before) e ≡ false → VarsFit tables vars locals → SoFar before fields
+  pub value_fits : (before rest : List PlainStmt) (locals : List PlainLocal) (wanted : Option PlainTy) (e : PlainExpr) (ty : PlainTy) (vars : List Var) (fields : List Value) (n : ℕ) → body ≡ before ++ rest → type_at ctx locals wanted e ≡ Ok ty → acts program (field_names before) e ≡ false → VarsFit tables vars locals → SoFar before fields
       → GivesFit (SoFar before) (Fits tables ty) (eval site e vars fields n)
   value_fits before rest locals wanted e ty vars fields n parts h free v fit = eval_fits tables site (Behind program (field_names before)) (SoFar before) None (around before rest parts) e locals wanted ty vars fields n h free v fit
 
@@ -185,8 +201,12 @@ module _ (names : List (List ℕ)) (program : PlainProgram) (kept : program_faul
   unfolding message
   text_fits before rest locals None vars fields n parts h free v fit = got tt fit
   text_fits before rest locals (Some e) vars fields n parts h free v fit =
-      let a : (ty : PlainTy) × (type_at ctx locals None e ≡ Ok ty) = message_ok ctx locals e h in
-      fit_then (SoFar before) (Fits tables a.0) _ (eval site e vars fields n) _ (value_fits before rest locals None e a.0 vars fields n parts a.1 free v fit) (λ u w n f p. got tt p)
+      fit_then (SoFar before) (Fits tables TStr) _ (eval site e vars fields n) _ (value_fits before rest locals None e TStr vars fields n parts (message_text ctx locals e h) free v fit) (λ u w n f p. got tt p)
+
+  -- a message gives a text
+  message_gives : (before rest : List PlainStmt) (locals : List PlainLocal) (e : Option PlainExpr) (vars : List Var) → body ≡ before ++ rest → message_fault ctx locals e ≡ None → option_acts program (field_names before) e ≡ false → VarsFit tables vars locals → MessageGives tables src me before vars e
+  message_gives before rest locals None vars parts h free v = tt
+  message_gives before rest locals (Some e) vars parts h free v = record { gives = λ fields n fit. value_fits before rest locals None e TStr vars fields n parts (message_text ctx locals e h) free v fit }
 
   -- the types of the fields with those of one more statement
   one_declared : (before : List PlainStmt) (at : Place) (f : PlacedName) (ty : PlainWritten) (e : PlainExpr) → declared_types (before ++ PAssign at (Field f) (Some ty) e ∷ []) ≡ declared_types before ++ type_written ty ∷ []
@@ -221,9 +241,10 @@ module _ (names : List (List ℕ)) (program : PlainProgram) (kept : program_faul
       by true e1 s = from_name e s h (both_true (f.name.0 == name) (is_str ty) e1).1
       by false e1 s = absurd (none-some p s)
 
-  -- one statement: what it declares fits, and the locals fit behind it
+  -- one statement: what it evaluates fits, what it declares fits, and the locals fit behind it
   record Stmt (before : List PlainStmt) (s : PlainStmt) (w mid : Way) (vars : List Var) (fields : List Value) (n : ℕ) : Type 0 where
     tells : VarsFit tables vars w.locals → (name p : ℕ) → source_in name s ≡ Some p → Fits tables TStr (local_value vars p)
+    each : VarsFit tables vars w.locals → InitStmtFits tables src me before vars s
     runs : VarsFit tables vars w.locals → SoFar before fields → Makes (λ fields. SoFar (before ++ s ∷ []) fields × VarsFit tables vars mid.locals) (declare src me s vars fields n)
     goes : goes_on s ≡ true
 
@@ -238,6 +259,7 @@ module _ (names : List (List ℕ)) (program : PlainProgram) (kept : program_faul
       let same : on w w.locals ≡ mid = ap (on w) (same_ok w.locals a.0 b.2) ∙ same_ok (on w a.0) mid a.2 in
       record {
         tells = λ v name p source. told_text w.locals name p f ty e b.0 vars q.0 q.1 v source;
+        each = λ v. init.declares (record { gives = λ fields n fit. fit_more (SoFar before) (Fits tables b.0) (Fits tables (type_written ty)) (eval site e vars fields n) (value_fits before rest w.locals (Some (type_written ty)) e b.0 vars fields n parts q.0 free v fit) (λ u g. fits_wider tables b.0 (type_written ty) u q.1 g) });
         runs = λ v fit. step_makes _ fields n _ (λ n. makes_then (SoFar before) (Fits tables b.0) _ (eval site e vars fields n) _ (value_fits before rest w.locals (Some (type_written ty)) e b.0 vars fields n parts q.0 free v fit)
             (λ u fields n g fit. makes (
               subst (λ ts. EachFits tables ts (fields ++ u ∷ [])) (sym (one_declared before at f ty e)) (each_behind tables (declared_types before) (type_written ty ∷ []) fields (u ∷ []) fit (one_more (fits_wider tables b.0 (type_written ty) u q.1 g) no_value)),
@@ -253,6 +275,7 @@ module _ (names : List (List ℕ)) (program : PlainProgram) (kept : program_faul
       let typed : type_at ctx w.locals None test ≡ Ok TBool = (condition_ok (place_of test) (type_at ctx w.locals None test) a.0 a.1).0 in
       record {
         tells = λ v name p source. absurd (none-some p source);
+        each = λ v. init.asserts (record { gives = λ fields n fit. value_fits before rest w.locals None test TBool vars fields n parts typed free v fit }) (message_gives before rest w.locals e vars parts q.0 quiet v);
         runs = λ v fit. step_makes _ fields n _ (λ n. makes_then (SoFar before) _ _ (eval site test vars fields n) _ (test_fits tables site (Behind program (field_names before)) (SoFar before) None (around before rest parts) test vars fields n (value_fits before rest w.locals None test TBool vars fields n parts typed free v fit))
             (λ u fields n tests fit. makes_by _ (is_true u) (Got value.Nil fields n) (message site e vars fields n >>= λ text fields n. Fell (assertion_error text) fields n)
             (λ c. makes (subst (λ ts. EachFits tables ts fields) (sym (none_declared before at test e)) fit, subst (λ (m : Way). VarsFit tables vars m.locals) (same_ok (on w later) mid q.1) (narrowed_fits tables vars (shown true test) w.locals (tests.1 true c) v)))
@@ -290,3 +313,32 @@ module _ (names : List (List ℕ)) (program : PlainProgram) (kept : program_faul
       makes_on _ _ (declare src me x vars fields n) _ (one.runs v fit) (λ u fields n p.
       makes_more (λ fields. SoFar body fields × Told xs vars) (λ fields. SoFar body fields × Told (x ∷ xs) vars) _ (λ fields q. (q.0, told_more x xs vars (one.tells v) q.1))
       (declared_fit members xs (before ++ x ∷ []) a.0 after vars fields n (parts ∙ sym (append_assoc before (x ∷ []) xs)) later (subst (λ b. cond b (flow_all ctx a.0 (stmts_of xs)) (Ok a.0) ≡ Ok after) one.goes a.2) p.1 p.0))
+
+  -- what is there behind a statement that gives something
+  made_behind : (P : List Value → Type 0) (R : Type 0) (g : Gives (List Value) Value) (k : Value → List Value → ℕ → Gives (List Value) Value) (v : Value) (fields : List Value) (n : ℕ) → Makes P g → (g >>= k) ≡ Got v fields n
+      → ((u : Value) (between : List Value) (m : ℕ) → P between → k u between m ≡ Got v fields n → R) → R
+  made_behind P R (Got u between m) k v fields n (makes p) e h = h u between m p e
+  made_behind P R (Fell f between m) k v fields n (breaks_off p) e h = absurd (no_fall f between m v fields n e)
+
+  -- where the statements in front have been made, what the next one evaluates fits
+  pub place_fits : (members : List PlainMethod) (front rest : List PlainStmt) (s : PlainStmt) (before : List PlainStmt) (w after : Way) (vars : List Var) (fields : List Value) (n : ℕ) → body ≡ before ++ (front ++ s ∷ rest)
+      → first_behind (λ before s. init_stmt_fault names program members (field_names before) s) before (front ++ s ∷ rest) ≡ None → flow_all ctx w (stmts_of (front ++ s ∷ rest)) ≡ Ok after → VarsFit tables vars w.locals → SoFar before fields
+      → (v : Value) (given : List Value) (left : ℕ) → declare_all src me front vars fields n ≡ Got v given left → SoFar (before ++ front) given × InitStmtFits tables src me (before ++ front) vars s
+  unfolding declare_all
+  place_fits members [] rest s before w after vars fields n parts none h v fit u given left e =
+      let a : (mid : Way) × (flow ctx w s ≡ Ok mid) × (cond (goes_on s) (flow_all ctx mid (stmts_of rest)) (Ok mid) ≡ Ok after) = all_parts ctx w after s (stmts_of rest) h in
+      let now : init_stmt_fault names program members (field_names before) s ≡ None = head_none _ _ none in
+      let one : Stmt before s w a.0 vars fields n = stmt_fits before (s ∷ rest) s w a.0 vars fields n parts (init_stmt names program members (field_names before) s now) a.1 in
+      let same : before ≡ before ++ [] = sym (append-nil before) in
+      (subst (λ b. SoFar b given) same (subst (λ vs. SoFar before vs) (got_fields _ u fields given n left e) fit), subst (λ b. InitStmtFits tables src me b vars s) same (one.each v))
+  place_fits members (x ∷ front) rest s before w after vars fields n parts none h v fit u given left e =
+      let fault : List PlainStmt → PlainStmt → Option RuleFault = λ before s. init_stmt_fault names program members (field_names before) s in
+      let others : Option RuleFault = first_behind fault (before ++ x ∷ []) (front ++ s ∷ rest) in
+      let now : fault before x ≡ None = head_none (fault before x) (others ∷ []) none in
+      let later : others ≡ None = head_none others [] (rest_none (fault before x) (others ∷ []) none) in
+      let a : (mid : Way) × (flow ctx w x ≡ Ok mid) × (cond (goes_on x) (flow_all ctx mid (stmts_of (front ++ s ∷ rest))) (Ok mid) ≡ Ok after) = all_parts ctx w after x (stmts_of (front ++ s ∷ rest)) h in
+      let one : Stmt before x w a.0 vars fields n = stmt_fits before (x ∷ front ++ s ∷ rest) x w a.0 vars fields n parts (init_stmt names program members (field_names before) x now) a.1 in
+      let behind : before ++ (x ∷ front) ≡ (before ++ x ∷ []) ++ front = sym (append_assoc before (x ∷ []) front) in
+      subst (λ b. SoFar b given × InitStmtFits tables src me b vars s) (sym behind)
+      (made_behind _ _ (declare src me x vars fields n) (λ v fields n. declare_all src me front vars fields n) u given left (one.runs v fit) e (λ w2 between m p e.
+      place_fits members front rest s (before ++ x ∷ []) a.0 after vars between m (parts ∙ sym (append_assoc before (x ∷ []) (front ++ s ∷ rest))) later (subst (λ b. cond b (flow_all ctx a.0 (stmts_of (front ++ s ∷ rest))) (Ok a.0) ≡ Ok after) one.goes a.2) p.1 p.0 u given left e))

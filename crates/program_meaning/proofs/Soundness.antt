@@ -1,33 +1,35 @@
 -- Nothing goes wrong, within a method and over a whole run.
-use Rattle.std.proofs.Common.{◌≡◌, ℕ, suc, Some, List, [], ◌∷◌, refl, sym, ◌∙◌}
+use Rattle.std.proofs.Common.{◌≡◌, ℕ, suc, None, Some, Ok, List, [], ◌∷◌, ◌++◌, refl, sym, ap, ◌∙◌, subst}
 use Rattle.std.specs.Prelude.{slice_get}
 use Rattle.std.specs.FinMap as map
 use Rattle.std.specs.FinMap.{get-empty}
 use Rattle.std.proofs.lemmas.Option.{none-some}
-use Rattle.py_tree.specs.PlainStatements.{PlainStmts}
-use Rattle.py_tree.specs.ClassRules.{PlainTable, tables_of}
+use Rattle.py_tree.specs.PlainStatements.{PlainStmts, stmts_of}
+use Rattle.py_tree.specs.ClassRules.{PlainTable, body_of, first_in, fields_of, field_names, init_body_fault, init_stmt_fault, params_of, tables_of}
 use Rattle.py_tree.specs.FlowEnvironment.{PlainLocal}
 use Rattle.py_tree.specs.Reachability.{all_go_on, break_in}
-use Rattle.py_tree.specs.Flow.{Context, Way, result_at}
+use Rattle.py_tree.specs.Flow.{Context, Way, begun, flow_all, in_init, init_locals, result_at}
 use Rattle.py_tree.specs.PlainProgram.{PlainProgram}
 use Rattle.program_meaning.specs.NothingGoesWrong.{IsKnownAccepted}
 use Rattle.sf_value.specs.Keys.{Key, key_cmp}
 use Rattle.sf_value.specs.declared.value.Value.{Value}
+use Rattle.program_meaning.specs.declared.vars.Var.{Var}
+use Rattle.program_meaning.specs.ClassTables.{Source}
 use Rattle.program_meaning.specs.World.{State, World, Gives, Got, Fell, Ends, Goes, Returns, Breaks, Continues, Fails}
-use Rattle.program_meaning.specs.Calls.{in_state}
-use Rattle.program_meaning.specs.Fits.{HasTable, RecordFits, StateFits}
+use Rattle.program_meaning.specs.Calls.{bound, declare_all, in_state}
+use Rattle.program_meaning.specs.Fits.{HasTable, no_value, RecordFits, StateFits}
 use Rattle.program_meaning.specs.RequestRun.{run}
 use Rattle.program_meaning.specs.Serial.{no_state, serial_state}
 use Rattle.sf_value.specs.declared.Act.{Act}
 use Rattle.program_meaning.specs.PointFits as point
 use Rattle.program_meaning.specs.PointFits.{VarsFit, no_local, CallsFit, Since, OneType, EndsFit}
-use Rattle.program_meaning.specs.NothingGoesWrong.{FirstFits, HistoriesFit, ActsFit, no_act, one_act, RunsFit, ExpressionsFit, StatementsFit, CallsKeepFit, MakesFit, InitsFit, CheckedAreKnown}
+use Rattle.program_meaning.specs.NothingGoesWrong.{FirstFits, HistoriesFit, ActsFit, no_act, one_act, RunsFit, ExpressionsFit, StatementsFit, CallsKeepFit, MakesFit, InitsFit, DeclaredFit, InitStmtFits, InitExpressionsFit, InitStatementsFit, CheckedAreKnown}
 use Rattle.program_meaning.proofs.EvalFits.{Anywhere, eval_fits}
 use Rattle.program_meaning.proofs.LocalShapes.{type_found, Shape, shapes, type_in, Within, all_in, one_in, Sound, settled_fits}
 use Rattle.program_meaning.proofs.AssignedFits.{no_more}
 use Rattle.program_meaning.proofs.ActFits.{EndFits, goes, returns, leaves, turns, fails, stmts_fit}
-use Rattle.program_meaning.proofs.InitFits.{Makes, makes, breaks_off}
-use Rattle.program_meaning.proofs.CallsFit.{around_method, puts_fit, calls_keep, record_made_fits}
+use Rattle.program_meaning.proofs.InitFits.{Makes, makes, breaks_off, value_fits, place_fits}
+use Rattle.program_meaning.proofs.CallsFit.{around_method, puts_fit, calls_keep, InitKnown, init_known, record_made_fits}
 use Rattle.program_meaning.proofs.RunFits.{run_fits}
 
 each_within : (ss : List Shape) (locals : List PlainLocal) → ((k : ℕ) (l : PlainLocal) → slice_get locals k ≡ Some l → type_in ss l.name ≡ Some l.ty) → Within (shapes locals) ss
@@ -87,6 +89,24 @@ made_told tables class Told (Fell f fields n) (breaks_off c) = c
 
 pub inits_fit : InitsFit
 inits_fit names program accepted at args n fit = made_told (tables_of names program) at.0 _ _ (record_made_fits names program accepted at args n fit)
+
+pub init_expressions_fit : InitExpressionsFit
+init_expressions_fit names program accepted at table has before rest parts locals wanted e ty vars fields n typed free v fit =
+    let i : InitKnown names program accepted at.0 table = init_known names program accepted at.0 table has in
+    value_fits names program accepted.rules.classes at table i.method.body has i.is_body before rest locals wanted e ty vars fields n (sym (ap body_of i.here) ∙ parts) typed free v fit
+
+pub init_statements_fit : InitStatementsFit
+unfolding fields_of init_body_fault
+init_statements_fit names program accepted at args h before rest s parts v fields n left made =
+    let src : Source = record { program = program; names = names } in
+    let i : InitKnown names program accepted at.0 h.table = init_known names program accepted at.0 h.table h.has_table in
+    let is_parts : i.method.body ≡ before ++ s ∷ rest = sym (ap body_of i.here) ∙ parts in
+    let vars : List Var = bound i.method.params args in
+    let kept : first_in (λ before s. init_stmt_fault names program i.members (field_names before) s) (before ++ s ∷ rest) ≡ None = subst (λ b. first_in (λ before s. init_stmt_fault names program i.members (field_names before) s) b ≡ None) is_parts i.body in
+    let flows : flow_all (in_init (tables_of names program) at.0) (begun (init_locals (tables_of names program) at.0)) (stmts_of (before ++ s ∷ rest)) ≡ Ok i.after = subst (λ b. flow_all (in_init (tables_of names program) at.0) (begun (init_locals (tables_of names program) at.0)) (stmts_of b) ≡ Ok i.after) is_parts i.flows in
+    let told : declare_all src at before vars [] n ≡ Got v fields left = subst (λ o. declare_all src at before (bound (params_of o) args) [] n ≡ Got v fields left) i.here made in
+    subst (λ o. DeclaredFit (tables_of names program) before fields × InitStmtFits (tables_of names program) src at before (bound (params_of o) args) s) (sym i.here)
+    (place_fits names program accepted.rules.classes at h.table i.method.body h.has_table i.is_body i.members before rest s [] (begun (init_locals (tables_of names program) at.0)) i.after vars [] n is_parts kept flows (i.first_locals args h.fit) no_value v fields left told)
 
 pub checked_are_known : CheckedAreKnown
 checked_are_known c = record { bounded = c.bounded; rules = c.rules; table = c.table }

@@ -8,15 +8,15 @@ ghost use Rattle.program_meaning.specs.Reached.{PointsAreReached};
 ghost use Rattle.program_meaning.specs.SameLocals.{ExpressionsAgree, StatementsAgree};
 ghost use Rattle.program_meaning.specs.StepsLeft.{ExpressionsTakeSteps, StatementsTakeSteps, SourceTakesSteps, OwnCallsTakeSteps, TurnsAreEnough, NumbersAreEnough};
 ghost use Rattle.program_meaning.specs.NamesAreFound.{ClassesAreFound, MethodsAreFound};
-ghost use Rattle.program_meaning.specs.NothingGoesWrong.{FirstFits, RunsFit, HistoriesFit, ExpressionsFit, StatementsFit, CallsKeepFit, InitsFit, CheckedAreKnown};
+ghost use Rattle.program_meaning.specs.NothingGoesWrong.{FirstFits, RunsFit, HistoriesFit, ExpressionsFit, StatementsFit, CallsKeepFit, InitsFit, InitExpressionsFit, InitStatementsFit, CheckedAreKnown};
 
 /// Nothing goes wrong in an accepted program. In its methods what an expression gives fits the
 /// type that the rules found, and statements come to what fits the way behind them. A run on a
 /// state and a request that fit leaves a state that fits, and comes to a failure or a value that
 /// fits the request. The empty state fits, and so does the state after any requests that fit.
-/// Calls and creations keep what fits, `__init__` makes records that fit, and so does code that
-/// runs on one record and doesn't suspend. What holds of accepted programs here holds of each that
-/// was checked.
+/// Calls and creations keep what fits, `__init__` makes records that fit, what it evaluates at each
+/// place fits, and so does code that runs on one record and doesn't suspend. What holds of accepted
+/// programs here holds of each that was checked.
 pub fn nothing_goes_wrong()
     ensures first { FirstFits }
     ensures runs { RunsFit }
@@ -25,6 +25,8 @@ pub fn nothing_goes_wrong()
     ensures statements { StatementsFit }
     ensures calls { CallsKeepFit }
     ensures inits { InitsFit }
+    ensures init_expressions { InitExpressionsFit }
+    ensures init_statements { InitStatementsFit }
     ensures here_expressions { ExpressionsHereFit }
     ensures here_statements { StatementsHereFit }
     ensures checked { CheckedAreKnown }
