@@ -44,7 +44,7 @@ begin_short src s (act.New class args) short light = (calls_keep src depth_limit
 
 ended_short : (s : State) (g : Gives World Value) → StateIsShort s → GivesShort HasShortState IsLight g → IsShortRun (ended s g)
 ended_short s (Got v w n) short (got light after) = (light_short v light, after)
-ended_short s (Fell f w n) short (fell text) = (text, short)
+ended_short s (Fell f w n) short (fell text after) = (text, short)
 
 pub runs_are_short : RunsAreShort
 unfolding run

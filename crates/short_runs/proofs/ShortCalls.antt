@@ -28,32 +28,32 @@ use Rattle.short_runs.proofs.ShortStatements.{body_short}
 
 making_keeps : (src : Source) (me : Key) → SiteKeeps AreShortFields (making src me)
 making_keeps src me = record {
-  calls = record { call = λ at method args fields n short. fell no_text_short; make = λ class args fields n light short. fell no_text_short };
+  calls = record { call = λ at method args fields n short. fell no_text_short short; make = λ class args fields n light short. fell no_text_short short };
   put = λ fields x v light short. field_short (fields_of src me.0) fields x v (light_short v light) short;
 }
 
 declare_short : (src : Source) (me : Key) (x : PlainStmt) (vars : List Var) (fields : List Value) (n : ℕ) → AreShortFields fields → GivesShort AreShortFields IsLight (declare src me x vars fields n)
 unfolding declare
 declare_short src me (PAssign at x ty e) vars fields n short =
-    stepped_short AreShortFields fields n _ (λ n.
+    stepped_short AreShortFields fields n _ short (λ n.
     then_short AreShortFields (eval (making src me) e vars fields n) _ (eval_short AreShortFields (making src me) (making_keeps src me) e vars fields n short) (λ v fields n l short.
     got nil_light (behind_short fields v (light_short v l) short)))
 declare_short src me (PAssert at test e) vars fields n short =
-    stepped_short AreShortFields fields n _ (λ n.
+    stepped_short AreShortFields fields n _ short (λ n.
     then_short AreShortFields (eval (making src me) test vars fields n) _ (eval_short AreShortFields (making src me) (making_keeps src me) test vars fields n short) (λ v fields n l short.
     either_short AreShortFields (is_true v) (Got value.Nil fields n) (message (making src me) e vars fields n >>= λ text fields n. Fell (assertion_error text) fields n)
     (got nil_light short)
-    (then_short AreShortFields (message (making src me) e vars fields n) _ (message_short AreShortFields (making src me) (making_keeps src me) e vars fields n short) (λ text fields n short_text short. fell short_text))))
-declare_short src me (PPass at) vars fields n short = stepped_short AreShortFields fields n _ (λ n. got nil_light short)
-declare_short src me (PBreak at) vars fields n short = stepped_short AreShortFields fields n _ (λ n. got nil_light short)
-declare_short src me (PContinue at) vars fields n short = stepped_short AreShortFields fields n _ (λ n. got nil_light short)
-declare_short src me (PDo at e) vars fields n short = stepped_short AreShortFields fields n _ (λ n. got nil_light short)
-declare_short src me (PReturn at e) vars fields n short = stepped_short AreShortFields fields n _ (λ n. got nil_light short)
-declare_short src me (PRaise at kind e) vars fields n short = stepped_short AreShortFields fields n _ (λ n. got nil_light short)
-declare_short src me (PAugment at x op op_at e) vars fields n short = stepped_short AreShortFields fields n _ (λ n. got nil_light short)
-declare_short src me (PIf at arms other) vars fields n short = stepped_short AreShortFields fields n _ (λ n. got nil_light short)
-declare_short src me (PWhile at test body) vars fields n short = stepped_short AreShortFields fields n _ (λ n. got nil_light short)
-declare_short src me (PFor at x x_at over body) vars fields n short = stepped_short AreShortFields fields n _ (λ n. got nil_light short)
+    (then_short AreShortFields (message (making src me) e vars fields n) _ (message_short AreShortFields (making src me) (making_keeps src me) e vars fields n short) (λ text fields n short_text short. fell short_text short))))
+declare_short src me (PPass at) vars fields n short = stepped_short AreShortFields fields n _ short (λ n. got nil_light short)
+declare_short src me (PBreak at) vars fields n short = stepped_short AreShortFields fields n _ short (λ n. got nil_light short)
+declare_short src me (PContinue at) vars fields n short = stepped_short AreShortFields fields n _ short (λ n. got nil_light short)
+declare_short src me (PDo at e) vars fields n short = stepped_short AreShortFields fields n _ short (λ n. got nil_light short)
+declare_short src me (PReturn at e) vars fields n short = stepped_short AreShortFields fields n _ short (λ n. got nil_light short)
+declare_short src me (PRaise at kind e) vars fields n short = stepped_short AreShortFields fields n _ short (λ n. got nil_light short)
+declare_short src me (PAugment at x op op_at e) vars fields n short = stepped_short AreShortFields fields n _ short (λ n. got nil_light short)
+declare_short src me (PIf at arms other) vars fields n short = stepped_short AreShortFields fields n _ short (λ n. got nil_light short)
+declare_short src me (PWhile at test body) vars fields n short = stepped_short AreShortFields fields n _ short (λ n. got nil_light short)
+declare_short src me (PFor at x x_at over body) vars fields n short = stepped_short AreShortFields fields n _ short (λ n. got nil_light short)
 
 declares_short : (src : Source) (me : Key) (xs : List PlainStmt) (vars : List Var) (fields : List Value) (n : ℕ) → AreShortFields fields → GivesShort AreShortFields IsLight (declare_all src me xs vars fields n)
 unfolding declare_all
@@ -78,7 +78,7 @@ new_key_light src class args all = key_light class (value_at args (key_param_of 
 
 made_short : (at : Key) (w : World) (g : Gives (List Value) Value) → IsLight (entity at) → HasShortState w → GivesShort AreShortFields IsLight g → GivesShort HasShortState IsLight (made at w g)
 made_short at w (Got v fields n) l short (got light fields_short) = got l (written_short w.state at fields short (key_short at l, fields_short))
-made_short at w (Fell f fields n) l short (fell short_text) = fell short_text
+made_short at w (Fell f fields n) l short (fell short_text fields_short) = fell short_text short
 
 create_short : (src : Source) (at : Key) (args : List Value) (w : World) (n : ℕ) → IsLight (entity at) → HasShortState w → GivesShort HasShortState IsLight (create src at args w n)
 unfolding create
@@ -86,7 +86,7 @@ create_short src at args w n l short = by (map.get w.state at)
   where
     by : (o : Option (List Value)) → GivesShort HasShortState IsLight (if_there o (made at (reading w at) (made_record src at args n)) (Fell already_exists (reading w at) n))
     by None = made_short at (reading w at) (made_record src at args n) l short (declares_short src at (body_of (init_of src at.0)) (bound (params_of (init_of src at.0)) args) [] n tt)
-    by (Some fields) = fell no_text_short
+    by (Some fields) = fell no_text_short short
 
 -- ---- calls
 
@@ -103,16 +103,16 @@ enter_short src calls keep at method args w n short = by (map.get w.state at) re
   where
     by : (o : Option (List Value)) → map.get w.state at ≡ o
         → GivesShort HasShortState IsLight (if_there o (Fell no_entity (reading w at) n) (run_body (in_state src calls at) (slice_get (methods_of src at.0) method) args (reading w at) n))
-    by None e = fell no_text_short
+    by None e = fell no_text_short short
     by (Some fields) e = body_short HasShortState (in_state src calls at) (in_state_keeps src calls at (short.each at fields e).0 keep) (slice_get (methods_of src at.0) method) args (reading w at) n short
 
 pub calls_keep : (src : Source) (d : ℕ) → CallsKeep HasShortState (calls_at src d)
 unfolding calls_at
 calls_keep src zero = record {
-  call = λ at method args w n short. stepped_short HasShortState w n _ (λ n. fell no_text_short);
-  make = λ class args w n light short. stepped_short HasShortState w n _ (λ n. fell no_text_short);
+  call = λ at method args w n short. stepped_short HasShortState w n _ short (λ n. fell no_text_short short);
+  make = λ class args w n light short. stepped_short HasShortState w n _ short (λ n. fell no_text_short short);
 }
 calls_keep src (suc d) = record {
-  call = λ at method args w n short. stepped_short HasShortState w n _ (λ n. enter_short src (calls_at src d) (calls_keep src d) at method args w n short);
-  make = λ class args w n light short. stepped_short HasShortState w n _ (λ n. create_short src (new_key src class args) args w n (new_key_light src class args light) short);
+  call = λ at method args w n short. stepped_short HasShortState w n _ short (λ n. enter_short src (calls_at src d) (calls_keep src d) at method args w n short);
+  make = λ class args w n light short. stepped_short HasShortState w n _ short (λ n. create_short src (new_key src class args) args w n (new_key_light src class args light) short);
 }

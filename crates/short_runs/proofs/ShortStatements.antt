@@ -35,7 +35,7 @@ module _ {W : Type 0} (IsKept : W → Type 0) where
     items_short [] vars w n kept = goes kept
     items_short (v ∷ vs) vars w n kept =
         turn_short IsKept (turn name body v vars w n) (over_items name body vs)
-        (stepping_short IsKept vars w n _ (λ m. keeps (assigned vars name v) w m kept))
+        (stepping_short IsKept vars w n _ kept (λ m. keeps (assigned vars name v) w m kept))
         (items_short vs)
 
     counting_short : (from : ℤ) → CodeKeeps IsKept (counting from body)
@@ -44,11 +44,11 @@ module _ {W : Type 0} (IsKept : W → Type 0) where
 
     numbers_short : (most : ℕ) (from to : ℤ) → CodeKeeps IsKept (over_numbers most name body from to)
     unfolding over_numbers
-    numbers_short zero from to vars w n kept = fails no_text_short
+    numbers_short zero from to vars w n kept = fails no_text_short kept
     numbers_short (suc most) from to vars w n kept =
         choice_short IsKept (is_lt (int_cmp from to)) (next_turn (turn name (counting from body) (value.Int from) vars w n) (over_numbers most name body (from +ℤ pos 1) to)) (Goes vars w n)
         (turn_short IsKept (turn name (counting from body) (value.Int from) vars w n) (over_numbers most name body (from +ℤ pos 1) to)
-        (stepping_short IsKept vars w n _ (λ m. counting_short from (assigned vars name (value.Int from)) w m kept))
+        (stepping_short IsKept vars w n _ kept (λ m. counting_short from (assigned vars name (value.Int from)) w m kept))
         (numbers_short most (from +ℤ pos 1) to))
         (goes kept)
 
@@ -59,11 +59,11 @@ module _ {W : Type 0} (IsKept : W → Type 0) where
   while_short : (test : List Var → W → ℕ → Gives W Value) (body : List Var → W → ℕ → Ends W) → ((vars : List Var) (w : W) (n : ℕ) → IsKept w → GivesShort IsKept IsLight (test vars w n)) → CodeKeeps IsKept body
       → (most : ℕ) → CodeKeeps IsKept (while_turns most test body)
   unfolding while_turns
-  while_short test body tests keeps zero vars w n kept = fails no_text_short
+  while_short test body tests keeps zero vars w n kept = fails no_text_short kept
   while_short test body tests keeps (suc most) vars w n kept =
       uses_short IsKept vars (test vars w n) _ (tests vars w n kept) (λ v w n l kept.
       choice_short IsKept (is_true v) (next_turn (stepping vars w n (λ n. body vars w n)) (while_turns most test body)) (Goes vars w n)
-      (turn_short IsKept (stepping vars w n (λ n. body vars w n)) (while_turns most test body) (stepping_short IsKept vars w n _ (λ m. keeps vars w m kept)) (while_short test body tests keeps most))
+      (turn_short IsKept (stepping vars w n (λ n. body vars w n)) (while_turns most test body) (stepping_short IsKept vars w n _ kept (λ m. keeps vars w m kept)) (while_short test body tests keeps most))
       (goes kept))
 
 module _ {W : Type 0} (IsKept : W → Type 0) (s : Site W) (k : SiteKeeps IsKept s) where
@@ -95,7 +95,7 @@ module _ {W : Type 0} (IsKept : W → Type 0) (s : Site W) (k : SiteKeeps IsKept
   checked_short e vars v w n kept =
       choice_short IsKept (is_true v) (Goes vars w n) (with_given vars (message s e vars w n) (λ text w n. Fails (assertion_error text) vars w n))
       (goes kept)
-      (uses_short IsKept vars (message s e vars w n) _ (message_short IsKept s k e vars w n kept) (λ text w n short kept. fails short))
+      (uses_short IsKept vars (message s e vars w n) _ (message_short IsKept s k e vars w n kept) (λ text w n short kept. fails short kept))
 
   -- Statements
 
@@ -103,33 +103,33 @@ module _ {W : Type 0} (IsKept : W → Type 0) (s : Site W) (k : SiteKeeps IsKept
     unfolding act
 
     act_short : (x : PlainStmt) → CodeKeeps IsKept (act s x)
-    act_short (PPass at) vars w n kept = stepping_short IsKept vars w n _ (λ n. goes kept)
-    act_short (PBreak at) vars w n kept = stepping_short IsKept vars w n _ (λ n. breaks kept)
-    act_short (PContinue at) vars w n kept = stepping_short IsKept vars w n _ (λ n. continues kept)
+    act_short (PPass at) vars w n kept = stepping_short IsKept vars w n _ kept (λ n. goes kept)
+    act_short (PBreak at) vars w n kept = stepping_short IsKept vars w n _ kept (λ n. breaks kept)
+    act_short (PContinue at) vars w n kept = stepping_short IsKept vars w n _ kept (λ n. continues kept)
     act_short (PDo at e) vars w n kept =
-        stepping_short IsKept vars w n _ (λ n.
+        stepping_short IsKept vars w n _ kept (λ n.
         uses_short IsKept vars (eval s e vars w n) _ (eval_short IsKept s k e vars w n kept) (λ v w n l kept. goes kept))
     act_short (PReturn at e) vars w n kept =
-        stepping_short IsKept vars w n _ (λ n.
+        stepping_short IsKept vars w n _ kept (λ n.
         uses_short IsKept vars (value_or_none s e vars w n) _ (value_short IsKept s k e vars w n kept) (λ v w n l kept. returns l kept))
     act_short (PRaise at kind e) vars w n kept =
-        stepping_short IsKept vars w n _ (λ n.
-        uses_short IsKept vars (message s e vars w n) _ (message_short IsKept s k e vars w n kept) (λ text w n short kept. fails short))
+        stepping_short IsKept vars w n _ kept (λ n.
+        uses_short IsKept vars (message s e vars w n) _ (message_short IsKept s k e vars w n kept) (λ text w n short kept. fails short kept))
     act_short (PAssert at test e) vars w n kept =
-        stepping_short IsKept vars w n _ (λ n.
+        stepping_short IsKept vars w n _ kept (λ n.
         uses_short IsKept vars (eval s test vars w n) (checked s e vars) (eval_short IsKept s k test vars w n kept) (λ v w n l kept. checked_short e vars v w n kept))
     act_short (PAssign at x ty e) vars w n kept =
-        stepping_short IsKept vars w n _ (λ n.
+        stepping_short IsKept vars w n _ kept (λ n.
         uses_short IsKept vars (eval s e vars w n) _ (eval_short IsKept s k e vars w n kept) (λ v w n l kept. store_short x v vars w n l kept))
     act_short (PAugment at x op op_at e) vars w n kept =
-        stepping_short IsKept vars w n _ (λ n.
+        stepping_short IsKept vars w n _ kept (λ n.
         uses_short IsKept vars (augmented s x op e vars w n) _ (augmented_short x op e vars w n kept) (λ v w n l kept. store_short x v vars w n l kept))
-    act_short (PIf at arms other) vars w n kept = stepping_short IsKept vars w n _ (λ n. arms_short arms (λ vars w n. act_all s other vars w n) (acts_short other) vars w n kept)
+    act_short (PIf at arms other) vars w n kept = stepping_short IsKept vars w n _ kept (λ n. arms_short arms (λ vars w n. act_all s other vars w n) (acts_short other) vars w n kept)
     act_short (PWhile at test body) vars w n kept =
-        stepping_short IsKept vars w n _ (λ n.
+        stepping_short IsKept vars w n _ kept (λ n.
         while_short IsKept (λ vars w n. eval s test vars w n) (λ vars w n. act_all s body vars w n) (eval_short IsKept s k test) (acts_short body) (suc n) vars w n kept)
     act_short (PFor at name name_at over body) vars w n kept =
-        stepping_short IsKept vars w n _ (λ n.
+        stepping_short IsKept vars w n _ kept (λ n.
         uses_short IsKept vars (turns_of s over vars w n) _ (over_short over vars w n kept) (λ turns w n any kept.
         turns_short IsKept name (λ vars w n. act_all s body vars w n) (acts_short body) turns vars w n kept))
 
