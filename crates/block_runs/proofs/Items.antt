@@ -86,13 +86,13 @@ module _ (names : List (List ℕ)) (program : PlainProgram) (accepted : IsKnownA
   given_ends i locals goal P vars (Fell f h n) k v first (point.fell p q) rest = fails p q (λ is params at. supplied_kept tables vars locals params v (first is params at))
 
   code_ends : (xs : PlainStmts) (locals : List PlainLocal) (goal : Asked) (vars : List Var) (h : Held) (n : ℕ) → (f : CodeFits c leaves locals xs goal) → VarsFit tables vars locals → Sound (shapes locals) → Fine h
-      → (e : Ends Held) → act_all s xs vars h n ≡ e → EndsFit tables Fine c xs f.way e → ItemEnds (ICode xs) locals goal e
+      → (e : Ends Held) → act_all s xs vars h n ≡ e → EndsFit tables Fine c xs (begun locals) f.way e → ItemEnds (ICode xs) locals goal e
   unfolding AtEachItem
   code_ends xs locals goal vars h n f v sound p _ is (point.goes on fit q) = goes f.way.locals on (f.goes on) fit ((follows_all xs c (begun locals) f.way f.flows).grows.sound sound) q (λ is params at. at.1 on f.way f.flows)
   code_ends xs locals goal vars h n f v sound p _ is (point.returns fit q) = returns fit q
   code_ends xs locals goal vars h n f v sound p _ is (point.leaves known inside there found fit q) = absurd (true≢false (sym inside))
   code_ends xs locals goal vars h n f v sound p _ is (point.turns inside q) = absurd (true≢false (sym inside))
-  code_ends xs locals goal vars h n f v sound p _ is (point.fails {f = e} {vars = left} {w = k} {n = m} fit q) =
+  code_ends xs locals goal vars h n f v sound p _ is (point.fails {f = e} {vars = left} {w = k} {n = m} fit stay q) =
       fails fit q (λ others params at. code_spares names program accepted me leaves within d number params locals xs f.way vars h n f.flows f.raises f.stays sound v p at.0 e left k m is)
 
   item_ends : (i : PlainItem) (locals : List PlainLocal) (goal : Asked) (vars : List Var) (h : Held) (n : ℕ) → ItemFits c leaves i goal locals → VarsFit tables vars locals → Sound (shapes locals) → Fine h → ItemEnds i locals goal (run_item s i vars h n)

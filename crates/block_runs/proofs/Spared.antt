@@ -124,7 +124,7 @@ module _ (tables : List PlainTable) {W : Type 0} (s : Site W) (WorldFits : W →
   turn_spares end head go br (Returns v w n) k (returns r p) spared again = tt
   turn_spares end head go br (Breaks vars w n) k (leaves i b m h p) spared again = tt
   turn_spares end head go br (Continues vars w n) k (turns i h p) spared again = again vars w n h spared p
-  turn_spares end head go br (Fails f vars w n) k (fails g p) spared again = spared
+  turn_spares end head go br (Fails f vars w n) k (fails g h p) spared again = spared
 
   while_spares : (b : Bool) (test : PlainExpr) (body : PlainStmts) (end : Way) (head : List PlainLocal) → type_at (ctx b) head None test ≡ Ok TBool → BodyWell body end head (narrowed (shown true test) head) → (most : ℕ)
       → FromHead head (while_turns most (λ vars w n. eval s test vars w n) (λ vars w n. act_all s body vars w n))
@@ -209,7 +209,7 @@ module _ (tables : List PlainTable) {W : Type 0} (s : Site W) (WorldFits : W →
   next_spares go br b mid (Returns v w n) k (returns r p) spared rest = tt
   next_spares go br b mid (Breaks vars w n) k (leaves i c m h p) spared rest = tt
   next_spares go br b mid (Continues vars w n) k (turns i h p) spared rest = spared
-  next_spares go br b mid (Fails f vars w n) k (fails g p) spared rest = spared
+  next_spares go br b mid (Fails f vars w n) k (fails g h p) spared rest = spared
 
   ready : (names : List ℕ) (locals : List PlainLocal) (vars : List Var) → Sound (shapes locals) → VarsFit tables vars locals → Ready tables s WorldFits number around puts names locals [] vars
   ready names locals vars sound v = record { sound = sound; within = all_in; forgets = no_more; fit = v; held = no_local }

@@ -44,22 +44,22 @@ use Rattle.program_meaning.proofs.FlowParts.{no_need, items_ok, short_range_ok, 
 use Rattle.program_meaning.proofs.FlowGrows.{WhileParts, while_parts, ForParts, for_parts, all_parts, last_parts, ArmParts, arm_parts, Follows, follows, follows_all, follows_arms, follows_on, same_way, alike_way, one_or_more, ended_fits, for_shapes}
 
 module _ (tables : List PlainTable) {W : Type 0} (WorldFits : W → Type 0) (result : PlainTy) where
-  -- what a statement comes to fits: where it goes on, the locals fit the way after it and, as each of the others that stay, what
+  -- what a statement comes to fits: where it goes on, the locals fit the way after it and, as wherever else there are locals, what
   -- has to be kept; where it leaves a loop, they fit what is known behind the loop
   pub data EndFits (go br in_loop : Bool) (after : Way) (kept : List PlainLocal) : Ends W → Type 0 where
     goes : {vars : List Var} {w : W} {n : ℕ} → go ≡ true → VarsFit tables vars after.locals → VarsFit tables vars kept → WorldFits w → EndFits go br in_loop after kept (Goes vars w n)
     returns : {v : Value} {w : W} {n : ℕ} → Fits tables result v → WorldFits w → EndFits go br in_loop after kept (Returns v w n)
     leaves : {vars : List Var} {w : W} {n : ℕ} → in_loop ≡ true → br ≡ true → MetFits tables vars (shapes after.locals) after.breaks → VarsFit tables vars kept → WorldFits w → EndFits go br in_loop after kept (Breaks vars w n)
     turns : {vars : List Var} {w : W} {n : ℕ} → in_loop ≡ true → VarsFit tables vars kept → WorldFits w → EndFits go br in_loop after kept (Continues vars w n)
-    fails : {f : Failure} {vars : List Var} {w : W} {n : ℕ} → FailureFits f → WorldFits w → EndFits go br in_loop after kept (Fails f vars w n)
+    fails : {f : Failure} {vars : List Var} {w : W} {n : ℕ} → FailureFits f → VarsFit tables vars kept → WorldFits w → EndFits go br in_loop after kept (Fails f vars w n)
 
-  stepping_fits : (go br b : Bool) (after : Way) (kept : List PlainLocal) (vars : List Var) (w : W) (n : ℕ) (rest : ℕ → Ends W) → WorldFits w → ((n : ℕ) → EndFits go br b after kept (rest n)) → EndFits go br b after kept (stepping vars w n rest)
-  stepping_fits go br b after kept vars w zero rest p h = fails (failure_fits step_limit (omega arith) (omega arith)) p
-  stepping_fits go br b after kept vars w (suc n) rest p h = h n
+  stepping_fits : (go br b : Bool) (after : Way) (kept : List PlainLocal) (vars : List Var) (w : W) (n : ℕ) (rest : ℕ → Ends W) → VarsFit tables vars kept → WorldFits w → ((n : ℕ) → EndFits go br b after kept (rest n)) → EndFits go br b after kept (stepping vars w n rest)
+  stepping_fits go br b after kept vars w zero rest held p h = fails (failure_fits step_limit (omega arith) (omega arith)) held p
+  stepping_fits go br b after kept vars w (suc n) rest held p h = h n
 
-  given_fit : {A : Type 0} (go br b : Bool) (after : Way) (kept : List PlainLocal) (vars : List Var) (P : A → Type 0) (g : Gives W A) (k : A → W → ℕ → Ends W) → GivesFit WorldFits P g → ((x : A) (w : W) (n : ℕ) → P x → WorldFits w → EndFits go br b after kept (k x w n)) → EndFits go br b after kept (with_given vars g k)
-  given_fit go br b after kept vars P (Got x w n) k (got p q) h = h x w n p q
-  given_fit go br b after kept vars P (Fell f w n) k (fell p q) h = fails p q
+  given_fit : {A : Type 0} (go br b : Bool) (after : Way) (kept : List PlainLocal) (vars : List Var) (P : A → Type 0) (g : Gives W A) (k : A → W → ℕ → Ends W) → VarsFit tables vars kept → GivesFit WorldFits P g → ((x : A) (w : W) (n : ℕ) → P x → WorldFits w → EndFits go br b after kept (k x w n)) → EndFits go br b after kept (with_given vars g k)
+  given_fit go br b after kept vars P (Got x w n) k held (got p q) h = h x w n p q
+  given_fit go br b after kept vars P (Fell f w n) k held (fell p q) h = fails p held q
 
   next_fits : (go1 br1 go br b : Bool) (mid after : Way) (kept : List PlainLocal) (e : Ends W) (k : List Var → W → ℕ → Ends W) → Follows mid after → (br1 ≡ true → br ≡ true) → EndFits go1 br1 b mid kept e
       → ((vars : List Var) (w : W) (n : ℕ) → go1 ≡ true → VarsFit tables vars mid.locals → VarsFit tables vars kept → WorldFits w → EndFits go br b after kept (k vars w n)) → EndFits go br b after kept (next e k)
@@ -67,7 +67,7 @@ module _ (tables : List PlainTable) {W : Type 0} (WorldFits : W → Type 0) (res
   next_fits go1 br1 go br b mid after kept (Returns v w n) k f more_br (returns r p) rest = returns r p
   next_fits go1 br1 go br b mid after kept (Breaks vars w n) k f more_br (leaves i c m h p) rest = leaves i (more_br c) (f.breaks tables vars m) h p
   next_fits go1 br1 go br b mid after kept (Continues vars w n) k f more_br (turns i h p) rest = turns i h p
-  next_fits go1 br1 go br b mid after kept (Fails e vars w n) k f more_br (fails g p) rest = fails g p
+  next_fits go1 br1 go br b mid after kept (Fails e vars w n) k f more_br (fails g h p) rest = fails g h p
 
   -- a way that is known better, and other words of what can be reached
   flags_fit : (go1 br1 go br b : Bool) (mid after : Way) (kept : List PlainLocal) (e : Ends W) → (go1 ≡ true → go ≡ true) → (br1 ≡ true → br ≡ true) → ((vars : List Var) → go1 ≡ true → VarsFit tables vars mid.locals → VarsFit tables vars after.locals) → Follows mid after
@@ -76,7 +76,7 @@ module _ (tables : List PlainTable) {W : Type 0} (WorldFits : W → Type 0) (res
   flags_fit go1 br1 go br b mid after kept (Returns v w n) f g l m (returns r p) = returns r p
   flags_fit go1 br1 go br b mid after kept (Breaks vars w n) f g l m (leaves i c k h p) = leaves i (g c) (m.breaks tables vars k) h p
   flags_fit go1 br1 go br b mid after kept (Continues vars w n) f g l m (turns i h p) = turns i h p
-  flags_fit go1 br1 go br b mid after kept (Fails e vars w n) f g l m (fails c p) = fails c p
+  flags_fit go1 br1 go br b mid after kept (Fails e vars w n) f g l m (fails c h p) = fails c h p
 
   -- a turn of a loop, and what comes after it
   turn_fits : (go1 br1 go br b : Bool) (end after : Way) (head kept : List PlainLocal) (e : Ends W) (k : List Var → W → ℕ → Ends W) → EndFits go1 br1 true end (head ++ kept) e
@@ -87,7 +87,7 @@ module _ (tables : List PlainTable) {W : Type 0} (WorldFits : W → Type 0) (res
   turn_fits go1 br1 go br b end after head kept (Returns v w n) k (returns r p) again left = returns r p
   turn_fits go1 br1 go br b end after head kept (Breaks vars w n) k (leaves i c m h p) again left = goes (left vars c m).0 (left vars c m).1 (fits_second tables vars head kept h) p
   turn_fits go1 br1 go br b end after head kept (Continues vars w n) k (turns i h p) again left = again vars w n (fits_first tables vars head kept h) (fits_second tables vars head kept h) p
-  turn_fits go1 br1 go br b end after head kept (Fails f vars w n) k (fails c p) again left = fails c p
+  turn_fits go1 br1 go br b end after head kept (Fails f vars w n) k (fails c h p) again left = fails c (fits_second tables vars head kept h) p
 
 and_both : (a b : Bool) → a ≡ true → b ≡ true → (a && b) ≡ true
 and_both true b h k = k
@@ -164,11 +164,11 @@ module _ (tables : List PlainTable) {W : Type 0} (s : Site W) (WorldFits : W →
       → (most : ℕ) (vars : List Var) (world : W) (n : ℕ) → VarsFit tables vars head → VarsFit tables vars kept → WorldFits world
       → EndFits tables WorldFits R (not (is_true_word test) || break_in body) false b (on w (after_while test head end)) kept (while_turns most (λ vars w n. eval s test vars w n) (λ vars w n. act_all s body vars w n) vars world n)
   unfolding while_turns
-  while_fits test body b w end head kept condition g inside zero vars world n v h p = fails (failure_fits step_limit (omega arith) (omega arith)) p
+  while_fits test body b w end head kept condition g inside zero vars world n v h p = fails (failure_fits step_limit (omega arith) (omega arith)) h p
   while_fits test body b w end head kept condition g inside (suc most) vars world n v h p =
       let go : Bool = not (is_true_word test) || break_in body in
       let after : Way = on w (after_while test head end) in
-      given_fit tables WorldFits R go false b after kept vars _ (eval s test vars world n) _ (fit_both WorldFits _ _ (eval s test vars world n) (tested_fits b head test vars world n condition v p) (only_literal test vars world n))
+      given_fit tables WorldFits R go false b after kept vars _ (eval s test vars world n) _ h (fit_both WorldFits _ _ (eval s test vars world n) (tested_fits b head test vars world n condition v p) (only_literal test vars world n))
       (λ u world n tests p. by_cases (is_true u) vars u world n refl tests.0.1 tests.1 v h p (while_fits test body b w end head kept condition g inside most))
     where
       by_cases : (c : Bool) (vars : List Var) (u : Value) (world : W) (n : ℕ) → is_true u ≡ c → ((truth : Bool) → is_true u ≡ truth → shown'.NotNone vars (shown truth test)) → (is_true_word test ≡ true → is_true u ≡ true) → VarsFit tables vars head → VarsFit tables vars kept → WorldFits world
@@ -177,7 +177,7 @@ module _ (tables : List PlainTable) {W : Type 0} (s : Site W) (WorldFits : W →
           (cond c (next_turn (stepping vars world n (λ n. act_all s body vars world n)) (while_turns most (λ vars w n. eval s test vars w n) (λ vars w n. act_all s body vars w n))) (Goes vars world n))
       by_cases true vars u world n e shows literal v h p again =
           turn_fits tables WorldFits R (all_go_on body) (break_in body) (not (is_true_word test) || break_in body) false b end (on w (after_while test head end)) head kept _ _
-          (stepping_fits tables WorldFits R (all_go_on body) (break_in body) true end (head ++ kept) vars world n _ p (λ n. inside vars world n (narrowed_fits tables vars (shown true test) head (shows true e) v) (fits_both tables vars head kept v h) p))
+          (stepping_fits tables WorldFits R (all_go_on body) (break_in body) true end (head ++ kept) vars world n _ (fits_both tables vars head kept v h) p (λ n. inside vars world n (narrowed_fits tables vars (shown true test) head (shows true e) v) (fits_both tables vars head kept v h) p))
           again
           (λ vars c m. (or_right (not (is_true_word test)) (break_in body) c, while_left tables vars test head end m))
       by_cases false vars u world n e shows literal v h p again =
@@ -188,7 +188,11 @@ module _ (tables : List PlainTable) {W : Type 0} (s : Site W) (WorldFits : W →
   abbrev TurnFits : ℕ → PlainTy → PlainStmts → Way → List PlainLocal → List PlainLocal → Type 0
   TurnFits name item body end head kept = (v : Value) (vars : List Var) (w : W) (n : ℕ) → Fits tables item v → VarsFit tables vars head → VarsFit tables vars kept → WorldFits w → EndFits tables WorldFits R (all_go_on body) (break_in body) true end (head ++ kept) (turn name (λ vars w n. act_all s body vars w n) v vars w n)
 
-  module _ (name : ℕ) (item : PlainTy) (body : PlainStmts) (b : Bool) (w end : Way) (head kept : List PlainLocal) (g : Grows head end.locals) (inside : TurnFits name item body end head kept) where
+  -- what has to be kept is, where the name is bound
+  abbrev TurnKeeps : ℕ → PlainTy → List PlainLocal → List PlainLocal → Type 0
+  TurnKeeps name item head kept = (v : Value) (vars : List Var) → Fits tables item v → VarsFit tables vars head → VarsFit tables vars kept → VarsFit tables (assigned_to vars name v) (head ++ kept)
+
+  module _ (name : ℕ) (item : PlainTy) (body : PlainStmts) (b : Bool) (w end : Way) (head kept : List PlainLocal) (g : Grows head end.locals) (bound : TurnKeeps name item head kept) (inside : TurnFits name item body end head kept) where
     abbrev ForFits : Ends W → Type 0
     ForFits e = EndFits tables WorldFits R true false b (on w (after_for head end)) kept e
 
@@ -200,25 +204,25 @@ module _ (tables : List PlainTable) {W : Type 0} (s : Site W) (WorldFits : W →
         (λ vars world n v h p. items_fit vs vars world n fs v h p)
         (λ vars c m. (refl, for_left tables vars head end m))
 
-    counted_fits : (from : ℤ) (vars : List Var) (world : W) (n : ℕ) → WorldFits world → EndFits tables WorldFits R (all_go_on body) (break_in body) true end (head ++ kept) (turn name (λ vars w n. act_all s body vars w n) (value.Int from) vars world n)
+    counted_fits : (from : ℤ) (vars : List Var) (world : W) (n : ℕ) → VarsFit tables (assigned_to vars name (value.Int from)) (head ++ kept) → WorldFits world → EndFits tables WorldFits R (all_go_on body) (break_in body) true end (head ++ kept) (turn name (λ vars w n. act_all s body vars w n) (value.Int from) vars world n)
         → EndFits tables WorldFits R (all_go_on body) (break_in body) true end (head ++ kept) (turn name (counting from (λ vars w n. act_all s body vars w n)) (value.Int from) vars world n)
-    counted_fits from vars world zero p fit = fit
-    counted_fits from vars world (suc n) p fit = by (in_range (from +ℤ pos 1)) (range_fits tables (from +ℤ pos 1))
+    counted_fits from vars world zero held p fit = fit
+    counted_fits from vars world (suc n) held p fit = by (in_range (from +ℤ pos 1)) (range_fits tables (from +ℤ pos 1))
       where
         by : (r : Result Value Failure) → ToldFits tables TInt r
             → EndFits tables WorldFits R (all_go_on body) (break_in body) true end (head ++ kept) (with_given (assigned_to vars name (value.Int from)) (told r world n) (λ v world n. act_all s body (assigned_to vars name (value.Int from)) world n))
         by (Ok v) f = fit
-        by (Err e) (err f) = fails f p
+        by (Err e) (err f) = fails f held p
 
     numbers_fit : (most : ℕ) (from to : ℤ) (vars : List Var) (world : W) (n : ℕ) → TInt ≡ item → VarsFit tables vars head → VarsFit tables vars kept → WorldFits world → ForFits (over_numbers most name (λ vars w n. act_all s body vars w n) from to vars world n)
     unfolding over_numbers
-    numbers_fit zero from to vars world n is v h p = fails (failure_fits step_limit (omega arith) (omega arith)) p
+    numbers_fit zero from to vars world n is v h p = fails (failure_fits step_limit (omega arith) (omega arith)) h p
     numbers_fit (suc most) from to vars world n is v h p = by (is_lt (int_cmp from to)) (numbers_fit most (from +ℤ pos 1) to)
       where
         by : (c : Bool) → ((vars : List Var) (world : W) (n : ℕ) → TInt ≡ item → VarsFit tables vars head → VarsFit tables vars kept → WorldFits world → ForFits (over_numbers most name (λ vars w n. act_all s body vars w n) (from +ℤ pos 1) to vars world n))
             → ForFits (cond c (next_turn (turn name (counting from (λ vars w n. act_all s body vars w n)) (value.Int from) vars world n) (over_numbers most name (λ vars w n. act_all s body vars w n) (from +ℤ pos 1) to)) (Goes vars world n))
         by true again =
-            turn_fits tables WorldFits R (all_go_on body) (break_in body) true false b end (on w (after_for head end)) head kept _ _ (counted_fits from vars world n p (inside (value.Int from) vars world n (fits_same tables TInt item (value.Int from) is (int from)) v h p))
+            turn_fits tables WorldFits R (all_go_on body) (break_in body) true false b end (on w (after_for head end)) head kept _ _ (counted_fits from vars world n (bound (value.Int from) vars (fits_same tables TInt item (value.Int from) is (int from)) v h) p (inside (value.Int from) vars world n (fits_same tables TInt item (value.Int from) is (int from)) v h p))
             (λ vars world n v h p. again vars world n is v h p)
             (λ vars c m. (refl, for_left tables vars head end m))
         by false again = goes refl (for_done tables vars head end g v) h p
@@ -301,17 +305,20 @@ module _ (tables : List PlainTable) {W : Type 0} (s : Site W) (WorldFits : W →
       let q : (is_self (PSelf at) ≡ true) × (field_of tables s.me.0 x.name.0 ≡ Some a.before) = typed_attr tables (env_of (ctx b) w.locals) None at a.before (PSelf at) x.name.0 x.place a.read in
       field_fits b br w after kept vars world n x a.before v (ap (on w) (put_field_ok (ctx b) w.locals x a.before locals a.put) ∙ is) q.1 f r.fit r.held p
 
-  turn_inside : (name : ℕ) (item : PlainTy) (body : PlainStmts) (end : Way) (head kept : List PlainLocal) → Sound (shapes head) → Within (shapes kept) (shapes head) → keeps item (type_in (shapes head) name) ≡ true → Forgets (name ∷ []) head → Forgets (name ∷ []) kept
-      → BodyFits body end (with_local name item item head) head kept → TurnFits name item body end head kept
-  turn_inside name item body end head kept sound within k f g inside v vars w n fit hv hk p =
-      stepping_fits tables WorldFits R (all_go_on body) (break_in body) true end (head ++ kept) vars w n _ p (λ n.
-      inside (assigned_to vars name v) w n (local_given tables vars name item v fit item head sound k (same_assignable (ctx true) head item) hv)
-      (fits_both tables (assigned_to vars name v) head kept (kept_fits tables vars name item v fit head (shapes head) sound k f hv) (kept_fits tables vars name item v fit kept (shapes head) within k g hk)) p)
+  turn_keeps : (name : ℕ) (item : PlainTy) (head kept : List PlainLocal) → Sound (shapes head) → Within (shapes kept) (shapes head) → keeps item (type_in (shapes head) name) ≡ true → Forgets (name ∷ []) head → Forgets (name ∷ []) kept → TurnKeeps name item head kept
+  turn_keeps name item head kept sound within k f g v vars fit hv hk =
+      fits_both tables (assigned_to vars name v) head kept (kept_fits tables vars name item v fit head (shapes head) sound k f hv) (kept_fits tables vars name item v fit kept (shapes head) within k g hk)
 
-  for_fits : (name : ℕ) (item : PlainTy) (body : PlainStmts) (b : Bool) (w end : Way) (head kept : List PlainLocal) → Grows head end.locals → TurnFits name item body end head kept
+  turn_inside : (name : ℕ) (item : PlainTy) (body : PlainStmts) (end : Way) (head kept : List PlainLocal) → Sound (shapes head) → keeps item (type_in (shapes head) name) ≡ true → TurnKeeps name item head kept
+      → BodyFits body end (with_local name item item head) head kept → TurnFits name item body end head kept
+  turn_inside name item body end head kept sound k bound inside v vars w n fit hv hk p =
+      stepping_fits tables WorldFits R (all_go_on body) (break_in body) true end (head ++ kept) vars w n _ (fits_both tables vars head kept hv hk) p (λ n.
+      inside (assigned_to vars name v) w n (local_given tables vars name item v fit item head sound k (same_assignable (ctx true) head item) hv) (bound v vars fit hv hk) p)
+
+  for_fits : (name : ℕ) (item : PlainTy) (body : PlainStmts) (b : Bool) (w end : Way) (head kept : List PlainLocal) → Grows head end.locals → TurnKeeps name item head kept → TurnFits name item body end head kept
       → (turns : Turns) (vars : List Var) (world : W) (n : ℕ) → TurnsFit item turns → VarsFit tables vars head → VarsFit tables vars kept → WorldFits world → EndFits tables WorldFits R true false b (on w (after_for head end)) kept (over_turns name (λ vars w n. act_all s body vars w n) turns vars world n)
-  for_fits name item body b w end head kept g inside (Items vs) vars world n (items f) v h p = items_fit name item body b w end head kept g inside vs vars world n f v h p
-  for_fits name item body b w end head kept g inside (Numbers from to) vars world n (numbers e) v h p = numbers_fit name item body b w end head kept g inside (suc n) from to vars world n e v h p
+  for_fits name item body b w end head kept g bound inside (Items vs) vars world n (items f) v h p = items_fit name item body b w end head kept g bound inside vs vars world n f v h p
+  for_fits name item body b w end head kept g bound inside (Numbers from to) vars world n (numbers e) v h p = numbers_fit name item body b w end head kept g bound inside (suc n) from to vars world n e v h p
 
   ends_by : (go br b : Bool) (after : Way) (kept : List PlainLocal) (c : Bool) (x y : Ends W) → (c ≡ true → EndFits tables WorldFits R go br b after kept x) → (c ≡ false → EndFits tables WorldFits R go br b after kept y) → EndFits tables WorldFits R go br b after kept (cond c x y)
   ends_by go br b after kept true x y f g = f refl
@@ -360,56 +367,56 @@ module _ (tables : List PlainTable) {W : Type 0} (s : Site W) (WorldFits : W →
 
     pub act_fits : (x : PlainStmt) (b : Bool) (w after : Way) (kept : List PlainLocal) (vars : List Var) (world : W) (n : ℕ) → flow (ctx b) w x ≡ Ok after → EachStmt RaisesFailure x → Ready (assigns x) w.locals kept vars → WorldFits world
         → EndFits tables WorldFits R (goes_on x) (breaks x) b after kept (act s x vars world n)
-    act_fits (PPass at) b w after kept vars world n h e r p = stepping_fits tables WorldFits R _ _ _ _ _ _ _ _ _ p (λ n. along _ _ _ _ _ _ _ (same_ok w after h) (goes refl r.fit r.held p))
+    act_fits (PPass at) b w after kept vars world n h e r p = stepping_fits tables WorldFits R _ _ _ _ _ _ _ _ _ r.held p (λ n. along _ _ _ _ _ _ _ (same_ok w after h) (goes refl r.fit r.held p))
     act_fits (PBreak at) b w after kept vars world n h e r p =
         let a : (not b ≡ false) × (done (broken_off w) ≡ Ok after) = refuse_ok (not b) LoopWord at (Ok (broken_off w)) after h in
-        stepping_fits tables WorldFits R _ _ _ _ _ _ _ _ _ p (λ n. along _ _ _ _ _ _ _ (same_ok (broken_off w) after a.1) (leaves (not_false b a.0) refl (met_right tables vars (shapes w.locals) w.breaks (way true w.locals) (met_here tables vars w.locals r.fit)) r.held p))
+        stepping_fits tables WorldFits R _ _ _ _ _ _ _ _ _ r.held p (λ n. along _ _ _ _ _ _ _ (same_ok (broken_off w) after a.1) (leaves (not_false b a.0) refl (met_right tables vars (shapes w.locals) w.breaks (way true w.locals) (met_here tables vars w.locals r.fit)) r.held p))
     act_fits (PContinue at) b w after kept vars world n h e r p =
         let a : (not b ≡ false) × (done w ≡ Ok after) = refuse_ok (not b) LoopWord at (Ok w) after h in
-        stepping_fits tables WorldFits R _ _ _ _ _ _ _ _ _ p (λ n. turns (not_false b a.0) r.held p)
+        stepping_fits tables WorldFits R _ _ _ _ _ _ _ _ _ r.held p (λ n. turns (not_false b a.0) r.held p)
     act_fits (PDo at e) b w after kept vars world n h x r p =
         let a : (ty : PlainTy) × (type_at (ctx b) w.locals None e ≡ Ok ty) × (done w ≡ Ok after) = found_ok (type_at (ctx b) w.locals None e) (λ ty. Ok w) after h in
-        stepping_fits tables WorldFits R _ _ _ _ _ _ _ _ _ p (λ n.
-        given_fit tables WorldFits R _ _ _ _ _ _ _ _ _ (typed_fits b w.locals None e a.0 vars world n a.1 r.fit p) (λ u world n f p. along _ _ _ _ _ _ _ (same_ok w after a.2) (goes refl r.fit r.held p)))
+        stepping_fits tables WorldFits R _ _ _ _ _ _ _ _ _ r.held p (λ n.
+        given_fit tables WorldFits R _ _ _ _ _ _ _ _ _ r.held (typed_fits b w.locals None e a.0 vars world n a.1 r.fit p) (λ u world n f p. along _ _ _ _ _ _ _ (same_ok w after a.2) (goes refl r.fit r.held p)))
     act_fits (PReturn at e) b w after kept vars world n h x r p =
         let a : (return_fault (ctx b) w.locals at e ≡ None) × (done w ≡ Ok after) = no_need (return_fault (ctx b) w.locals at e) (Ok w) after h in
-        stepping_fits tables WorldFits R _ _ _ _ _ _ _ _ _ p (λ n.
-        given_fit tables WorldFits R _ _ _ _ _ _ _ _ _ (returned_fits b w.locals at e vars world n a.0 r.fit p) (λ u world n f p. returns f p))
+        stepping_fits tables WorldFits R _ _ _ _ _ _ _ _ _ r.held p (λ n.
+        given_fit tables WorldFits R _ _ _ _ _ _ _ _ _ r.held (returned_fits b w.locals at e vars world n a.0 r.fit p) (λ u world n f p. returns f p))
     act_fits (PRaise at kind e) b w after kept vars world n h x r p =
         let a : (message_fault (ctx b) w.locals e ≡ None) × (done w ≡ Ok after) = no_need (message_fault (ctx b) w.locals e) (Ok w) after h in
-        stepping_fits tables WorldFits R _ _ _ _ _ _ _ _ _ p (λ n.
-        given_fit tables WorldFits R _ _ _ _ _ _ _ _ _ (message_fits b w.locals e vars world n a.0 r.fit p) (λ u world n f p. fails (failure_fits _ (omega (arith, x.0)) (omega (arith, x.1))) p))
+        stepping_fits tables WorldFits R _ _ _ _ _ _ _ _ _ r.held p (λ n.
+        given_fit tables WorldFits R _ _ _ _ _ _ _ _ _ r.held (message_fits b w.locals e vars world n a.0 r.fit p) (λ u world n f p. fails (failure_fits _ (omega (arith, x.0)) (omega (arith, x.1))) r.held p))
     act_fits (PAssert at test e) b w after kept vars world n h x r p =
         let later : List PlainLocal = narrowed (shown true test) w.locals in
         let then_message : PlainTy → Result Way RuleFault = λ ty. needs_none (message_fault (ctx b) w.locals e) (Ok (on w later)) in
         let a : (ty : PlainTy) × (condition_at (ctx b) w.locals test ≡ Ok ty) × (then_message ty ≡ Ok after) = found_ok (condition_at (ctx b) w.locals test) then_message after h in
         let q : (message_fault (ctx b) w.locals e ≡ None) × (done (on w later) ≡ Ok after) = no_need (message_fault (ctx b) w.locals e) (Ok (on w later)) after a.2 in
         let typed : type_at (ctx b) w.locals None test ≡ Ok TBool = (condition_ok (place_of test) (type_at (ctx b) w.locals None test) a.0 a.1).0 in
-        stepping_fits tables WorldFits R _ _ _ _ _ _ _ _ _ p (λ n.
-        given_fit tables WorldFits R true false b after kept vars _ (eval s test vars world n) (checked s e vars) (tested_fits b w.locals test vars world n typed r.fit p) (λ u world n tests p.
+        stepping_fits tables WorldFits R _ _ _ _ _ _ _ _ _ r.held p (λ n.
+        given_fit tables WorldFits R true false b after kept vars _ (eval s test vars world n) (checked s e vars) r.held (tested_fits b w.locals test vars world n typed r.fit p) (λ u world n tests p.
         ends_by true false b after kept (is_true u) (Goes vars world n) (with_given vars (message s e vars world n) (λ text w n. Fails (assertion_error text) vars w n))
         (λ c. along _ _ _ _ _ _ _ (same_ok (on w later) after q.1) (goes refl (narrowed_fits tables vars (shown true test) w.locals (tests.1 true c) r.fit) r.held p))
-        (λ c. given_fit tables WorldFits R true false b after kept vars _ (message s e vars world n) _ (message_fits b w.locals e vars world n q.0 r.fit p) (λ text world n f p. fails (failure_fits _ (omega arith) (omega arith)) p))))
+        (λ c. given_fit tables WorldFits R true false b after kept vars _ (message s e vars world n) _ r.held (message_fits b w.locals e vars world n q.0 r.fit p) (λ text world n f p. fails (failure_fits _ (omega arith) (omega arith)) r.held p))))
     act_fits (PAssign at (target.Local y) ty e) b w after kept vars world n h x r p =
         let a : (locals : List PlainLocal) × (assigned_type (ctx b) w.locals at (target.Local y) ty e ≡ Ok locals) × (done (on w locals) ≡ Ok after) = found_ok (assigned_type (ctx b) w.locals at (target.Local y) ty e) (λ locals. Ok (on w locals)) after h in
         let q : LocalTaken (ctx b) w.locals y e a.0 = local_ok (ctx b) w.locals at y ty e a.0 a.1 in
-        stepping_fits tables WorldFits R _ _ _ _ _ _ _ _ _ p (λ n.
-        given_fit tables WorldFits R _ _ _ _ _ _ _ _ _ (typed_fits b w.locals q.wanted e q.ty vars world n q.typed r.fit p) (λ u world n f p.
+        stepping_fits tables WorldFits R _ _ _ _ _ _ _ _ _ r.held p (λ n.
+        given_fit tables WorldFits R _ _ _ _ _ _ _ _ _ r.held (typed_fits b w.locals q.wanted e q.ty vars world n q.typed r.fit p) (λ u world n f p.
         assigned_fits b false w after kept vars world n y q.first q.ty u a.0 r q.kept q.suits q.is (same_ok (on w a.0) after a.2) f p))
     act_fits (PAssign at (target.Field y) ty e) b w after kept vars world n h x r p =
         let a : (locals : List PlainLocal) × (assigned_type (ctx b) w.locals at (target.Field y) ty e ≡ Ok locals) × (done (on w locals) ≡ Ok after) = found_ok (assigned_type (ctx b) w.locals at (target.Field y) ty e) (λ locals. Ok (on w locals)) after h in
         let q : (t : PlainTy) × (u : PlainTy) × (field_of tables s.me.0 y.name.0 ≡ Some t) × (type_at (ctx b) w.locals (Some t) e ≡ Ok u) × (assignable u t ≡ true) × (w.locals ≡ a.0) = field_ok (ctx b) w.locals at y ty e a.0 refl a.1 in
-        stepping_fits tables WorldFits R _ _ _ _ _ _ _ _ _ p (λ n.
-        given_fit tables WorldFits R _ _ _ _ _ _ _ _ _ (typed_fits b w.locals (Some q.0) e q.1 vars world n q.3 r.fit p) (λ u world n f p.
+        stepping_fits tables WorldFits R _ _ _ _ _ _ _ _ _ r.held p (λ n.
+        given_fit tables WorldFits R _ _ _ _ _ _ _ _ _ r.held (typed_fits b w.locals (Some q.0) e q.1 vars world n q.3 r.fit p) (λ u world n f p.
         field_fits b false w after kept vars world n y q.0 u (ap (on w) q.5 ∙ same_ok (on w a.0) after a.2) q.2 (fits_wider tables q.1 q.0 u q.4 f) r.fit r.held p))
     act_fits (PAugment at y o op_at e) b w after kept vars world n h x r p =
         let a : (locals : List PlainLocal) × (augmentation (ctx b) w.locals at y o op_at e ≡ Ok locals) × (done (on w locals) ≡ Ok after) = found_ok (augmentation (ctx b) w.locals at y o op_at e) (λ locals. Ok (on w locals)) after h in
         let q : Augments (ctx b) w.locals at y o op_at e a.0 = augments_ok (ctx b) w.locals at y o op_at e a.0 a.1 in
-        stepping_fits tables WorldFits R _ _ _ _ _ _ _ _ _ p (λ n.
-        given_fit tables WorldFits R _ _ _ _ _ _ _ _ _ (augmented_fits b w.locals at y o op_at e a.0 vars world n q r.fit p) (λ u world n f p.
+        stepping_fits tables WorldFits R _ _ _ _ _ _ _ _ _ r.held p (λ n.
+        given_fit tables WorldFits R _ _ _ _ _ _ _ _ _ r.held (augmented_fits b w.locals at y o op_at e a.0 vars world n q r.fit p) (λ u world n f p.
         put_fits b false w after kept at y o op_at e a.0 vars world n u q r (same_ok (on w a.0) after a.2) f p))
     act_fits (PIf at arms other) b w after kept vars world n h x r p =
-        stepping_fits tables WorldFits R (an_arm_goes_on arms || all_go_on other) (break_in_arm arms || break_in other) b after kept vars world n (λ n. act_arms s arms (λ vars w n. act_all s other vars w n) vars world n) p (λ n.
+        stepping_fits tables WorldFits R (an_arm_goes_on arms || all_go_on other) (break_in_arm arms || break_in other) b after kept vars world n (λ n. act_arms s arms (λ vars w n. act_all s other vars w n) vars world n) r.held p (λ n.
         arms_fit arms b w after None (all_go_on other) (break_in other) (λ last. flow_all (ctx b) last other) (λ vars w n. act_all s other vars w n) (assigned_in other) kept vars world n h x.1 r p (λ v last e. follows_all other (ctx b) v last e)
         (λ v last vars world n e r p. stmts_fit other b v last kept vars world n e x.2 r p))
     act_fits (PWhile at test body) b w after kept vars world n h x r p =
@@ -419,7 +426,7 @@ module _ (tables : List PlainTable) {W : Type 0} (s : Site W) (WorldFits : W →
         let same_head : shapes head ≡ shapes w.locals = shapes_at_head (assigned_in body) w.locals in
         let same_start : shapes start ≡ shapes head = shapes_narrowed (shown true test) head in
         let g : Grows head a.end.locals = grows_same start head a.end.locals a.end.locals same_start refl (follows_all body (within_loop (ctx b)) (begun start) a.end a.turn).grows in
-        stepping_fits tables WorldFits R (not (is_true_word test) || break_in body) false b after kept vars world n (λ n. while_turns (suc n) (λ vars w n. eval s test vars w n) (λ vars w n. act_all s body vars w n) vars world n) p (λ n.
+        stepping_fits tables WorldFits R (not (is_true_word test) || break_in body) false b after kept vars world n (λ n. while_turns (suc n) (λ vars w n. eval s test vars w n) (λ vars w n. act_all s body vars w n) vars world n) r.held p (λ n.
         along _ _ _ _ _ _ _ a.is (while_fits test body b w a.end head kept a.condition g
         (λ vars world n fit held p. stmts_fit body true (begun start) a.end (head ++ kept) vars world n a.turn x.1
         (ready_body (assigned_in body) (assigned_in body) w.locals head start kept vars (alike_grows w.locals head same_head) (alike_grows head start same_start) r.sound r.within (forgets_at_head (assigned_in body) w.locals) r.forgets fit held) p)
@@ -440,12 +447,13 @@ module _ (tables : List PlainTable) {W : Type 0} (s : Site W) (WorldFits : W →
         let head_type : keeps a.item (type_in (shapes head) name) ≡ true = subst (λ ss. keeps a.item (type_in ss name) ≡ true) (ap shapes q.1 ∙ same_head) (keeps_named name a.item a.item w.locals kept_type suits) in
         let within : Within (shapes kept) (shapes head) = subst (λ ss. Within (shapes kept) ss) (sym to_head.is) (within_more (shapes kept) (shapes w.locals) to_head.rest r.within) in
         let forgotten_all : Forgets all head = head_forgets all w.locals a.named in
-        let inside : TurnFits name a.item body a.end head kept = turn_inside name a.item body a.end head kept (to_head.sound r.sound) within head_type (forgets_first (name ∷ []) (assigned_in body) head forgotten_all) (forgets_first (name ∷ []) (assigned_in body) kept r.forgets)
+        let bound : TurnKeeps name a.item head kept = turn_keeps name a.item head kept (to_head.sound r.sound) within head_type (forgets_first (name ∷ []) (assigned_in body) head forgotten_all) (forgets_first (name ∷ []) (assigned_in body) kept r.forgets) in
+        let inside : TurnFits name a.item body a.end head kept = turn_inside name a.item body a.end head kept (to_head.sound r.sound) head_type bound
         (λ vars world n fit held p. stmts_fit body true (begun start) a.end (head ++ kept) vars world n a.turn x.1
         (ready_body (assigned_in body) all w.locals head start kept vars to_head to_start r.sound r.within (forgets_second (name ∷ []) (assigned_in body) head forgotten_all) (forgets_second (name ∷ []) (assigned_in body) kept r.forgets) fit held) p) in
-        stepping_fits tables WorldFits R true false b after kept vars world n (λ n. with_given vars (turns_of s over vars world n) (λ turns w n. over_turns name (λ vars w n. act_all s body vars w n) turns vars w n)) p (λ n.
-        given_fit tables WorldFits R true false b after kept vars (TurnsFit a.item) (turns_of s over vars world n) (λ turns w n. over_turns name (λ vars w n. act_all s body vars w n) turns vars w n) (over_fits b w.locals over a.item vars world n a.goes_over r.fit p) (λ turns world n f p.
-        along _ _ _ _ _ _ _ a.is (for_fits name a.item body b w a.end head kept g inside turns vars world n f (for_head_fits all w.locals a.named vars to_named r.fit) r.held p)))
+        stepping_fits tables WorldFits R true false b after kept vars world n (λ n. with_given vars (turns_of s over vars world n) (λ turns w n. over_turns name (λ vars w n. act_all s body vars w n) turns vars w n)) r.held p (λ n.
+        given_fit tables WorldFits R true false b after kept vars (TurnsFit a.item) (turns_of s over vars world n) (λ turns w n. over_turns name (λ vars w n. act_all s body vars w n) turns vars w n) r.held (over_fits b w.locals over a.item vars world n a.goes_over r.fit p) (λ turns world n f p.
+        along _ _ _ _ _ _ _ a.is (for_fits name a.item body b w a.end head kept g bound inside turns vars world n f (for_head_fits all w.locals a.named vars to_named r.fit) r.held p)))
 
     pub stmts_fit : (xs : PlainStmts) (b : Bool) (w after : Way) (kept : List PlainLocal) (vars : List Var) (world : W) (n : ℕ) → flow_all (ctx b) w xs ≡ Ok after → EachOfStmts RaisesFailure xs → Ready (assigned_in xs) w.locals kept vars → WorldFits world
         → EndFits tables WorldFits R (all_go_on xs) (break_in xs) b after kept (act_all s xs vars world n)
@@ -487,7 +495,7 @@ module _ (tables : List PlainTable) {W : Type 0} (s : Site W) (WorldFits : W →
         let go : Bool = (all_go_on body || an_arm_goes_on more) || other_go in
         let br : Bool = (break_in body || break_in_arm more) || other_br in
         let names : Forgets (assigned_in body ++ (assigned_in_arms more ++ other_names)) kept = subst (λ xs. Forgets xs kept) (append_assoc (assigned_in body) (assigned_in_arms more) other_names) r.forgets in
-        given_fit tables WorldFits R go br b after kept vars _ (eval s test vars world n) (λ v w n. cond (is_true v) (act_all s body vars w n) (act_arms s more other_act vars w n)) (tested_fits b w.locals test vars world n a.condition r.fit p) (λ u world n tests p.
+        given_fit tables WorldFits R go br b after kept vars _ (eval s test vars world n) (λ v w n. cond (is_true v) (act_all s body vars w n) (act_arms s more other_act vars w n)) r.held (tested_fits b w.locals test vars world n a.condition r.fit p) (λ u world n tests p.
         ends_by go br b after kept (is_true u) (act_all s body vars world n) (act_arms s more other_act vars world n)
         (λ c.
         flags_fit tables WorldFits R (all_go_on body) (break_in body) go br b a.end after kept (act_all s body vars world n)

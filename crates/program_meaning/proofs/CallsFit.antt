@@ -96,7 +96,7 @@ result_fits tables WorldFits ty go br after kept (Goes vars w n) h (goes g v k p
 result_fits tables WorldFits ty go br after kept (Returns v w n) h (returns f p) = got f p
 result_fits tables WorldFits ty go br after kept (Breaks vars w n) h (leaves i c m k p) = absurd (true≢false (sym i))
 result_fits tables WorldFits ty go br after kept (Continues vars w n) h (turns i k p) = absurd (true≢false (sym i))
-result_fits tables WorldFits ty go br after kept (Fails f vars w n) h (fails c p) = fell c p
+result_fits tables WorldFits ty go br after kept (Fails f vars w n) h (fails c k p) = fell c p
 
 pub is_some_of : {A : Type 0} (o : Option A) → is_none o ≡ false → (x : A) × (o ≡ Some x)
 is_some_of None h = absurd (true≢false h)

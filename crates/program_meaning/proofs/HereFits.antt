@@ -57,12 +57,12 @@ module _ (tables : List PlainTable) (me : Key) where
   gives_here s start P _ _ (alike.got {w = w} {h = h} seen) (point.got p since) = point.got p (held_fits s start w h seen since)
   gives_here s start P _ _ (alike.fell {w = w} {h = h} seen) (point.fell p since) = point.fell p (held_fits s start w h seen since)
 
-  ends_here : (s : State) (start : World) (c : Context) (xs : PlainStmts) (after : Way) (e : Ends World) (h : Ends Held) → EndsAlike me start e h → EndsFit tables (Since tables s) c xs after e → EndsFit tables (HeldFits tables me.0) c xs after h
-  ends_here s start c xs after _ _ (alike.goes {w = w} {h = h} seen) (point.goes on fit since) = point.goes on fit (held_fits s start w h seen since)
-  ends_here s start c xs after _ _ (alike.returns {w = w} {h = h} seen) (point.returns fit since) = point.returns fit (held_fits s start w h seen since)
-  ends_here s start c xs after _ _ (alike.breaks {w = w} {h = h} seen) (point.leaves known inside there is fit since) = point.leaves known inside there is fit (held_fits s start w h seen since)
-  ends_here s start c xs after _ _ (alike.continues {w = w} {h = h} seen) (point.turns inside since) = point.turns inside (held_fits s start w h seen since)
-  ends_here s start c xs after _ _ (alike.fails {w = w} {h = h} seen) (point.fails p since) = point.fails p (held_fits s start w h seen since)
+  ends_here : (s : State) (start : World) (c : Context) (xs : PlainStmts) (before after : Way) (e : Ends World) (h : Ends Held) → EndsAlike me start e h → EndsFit tables (Since tables s) c xs before after e → EndsFit tables (HeldFits tables me.0) c xs before after h
+  ends_here s start c xs before after _ _ (alike.goes {w = w} {h = h} seen) (point.goes on fit since) = point.goes on fit (held_fits s start w h seen since)
+  ends_here s start c xs before after _ _ (alike.returns {w = w} {h = h} seen) (point.returns fit since) = point.returns fit (held_fits s start w h seen since)
+  ends_here s start c xs before after _ _ (alike.breaks {w = w} {h = h} seen) (point.leaves known inside there is fit since) = point.leaves known inside there is fit (held_fits s start w h seen since)
+  ends_here s start c xs before after _ _ (alike.continues {w = w} {h = h} seen) (point.turns inside since) = point.turns inside (held_fits s start w h seen since)
+  ends_here s start c xs before after _ _ (alike.fails {w = w} {h = h} seen) (point.fails p fit since) = point.fails p fit (held_fits s start w h seen since)
 
 pub expressions_here_fit : ExpressionsHereFit
 expressions_here_fit names program accepted me leaves keeps d method locals wanted e ty vars h n quiet typed fit held =
@@ -75,5 +75,5 @@ pub statements_here_fit : StatementsHereFit
 statements_here_fit names program accepted me leaves keeps d method in_loop xs before after vars h n quiet flows raises one fit held =
     let w : World = seen_in me h in
     let since : Since (tables_of names program) w.state w = since_seen (tables_of names program) me h (first_fits names program) held in
-    ends_here (tables_of names program) me w.state (with_record me h.fields) _ xs after _ _ (statements_alike (record { program = program; names = names }) me leaves keeps d (with_record me h.fields) w h (is_seen me h) xs quiet vars n)
+    ends_here (tables_of names program) me w.state (with_record me h.fields) _ xs before after _ _ (statements_alike (record { program = program; names = names }) me leaves keeps d (with_record me h.fields) w h (is_seen me h) xs quiet vars n)
     (statements_fit names program accepted w.state (calls_at (record { program = program; names = names }) d) (calls_keep names program accepted d w.state) me h.fields (record_there me h h.wrote) method in_loop xs before after vars w n flows raises one fit since)

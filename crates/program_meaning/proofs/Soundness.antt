@@ -7,8 +7,8 @@ use Rattle.std.proofs.lemmas.Option.{none-some}
 use Rattle.py_tree.specs.PlainStatements.{PlainStmts, stmts_of}
 use Rattle.py_tree.specs.ClassRules.{PlainTable, body_of, first_in, fields_of, field_names, init_body_fault, init_stmt_fault, params_of, tables_of}
 use Rattle.py_tree.specs.FlowEnvironment.{PlainLocal}
-use Rattle.py_tree.specs.Reachability.{all_go_on, break_in}
-use Rattle.py_tree.specs.Flow.{Context, Way, begun, flow_all, in_init, init_locals, result_at}
+use Rattle.py_tree.specs.Reachability.{all_go_on, break_in, assigned_in}
+use Rattle.py_tree.specs.Flow.{Context, Way, at_head, begun, flow_all, in_init, init_locals, result_at}
 use Rattle.py_tree.specs.PlainProgram.{PlainProgram}
 use Rattle.program_meaning.specs.NothingGoesWrong.{IsKnownAccepted}
 use Rattle.sf_value.specs.Keys.{Key, key_cmp}
@@ -22,11 +22,11 @@ use Rattle.program_meaning.specs.RequestRun.{run}
 use Rattle.program_meaning.specs.Serial.{no_state, serial_state}
 use Rattle.sf_value.specs.declared.Act.{Act}
 use Rattle.program_meaning.specs.PointFits as point
-use Rattle.program_meaning.specs.PointFits.{VarsFit, no_local, CallsFit, Since, OneType, EndsFit}
+use Rattle.program_meaning.specs.PointFits.{Since, OneType, EndsFit}
 use Rattle.program_meaning.specs.NothingGoesWrong.{FirstFits, HistoriesFit, ActsFit, no_act, one_act, RunsFit, ExpressionsFit, StatementsFit, CallsKeepFit, MakesFit, InitsFit, DeclaredFit, InitStmtFits, InitExpressionsFit, InitStatementsFit, CheckedAreKnown}
 use Rattle.program_meaning.proofs.EvalFits.{Anywhere, eval_fits}
-use Rattle.program_meaning.proofs.LocalShapes.{type_found, Shape, shapes, type_in, Within, all_in, one_in, Sound, settled_fits}
-use Rattle.program_meaning.proofs.AssignedFits.{no_more}
+use Rattle.program_meaning.proofs.LocalShapes.{type_found, Shape, shapes, type_in, Within, all_in, one_in, Sound, settled_fits, shapes_at_head}
+use Rattle.program_meaning.proofs.AssignedFits.{forgets_at_head, head_fits}
 use Rattle.program_meaning.proofs.ActFits.{EndFits, goes, returns, leaves, turns, fails, stmts_fit}
 use Rattle.program_meaning.proofs.InitFits.{Makes, makes, breaks_off, value_fits, place_fits}
 use Rattle.program_meaning.proofs.CallsFit.{around_method, puts_fit, calls_keep, InitKnown, init_known, record_made_fits}
@@ -39,13 +39,14 @@ each_within ss (l ∷ locals) h = one_in (h 0 l refl) (each_within ss locals (λ
 one_type_sound : (locals : List PlainLocal) → OneType locals → Sound (shapes locals)
 one_type_sound locals one = each_within (shapes locals) locals (λ k l e. sym (type_found locals l.name) ∙ one.each k l e)
 
--- the end of statements, without what stays beside them
-end_told : (tables : List PlainTable) {W : Type 0} (WorldFits : W → Type 0) (c : Context) (xs : PlainStmts) (after : Way) (kept : List PlainLocal) (e : Ends W) → EndFits tables WorldFits (result_at c) (all_go_on xs) (break_in xs) c.in_loop after kept e → EndsFit tables WorldFits c xs after e
-end_told tables WorldFits c xs after kept (Goes vars w n) (goes g v h p) = point.goes g v p
-end_told tables WorldFits c xs after kept (Returns v w n) (returns f p) = point.returns f p
-end_told tables WorldFits c xs after kept (Breaks vars w n) (leaves i b m h p) = point.leaves m.known i b m.is (settled_fits tables vars after.locals m.known m.fit) p
-end_told tables WorldFits c xs after kept (Continues vars w n) (turns i h p) = point.turns i p
-end_told tables WorldFits c xs after kept (Fails f vars w n) (fails g p) = point.fails g p
+-- the end of statements: what stays beside them is what was known before
+end_told : (tables : List PlainTable) {W : Type 0} (WorldFits : W → Type 0) (c : Context) (xs : PlainStmts) (before after : Way) (e : Ends W)
+    → EndFits tables WorldFits (result_at c) (all_go_on xs) (break_in xs) c.in_loop after (at_head (assigned_in xs) before.locals) e → EndsFit tables WorldFits c xs before after e
+end_told tables WorldFits c xs before after (Goes vars w n) (goes g v h p) = point.goes g v p
+end_told tables WorldFits c xs before after (Returns v w n) (returns f p) = point.returns f p
+end_told tables WorldFits c xs before after (Breaks vars w n) (leaves i b m h p) = point.leaves m.known i b m.is (settled_fits tables vars after.locals m.known m.fit) p
+end_told tables WorldFits c xs before after (Continues vars w n) (turns i h p) = point.turns i p
+end_told tables WorldFits c xs before after (Fails f vars w n) (fails g h p) = point.fails g h p
 
 record_there : (tables : List PlainTable) (s : State) (me : Key) (fields : List Value) (w : World) → map.get s me ≡ Some fields → Since tables s w → (table : PlainTable) × HasTable tables me.0 table
 record_there tables s me fields w e p =
@@ -76,9 +77,15 @@ pub statements_fit : StatementsFit
 unfolding result_at
 statements_fit names program accepted s calls calls_fit me fields there method in_loop xs before after vars w n h raises one v p =
     let t : (table : PlainTable) × HasTable (tables_of names program) me.0 table = record_there (tables_of names program) s me fields w there p in
-    end_told (tables_of names program) (Since (tables_of names program) s) (record { tables = tables_of names program; class = me.0; method = Some method; in_loop = in_loop }) xs after [] _
+    end_told (tables_of names program) (Since (tables_of names program) s) (record { tables = tables_of names program; class = me.0; method = Some method; in_loop = in_loop }) xs before after _
     (stmts_fit (tables_of names program) (in_state (record { program = program; names = names }) calls me) (Since (tables_of names program) s) method (around_method names program accepted s calls calls_fit me fields there t.0 t.1) (puts_fit names program accepted s calls calls_fit me fields there t.0 t.1)
-    xs in_loop before after [] vars w n h raises (record { sound = one_type_sound before.locals one; within = all_in; forgets = no_more; fit = v; held = no_local }) p)
+    xs in_loop before after (at_head (assigned_in xs) before.locals) vars w n h raises (record {
+      sound = one_type_sound before.locals one;
+      within = subst (λ ss. Within ss (shapes before.locals)) (sym (shapes_at_head (assigned_in xs) before.locals)) (one_type_sound before.locals one);
+      forgets = forgets_at_head (assigned_in xs) before.locals;
+      fit = v;
+      held = head_fits (tables_of names program) vars (assigned_in xs) before.locals v;
+    }) p)
 
 pub calls_keep_fit : CallsKeepFit
 calls_keep_fit names program accepted s d = calls_keep names program accepted d s

@@ -38,5 +38,5 @@ StatementsHereFit = (names : List (List ℕ)) (program : PlainProgram) → IsKno
     → (d : ℕ) (method : ℕ) (in_loop : Bool) (xs : PlainStmts) (before after : Way) (vars : List Var) (h : Held) (n : ℕ) → stmts_suspend leaves xs ≡ false
     → flow_all (record { tables = tables_of names program; class = me.0; method = Some method; in_loop = in_loop }) before xs ≡ Ok after → EachOfStmts RaisesFailure xs
     → OneType before.locals → VarsFit (tables_of names program) vars before.locals → HeldFits (tables_of names program) me.0 h
-    → EndsFit (tables_of names program) (HeldFits (tables_of names program) me.0) (record { tables = tables_of names program; class = me.0; method = Some method; in_loop = in_loop }) xs after
+    → EndsFit (tables_of names program) (HeldFits (tables_of names program) me.0) (record { tables = tables_of names program; class = me.0; method = Some method; in_loop = in_loop }) xs before after
     (act_all (on_record (record { program = program; names = names }) me d) xs vars h n)

@@ -71,7 +71,7 @@ StatementsFit = (names : List (List ℕ)) (program : PlainProgram) → IsKnownAc
     → (me : Key) (fields : List Value) → map.get s me ≡ Some fields → (method : ℕ) (in_loop : Bool) (xs : PlainStmts) (before after : Way) (vars : List Var) (w : World) (n : ℕ)
     → flow_all (record { tables = tables_of names program; class = me.0; method = Some method; in_loop = in_loop }) before xs ≡ Ok after → EachOfStmts RaisesFailure xs
     → OneType before.locals → VarsFit (tables_of names program) vars before.locals → Since (tables_of names program) s w
-    → EndsFit (tables_of names program) (Since (tables_of names program) s) (record { tables = tables_of names program; class = me.0; method = Some method; in_loop = in_loop }) xs after (act_all (in_state (record { program = program; names = names }) calls me) xs vars w n)
+    → EndsFit (tables_of names program) (Since (tables_of names program) s) (record { tables = tables_of names program; class = me.0; method = Some method; in_loop = in_loop }) xs before after (act_all (in_state (record { program = program; names = names }) calls me) xs vars w n)
 
 -- so do calls and creations on the state, whatever may still be open
 abbrev pub CallsKeepFit : Type 0

@@ -7,8 +7,8 @@ use Rattle.py_tree.specs.PlainStatements.{PlainStmts}
 use Rattle.py_tree.specs.ClassRules.{PlainTable}
 use Rattle.py_tree.specs.FlowEnvironment.{PlainLocal, local_of}
 use Rattle.py_tree.specs.ExpressionTypes.{read_ty}
-use Rattle.py_tree.specs.Reachability.{all_go_on, break_in}
-use Rattle.py_tree.specs.Flow.{Context, Known, Way, result_at, settled}
+use Rattle.py_tree.specs.Reachability.{all_go_on, break_in, assigned_in}
+use Rattle.py_tree.specs.Flow.{Context, Known, Way, at_head, result_at, settled}
 use Rattle.sf_value.specs.Keys.{Key}
 use Rattle.sf_value.specs.declared.value.Value.{Value}
 use Rattle.sf_value.specs.declared.Failure.{Failure}
@@ -57,10 +57,11 @@ pub record OneType (locals : List PlainLocal) : Type 0 where
   pub each : (k : ℕ) (l : PlainLocal) → slice_get locals k ≡ Some l → option_map (λ (m : PlainLocal). m.ty) (local_of locals l.name) ≡ Some l.ty
 
 -- what statements come to fits the way behind them: they go on only to a point that can be reached, with locals that fit there;
--- they return what fits the result; and they leave a turn or a loop only in one, with locals that fit behind it
-pub data EndsFit (tables : List PlainTable) {W : Type 0} (WorldFits : W → Type 0) (c : Context) (xs : PlainStmts) (after : Way) : Ends W → Type 0 where
-  goes : {vars : List Var} {w : W} {n : ℕ} → all_go_on xs ≡ true → VarsFit tables vars after.locals → WorldFits w → EndsFit tables WorldFits c xs after (Goes vars w n)
-  returns : {v : Value} {w : W} {n : ℕ} → Fits tables (result_at c) v → WorldFits w → EndsFit tables WorldFits c xs after (Returns v w n)
-  leaves : {vars : List Var} {w : W} {n : ℕ} → (known : List Known) → c.in_loop ≡ true → break_in xs ≡ true → after.breaks ≡ Some known → VarsFit tables vars (settled after.locals known) → WorldFits w → EndsFit tables WorldFits c xs after (Breaks vars w n)
-  turns : {vars : List Var} {w : W} {n : ℕ} → c.in_loop ≡ true → WorldFits w → EndsFit tables WorldFits c xs after (Continues vars w n)
-  fails : {f : Failure} {vars : List Var} {w : W} {n : ℕ} → FailureFits f → WorldFits w → EndsFit tables WorldFits c xs after (Fails f vars w n)
+-- they return what fits the result; they leave a turn or a loop only in one, with locals that fit behind it; and where they fail,
+-- the locals fit what was known before them, but that a name that they assign may have got None
+pub data EndsFit (tables : List PlainTable) {W : Type 0} (WorldFits : W → Type 0) (c : Context) (xs : PlainStmts) (before after : Way) : Ends W → Type 0 where
+  goes : {vars : List Var} {w : W} {n : ℕ} → all_go_on xs ≡ true → VarsFit tables vars after.locals → WorldFits w → EndsFit tables WorldFits c xs before after (Goes vars w n)
+  returns : {v : Value} {w : W} {n : ℕ} → Fits tables (result_at c) v → WorldFits w → EndsFit tables WorldFits c xs before after (Returns v w n)
+  leaves : {vars : List Var} {w : W} {n : ℕ} → (known : List Known) → c.in_loop ≡ true → break_in xs ≡ true → after.breaks ≡ Some known → VarsFit tables vars (settled after.locals known) → WorldFits w → EndsFit tables WorldFits c xs before after (Breaks vars w n)
+  turns : {vars : List Var} {w : W} {n : ℕ} → c.in_loop ≡ true → WorldFits w → EndsFit tables WorldFits c xs before after (Continues vars w n)
+  fails : {f : Failure} {vars : List Var} {w : W} {n : ℕ} → FailureFits f → VarsFit tables vars (at_head (assigned_in xs) before.locals) → WorldFits w → EndsFit tables WorldFits c xs before after (Fails f vars w n)
