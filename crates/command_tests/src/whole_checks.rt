@@ -218,7 +218,7 @@ fn hold_written(rt: &impl Abort, alloc: Global, call: u64, written: usize) -> Re
     };
     let wanted = Wanted {
         status: 4,
-        out: &IS_MENDED[..written.min(IS_MENDED.len())],
+        out: &IS_MENDED[..IS_MENDED.len().min(written)],
         err: b"stateflow: write fault\n",
     };
     hold_fault(rt, alloc, "a write", faults, wanted)
