@@ -219,7 +219,8 @@ const CUT_OR_NOT: &str = "
     a call of itself      | def a(self) -> int:↵    return self.a()                                                               | a;
     another entity        | def a(self, b: B) -> int:↵    return b.get()                                                          | cut a;
     one of the same class | def a(self, o: A) -> int:↵    return o.c()↵def c(self) -> int:↵    return 1                           | cut a;c;
-    a caller's caller     | def a(self, b: B) -> int:↵    return self.c(b)↵def c(self, b: B) -> int:↵    return self.d(b)↵def d(self, b: B) -> int:↵    return b.get() \
+    a caller's caller     | def a(self, b: B) -> int:↵    return self.c(b)↵def c(self, b: B) -> int:↵    return self.d(b)↵\
+        def d(self, b: B) -> int:↵    return b.get() \
         | cut a;cut c;cut d;
     a creation            | def a(self) -> int:↵    B('k', 1)↵    return 1                                                        | cut a;
     a function            | def a(self) -> int:↵    return len('k')                                                               | a;
