@@ -1,12 +1,7 @@
 """Mistakes of a Python programmer: what stands in a method, the place and the kind of its first fault from there, the fault in words, and the mend."""
 
 MISTAKES = [
-    (
-        'y = {"a": 1}',
-        "1:5: BadCharacter",
-        "the language has no dicts and no sets, and no f-strings",
-        "make an entity for each key, or keep two lists of one length",
-    ),
+    ('y = {"a": 1}', "1:5: BadCharacter", "the language has no dicts and no sets", "make an entity for each key, or keep two lists of one length"),
     ('s = f"x is {x}"', "1:6: Unexpected", "f-strings aren't in the language", 'join the parts with `+`: `"x is " + str(x)`'),
     ("s = 'a' 'b'", "1:9: Unexpected", "two strings stand side by side", "join them with `+`"),
     ("x = x * 1.5", "1:9: BadNumber", "`1.5` is no whole number: the language has no floats", "count in a smaller unit, such as cents"),
@@ -84,12 +79,7 @@ MISTAKES = [
     ("if xs:\n    x = 1", "1:4: Operand", "the test works on a `bool`, and this is a `List[int]`", "write a test: `len(xs) > 0`"),
     ("if not name:\n    x = 1", "1:8: Operand", "`not` works on a `bool`, and this is a `str`", "write a test: `len(text) > 0`"),
     ("if maybe:\n    x = 1", "1:4: NoneUse", "`maybe` may be `None`", "test it first: `if maybe is not None:`, and use it in there"),
-    (
-        "x = maybe + 1",
-        "1:11: NoneUse",
-        "a side of `+` may be `None`: it stands between an `Optional[int]` and an `int`",
-        "test it first by `is not None`; put a field into a local before",
-    ),
+    ("x = maybe + 1", "1:11: NoneUse", "the left side of `+` may be `None`", "test it first by `is not None`; put a field into a local before"),
     (
         "x = maybe",
         "1:1: LocalRetyped",

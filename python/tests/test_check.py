@@ -77,7 +77,6 @@ ALL_OF_MANY = [
     "18:9: MissingAnnotation",
     "19:17: Unexpected",
     "21:13: BadCharacter",
-    "21:15: BadCharacter",
     "22:9: LeftOut",
     "28:1: Unexpected",
 ]

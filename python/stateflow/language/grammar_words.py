@@ -140,7 +140,9 @@ RULES: list[Rule] = [
     # The program and its classes
     (is_part("unmarked class"), Advice("the class has no `@entity` before it", "write `@entity` on the line before: all classes are entities, and hold what there is of data")),
     (both(is_part("class mark", "second mark"), is_text("@")), Advice("a second decorator stands here", "leave it out: a class has `@entity` alone, a method `@transactional` or none")),
+    (both(is_part("class mark"), is_text("dataclass")), Advice("the language has no records", "keep the values in fields of an entity, or in a list for each")),
     (is_part("class mark"), MARKS),
+    (both(is_part("base"), is_text("Enum", "IntEnum", "StrEnum")), Advice("the language has no enums", "write each value as an int or a text")),
     (is_part("base"), Advice("a class has no base", "write the fields and methods in each class, or keep what they share in an entity of its own")),
     (both(is_part("class head"), ends), Advice("a `:` is left out at the end of the line", "write `class Name:`")),
     (both(is_part("class head"), behind(":")), Advice("nothing stands behind the `:` of a class", "write its methods on the lines below, indented")),

@@ -4,8 +4,8 @@ from stateflow.language.faults import Advice
 from stateflow.limits import GREATEST_INT, LONGEST_TEXT
 
 CHARACTERS = {
-    "{": Advice("the language has no dicts and no sets, and no f-strings", "make an entity for each key, or keep two lists of one length"),
-    "}": Advice("the language has no dicts and no sets, and no f-strings", "make an entity for each key, or keep two lists of one length"),
+    "{": Advice("the language has no dicts and no sets", "make an entity for each key, or keep two lists of one length"),
+    "}": Advice("`}` is no sign of the language", "leave it out"),
     "/": Advice("the language has no `/`: it has no floats", "divide whole numbers with `//`, in a smaller unit such as cents"),
     "|": Advice("`|` is no sign of the language", "write `Optional[int]` for `int | None`, and `or` between tests"),
     "&": Advice("`&` is no sign of the language: it has no operators on bits", "write `and` between tests"),

@@ -84,8 +84,9 @@ def may_be_none(node: tree.Expression, kind: Kind) -> Advice:
 
 
 def none_beside(sign: str, left: Kind, right: Kind) -> Advice:
-    side = "both sides" if isinstance(left, OptionalOf) and isinstance(right, OptionalOf) else "a side"
-    return Advice(f"{side} of `{sign}` may be `None`: it stands between {an(left)} and {an(right)}", "test it first by `is not None`; put a field into a local before")
+    optional = [side for side, kind in (("left", left), ("right", right)) if kind == NONE or isinstance(kind, OptionalOf)]
+    sides = "both sides" if len(optional) == 2 else f"the {optional[0]} side"
+    return Advice(f"{sides} of `{sign}` may be `None`", "test it first by `is not None`; put a field into a local before")
 
 
 def operand(what: str, wanted: Kind, kind: Kind) -> Advice:
