@@ -65,7 +65,8 @@ def bad_escape(behind: str) -> Advice:
         return Advice(f"the language has no escape `\\{behind}`", "write the character itself, or `\\uhhhh` with four digits")
     if behind in ("x", "u"):
         digits = "two" if behind == "x" else "four"
-        return Advice(f"behind `\\{behind}` come {digits} hexadecimal digits, and no half of a pair", f"write `\\{behind}` with {digits} digits, or the character itself")
+        message = f"behind `\\{behind}` come {digits} hexadecimal digits, and no half of a pair"
+        return Advice(message, f"write `\\{behind}` with {digits} digits, or the character itself")
     if behind in ("", "\n", "\r"):
         return Advice("a string isn't joined over two lines by a backslash", "join two strings with `+`")
     return Advice(f"`\\{behind}` is no escape of the language", f"write `\\\\{behind}` for a backslash and `{behind}`")

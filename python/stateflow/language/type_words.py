@@ -168,7 +168,8 @@ def unknown_name(name: str, kinds: Iterable[str], fields: Iterable[str], tables:
         return Advice(f"`{name}` itself is no value", "call it, or take another name")
     if name in fields:
         return Advice(f"no local and no parameter is called `{name}`", f"write `self.{name}` for the field")
-    return Advice(f"no local and no parameter is called `{name}`", near(name, kinds) or "assign it before, make it a parameter, or a field: there are no values of the module")
+    mend = near(name, kinds) or "assign it before, make it a parameter, or a field: there are no values of the module"
+    return Advice(f"no local and no parameter is called `{name}`", mend)
 
 
 def unknown_function(name: str, tables: Tables) -> Advice:
@@ -177,7 +178,8 @@ def unknown_function(name: str, tables: Tables) -> Advice:
     mend = near(name, [*tables, "len", "str", "abs", "min", "max"])
     if name[0].isupper():
         return Advice(f"there is no class `{name}` in the program", mend or "write it in this file: a program is one file")
-    return Advice(f"`{name}` is no class and none of `len`, `str`, `abs`, `min` and `max`", mend or "call a method: `self.m(...)`; there are no functions of one's own")
+    message = f"`{name}` is no class and none of `len`, `str`, `abs`, `min` and `max`"
+    return Advice(message, mend or "call a method: `self.m(...)`; there are no functions of one's own")
 
 
 def unassigned(name: str) -> Advice:
@@ -211,7 +213,8 @@ def counted(count: int) -> str:
 
 
 def argument_count(name: str, wanted: int, given: int) -> Advice:
-    return Advice(f"`{name}` takes {counted(wanted)}, and {counted(given)} stands here" if given < 2 else f"`{name}` takes {counted(wanted)}, and {counted(given)} stand here", "give one for each parameter")
+    stand = "stands" if given < 2 else "stand"
+    return Advice(f"`{name}` takes {counted(wanted)}, and {counted(given)} {stand} here", "give one for each parameter")
 
 
 def function_count(name: str, wanted: int, given: int) -> Advice:
