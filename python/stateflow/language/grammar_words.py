@@ -67,10 +67,6 @@ IN_PLACE = Advice("lists are never changed in place", "make a new list, by `xs =
 TO_A_CALL = Advice("a call can't be assigned to", "assign to a name or to a field of `self`")
 
 
-def is_kind(kind: Kind) -> Callable[[Refusal], bool]:
-    return lambda refusal: refusal.token().kind is kind
-
-
 def is_text(*texts: str) -> Callable[[Refusal], bool]:
     return lambda refusal: refusal.text() in texts
 
