@@ -89,10 +89,13 @@ def init_result() -> Advice:
     return Advice("`__init__` gives nothing", "write `-> None`, or no result type")
 
 
+def init_field(name: str, kind: str) -> Advice:
+    mend = f"write `self.{name}: {kind} = ...`" + (", with its type for T" if kind == "T" else "")
+    return Advice(f"a field is declared with its type: `{name}` has none", mend)
+
+
 def init_statement(statement: tree.Statement) -> Advice:
     match statement:
-        case tree.Assign(target=tree.FieldTarget(name=name), annotation=None):
-            return Advice(f"a field is declared with its type: `{name}` has none", f"write `self.{name}: T = ...` with its type for T")
         case tree.Assign() | tree.Augment():
             return Advice("`__init__` declares fields, and has no locals", "write the value at the field, or let the request give it")
         case tree.If() | tree.While() | tree.For():
@@ -108,7 +111,7 @@ def init_call(name: str) -> Advice:
 
 
 def init_creation(name: str) -> Advice:
-    return Advice(f"`__init__` makes no entity, as here a `{name}`", "let a method make it, or take it as a parameter")
+    return Advice(f"`__init__` makes no entity, as here of `{name}`", "let a method make it, or take it as a parameter")
 
 
 def init_self() -> Advice:
