@@ -174,6 +174,11 @@ class Limits(unittest.TestCase):
         deeper = read(frame.replace("LINE", "x = " + "(" * 64 + "1" + ")" * 64).encode())
         self.assertEqual([str(fault) for fault in deeper.faults], ["18:76: TooDeep"])
 
+    def test_the_deepest_loops(self) -> None:
+        lines = [f"{' ' * (2 * depth)}while True:\n {' ' * (2 * depth)}if x > 0:" for depth in range(31)]
+        loops = "\n".join([*lines, " " * 62 + "break"]).replace("\n", "\n        ")
+        self.assertEqual(read(FRAME.replace("LINE", loops).encode()).faults, [])
+
     def test_a_text_of_one_byte_more(self) -> None:
         self.assertEqual(read(b"#" * 1_048_576).faults, [])
         self.assertEqual([str(fault) for fault in read(b"#" * 1_048_577).faults], ["1:1: TooLong"])
