@@ -18,6 +18,7 @@ mod memory_files;
 mod memory_sink;
 mod memory_source;
 mod mount_book;
+mod playing;
 mod store_disk;
 mod synced;
 
