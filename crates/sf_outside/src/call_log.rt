@@ -7,7 +7,7 @@ ghost use Rattle.sf_outside.specs.CallLog.{calls_of, note_fits, noted_bytes};
 ghost use Rattle.sf_outside.specs.Images.{image_after};
 
 use crate::disk_files::DiskFiles;
-use crate::playing::play;
+use crate::memory_images::play;
 use crate::store_disk::StoreFile;
 use std::alloc::{AllocError, Global};
 use std::marker::Model;

@@ -15,10 +15,10 @@ mod disk_files;
 mod gains;
 mod memory_disk;
 mod memory_files;
+mod memory_images;
 mod memory_sink;
 mod memory_source;
 mod mount_book;
-mod playing;
 mod store_disk;
 mod synced;
 

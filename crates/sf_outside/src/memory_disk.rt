@@ -1,13 +1,12 @@
 //! A disk in memory. It notes each call, and so tells what a crash at each moment may have left.
 
-ghost use Rattle.std.specs.Prelude.{◌≡◌, ◌+◌, ◌^◌, ◌<◌, ◌≤◌, ◌||◌, ◌⊎◌, ℕ, List, None, Some, [], length, is_err, true, false, not, nat_lt, take, if◌then◌else◌, IfOk, IfSome, OnOk, OnErr, IsErrOf};
+ghost use Rattle.std.specs.Prelude.{◌≡◌, ◌+◌, ◌^◌, ◌<◌, ◌≤◌, ◌||◌, ◌⊎◌, ℕ, List, None, Some, [], length, is_err, true, false, not, nat_lt, if◌then◌else◌, IfOk, IfSome, OnOk, OnErr, IsErrOf};
 ghost use Rattle.std.specs.Io.{ReadsAtMost};
 ghost use Rattle.sf_outside.specs.Bytes.{CopiedAll};
 ghost use Rattle.sf_outside.specs.Causes.{HasCause, Rose, next_count};
 ghost use Rattle.sf_outside.specs.DiskModel.{of_file, LeavesOnly, Stays, SeenWritten, SeenTorn, IsDurable, IsClean, mounted, NotMounted};
-ghost use Rattle.sf_outside.specs.Images.{begun_with, image_after, IsLongest};
 ghost use Rattle.sf_outside.specs.ImageSteps.{ComesTorn};
-ghost use Rattle.sf_outside.specs.DiskCalls.{Quiet, Write, Sync, Mount, no_bytes, facts_after};
+ghost use Rattle.sf_outside.specs.DiskCalls.{Quiet, Write, Sync, Mount, no_bytes};
 ghost use Rattle.sf_outside.specs.DiskState.{facts_of, NotesAll, fails_next, after_done, after_quiet, after_fault};
 ghost use Rattle.sf_outside.specs.LogState.{bytes_written};
 ghost use Rattle.sf_outside.specs.MountState.{mounts_of, refusals_of, with_mount, with_refusal};
@@ -22,21 +21,15 @@ use crate::store_disk::{Disk, MountFault, StoreFile};
 use std::alloc::{AllocError, Global};
 use std::marker::Model;
 
-/// How many bytes more than the longest file of an image the disk has room for that begins with it.
-const SPARE_BYTES: u64 = 1_048_576;
-
-/// How many calls that disk takes.
-const SPARE_CALLS: u64 = 10_000;
-
 /// A disk whose files are in memory. It keeps them when it is mounted.
 #[derive(Drop)]
 pub struct MemDisk {
-    start: DiskFiles,
-    files: DiskFiles,
-    log: CallLog,
-    calls: Calls,
-    faults: u64,
-    mounts: MountBook,
+    pub(crate) start: DiskFiles,
+    pub(crate) files: DiskFiles,
+    pub(crate) log: CallLog,
+    pub(crate) calls: Calls,
+    pub(crate) faults: u64,
+    pub(crate) mounts: MountBook,
 }
 
 impl Model for MemDisk {
@@ -94,43 +87,6 @@ impl MemDisk {
         ensures noted { NotesAll self.now }
     {
         self.calls.made()
-    }
-
-    /// A disk that begins as a crash may leave this one after the call of this number: `fill` stands wherever any byte may stand, and each file is as
-    /// long as it may be. It takes 10,000 calls, and has room for 1,048,576 bytes more than the longest file has.
-    pub fn image(&self, alloc: Global, moment: u64, fill: u8) -> Result<MemDisk, AllocError>
-        requires { moment ≤ self.now.made }
-        ensures made { IfOk result (λ made. made ≡ begun_with 1048576 10000 (image_after fill self.now.start (take moment self.now.calls))) }
-        ensures left { IfOk result (λ made. (facts_after self.now.start (take moment self.now.calls)).may_leave made.start) }
-        ensures longest { IfOk result (λ made. IsLongest (facts_after self.now.start (take moment self.now.calls)) made.start) }
-    {
-        let left = self.left_at(alloc, moment, fill)?;
-        MemDisk::begun(alloc, left)
-    }
-
-    /// The files that such a crash leaves.
-    fn left_at(&self, alloc: Global, moment: u64, fill: u8) -> Result<DiskFiles, AllocError>
-        ensures { IfOk result (λ left. left ≡ record { image = image_after fill self.now.start (take moment self.now.calls); room = self.now.room }) }
-    {
-        let mut now = self.start.copied(alloc, self.log.room())?;
-        let mut left = self.start.copied(alloc, self.log.room())?;
-        self.log.replay(moment, fill, &mut now, &mut left);
-        Ok(left)
-    }
-
-    /// A disk that begins with these files.
-    fn begun(alloc: Global, start: DiskFiles) -> Result<MemDisk, AllocError>
-        ensures { IfOk result (λ made. made ≡ begun_with 1048576 10000 start.image) }
-    {
-        let room = start.longest() as u64 + SPARE_BYTES;
-        Ok(MemDisk {
-            files: start.copied(alloc, room)?,
-            start,
-            log: CallLog::new(alloc, SPARE_CALLS, room)?,
-            calls: Calls::new(alloc, &[])?,
-            faults: 0,
-            mounts: MountBook::new(alloc),
-        })
     }
 
     /// Whether the next call fails whatever it is.
