@@ -26,26 +26,33 @@ abbrev pub OfResult : (Value → Type 0) → (List ℕ → Type 0) → Result Va
 OfResult Given Said (Ok v) = Given v
 OfResult Given Said (Err f) = Said f.message
 
--- what holds of the values that expressions give, of those that locals and fields hold, of the messages of failures and of the ints that
--- are written in code, where operators and functions keep it
+-- four kinds that operators and functions keep: the values that expressions give, those that locals and fields hold, the messages of failures,
+-- and the ints that are written in code
 pub record Kinds : Type 1 where
   pub Given : Value → Type 0
   pub Held : Value → Type 0
   pub Said : List ℕ → Type 0
   pub Written : ℤ → Type 0
+  -- no message may be said, and so may the text of a value that is given
   pub silent : Said []
   pub said : (v : Value) → Given v → Said (text_of v)
+  -- a value that is given may be held
   pub held : (v : Value) → Given v → Held v
+  -- None, truths, ints that are written, and a value taken for an int
   pub nil : Given value.Nil
   pub truth : (b : Bool) → Given (value.Bool b)
   pub int : (z : ℤ) → Written z → Given (value.Int z)
   pub number : (v : Value) → Given v → Given (value.Int (int_of v))
+  -- the next number of a range that doesn't end here
   pub turn : (from to : ℤ) → Given (value.Int from) → Given (value.Int to) → is_lt (int_cmp from to) ≡ true → Given (value.Int (from +ℤ pos 1))
+  -- the items of a list, a list of values, and the entity that a creation makes, where its class has one
   pub items : (v : Value) → Given v → AllByRecursion Given (items_of v)
   pub list : (vs : List Value) → AllByRecursion Given vs → Held (value.List vs)
   pub key : (class : ℕ) (v : Value) → Held (entity (class, [])) → Given v → Given (entity (class, text_of v))
+  -- what is held is given where it isn't too heavy, and an int where it is within range
   pub weigh : (v : Value) → Held v → OfResult Given Said (weighed v)
   pub range : (z : ℤ) → OfResult Given Said (in_range z)
+  -- operators and functions
   pub both : (o : BinOp) (v w : Value) → Given v → Given w → OfResult Given Said (combined o v w)
   pub apply : (f : Function) (args : List Value) → AllByRecursion Given args → OfResult Given Said (given_by f args)
 
