@@ -13,3 +13,4 @@ pub mod NamedValues
 pub mod Refusals
 pub mod Writes
 pub mod WrittenBytes
+pub mod HandingLaws

@@ -14,3 +14,4 @@ pub mod Memory
 pub mod MountState
 pub mod Named
 pub mod SinceMoments
+pub mod Handing
