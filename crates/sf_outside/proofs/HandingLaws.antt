@@ -1,6 +1,7 @@
 -- Of a sink that holds bytes, and counts how many of them it has handed on: what each call leaves of that.
 use Rattle.std.proofs.Common.{◌≡◌, ℕ, ◌≤◌, List, [], ◌++◌, length, take, drop, Some, sym, ap, ◌∙◌, append-nil, refl}
-use Rattle.std.proofs.lemmas.List.{take_all, take-append-le, take-append-drop}
+use Rattle.std.proofs.Math.Seq.{take-length}
+use Rattle.std.proofs.lemmas.List.{take-append-le, take-append-drop}
 use Rattle.sf_outside.specs.Handing.{HandsOn, IsHandedOn}
 
 -- bytes are added behind those that were handed on, and none are handed on
@@ -24,9 +25,9 @@ handed_none count held = record {
 pub handed_all : (count : ℕ) (held : List ℕ) → HandsOn (Some (take count held)) (Some (take (length held) held)) (Some held)
 handed_all count held = record {
   more = drop count held;
-  grows = take_all held ∙ sym (take-append-drop count held);
-  front = ([], sym (append-nil (take (length held) held) ∙ take_all held));
+  grows = take-length held ∙ sym (take-append-drop count held);
+  front = ([], sym (append-nil (take (length held) held) ∙ take-length held));
 }
 
 pub all_handed : (held : List ℕ) → IsHandedOn (Some (take (length held) held)) (Some held)
-all_handed held = ap Some (sym (take_all held))
+all_handed held = ap Some (sym (take-length held))
