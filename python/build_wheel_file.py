@@ -32,14 +32,6 @@ def metadata() -> str:
     return "\n".join(lines) + "\n"
 
 
-def entry_points() -> str:
-    """The entry points of each group in pyproject.toml, in the form in which an installed package keeps them."""
-    with open(HERE / "pyproject.toml", "rb") as file:
-        groups: dict[str, dict[str, str]] = tomllib.load(file)["project"].get("entry-points", {})
-    sections = [f"[{group}]\n" + "".join(f"{name} = {target}\n" for name, target in points.items()) for group, points in groups.items()]
-    return "\n".join(sections)
-
-
 def sources() -> Iterator[Path]:
     """The files of the package, from the folder of pyproject.toml."""
     for path in sorted((HERE / PACKAGE).rglob("*")):
@@ -63,8 +55,6 @@ def write_wheel(folder: str, contents: dict[str, bytes]) -> str:
         f"{head}/METADATA": metadata().encode(),
         f"{head}/WHEEL": f"Wheel-Version: 1.0\nGenerator: {PACKAGE}\nRoot-Is-Purelib: true\nTag: {tag}\n".encode(),
     }
-    if entry_points():
-        files[f"{head}/entry_points.txt"] = entry_points().encode()
     record = "".join(record_line(name, content) for name, content in files.items()) + f"{head}/RECORD,,\n"
     wheel = f"{stem}-{tag}.whl"
     with zipfile.ZipFile(os.path.join(folder, wheel), "w", zipfile.ZIP_DEFLATED) as archive:

@@ -2,8 +2,14 @@
 
 import unittest
 
+import offer
 from offer import Item, Shop
-from stateflow.testing import AlreadyExists, TestCase, exists, named
+from stateflow.testing import AlreadyExists, TestCase, assert_accepted, exists, named
+
+
+class Program(TestCase):
+    def test_it_is_accepted(self) -> None:
+        assert_accepted(offer)
 
 
 class Adding(TestCase):

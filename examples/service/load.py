@@ -9,6 +9,7 @@ of figures. The status is 0 where all holds.
 """
 
 import argparse
+import contextlib
 import http.client
 import json
 import os
@@ -118,8 +119,10 @@ def kill_children(caller: Caller, seconds: float, done: threading.Event) -> int:
     while not done.wait(seconds):
         child = caller.child()
         if child is not None:
-            os.kill(child, signal.SIGKILL)
-            kills += 1
+            # (the last kill may not have been noticed yet)
+            with contextlib.suppress(ProcessLookupError):
+                os.kill(child, signal.SIGKILL)
+                kills += 1
     return kills
 
 

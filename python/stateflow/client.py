@@ -143,7 +143,7 @@ class _Child:
 
     def __init__(self, words: Sequence[str], handles: Tuple[int, ...]) -> None:
         pipe = subprocess.PIPE
-        # (in a session of its own, so that an interrupt at the terminal reaches the caller alone)
+        # (apart from the caller, whom alone an interrupt at the terminal is to reach)
         self.process = subprocess.Popen(words, stdin=pipe, stdout=pipe, stderr=pipe, pass_fds=handles, start_new_session=True)
         self.lines_written = 0
         self.last_barrier = 0
@@ -152,6 +152,7 @@ class _Child:
         self.said = ""
         self.ended = False
         self.ready = False
+        self.has_answered = False
 
     @property
     def is_through(self) -> bool:
@@ -161,6 +162,11 @@ class _Child:
     @property
     def status(self) -> int:
         return self.process.wait()
+
+    @property
+    def got_on(self) -> bool:
+        """Whether it answered anything before its end, or was killed as it served: so that the next one may get further."""
+        return self.has_answered or (self.ready and self.status < 0)
 
     def numbered(self, group: Sequence[_Asked]) -> bytes:
         """The lines of a group with its barrier, which are counted as written."""
@@ -221,8 +227,8 @@ def _locked(folder: Union[str, Path], seconds: float) -> int:
 class Client:
     """Serves a class file, by one child at a time.
 
-    `options` are further words of `run`, such as `("--batch", "1")`. `starts` is how many children in a row may end before they were ready, and
-    `lock_seconds` how long another run on the store is waited for.
+    `options` are further words of `run`, such as `("--batch", "1")`. `starts` is how many children in a row may end by themselves without an answer,
+    or be killed before they were ready, and `lock_seconds` how long another run on the store is waited for.
     """
 
     def __init__(
@@ -324,10 +330,16 @@ class Client:
 
     def _serve(self) -> None:
         """Runs children until the client is closed or can't go on, and then tells so to all that wait."""
+        end = Stopped(-1, "the client broke off")
         try:
             end = self._run_children()
         except OSError as error:
             end = Stopped(-1, f"the program doesn't start: {error}")
+        finally:
+            self._settle(end)
+
+    def _settle(self, end: Stopped) -> None:
+        """Gives the store free, and tells all that wait, and all that will ask, that nothing is served any more."""
         for handle in self._handles:
             os.close(handle)
         with self._changed:
@@ -342,7 +354,7 @@ class Client:
         while True:
             child = self._start_child()
             self._feed(child)
-            in_vain = 0 if child.ready else in_vain + 1
+            in_vain = 0 if child.got_on else in_vain + 1
             if self._closing and not self._asked:
                 return Stopped(0, CLOSED)
             if child.status in LASTING_STATUSES or not self._may_restart or in_vain == self._starts_allowed:
@@ -392,7 +404,7 @@ class Client:
                 try:
                     if line.endswith(b"\n"):
                         self._take(child, json.loads(line))
-                except ValueError:
+                except (ValueError, TypeError, KeyError):
                     child.said = f"{self._words[0]} is no program of StateFlow: it writes {line!r}"
                     break
         listener.join()
@@ -402,15 +414,17 @@ class Client:
             self._changed.notify_all()
 
     def _take(self, child: _Child, told: Dict[str, Any]) -> None:
+        reply = None if "bad" in told else Reply(**told)
         with self._changed:
-            id = child.ids.get(told["line"]) if "bad" in told else told["id"]
+            id = child.ids.get(told["line"]) if reply is None else reply.id
             if id is None:
                 child.take_barrier(told["line"])
+            child.has_answered = child.has_answered or reply is not None
             asked = None if id is None else self._asked.pop(id, None)
             self._changed.notify_all()
         if asked is None:
             return
-        if "bad" in told:
+        if reply is None:
             asked.promise.set_exception(Refused(told["bad"]))
         else:
-            asked.promise.set_result(Reply(**told))
+            asked.promise.set_result(reply)

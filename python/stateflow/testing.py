@@ -9,25 +9,44 @@ outermost creation, is a request:
 - A request takes steps, as the service counts them, and raises `StepLimit` where none is left; the 65th call within calls raises `RecursionError`.
 - Each failure has the name and the message that the service answers. An argument that it would refuse raises `TypeError`.
 
-`fresh()` forgets all entities. A test case that is derived from `TestCase` begins with it:
+`fresh()` forgets all entities. A test case that is derived from `TestCase` begins with it. `assert_accepted` says whether `check` takes the program:
 
-    from stateflow.testing import NoEntity, TestCase, named
+    import offer
     from offer import Item
+    from stateflow.testing import NoEntity, TestCase, assert_accepted, named
 
     class Adding(TestCase):
+        def test_the_program_is_accepted(self) -> None:
+            assert_accepted(offer)
+
         def test_nothing_is_added_to_nothing(self) -> None:
             with self.assertRaises(NoEntity):
                 named(Item, "pear").add(1)
 """
 
 import unittest
+from pathlib import Path
+from types import ModuleType
 from typing import TypeVar
 
 import stateflow
 from stateflow.acting.classes import Unusable, act
 from stateflow.acting.world import AlreadyExists, NoEntity, SizeLimit, StepLimit, world
+from stateflow.check import report_lines
+from stateflow.language.program import read
 
-__all__ = ["AlreadyExists", "NoEntity", "SizeLimit", "StepLimit", "TestCase", "Unusable", "exists", "fresh", "named"]
+__all__ = [
+    "AlreadyExists",
+    "NoEntity",
+    "SizeLimit",
+    "StepLimit",
+    "TestCase",
+    "Unusable",
+    "assert_accepted",
+    "exists",
+    "fresh",
+    "named",
+]
 
 _Entity = TypeVar("_Entity")
 
@@ -45,6 +64,15 @@ def named(cls: type[_Entity], key: str) -> _Entity:
 def exists(entity: object) -> bool:
     """Whether an entity is there."""
     return entity in world.made
+
+
+def assert_accepted(program: ModuleType) -> None:
+    """Fails where `check` refuses the file of a program, and tells all its faults in words."""
+    file = program.__file__ or ""
+    content = Path(file).read_bytes()
+    reading = read(content)
+    if reading.faults:
+        raise AssertionError("\n".join(report_lines(file, content, reading)))
 
 
 class TestCase(unittest.TestCase):

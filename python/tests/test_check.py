@@ -6,7 +6,7 @@ import tempfile
 import unittest
 from pathlib import Path
 
-from tests.mistakes import MISTAKES
+from tests.mistakes import MEMBERS, MISTAKES, PROGRAMS
 
 from stateflow.__main__ import main
 from stateflow.language.program import read
@@ -29,7 +29,15 @@ class Shop:
         LINE
         return x
 """
-FIRST_LINE, INDENT = FRAME[: FRAME.index("LINE")].count("\n"), 8
+CLASS = """from stateflow import entity
+@entity
+class Shop:
+    def __init__(self, name: str):
+        self.name: str = name
+    def __key__(self) -> str:
+        return self.name
+    MEMBER
+"""
 
 MANY = """import json
 from stateflow import entity
@@ -77,7 +85,6 @@ ALL_OF_MANY = [
     "18:9: MissingAnnotation",
     "19:17: Unexpected",
     "21:13: BadCharacter",
-    "21:15: BadCharacter",
     "22:9: LeftOut",
     "28:1: Unexpected",
 ]
@@ -92,13 +99,25 @@ def called(*words: str) -> tuple[int, str, str]:
 
 
 class Words(unittest.TestCase):
-    def test_each_mistake_is_told_with_its_mend(self) -> None:
-        for line, place, message, mend in MISTAKES:
-            with self.subTest(line=line):
-                reading = read(FRAME.replace("LINE", line.replace("\n", "\n" + " " * INDENT)).encode())
+    def hold(self, frame: str, gap: str, rows: list[tuple[str, str, str, str]]) -> None:
+        """Looks at the first fault of each row, which stands in the gap of a frame; its place counts from there."""
+        before = frame[: frame.index(gap)].split("\n")
+        line_before, indent = len(before) - 1, len(before[-1])
+        for written, place, message, mend in rows:
+            with self.subTest(written=written):
+                reading = read(frame.replace(gap, written.replace("\n", "\n" + " " * indent)).encode())
                 fault = reading.in_text_order()[0]
-                told = f"{fault.place.line - FIRST_LINE}:{fault.place.column - INDENT}: {fault.kind}"
+                told = f"{fault.place.line - line_before}:{fault.place.column - indent}: {fault.kind}"
                 self.assertEqual((told, fault.advice.message, fault.advice.mend), (place, message, mend))
+
+    def test_each_mistake_in_a_method_is_told_with_its_mend(self) -> None:
+        self.hold(FRAME, "LINE", MISTAKES)
+
+    def test_each_mistake_in_a_class_is_told_with_its_mend(self) -> None:
+        self.hold(CLASS, "MEMBER", MEMBERS)
+
+    def test_each_mistake_in_a_program_is_told_with_its_mend(self) -> None:
+        self.hold("PROGRAM", "PROGRAM", PROGRAMS)
 
     def test_all_faults_of_a_file_are_told_at_once(self) -> None:
         self.assertEqual([str(fault) for fault in read(MANY.encode()).in_text_order()], ALL_OF_MANY)
@@ -154,6 +173,11 @@ class Limits(unittest.TestCase):
         self.assertEqual(read(frame.replace("LINE", f"item = {chain}").encode()).faults, [])
         deeper = read(frame.replace("LINE", "x = " + "(" * 64 + "1" + ")" * 64).encode())
         self.assertEqual([str(fault) for fault in deeper.faults], ["18:76: TooDeep"])
+
+    def test_the_deepest_loops(self) -> None:
+        lines = [f"{' ' * (2 * depth)}while True:\n {' ' * (2 * depth)}if x > 0:" for depth in range(31)]
+        loops = "\n".join([*lines, " " * 62 + "break"]).replace("\n", "\n        ")
+        self.assertEqual(read(FRAME.replace("LINE", loops).encode()).faults, [])
 
     def test_a_text_of_one_byte_more(self) -> None:
         self.assertEqual(read(b"#" * 1_048_576).faults, [])

@@ -7,6 +7,7 @@ import json
 import logging
 import os
 import signal
+import sys
 import tempfile
 import threading
 import time
@@ -20,6 +21,15 @@ from stateflow.client import Client, Failed, Refused, Reply, Stopped, StoreBusy,
 from stateflow.pytest_plugin import served
 
 MOST_KILLS = 40
+
+ENDS_AT_A_REQUEST = """
+import sys
+for number, line in enumerate(sys.stdin, 1):
+    if line == "!\\n":
+        print('{"bad":"not json","line":' + str(number) + "}", flush=True)
+    elif line != "\\n":
+        sys.exit(5)
+"""
 
 BANK = """
 from stateflow import entity
@@ -115,6 +125,15 @@ class Room(unittest.TestCase):
 
 class OtherPrograms(Room):
     """What is no StateFlow in the program's place."""
+
+    def test_a_program_that_ends_at_each_request_is_given_up(self) -> None:
+        program = self.store / "fails"
+        program.write_text(f"#!{sys.executable}\n{ENDS_AT_A_REQUEST}", encoding="utf-8")
+        program.chmod(0o755)
+        bank = Client(self.file, self.store, program=str(program), starts=3)
+        with self.assertRaises(Stopped) as raised:
+            bank.create("Account", "ann", 1, timeout=60)
+        self.assertEqual((raised.exception.status, bank.children), (5, 3))
 
     def test_a_program_that_ends_at_once_is_told_with_its_status(self) -> None:
         with self.assertRaises(Stopped) as raised:

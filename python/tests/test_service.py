@@ -11,9 +11,11 @@ import signal
 import subprocess
 import sys
 import tempfile
+import threading
 import unittest
+from concurrent.futures import ThreadPoolExecutor
 from pathlib import Path
-from typing import Any, Dict, Iterator, Tuple
+from typing import Any, Dict, Iterator, Optional, Tuple
 
 from stateflow.client import find_program
 
@@ -107,6 +109,23 @@ class Serving(unittest.TestCase):
             bank.end_by(signal.SIGKILL)
         with service(self.store) as bank:
             self.assertEqual(bank.ask("/Account", '["ann",100]', "1"), made)
+
+    def test_the_next_service_goes_on_from_one_that_is_killed_under_load(self) -> None:
+        def put(bank: Service, place: int) -> Optional[Dict[str, Any]]:
+            try:
+                return bank.ask("/Account/ann/deposit", "[1]", f"put {place}")[1]
+            except (OSError, http.client.HTTPException):
+                return None
+
+        with service(self.store) as bank, ThreadPoolExecutor(10) as threads:
+            bank.ask("/Account", '["ann",0]', "1")
+            before = threads.map(put, [bank] * 100, range(100))
+            threading.Timer(0.3, bank.process.kill).start()
+            first = list(before)
+        with service(self.store) as bank, ThreadPoolExecutor(10) as threads:
+            second = list(threads.map(put, [bank] * 100, range(100)))
+            self.assertEqual(bank.ask("/Account/ann/balance", "[]")[1]["ok"], 100)
+        self.assertEqual([answer for answer in first if answer], [again for answer, again in zip(first, second) if answer])
 
     def test_a_bad_store_is_told(self) -> None:
         for name in ("snap0", "snap1"):

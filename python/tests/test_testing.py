@@ -5,10 +5,11 @@ import sys
 import unittest
 from pathlib import Path
 
+from tests import calendar_program
 from tests.calendar_program import Account, Product, Room, Work
 
 from stateflow import entity
-from stateflow.testing import AlreadyExists, NoEntity, SizeLimit, StepLimit, TestCase, Unusable, exists, fresh, named
+from stateflow.testing import AlreadyExists, NoEntity, SizeLimit, StepLimit, TestCase, Unusable, assert_accepted, exists, fresh, named
 
 FOLDER = Path(__file__).resolve().parent.parent
 GREATEST = 2**127 - 1
@@ -120,6 +121,11 @@ class Limits(TestCase):
 
 
 class Marks(unittest.TestCase):
+    def test_the_program_is_accepted(self) -> None:
+        assert_accepted(calendar_program)
+        with self.assertRaisesRegex(AssertionError, "imports names from"):
+            assert_accepted(sys.modules[__name__])
+
     def test_a_class_that_is_no_entity_is_told(self) -> None:
         with self.assertRaisesRegex(Unusable, "`__init__` and `__key__`"):
 

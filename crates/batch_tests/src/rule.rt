@@ -5,7 +5,7 @@ use keyed_state::Works;
 use reservations::{CommitRule, Rule1, Table};
 use std::alloc::{AllocError, Global};
 use std::test::Fail;
-use test_support::rows;
+use test_support::hold_table;
 
 /// A batch has at most this many requests.
 const MOST: usize = 256;
@@ -41,16 +41,17 @@ fn chosen(alloc: Global, works: &Works) -> Result<String, AllocError> {
     )
 }
 
+/// The same of a batch that is a text.
+fn told(alloc: Global, batch: &str) -> Result<String, Fail> {
+    let works = works_of(alloc, batch)?;
+    let told = chosen(alloc, &works);
+    drop(works);
+    Ok(told?)
+}
+
 #[test]
 fn earlier_writers_stand_in_the_way(rt: HostRuntime) -> Result<(), Fail> {
-    let alloc = rt.alloc();
-    for row in &rows(alloc, BATCHES)? {
-        let works = works_of(alloc, row.text.as_str())?;
-        let told = chosen(alloc, &works);
-        drop(works);
-        assert_eq!(rt; told?.as_str(), row.wanted, "{}", row.label);
-    }
-    Ok(())
+    hold_table(&rt, rt.alloc(), BATCHES, 15, told)
 }
 
 /// Places that are reserved for one entity, one after another, a digit each.
@@ -63,21 +64,16 @@ const RESERVED: &str = "
 ";
 
 /// The least of some places.
-fn least_of(alloc: Global, digits: &str) -> Result<String, AllocError> {
+fn least_of(alloc: Global, digits: &str) -> Result<String, Fail> {
     let at = entity(alloc, 'x')?;
     let mut table = Table::new(alloc);
-    for digit in digits.chars() {
+    for digit in digits.trim().chars() {
         table.reserve(alloc, digit.to_digit(10).unwrap_or(0), &at)?;
     }
-    format!(in alloc; "{:?}", table.least(&at))
+    Ok(format!(in alloc; "{:?}", table.least(&at))?)
 }
 
 #[test]
 fn the_least_place_is_kept(rt: HostRuntime) -> Result<(), Fail> {
-    let alloc = rt.alloc();
-    for row in &rows(alloc, RESERVED)? {
-        let told = least_of(alloc, row.text.trim())?;
-        assert_eq!(rt; told.as_str(), row.wanted, "{}", row.label);
-    }
-    Ok(())
+    hold_table(&rt, rt.alloc(), RESERVED, 5, least_of)
 }

@@ -3,9 +3,10 @@
 use crate::works::{entity, record, works_of};
 use keyed_state::{Keyed, Works};
 use reservations::{CommitRule, Rule1};
+use sf_value::Held;
 use std::alloc::{AllocError, Global};
 use std::test::Fail;
-use test_support::rows;
+use test_support::hold_table;
 use value_texts::values_told;
 
 /// A batch has at most this many requests.
@@ -50,43 +51,47 @@ fn commit<R: CommitRule>(
     Ok(())
 }
 
-/// Each entity with its record, in the order in which they joined the state.
-fn state_told(alloc: Global, state: &Keyed) -> Result<String, AllocError> {
-    let records = state.records(alloc)?;
+/// Entities with their records, with a blank between two.
+fn entities_told(alloc: Global, records: &[Held]) -> Result<String, AllocError> {
     let mut told = String::new(alloc);
-    for held in records.as_slice() {
+    for held in records {
+        if !told.is_empty() {
+            told.push(' ')?;
+        }
         let fields = values_told(alloc, held.fields.fields.as_slice())?;
-        told.push_str(held.at.key.as_str())?;
-        told.push('=')?;
-        told.push_str(fields.as_str())?;
-        told.push(' ')?;
+        let key = held.at.key.as_str();
+        told.push_str(format!(in alloc; "{key}={fields}")?.as_str())?;
     }
-    drop(records);
     Ok(told)
 }
 
+/// Each entity with its record, in the order in which they joined the state.
+fn state_told(alloc: Global, state: &Keyed) -> Result<String, AllocError> {
+    let records = state.records(alloc)?;
+    let told = entities_told(alloc, records.as_slice());
+    drop(records);
+    told
+}
+
+/// A state after a batch.
+fn committed(alloc: Global, state: &mut Keyed, batch: &str) -> Result<String, AllocError> {
+    let works = works_of(alloc, batch)?;
+    commit(alloc, &Rule1, state, works)?;
+    state_told(alloc, state)
+}
+
 /// The state after a batch on the state of some entities.
-fn after(alloc: Global, text: &str) -> Result<String, AllocError> {
+fn after(alloc: Global, text: &str) -> Result<String, Fail> {
     let (letters, batch) = text.split_once('/').unwrap_or((text, ""));
     let mut state = state_of(alloc, letters.trim())?;
-    commit(alloc, &Rule1, &mut state, works_of(alloc, batch.trim())?)?;
-    let told = state_told(alloc, &state);
+    let told = committed(alloc, &mut state, batch.trim());
     drop(state);
-    told
+    Ok(told?)
 }
 
 #[test]
 fn committed_writes_are_made(rt: HostRuntime) -> Result<(), Fail> {
-    let alloc = rt.alloc();
-    for row in &rows(alloc, COMMITS)? {
-        assert_eq!(rt;
-            after(alloc, row.text.as_str())?.trim_end(),
-            row.wanted,
-            "{}",
-            row.label
-        );
-    }
-    Ok(())
+    hold_table(&rt, rt.alloc(), COMMITS, 9, after)
 }
 
 /// The entities that there are, and one that is looked for.
@@ -97,29 +102,25 @@ const FOUND: &str = "
     in no state   | / x    | none
 ";
 
-/// The record of an entity in the state of some entities.
-fn found(alloc: Global, text: &str) -> Result<String, AllocError> {
-    let (letters, letter) = text.split_once('/').unwrap_or((text, ""));
-    let at = entity(alloc, letter.trim().chars().next().unwrap_or(' '))?;
-    let state = state_of(alloc, letters.trim())?;
-    let told = match state.get(&at) {
+/// The record of an entity in a state.
+fn record_told(alloc: Global, state: &Keyed, letter: char) -> Result<String, AllocError> {
+    let at = entity(alloc, letter)?;
+    match state.get(&at) {
         Some(record) => values_told(alloc, record.fields.as_slice()),
         None => String::from_str(alloc, "none"),
-    };
+    }
+}
+
+/// The record of an entity in the state of some entities.
+fn found(alloc: Global, text: &str) -> Result<String, Fail> {
+    let (letters, letter) = text.split_once('/').unwrap_or((text, ""));
+    let state = state_of(alloc, letters.trim())?;
+    let told = record_told(alloc, &state, letter.trim().chars().next().unwrap_or(' '));
     drop(state);
-    told
+    Ok(told?)
 }
 
 #[test]
 fn a_record_is_found_by_its_entity(rt: HostRuntime) -> Result<(), Fail> {
-    let alloc = rt.alloc();
-    for row in &rows(alloc, FOUND)? {
-        assert_eq!(rt;
-            found(alloc, row.text.as_str())?.as_str(),
-            row.wanted,
-            "{}",
-            row.label
-        );
-    }
-    Ok(())
+    hold_table(&rt, rt.alloc(), FOUND, 4, found)
 }

@@ -19,6 +19,7 @@ use Rattle.program_meaning.specs.Calls.{bound}
 use Rattle.program_meaning.specs.Fits.{Fits, EachFits, one_more, param_types}
 use Rattle.program_meaning.specs.PointFits.{HasValue}
 use Rattle.program_meaning.proofs.FitsLaws.{fits_inside, fits_wider}
+use Rattle.program_meaning.proofs.Places.{any_at}
 use Rattle.program_meaning.proofs.LocalsFit.{has_new, keeps_other}
 use Rattle.program_meaning.proofs.LocalShapes.{given_if, new_local, not_none_value}
 use Rattle.program_meaning.proofs.TypedParts.{both_true}

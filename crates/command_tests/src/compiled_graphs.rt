@@ -1,79 +1,104 @@
 //! The graphs that `compile` prints, and what it tells where it prints none.
 
 use crate::last::{LAST, mended};
-use memory_calls::{Answer, Faults, NO_FAULTS, call};
-use std::alloc::{AllocError, Global};
+use crate::verdict::UNREAD;
+use memory_calls::{Call, Faults, NO_FAULTS, Wanted, hold_call};
+use std::alloc::Global;
+use std::process::Abort;
 use std::test::Fail;
 
-/// Compiles a text as `last.py`. The input fails wherever it is read.
-fn compile(alloc: Global, text: &[u8], faults: Faults<'_>) -> Result<Answer, AllocError> {
-    let faults = Faults {
-        input: &[1],
-        ..faults
-    };
-    call(alloc, &["compile", "last.py"], "last.py", text, b"", faults)
+/// The compilation of a text as `last.py`. The input fails wherever it is read.
+fn compile_of(text: &[u8]) -> Call<'_> {
+    Call {
+        words: &["compile", "last.py"],
+        file: "last.py",
+        text,
+        input: b"",
+        faults: UNREAD,
+    }
 }
 
-const GRAPH: &str = "class L: key k; 1 fields; 1 methods
+const GRAPH: &[u8] = b"class L: key k; 1 fields; 1 methods
 method L.last: 1 blocks
   block 0: 1 vars, leave
 ";
 
+/// Asserts the graph that is printed of a text.
+fn hold_graph(
+    rt: &impl Abort,
+    alloc: Global,
+    label: &str,
+    text: &[u8],
+    graph: &[u8],
+) -> Result<(), Fail> {
+    let wanted = Wanted {
+        status: 0,
+        out: graph,
+        err: b"",
+    };
+    hold_call(rt, alloc, label, compile_of(text), wanted)
+}
+
 #[test]
 fn text_of_the_graph_is_printed(rt: HostRuntime) -> Result<(), Fail> {
     let text = mended(rt.alloc(), b"\n")?;
-    let rows: [(&str, &[u8], &str); 2] = [
-        ("no class", b"", ""),
-        ("mended", text.as_slice(), GRAPH),
-    ];
-    for (label, text, wanted) in rows {
-        let answer = compile(rt.alloc(), text, NO_FAULTS)?;
-        assert_eq!(rt; answer.status, 0, "{label}");
-        assert_eq!(rt; answer.out.bytes(), wanted.as_bytes(), "{label}");
-        assert_eq!(rt; answer.err.bytes(), b"".as_slice(), "{label}");
-    }
-    Ok(())
+    hold_graph(&rt, rt.alloc(), "no class", b"", b"")?;
+    hold_graph(&rt, rt.alloc(), "mended", text.as_slice(), GRAPH)
 }
 
 #[test]
 fn fault_of_the_text_is_told(rt: HostRuntime) -> Result<(), Fail> {
-    let answer = compile(rt.alloc(), LAST, NO_FAULTS)?;
-    assert_eq!(rt; answer.status, 1);
-    assert_eq!(rt; answer.out.bytes(), b"".as_slice());
-    assert_eq!(rt;
-        answer.err.bytes(),
-        b"stateflow: last.py:11:16: Unassigned\n".as_slice()
-    );
-    Ok(())
+    let wanted = Wanted {
+        status: 1,
+        out: b"",
+        err: b"stateflow: last.py:11:16: Unassigned\n",
+    };
+    hold_call(&rt, rt.alloc(), "last", compile_of(LAST), wanted)
 }
 
 #[test]
 fn missing_file_is_a_read_fault(rt: HostRuntime) -> Result<(), Fail> {
-    let words = ["compile", "other.py"];
-    let answer = call(rt.alloc(), &words, "last.py", LAST, b"", NO_FAULTS)?;
-    assert_eq!(rt; answer.status, 3);
-    assert_eq!(rt; answer.out.bytes(), b"".as_slice());
-    assert_eq!(rt; answer.err.bytes(), b"stateflow: read fault\n".as_slice());
-    Ok(())
+    let made = Call {
+        words: &["compile", "other.py"],
+        faults: NO_FAULTS,
+        ..compile_of(LAST)
+    };
+    let wanted = Wanted {
+        status: 3,
+        out: b"",
+        err: b"stateflow: read fault\n",
+    };
+    hold_call(&rt, rt.alloc(), "another file", made, wanted)
+}
+
+/// Asserts what is written of the graph of a text where this call of the output fails.
+fn hold_prefix(
+    rt: &impl Abort,
+    alloc: Global,
+    text: &[u8],
+    call: u64,
+    written: &[u8],
+) -> Result<(), Fail> {
+    let faults = Faults {
+        out: &[call],
+        ..UNREAD
+    };
+    let made = Call {
+        faults,
+        ..compile_of(text)
+    };
+    let wanted = Wanted {
+        status: 4,
+        out: written,
+        err: b"stateflow: write fault\n",
+    };
+    hold_call(rt, alloc, "a failed output", made, wanted)
 }
 
 /// Where the second call of the output fails, its flush, the whole text stands.
 #[test]
 fn failed_output_leaves_a_prefix_of_the_text(rt: HostRuntime) -> Result<(), Fail> {
     let text = mended(rt.alloc(), b"\n")?;
-    for (call, written) in [(1, ""), (2, GRAPH)] {
-        let faults = Faults {
-            out: &[call],
-            ..NO_FAULTS
-        };
-        let answer = compile(rt.alloc(), text.as_slice(), faults)?;
-        assert_eq!(rt; answer.status, 4, "{call}");
-        assert_eq!(rt; answer.out.bytes(), written.as_bytes(), "{call}");
-        assert_eq!(rt;
-            answer.err.bytes(),
-            b"stateflow: write fault\n".as_slice(),
-            "{call}"
-        );
-    }
-    Ok(())
+    hold_prefix(&rt, rt.alloc(), text.as_slice(), 1, b"")?;
+    hold_prefix(&rt, rt.alloc(), text.as_slice(), 2, GRAPH)
 }

@@ -4,21 +4,13 @@ use memory_calls::{Answer, Faults, NO_FAULTS, call};
 use std::alloc::{AllocError, Global};
 use std::process::Abort;
 use std::test::Fail;
-use test_support::{Setting, rows, text_in};
+use test_support::{Setting, hold_table, text_in};
 
-/// Checks a text as this file. The input fails wherever it is read.
-pub fn check(
-    alloc: Global,
-    file: &str,
-    text: &[u8],
-    faults: Faults<'_>,
-) -> Result<Answer, AllocError> {
-    let faults = Faults {
-        input: &[1],
-        ..faults
-    };
-    call(alloc, &["check", file], file, text, b"", faults)
-}
+/// Faults where each read of the input fails.
+pub const UNREAD: Faults<'static> = Faults {
+    input: &[1],
+    ..NO_FAULTS
+};
 
 /// A row is a whole program.
 pub const PROGRAM: Setting = Setting {
@@ -79,40 +71,34 @@ class A:
     tail: "",
 };
 
-/// What a check says of a text: the line that it prints, or the place and kind that it tells,
-/// without the line's end.
-fn verdict(alloc: Global, text: &[u8]) -> Result<Vec<u8>, AllocError> {
-    let answer = check(alloc, "a.py", text, NO_FAULTS)?;
+/// What a check said: the line that it printed, or the place and kind that it told, without the line's end.
+fn said(alloc: Global, answer: &Answer) -> Result<String, AllocError> {
     let printed = answer.out.bytes();
     let told = answer.err.bytes();
     let line = told.strip_prefix(b"stateflow: a.py:").unwrap_or(printed);
-    Vec::from_slice(alloc, line.strip_suffix(b"\n").unwrap_or(line))
+    let line = line.strip_suffix(b"\n").unwrap_or(line);
+    String::from_str(alloc, str::from_utf8(line).unwrap_or("no text"))
 }
 
-/// The label of the first row of which something else is said, or nothing where a table of so many
-/// rows has none.
-pub fn other(
+/// What a check says of the program of a row in its setting.
+fn verdict(alloc: Global, setting: Setting, text: &str) -> Result<String, Fail> {
+    let text = text_in(alloc, setting, text)?;
+    let words = ["check", "a.py"];
+    let answer = call(alloc, &words, "a.py", text.as_bytes(), b"", UNREAD)?;
+    let said = said(alloc, &answer);
+    drop(answer);
+    Ok(said?)
+}
+
+/// Asserts that a table has so many rows, and what a check says of each in its setting.
+pub fn hold(
+    rt: &impl Abort,
     alloc: Global,
     setting: Setting,
     table: &str,
     count: usize,
-) -> Result<String, AllocError> {
-    let rows = rows(alloc, table)?;
-    for row in &rows {
-        let text = text_in(alloc, setting, row.text.as_str())?;
-        if verdict(alloc, text.as_bytes())?.as_slice() != row.wanted.as_bytes() {
-            return String::from_str(alloc, row.label);
-        }
-    }
-    if rows.len() != count {
-        return format!(in alloc; "there are {} rows", rows.len());
-    }
-    Ok(String::new(alloc))
-}
-
-/// Asserts that no row is another one than it says.
-pub fn hold(rt: &impl Abort, other: Result<String, AllocError>) -> Result<(), Fail> {
-    let other = other?;
-    assert_eq!(rt; other.as_str(), "");
-    Ok(())
+) -> Result<(), Fail> {
+    hold_table(rt, alloc, table, count, |alloc, text| {
+        verdict(alloc, setting, text)
+    })
 }

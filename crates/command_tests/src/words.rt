@@ -2,9 +2,8 @@
 
 use memory_calls::{Answer, NO_FAULTS, call};
 use std::alloc::{AllocError, Global};
-use std::process::Abort;
 use std::test::Fail;
-use test_support::{COUNTER, rows};
+use test_support::{COUNTER, hold_table};
 
 const USAGE: &[u8] =
     b"usage: stateflow check FILE | compile FILE | local FILE | run FILE [options] | gen [options]\n";
@@ -52,28 +51,12 @@ fn done(answer: &Answer) -> &'static str {
     "another text"
 }
 
-/// The label of the first row whose words do something else, with what they do, or nothing where a table
-/// of so many rows has none.
-fn other(alloc: Global, table: &str, count: usize) -> Result<String, AllocError> {
-    let rows = rows(alloc, table)?;
-    for row in &rows {
-        let answer = called(alloc, row.text.as_str().trim())?;
-        let done = done(&answer);
-        if done != row.wanted {
-            return format!(in alloc; "{}: {done}", row.label);
-        }
-    }
-    if rows.len() != count {
-        return format!(in alloc; "there are {} rows", rows.len());
-    }
-    Ok(String::new(alloc))
-}
-
-/// Asserts that each row is as it says.
-fn hold(rt: &impl Abort, alloc: Global, table: &str, count: usize) -> Result<(), Fail> {
-    let other = other(alloc, table, count)?;
-    assert_eq!(rt; other.as_str(), "");
-    Ok(())
+/// What a call with the words of a row does.
+fn told(alloc: Global, text: &str) -> Result<String, Fail> {
+    let answer = called(alloc, text.trim())?;
+    let told = String::from_str(alloc, done(&answer));
+    drop(answer);
+    Ok(told?)
 }
 
 const SERVED: &str = "
@@ -97,7 +80,7 @@ const SERVED: &str = "
 
 #[test]
 fn words_that_are_served(rt: HostRuntime) -> Result<(), Fail> {
-    hold(&rt, rt.alloc(), SERVED, 16)
+    hold_table(&rt, rt.alloc(), SERVED, 16, told)
 }
 
 const OTHER_WORDS: &str = "
@@ -128,7 +111,7 @@ const OTHER_WORDS: &str = "
 
 #[test]
 fn words_of_no_command_are_told_the_usage(rt: HostRuntime) -> Result<(), Fail> {
-    hold(&rt, rt.alloc(), OTHER_WORDS, 23)
+    hold_table(&rt, rt.alloc(), OTHER_WORDS, 23, told)
 }
 
 const WORKS: &str = "
@@ -158,7 +141,7 @@ const WORKS: &str = "
 
 #[test]
 fn words_of_generated_work(rt: HostRuntime) -> Result<(), Fail> {
-    hold(&rt, rt.alloc(), WORKS, 22)
+    hold_table(&rt, rt.alloc(), WORKS, 22, told)
 }
 
 const OTHER_WORKS: &str = "
@@ -189,5 +172,5 @@ const OTHER_WORKS: &str = "
 
 #[test]
 fn words_of_no_generated_work_are_told_the_usage(rt: HostRuntime) -> Result<(), Fail> {
-    hold(&rt, rt.alloc(), OTHER_WORKS, 23)
+    hold_table(&rt, rt.alloc(), OTHER_WORKS, 23, told)
 }

@@ -5,7 +5,7 @@ use entity_compiler::{ProgramError, ProgramFault, compile};
 use py_tree::Names;
 use std::alloc::{AllocError, Global};
 use std::test::Fail;
-use test_support::{SHOP, Setting, rows, text_in};
+use test_support::{SHOP, Setting, hold_table, hold_text, text_in};
 
 /// A row has the lines of a method of one class.
 const LAST: Setting = Setting {
@@ -150,50 +150,43 @@ fn own_blocks(line: &str) -> &str {
 
 #[test]
 fn the_shop_has_the_graph_of_its_definition(rt: HostRuntime) -> Result<(), Fail> {
-    let told = told(rt.alloc(), SHOP)?;
-    assert_eq!(rt; told.as_str(), SHOP_GRAPH, "the shop");
-    Ok(())
+    hold_text(&rt, told(rt.alloc(), SHOP), SHOP_GRAPH)
 }
+
+/// What the program of a row in its setting is compiled to, in one line.
+fn line_in(alloc: Global, setting: Setting, text: &str) -> Result<String, AllocError> {
+    let text = text_in(alloc, setting, text)?;
+    let told = told(alloc, text.as_str())?;
+    in_one_line(alloc, told.as_str())
+}
+
+const COMPILED: &str = "
+    mended       | x = 0↵for x in xs:↵    pass↵return x | class L: key k; 1 fields; 1 methods; method L.last: 1 blocks;   block 0: 1 vars, leave
+    unassigned   | for x in xs:↵    pass↵return x | rule 11:16
+    a number     | return 1.5 | lexical 9:16
+    two numbers  | return 1 1 | syntax 9:18
+";
 
 #[test]
 fn a_method_is_compiled_or_its_fault_is_told(rt: HostRuntime) -> Result<(), Fail> {
-    let rows = rows(
-        rt.alloc(),
-        "
-        mended       | x = 0↵for x in xs:↵    pass↵return x | class L: key k; 1 fields; 1 methods; method L.last: 1 blocks;   block 0: 1 vars, leave
-        unassigned   | for x in xs:↵    pass↵return x | rule 11:16
-        a number     | return 1.5 | lexical 9:16
-        two numbers  | return 1 1 | syntax 9:18
-    ",
-    )?;
-    for row in &rows {
-        let text = text_in(rt.alloc(), LAST, row.text.as_str())?;
-        let told = told(rt.alloc(), text.as_str())?;
-        let line = in_one_line(rt.alloc(), told.as_str())?;
-        assert_eq!(rt; line.as_str(), row.wanted, "{}", row.label);
-    }
-    Ok(())
+    hold_table(&rt, rt.alloc(), COMPILED, 4, |alloc, text| {
+        Ok(line_in(alloc, LAST, text)?)
+    })
 }
+
+const OWN_BLOCKS: &str = "
+    no call      | return 2                  | 1 blocks;   block 0: 1 vars, leave
+    an own call  | return self.one()         | 1 blocks;   block 0: 1 vars, leave
+    a call       | return b.get()            | 2 blocks;   block 0: 1 vars, call B.get then 1;   block 1: 2 vars, leave
+    a creation   | b = B(\"k\", 1)↵return 2 | 2 blocks;   block 0: 1 vars, make B then 1;   block 1: 2 vars, leave
+";
 
 #[test]
 fn methods_have_their_own_blocks(rt: HostRuntime) -> Result<(), Fail> {
-    let rows = rows(
-        rt.alloc(),
-        "
-        no call      | return 2                  | 1 blocks;   block 0: 1 vars, leave
-        an own call  | return self.one()         | 1 blocks;   block 0: 1 vars, leave
-        a call       | return b.get()            | 2 blocks;   block 0: 1 vars, call B.get then 1;   block 1: 2 vars, leave
-        a creation   | b = B(\"k\", 1)↵return 2 | 2 blocks;   block 0: 1 vars, make B then 1;   block 1: 2 vars, leave
-    ",
-    )?;
-    for row in &rows {
-        let text = text_in(rt.alloc(), AWAY, row.text.as_str())?;
-        let told = told(rt.alloc(), text.as_str())?;
-        let line = in_one_line(rt.alloc(), told.as_str())?;
-        let own = own_blocks(line.as_str());
-        assert_eq!(rt; own, row.wanted, "{}", row.label);
-    }
-    Ok(())
+    hold_table(&rt, rt.alloc(), OWN_BLOCKS, 4, |alloc, text| {
+        let line = line_in(alloc, AWAY, text)?;
+        Ok(String::from_str(alloc, own_blocks(line.as_str()))?)
+    })
 }
 
 /// Which methods of class `A` have one block, and which are cut into more.
@@ -214,39 +207,38 @@ fn kinds(alloc: Global, text: &str) -> Result<String, AllocError> {
     Ok(kinds)
 }
 
+/// The same of the methods of a row.
+fn kinds_of(alloc: Global, text: &str) -> Result<String, Fail> {
+    let text = text_in(alloc, METHODS, text)?;
+    let told = told(alloc, text.as_str())?;
+    Ok(kinds(alloc, told.as_str())?)
+}
+
+const CUT_OR_NOT: &str = "
+    calls on self         | def a(self) -> int:↵    return self.c()↵def c(self) -> int:↵    return 1                              | a;c;
+    a call of itself      | def a(self) -> int:↵    return self.a()                                                               | a;
+    another entity        | def a(self, b: B) -> int:↵    return b.get()                                                          | cut a;
+    one of the same class | def a(self, o: A) -> int:↵    return o.c()↵def c(self) -> int:↵    return 1                           | cut a;c;
+    a caller's caller     | def a(self, b: B) -> int:↵    return self.c(b)↵def c(self, b: B) -> int:↵    return self.d(b)↵\
+        def d(self, b: B) -> int:↵    return b.get() \
+        | cut a;cut c;cut d;
+    a creation            | def a(self) -> int:↵    B('k', 1)↵    return 1                                                        | cut a;
+    a function            | def a(self) -> int:↵    return len('k')                                                               | a;
+    an argument           | def a(self) -> int:↵    return self.c(B('k', 1))↵def c(self, b: B) -> int:↵    return 1               | cut a;c;
+    one of a function     | def a(self, b: B) -> int:↵    return len(str(b.get()))                                                | cut a;
+    behind a return       | def a(self, b: B) -> int:↵    return 1↵    return b.get()                                             | a;
+    behind a loop         | def a(self, b: B) -> int:↵    while True:↵        pass↵    return b.get()                             | a;
+    behind a branch       | def a(self, b: B) -> int:↵    if True:↵        return 1↵    return b.get()                            | cut a;
+    in a test             | def a(self, b: B) -> int:↵    if b.get() == 1:↵        return 1↵    return 2                          | cut a;
+    behind a false part   | def a(self, b: B) -> bool:↵    return False and b.get() == 1                                          | cut a;
+";
+
 #[test]
 fn a_method_that_may_leave_its_entity_is_cut(rt: HostRuntime) -> Result<(), Fail> {
-    let rows = rows(
-        rt.alloc(),
-        "
-        calls on self         | def a(self) -> int:↵    return self.c()↵def c(self) -> int:↵    return 1                              | a;c;
-        a call of itself      | def a(self) -> int:↵    return self.a()                                                               | a;
-        another entity        | def a(self, b: B) -> int:↵    return b.get()                                                          | cut a;
-        one of the same class | def a(self, o: A) -> int:↵    return o.c()↵def c(self) -> int:↵    return 1                           | cut a;c;
-        a caller's caller     | def a(self, b: B) -> int:↵    return self.c(b)↵def c(self, b: B) -> int:↵    return self.d(b)↵def d(self, b: B) -> int:↵    return b.get() | cut a;cut c;cut d;
-        a creation            | def a(self) -> int:↵    B('k', 1)↵    return 1                                                        | cut a;
-        a function            | def a(self) -> int:↵    return len('k')                                                               | a;
-        an argument           | def a(self) -> int:↵    return self.c(B('k', 1))↵def c(self, b: B) -> int:↵    return 1               | cut a;c;
-        one of a function     | def a(self, b: B) -> int:↵    return len(str(b.get()))                                                | cut a;
-        behind a return       | def a(self, b: B) -> int:↵    return 1↵    return b.get()                                             | a;
-        behind a loop         | def a(self, b: B) -> int:↵    while True:↵        pass↵    return b.get()                             | a;
-        behind a branch       | def a(self, b: B) -> int:↵    if True:↵        return 1↵    return b.get()                            | cut a;
-        in a test             | def a(self, b: B) -> int:↵    if b.get() == 1:↵        return 1↵    return 2                          | cut a;
-        behind a false part   | def a(self, b: B) -> bool:↵    return False and b.get() == 1                                          | cut a;
-    ",
-    )?;
-    for row in &rows {
-        let text = text_in(rt.alloc(), METHODS, row.text.as_str())?;
-        let told = told(rt.alloc(), text.as_str())?;
-        let kinds = kinds(rt.alloc(), told.as_str())?;
-        assert_eq!(rt; kinds.as_str(), row.wanted, "{}", row.label);
-    }
-    Ok(())
+    hold_table(&rt, rt.alloc(), CUT_OR_NOT, 14, kinds_of)
 }
 
 #[test]
 fn an_empty_text_has_an_empty_graph(rt: HostRuntime) -> Result<(), Fail> {
-    let told = told(rt.alloc(), "")?;
-    assert_eq!(rt; told.as_str(), "", "no class");
-    Ok(())
+    hold_text(&rt, told(rt.alloc(), ""), "")
 }

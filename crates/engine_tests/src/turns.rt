@@ -6,7 +6,7 @@ use line_driver::{Driver, Options, other_answer};
 use operator_graph::{MemWatch, Note, Notes};
 use std::alloc::{AllocError, Global};
 use std::test::Fail;
-use test_support::PING;
+use test_support::{Case, PING, hold_cases};
 
 fn note_told(alloc: Global, note: &Note) -> Result<String, AllocError> {
     match note {
@@ -43,45 +43,42 @@ fn told(alloc: Global, options: Options<'_>, table: &str) -> Result<String, Fail
     Ok(format!(in alloc; "{other}{}", told?)?)
 }
 
+/// Batches, partitions, picks and a table of lines.
+type Turn = (usize, u32, &'static [u32], &'static str);
+
 /// The hash of `x` is 120, and that of `y` is 121. An entity of the class A is served by the operator of its
 /// partition, and one of B by that of the number behind all partitions of A.
+const TURNS: [Case<'static, Turn>; 3] = [
+    (
+        "called back",
+        (1, 4, &[], CALLED_BACK),
+        "0:0 5:0 0:0 5:0 0:0 5:0 0:0 ",
+    ),
+    (
+        "called back among 64 partitions",
+        (1, 64, &[], CALLED_BACK),
+        "56:0 121:0 56:0 121:0 56:0 121:0 56:0 ",
+    ),
+    (
+        "the second request first",
+        (2, 4, &[1, 0, 1, 0, 1, 0], ASKED_OR_NOT),
+        "5:1 0:0 0:1 5:0 0:1 5:0 5:1 0:1 0:0 5:0 0:0 ",
+    ),
+];
+
+/// What a watch is told of a turn.
+fn turn_told(alloc: Global, turn: &Turn) -> Result<String, Fail> {
+    let (batch, partitions, picks, table) = turn;
+    let options = Options {
+        batch: *batch,
+        history: 100,
+        partitions: *partitions,
+        picks,
+    };
+    told(alloc, options, table)
+}
+
 #[test]
 fn events_are_told_in_the_order_of_the_picks(rt: HostRuntime) -> Result<(), Fail> {
-    let second_first: &[u32] = &[1, 0, 1, 0, 1, 0];
-    for (label, batch, partitions, picks, table, wanted) in [
-        (
-            "called back",
-            1,
-            4,
-            &[] as &[u32],
-            CALLED_BACK,
-            "0:0 5:0 0:0 5:0 0:0 5:0 0:0 ",
-        ),
-        (
-            "called back among 64 partitions",
-            1,
-            64,
-            &[] as &[u32],
-            CALLED_BACK,
-            "56:0 121:0 56:0 121:0 56:0 121:0 56:0 ",
-        ),
-        (
-            "the second request first",
-            2,
-            4,
-            second_first,
-            ASKED_OR_NOT,
-            "5:1 0:0 0:1 5:0 0:1 5:0 5:1 0:1 0:0 5:0 0:0 ",
-        ),
-    ] {
-        let options = Options {
-            batch,
-            history: 100,
-            partitions,
-            picks,
-        };
-        let told = told(rt.alloc(), options, table)?;
-        assert_eq!(rt; told.as_str(), wanted, "{label}");
-    }
-    Ok(())
+    hold_cases(&rt, rt.alloc(), &TURNS, turn_told)
 }

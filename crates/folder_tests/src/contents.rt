@@ -26,6 +26,7 @@ fn files_of_the_folder_have_the_bytes(rt: HostRuntime) -> Result<(), Fail> {
         ("named/log1", b"\0!two"),
         ("named/snap0", b"\0!six"),
         ("named/snap1", b"\0!ten"),
+        ("named/hist", b"\0!red"),
     ] {
         let found = fs::read(&rt, path)?;
         assert_eq!(rt; found.as_slice(), bytes.as_slice(), "{path}");

@@ -7,11 +7,12 @@ use std::io;
 use store_folder::Folder;
 
 /// What is written into each file from its third byte on.
-const FILES: [(StoreFile, [u8; 3]); 4] = [
+const FILES: [(StoreFile, [u8; 3]); 5] = [
     (StoreFile::Log0, [b'o', b'n', b'e']),
     (StoreFile::Log1, [b't', b'w', b'o']),
     (StoreFile::Snap0, [b's', b'i', b'x']),
     (StoreFile::Snap1, [b't', b'e', b'n']),
+    (StoreFile::Hist, [b'r', b'e', b'd']),
 ];
 
 /// Makes an empty folder of this name, in place of what an earlier run may have left.

@@ -30,6 +30,7 @@ fn folder_that_cannot_be_synced_is_refused(rt: HostRuntime) -> Result<(), Fail> 
         ("unsafe1", "unsafe1/log1"),
         ("unsafe2", "unsafe2/snap0"),
         ("unsafe3", "unsafe3/snap1"),
+        ("unsafe4", "unsafe4/hist"),
     ] {
         make_empty(&rt, name)?;
         rt.symlink("/dev/null", file)?;

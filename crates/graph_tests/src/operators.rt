@@ -21,11 +21,13 @@ fn at(alloc: Global, class: u32, key: &str) -> Result<Ref, AllocError>
 /// The hash of a text of one byte is the byte, and that of `apple` is 93,029,210.
 #[test]
 fn keys_fall_into_partitions_by_their_hash(rt: HostRuntime) -> Result<(), Fail> {
-    assert_eq!(rt; partition(b"", 4), 0, "an empty key");
-    assert_eq!(rt; partition(b"a", 4), 1, "one byte, of 97");
-    assert_eq!(rt; partition(b"apple", 4), 2, "four partitions");
-    assert_eq!(rt; partition(b"apple", 64), 26, "64 partitions");
-    assert_eq!(rt; partition(b"apple", 1), 0, "one partition");
+    let empty_key = partition(b"", 4);
+    let one_byte_of_97 = partition(b"a", 4);
+    let four_partitions = partition(b"apple", 4);
+    let partitions_64 = partition(b"apple", 64);
+    let one_partition = partition(b"apple", 1);
+    assert_eq!(rt; (empty_key, one_byte_of_97, four_partitions), (0, 1, 2));
+    assert_eq!(rt; (partitions_64, one_partition), (26, 0));
     Ok(())
 }
 
@@ -33,18 +35,12 @@ fn keys_fall_into_partitions_by_their_hash(rt: HostRuntime) -> Result<(), Fail> 
 fn operators_of_a_class_stand_behind_those_of_the_classes_before(
     rt: HostRuntime,
 ) -> Result<(), Fail> {
-    let alloc = rt.alloc();
-    assert_eq!(rt;
-        operator_of(&at(alloc, 0, "apple")?, 4),
-        2,
-        "the first class"
-    );
-    assert_eq!(rt;
-        operator_of(&at(alloc, 3, "apple")?, 4),
-        14,
-        "the fourth class"
-    );
-    assert_eq!(rt; operator_of(&at(alloc, 3, "apple")?, 1), 3, "one partition");
+    let first = at(rt.alloc(), 0, "apple")?;
+    let fourth = at(rt.alloc(), 3, "apple")?;
+    let first_class = operator_of(&first, 4);
+    let fourth_class = operator_of(&fourth, 4);
+    let one_partition = operator_of(&fourth, 1);
+    assert_eq!(rt; (first_class, fourth_class, one_partition), (2, 14, 3));
     Ok(())
 }
 

@@ -9,6 +9,7 @@ use py_tree::{Expr, Place};
 use sf_list::{Sequence, TryClone};
 use std::alloc::{AllocError, Global};
 use std::test::Fail;
+use test_support::hold_text;
 
 const HERE: Place = Place { line: 1, col: 1 };
 
@@ -138,34 +139,27 @@ fn split_told(alloc: Global, body: FlatStmts) -> Result<String, AllocError> {
     }
 }
 
+/// The blocks of the body that a function makes.
+fn told(alloc: Global, body: Result<FlatStmts, AllocError>) -> Result<String, AllocError> {
+    split_told(alloc, body?)
+}
+
 #[test]
 fn straight_code_is_one_block(rt: HostRuntime) -> Result<(), Fail> {
-    let alloc = rt.alloc();
-    let told = split_told(alloc, returning(alloc)?)?;
-    assert_eq!(rt; told.as_str(), "mark give leave /0; ", "a return");
-    Ok(())
+    let told = told(rt.alloc(), returning(rt.alloc()));
+    hold_text(&rt, told, "mark give leave /0; ")
 }
 
 #[test]
 fn a_branch_has_a_block_for_each_way_and_one_behind(rt: HostRuntime) -> Result<(), Fail> {
-    let alloc = rt.alloc();
-    let told = split_told(alloc, branching(alloc)?)?;
-    assert_eq!(rt;
-        told.as_str(),
-        "branch 3 2 /1; leave /0; mark jump 1 /0; mark give leave /0; ",
-        "an if"
-    );
-    Ok(())
+    let told = told(rt.alloc(), branching(rt.alloc()));
+    let wanted = "branch 3 2 /1; leave /0; mark jump 1 /0; mark give leave /0; ";
+    hold_text(&rt, told, wanted)
 }
 
 #[test]
 fn a_loop_has_a_head_and_a_body_that_begins_with_a_step(rt: HostRuntime) -> Result<(), Fail> {
-    let alloc = rt.alloc();
-    let told = split_told(alloc, looping(alloc)?)?;
-    assert_eq!(rt;
-        told.as_str(),
-        "jump 2 /2; leave /0; branch 3 1 /1; mark jump 2 /0; ",
-        "a while"
-    );
-    Ok(())
+    let told = told(rt.alloc(), looping(rt.alloc()));
+    let wanted = "jump 2 /2; leave /0; branch 3 1 /1; mark jump 2 /0; ";
+    hold_text(&rt, told, wanted)
 }

@@ -11,7 +11,7 @@ use Rattle.py_tree.specs.Flow.{with_local}
 use Rattle.sf_value.specs.declared.value.Value.{Value}
 use Rattle.program_meaning.specs.declared.vars.Var.{Var}
 use Rattle.program_meaning.specs.World.{is_named, var_at, local_value, assigned}
-use Rattle.program_meaning.proofs.Places.{position_of_more, found_at, found_passes}
+use Rattle.program_meaning.proofs.Places.{position_of_more, found_at, found_passes, any_at}
 use Rattle.program_meaning.proofs.SameLocals.{assigned_value}
 use Rattle.program_meaning.proofs.TypedParts.{both_true}
 use Rattle.block_code.specs.PlainVars.{PlainVar}

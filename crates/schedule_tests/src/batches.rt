@@ -1,7 +1,8 @@
 //! Runs in batches: what is answered, and what is traced of each batch.
 
-use memory_calls::{Answer, Faults, NO_FAULTS, call};
+use memory_calls::{Answer, Call, Faults, NO_FAULTS, Wanted, call, hold_answer, hold_call};
 use std::alloc::{AllocError, Global};
+use std::process::Abort;
 use std::test::Fail;
 use test_support::{NUM, PING, SHOP};
 
@@ -212,40 +213,58 @@ batch 2: pending 1, committed 1, events 1
     },
 ];
 
+/// Asserts what a run of a row's program answers and writes, with these faults.
+fn hold_run(
+    rt: &impl Abort,
+    alloc: Global,
+    row: &Row,
+    faults: Faults<'_>,
+    wanted: Wanted<'_>,
+) -> Result<(), Fail> {
+    let answer = run(alloc, row, faults)?;
+    hold_answer(rt, row.label, &answer, wanted);
+    drop(answer);
+    Ok(())
+}
+
 #[test]
 fn batches_are_answered_and_traced(rt: HostRuntime) -> Result<(), Fail> {
     for row in &ROWS {
-        let answer = run(rt.alloc(), row, NO_FAULTS)?;
-        assert_eq!(rt; answer.status, 0, "{}", row.label);
-        assert_eq!(rt; answer.out.bytes(), row.replies.as_bytes(), "{}", row.label);
-        assert_eq!(rt; answer.err.bytes(), row.traced.as_bytes(), "{}", row.label);
+        let wanted = Wanted {
+            status: 0,
+            out: row.replies.as_bytes(),
+            err: row.traced.as_bytes(),
+        };
+        hold_run(&rt, rt.alloc(), row, NO_FAULTS, wanted)?;
     }
     Ok(())
 }
 
-/// Two entries are the most that the history may have: the third request has no place.
-#[test]
-fn full_history_is_status_10(rt: HostRuntime) -> Result<(), Fail> {
-    let words = ["run", "num.py", "--batch", "1", "--history", "2"];
-    let input = r#"{"id":"a","class":"Num","new":["p",1]}
+const THREE_REQUESTS: &str = r#"{"id":"a","class":"Num","new":["p",1]}
 {"id":"b","class":"Num","key":"p","method":"get","args":[]}
 {"id":"c","class":"Num","key":"p","method":"get","args":[]}
 "#;
-    let answer = call(
-        rt.alloc(),
-        &words,
-        "num.py",
-        NUM.as_bytes(),
-        input.as_bytes(),
-        NO_FAULTS,
-    )?;
-    assert_eq!(rt; answer.status, 10);
-    assert_eq!(rt;
-        answer.out.bytes(),
-        b"{\"id\":\"a\",\"ok\":\"p\",\"seq\":1}\n{\"id\":\"b\",\"ok\":1,\"seq\":2}\n".as_slice()
-    );
-    assert_eq!(rt; answer.err.bytes(), b"stateflow: history full\n".as_slice());
-    Ok(())
+
+const TWO_REPLIES: &str = r#"{"id":"a","ok":"p","seq":1}
+{"id":"b","ok":1,"seq":2}
+"#;
+
+/// Two entries are the most that the history may have: the third request has no place.
+#[test]
+fn full_history_is_status_10(rt: HostRuntime) -> Result<(), Fail> {
+    let made = Call {
+        words: &["run", "num.py", "--batch", "1", "--history", "2"],
+        file: "num.py",
+        text: NUM.as_bytes(),
+        input: THREE_REQUESTS.as_bytes(),
+        faults: NO_FAULTS,
+    };
+    let wanted = Wanted {
+        status: 10,
+        out: TWO_REPLIES.as_bytes(),
+        err: b"stateflow: history full\n",
+    };
+    hold_call(&rt, rt.alloc(), "three requests", made, wanted)
 }
 
 /// The first line of the trace fails behind the replies to its batch.
@@ -255,28 +274,31 @@ fn failed_trace_is_status_4(rt: HostRuntime) -> Result<(), Fail> {
         err: &[1],
         ..NO_FAULTS
     };
-    let answer = run(rt.alloc(), &CALLED_BACK, faults)?;
-    assert_eq!(rt; answer.status, 4);
-    assert_eq!(rt;
-        answer.out.bytes(),
-        b"{\"id\":\"a\",\"ok\":\"x\",\"seq\":1}\n".as_slice()
-    );
-    assert_eq!(rt; answer.err.bytes(), b"stateflow: write fault\n".as_slice());
-    Ok(())
+    let wanted = Wanted {
+        status: 4,
+        out: b"{\"id\":\"a\",\"ok\":\"x\",\"seq\":1}\n",
+        err: b"stateflow: write fault\n",
+    };
+    hold_run(&rt, rt.alloc(), &CALLED_BACK, faults, wanted)
 }
 
 /// What waits when the input fails isn't run.
 #[test]
 fn what_waits_at_a_read_fault_isnt_run(rt: HostRuntime) -> Result<(), Fail> {
-    let words = ["run", "a.py"];
-    let faults = Faults {
-        input: &[2],
-        ..NO_FAULTS
+    let made = Call {
+        words: &["run", "a.py"],
+        file: "a.py",
+        text: SHOP.as_bytes(),
+        input: CARRIED.as_bytes(),
+        faults: Faults {
+            input: &[2],
+            ..NO_FAULTS
+        },
     };
-    let input = CARRIED.as_bytes();
-    let answer = call(rt.alloc(), &words, "a.py", SHOP.as_bytes(), input, faults)?;
-    assert_eq!(rt; answer.status, 3);
-    assert_eq!(rt; answer.out.bytes(), b"".as_slice());
-    assert_eq!(rt; answer.err.bytes(), b"stateflow: read fault\n".as_slice());
-    Ok(())
+    let wanted = Wanted {
+        status: 3,
+        out: b"",
+        err: b"stateflow: read fault\n",
+    };
+    hold_call(&rt, rt.alloc(), "the purchases", made, wanted)
 }

@@ -3,11 +3,12 @@
 ghost use Rattle.std.specs.Prelude.{None};
 
 use crate::batches::{CARRIED, CARRIED_REPLIES, CARRIED_TRACE};
-use memory_calls::{Answer, Generator, NO_FAULTS, call_along};
+use memory_calls::{Answer, Generator, NO_FAULTS, Wanted, call_along, hold_answer};
 use sf_outside::{Chooser, Failed, ListChooser, MemSource, Source};
 use std::alloc::{AllocError, Global};
+use std::process::Abort;
 use std::test::Fail;
-use test_support::SHOP;
+use test_support::{SHOP, hold_text};
 
 /// Runs the purchases in batches of three, along a schedule, on so many partitions.
 fn run<C: Chooser>(
@@ -32,26 +33,30 @@ fn run<C: Chooser>(
     call_along(alloc, &words, file, &mut input, chooser, NO_FAULTS)
 }
 
+/// Asserts that an answer has the bytes of the purchases on both outputs.
+fn hold_bytes(rt: &impl Abort, label: &str, answer: Answer) {
+    let wanted = Wanted {
+        status: 0,
+        out: CARRIED_REPLIES.as_bytes(),
+        err: CARRIED_TRACE.as_bytes(),
+    };
+    hold_answer(rt, label, &answer, wanted);
+    drop(answer);
+}
+
+/// Asserts that along the schedule of this number the purchases have these bytes, on one partition and on 64.
+fn hold_schedule(rt: &impl Abort, alloc: Global, number: &str) -> Result<(), Fail> {
+    hold_bytes(rt, number, run(alloc, number, "1", &mut Generator::new())?);
+    hold_bytes(rt, number, run(alloc, number, "64", &mut Generator::new())?);
+    Ok(())
+}
+
 const NUMBERS: [&str; 10] = ["0", "1", "2", "3", "4", "5", "6", "7", "8", "9"];
 
 #[test]
 fn schedules_and_partitions_change_no_byte(rt: HostRuntime) -> Result<(), Fail> {
     for number in NUMBERS {
-        for partitions in ["1", "64"] {
-            let mut chooser = Generator::new();
-            let answer = run(rt.alloc(), number, partitions, &mut chooser)?;
-            assert_eq!(rt; answer.status, 0, "{number} {partitions}");
-            assert_eq!(rt;
-                answer.out.bytes(),
-                CARRIED_REPLIES.as_bytes(),
-                "{number} {partitions}"
-            );
-            assert_eq!(rt;
-                answer.err.bytes(),
-                CARRIED_TRACE.as_bytes(),
-                "{number} {partitions}"
-            );
-        }
+        hold_schedule(&rt, rt.alloc(), number)?;
     }
     Ok(())
 }
@@ -69,31 +74,38 @@ const PICKS: [&[u32]; 10] = [
     &[7, 11, 13, 17, 19, 23, 29, 31, 37, 41, 43, 47, 53, 59, 61],
 ];
 
+/// Asserts that along these picks the purchases have these bytes.
+fn hold_picks(rt: &impl Abort, alloc: Global, picks: &[u32]) -> Result<(), Fail> {
+    let mut chooser = ListChooser::new(alloc, picks)?;
+    let answer = run(alloc, "0", "4", &mut chooser);
+    drop(chooser);
+    hold_bytes(rt, "picks", answer?);
+    Ok(())
+}
+
 #[test]
 fn picks_change_no_byte(rt: HostRuntime) -> Result<(), Fail> {
     for picks in PICKS {
-        let mut chooser = ListChooser::new(rt.alloc(), picks)?;
-        let answer = run(rt.alloc(), "0", "4", &mut chooser)?;
-        assert_eq!(rt; answer.status, 0);
-        assert_eq!(rt; answer.out.bytes(), CARRIED_REPLIES.as_bytes());
-        assert_eq!(rt; answer.err.bytes(), CARRIED_TRACE.as_bytes());
+        hold_picks(&rt, rt.alloc(), picks)?;
     }
     Ok(())
+}
+
+/// Three picks of a generator from 0, and then two from 7.
+fn picks_told(alloc: Global, chooser: &mut Generator) -> Result<String, AllocError> {
+    chooser.start(0);
+    let from_0 = (chooser.pick(3), chooser.pick(3), chooser.pick(3));
+    chooser.start(7);
+    let from_7 = (chooser.pick(3), chooser.pick(3));
+    format!(in alloc; "{from_0:?} {from_7:?}")
 }
 
 /// The upper halves of the generator's first numbers from 0 and from 7, reckoned by its formula.
 #[test]
 fn generator_picks_the_upper_halves(rt: HostRuntime) -> Result<(), Fail> {
-    let mut chooser = Generator::new();
-    chooser.start(0);
-    for pick in [335903614, 436792849, 2599843874] {
-        assert_eq!(rt; chooser.pick(3), pick);
-    }
-    chooser.start(7);
-    for pick in [2118330556, 4104526463] {
-        assert_eq!(rt; chooser.pick(3), pick);
-    }
-    Ok(())
+    let told = picks_told(rt.alloc(), &mut Generator::new());
+    let wanted = "(335903614, 436792849, 2599843874) (2118330556, 4104526463)";
+    hold_text(&rt, told, wanted)
 }
 
 /// An input that gives a byte at a time. It tells no content.
@@ -113,18 +125,19 @@ impl Source for SingleBytes {
     }
 }
 
-#[test]
-fn input_byte_by_byte_is_answered_alike(rt: HostRuntime) -> Result<(), Fail> {
-    let alloc = rt.alloc();
+/// Runs the purchases on an input that gives them a byte at a time.
+fn run_bytes(alloc: Global) -> Result<Answer, AllocError> {
     let words = ["run", "shop.py", "--batch", "3", "--trace"];
     let file = ("shop.py", SHOP.as_bytes());
     let mut input = SingleBytes {
         inner: MemSource::new(alloc, CARRIED.as_bytes(), &[])?,
     };
     let mut chooser = ListChooser::new(alloc, &[])?;
-    let answer = call_along(alloc, &words, file, &mut input, &mut chooser, NO_FAULTS)?;
-    assert_eq!(rt; answer.status, 0);
-    assert_eq!(rt; answer.out.bytes(), CARRIED_REPLIES.as_bytes());
-    assert_eq!(rt; answer.err.bytes(), CARRIED_TRACE.as_bytes());
+    call_along(alloc, &words, file, &mut input, &mut chooser, NO_FAULTS)
+}
+
+#[test]
+fn input_byte_by_byte_is_answered_alike(rt: HostRuntime) -> Result<(), Fail> {
+    hold_bytes(&rt, "byte by byte", run_bytes(rt.alloc())?);
     Ok(())
 }

@@ -135,7 +135,7 @@ fn hold_written(rt: &impl Abort, alloc: Global, call: u64, written: usize) -> Re
         ..NO_FAULTS
     };
     let wanted = Wanted {
-        out: &REPLIES[..written.min(REPLIES.len())],
+        out: &REPLIES[..REPLIES.len().min(written)],
         ..WRITE_FAULT
     };
     let made = Call { faults, ..run() };

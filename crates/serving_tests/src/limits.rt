@@ -8,15 +8,6 @@ use std::alloc::Global;
 use std::test::Fail;
 use test_support::{COUNTER, hold_cases};
 
-const SETTINGS: RunSettings = RunSettings {
-    batch: 64,
-    partitions: 4,
-    schedule: 0,
-    history: 10,
-    limit: 3,
-    trace: true,
-};
-
 /// Runs the counter on an input, of which three bytes may come.
 fn run_counter(
     alloc: Global,
@@ -28,10 +19,18 @@ fn run_counter(
     let Ok(compiled) = compile(alloc, COUNTER.as_bytes()) else {
         return Err(Fail::from("the counter isn't compiled"));
     };
+    let settings = RunSettings {
+        batch: 64,
+        partitions: 4,
+        schedule: 0,
+        history: 10,
+        limit: 3,
+        trace: true,
+    };
     Ok(run_program(
         alloc,
         compiled,
-        &SETTINGS,
+        &settings,
         input,
         out,
         err,

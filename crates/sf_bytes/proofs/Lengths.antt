@@ -7,8 +7,8 @@ use Rattle.std.proofs.lemmas.List.Sums.{sum_by-cons}
 use Rattle.sf_value.specs.declared.Act.TheVariants.{Call, New}
 use Rattle.sf_value.specs.declared.Outcome.TheVariants as outcomes
 use Rattle.sf_value.specs.declared.value.Value.{Value, Int, Bool as Truth, Str, Nil, List', Entity, Row_of-Value, end_of-Value, more_of-Value}
-use Rattle.byte_sizes.specs.Sizes.{text_size, list_size, long_list_size, ref_size, value_size, row_size, row_len, values_size, act_size, request_size, failure_size, outcome_size, entry_size, held_size, batch_size, snapshot_size}
-use Rattle.sf_bytes.specs.ByteForms.{number_bytes, long_bytes, int_bytes, text_bytes, list_bytes, long_list_bytes, ref_bytes, value_bytes, row_bytes, values_bytes, act_bytes, request_bytes, failure_bytes, outcome_bytes, entry_bytes, held_bytes, batch_bytes, snapshot_bytes}
+use Rattle.byte_sizes.specs.Sizes.{text_size, list_size, long_list_size, ref_size, value_size, row_size, row_len, values_size, act_size, request_size, failure_size, outcome_size, entry_size, held_size, batch_size, snapshot_size, head_size}
+use Rattle.sf_bytes.specs.ByteForms.{number_bytes, long_bytes, int_bytes, text_bytes, list_bytes, long_list_bytes, ref_bytes, value_bytes, row_bytes, values_bytes, act_bytes, request_bytes, failure_bytes, outcome_bytes, entry_bytes, held_bytes, batch_bytes, snapshot_bytes, extent_bytes, head_bytes}
 use Rattle.sf_bytes.specs.Lengths.{HasSizes}
 
 number-size : (n : ℕ) → length (number_bytes n) ≡ 4
@@ -77,7 +77,7 @@ unfolding outcome_bytes outcome_size failure_bytes failure_size
 outcome-sizes (outcomes.Value value) = omega (arith, value-sizes value)
 outcome-sizes (outcomes.Failed failure) = omega (arith, text-sizes failure.message)
 
-entry-sizes : HasSizes entry_bytes entry_size
+pub entry-sizes : HasSizes entry_bytes entry_size
 unfolding entry_bytes entry_size
 entry-sizes entry = omega (arith, length-append (request_bytes entry.request) (outcome_bytes entry.outcome), request-sizes entry.request, outcome-sizes entry.outcome)
 
@@ -106,4 +106,24 @@ snapshot-sizes snapshot =
       list-sizes entry_bytes entry_size entry-sizes snapshot.history,
       long_list-sizes held_bytes held_size held-sizes snapshot.records,
       list-sizes request_bytes request_size request-sizes snapshot.pending,
+    )
+
+pub head-sizes : HasSizes head_bytes head_size
+unfolding head_bytes head_size extent_bytes
+head-sizes head =
+    let program = text_bytes head.program in
+    let extent = number_bytes head.kept ++ long_bytes head.bytes in
+    let records = long_list_bytes held_bytes head.records in
+    let pending = list_bytes request_bytes head.pending in
+    omega (
+      arith,
+      length-append (program ++ extent ++ records) pending,
+      length-append (program ++ extent) records,
+      length-append program extent,
+      length-append (number_bytes head.kept) (long_bytes head.bytes),
+      number-size head.kept,
+      long-size head.bytes,
+      text-sizes head.program,
+      long_list-sizes held_bytes held_size held-sizes head.records,
+      list-sizes request_bytes request_size request-sizes head.pending,
     )

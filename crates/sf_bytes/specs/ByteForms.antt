@@ -14,6 +14,7 @@ use Rattle.sf_value.specs.declared.Outcome.{Outcome}
 use Rattle.sf_value.specs.declared.Outcome.TheVariants as outcomes
 use Rattle.sf_value.specs.declared.Request.{Request}
 use Rattle.sf_value.specs.declared.Snapshot.{Snapshot}
+use Rattle.sf_value.specs.declared.heads.Head.{Head}
 use Rattle.sf_value.specs.declared.value.Ref.{Ref}
 use Rattle.sf_value.specs.declared.value.Value.{Value, Int, Bool as Truth, Str, Nil, List', Entity, Row_of-Value, end_of-Value, more_of-Value}
 
@@ -98,3 +99,11 @@ batch_bytes batch = list_bytes request_bytes batch.news ++ list_bytes number_byt
 -- the program, the history, the records and the pending requests
 unfoldable pub snapshot_bytes : Snapshot → Items ℕ
 snapshot_bytes snapshot = text_bytes snapshot.program ++ list_bytes entry_bytes snapshot.history ++ long_list_bytes held_bytes snapshot.records ++ list_bytes request_bytes snapshot.pending
+
+-- how many entries a history has, and how many bytes these take, in eight bytes
+unfoldable pub extent_bytes : ℕ × ℕ → Items ℕ
+extent_bytes extent = number_bytes extent.0 ++ long_bytes extent.1
+
+-- the program, how far the history goes, the records and the pending requests
+unfoldable pub head_bytes : Head → Items ℕ
+head_bytes head = text_bytes head.program ++ extent_bytes (head.kept, head.bytes) ++ long_list_bytes held_bytes head.records ++ list_bytes request_bytes head.pending

@@ -15,6 +15,7 @@ use Rattle.sf_value.specs.declared.Outcome.{Outcome}
 use Rattle.sf_value.specs.declared.Outcome.TheVariants as outcomes
 use Rattle.sf_value.specs.declared.Request.{Request}
 use Rattle.sf_value.specs.declared.Snapshot.{Snapshot}
+use Rattle.sf_value.specs.declared.heads.Head.{Head}
 use Rattle.sf_value.specs.declared.value.Ref.{Ref}
 use Rattle.sf_value.specs.declared.value.Value.{Value, Int, Bool as Truth, Str, Nil, List, Entity}
 
@@ -185,3 +186,17 @@ snapshot_at bytes = do
   records ← long_list_at held_at history.1
   pending ← list_at request_at records.1
   Some (record { program = program.0; history = history.0; records = records.0; pending = pending.0 }, pending.1)
+
+unfoldable pub extent_at : Reader (ℕ × ℕ)
+extent_at bytes = do
+  kept ← number_at bytes
+  size ← long_at kept.1
+  Some ((kept.0, size.0), size.1)
+
+unfoldable pub head_at : Reader Head
+head_at bytes = do
+  program ← text_at bytes
+  extent ← extent_at program.1
+  records ← long_list_at held_at extent.1
+  pending ← list_at request_at records.1
+  Some (record { program = program.0; kept = extent.0.0; bytes = extent.0.1; records = records.0; pending = pending.0 }, pending.1)

@@ -1,4 +1,4 @@
-//! The bytes of values, requests, outcomes, batches and snapshots, as a store keeps them.
+//! The bytes of values, requests, outcomes, entries, batches, snapshots and heads, as a store keeps them.
 //!
 //! Each thing has one spelling, and no spelling begins another, so that what was written is read
 //! again whatever follows it. Reading takes memory and time by the bytes that are there, never by a
@@ -6,9 +6,11 @@
 #![tactic(auto)]
 
 ghost use Rattle.std.specs.Prelude.{◌≡◌, IfOk, OnOk};
-ghost use Rattle.byte_sizes.specs.Sizes.{value_size, request_size, outcome_size, batch_size, snapshot_size};
-ghost use Rattle.sf_bytes.specs.ByteForms.{value_bytes, request_bytes, outcome_bytes, batch_bytes, snapshot_bytes};
-ghost use Rattle.sf_bytes.specs.Spelt.{IsSpeltValue, IsSpeltRequest, IsSpeltOutcome, IsSpeltBatch, IsSpeltSnapshot, IsReal, IsRealRequest, IsRealOutcome, IsRealBatch, IsRealSnapshot, IsReadValue, IsReadRequest, IsReadOutcome, IsReadBatch, IsReadSnapshot};
+ghost use Rattle.byte_sizes.specs.Sizes.{value_size, request_size, outcome_size, entry_size, batch_size, snapshot_size, head_size};
+ghost use Rattle.sf_bytes.specs.ByteForms.{value_bytes, request_bytes, outcome_bytes, entry_bytes, batch_bytes, snapshot_bytes, head_bytes};
+ghost use Rattle.sf_bytes.specs.Spelt.{IsSpeltValue, IsSpeltRequest, IsSpeltOutcome, IsSpeltEntry, IsSpeltBatch, IsSpeltSnapshot, IsSpeltHead};
+ghost use Rattle.sf_bytes.specs.Spelt.{IsReal, IsRealRequest, IsRealOutcome, IsRealEntry, IsRealBatch, IsRealSnapshot, IsRealHead};
+ghost use Rattle.sf_bytes.specs.Spelt.{IsReadValue, IsReadRequest, IsReadOutcome, IsReadEntry, IsReadBatch, IsReadSnapshot, IsReadHead};
 ghost use Rattle.sf_bytes.specs.Lengths.{HasSizes};
 ghost use Rattle.sf_bytes.specs.Reads.{Reads, NoneBeginsAnother};
 
@@ -20,8 +22,9 @@ mod requests;
 mod writing;
 
 use fault::answer;
+use items::Item;
 use sf_list::Sequence;
-use sf_value::{BatchRecord, Bytes, Outcome, Request, Snapshot, Value};
+use sf_value::{BatchRecord, Bytes, Entry, Head, Outcome, Request, Snapshot, Value};
 use std::alloc::{AllocError, Global};
 
 /// How deep lists of values may nest. The list of a request's arguments and that of a record's fields
@@ -83,6 +86,28 @@ pub fn write_snapshot(alloc: Global, snapshot: &Snapshot) -> Result<Bytes, Alloc
     Ok(out)
 }
 
+/// The bytes of a history's entry.
+pub fn write_entry(alloc: Global, entry: &Entry) -> Result<Bytes, AllocError>
+    requires { IsSpeltEntry entry.now }
+    ensures bytes { IfOk result (λ made. made ≡ entry_bytes entry.now) }
+    ensures real { OnOk result (IsRealEntry entry.now) }
+{
+    let mut out = Sequence::new(alloc);
+    entry.put(&mut out, alloc)?;
+    Ok(out)
+}
+
+/// The bytes of a head.
+pub fn write_head(alloc: Global, head: &Head) -> Result<Bytes, AllocError>
+    requires { IsSpeltHead head.now }
+    ensures bytes { IfOk result (λ made. made ≡ head_bytes head.now) }
+    ensures real { OnOk result (IsRealHead head.now) }
+{
+    let mut out = Sequence::new(alloc);
+    records::put_head(&mut out, alloc, head)?;
+    Ok(out)
+}
+
 /// The value that the bytes begin with, and how many bytes it takes.
 pub fn read_value(alloc: Global, bytes: &[u8]) -> Result<Option<(Value, usize)>, AllocError>
     ensures { Reads value_bytes IsReadValue bytes.now result }
@@ -118,13 +143,29 @@ pub fn read_snapshot(alloc: Global, bytes: &[u8]) -> Result<Option<(Snapshot, us
     answer(bytes, records::snapshot_of(alloc, bytes))
 }
 
+/// The history's entry that the bytes begin with, and how many bytes it takes.
+pub fn read_entry(alloc: Global, bytes: &[u8]) -> Result<Option<(Entry, usize)>, AllocError>
+    ensures { Reads entry_bytes IsReadEntry bytes.now result }
+{
+    answer(bytes, records::entry_of(alloc, bytes))
+}
+
+/// The head that the bytes begin with, and how many bytes it takes.
+pub fn read_head(alloc: Global, bytes: &[u8]) -> Result<Option<(Head, usize)>, AllocError>
+    ensures { Reads head_bytes IsReadHead bytes.now result }
+{
+    answer(bytes, records::head_of(alloc, bytes))
+}
+
 /// No spelling begins another of its kind, whatever follows it.
 pub fn spellings_stand_apart()
     ensures values { NoneBeginsAnother value_bytes IsReadValue }
     ensures requests { NoneBeginsAnother request_bytes IsReadRequest }
     ensures outcomes { NoneBeginsAnother outcome_bytes IsReadOutcome }
+    ensures entries { NoneBeginsAnother entry_bytes IsReadEntry }
     ensures batches { NoneBeginsAnother batch_bytes IsReadBatch }
     ensures snapshots { NoneBeginsAnother snapshot_bytes IsReadSnapshot }
+    ensures heads { NoneBeginsAnother head_bytes IsReadHead }
 {}
 
 /// A spelling is as long as the size of its thing says, which `byte_sizes` defines.
@@ -132,6 +173,8 @@ pub fn spellings_have_sizes()
     ensures values { HasSizes value_bytes value_size }
     ensures requests { HasSizes request_bytes request_size }
     ensures outcomes { HasSizes outcome_bytes outcome_size }
+    ensures entries { HasSizes entry_bytes entry_size }
     ensures batches { HasSizes batch_bytes batch_size }
     ensures snapshots { HasSizes snapshot_bytes snapshot_size }
+    ensures heads { HasSizes head_bytes head_size }
 {}

@@ -6,11 +6,13 @@ pub mod DiskSteps
 pub mod FileRooms
 pub mod Fronts
 pub mod GainLaws
+pub mod ImageLaws
 pub mod ImageSteps
 pub mod LogLaws
 pub mod NamedFiles
 pub mod NamedValues
 pub mod Refusals
+pub mod Replays
 pub mod Writes
 pub mod WrittenBytes
 pub mod HandingLaws

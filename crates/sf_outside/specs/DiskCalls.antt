@@ -19,8 +19,9 @@ pub record FileHistory : Type 0 where
   pub synced : List ℕ
   pub writes : List (ℕ × ℕ)
 
-abbrev pub new_file : FileHistory
-new_file = record { now = []; synced = []; writes = [] }
+-- a file that a crash leaves as a read gives it
+abbrev pub clean_file : List ℕ → FileHistory
+clean_file bytes = record { now = bytes; synced = bytes; writes = [] }
 
 abbrev pub file_after_write : ℕ → List ℕ → FileHistory → FileHistory
 file_after_write at bytes file = record { now = written file.now at bytes; synced = file.synced; writes = (at, length bytes) ∷ file.writes }
@@ -28,8 +29,19 @@ file_after_write at bytes file = record { now = written file.now at bytes; synce
 abbrev pub file_after_sync : FileHistory → FileHistory
 file_after_sync file = record { now = file.now; synced = file.now; writes = [] }
 
-abbrev pub new_files : PerFile FileHistory
-new_files = record { log0 = new_file; log1 = new_file; snap0 = new_file; snap1 = new_file; hist = new_file }
+-- the files of a disk that begins with this image
+abbrev pub clean_files : Image → PerFile FileHistory
+clean_files start = record {
+  log0 = clean_file start.log0;
+  log1 = clean_file start.log1;
+  snap0 = clean_file start.snap0;
+  snap1 = clean_file start.snap1;
+  hist = clean_file start.hist;
+}
+
+-- no file has a byte
+abbrev pub no_bytes : Image
+no_bytes = record { log0 = []; log1 = []; snap0 = []; snap1 = []; hist = [] }
 
 abbrev pub after_call : DiskCall → PerFile FileHistory → PerFile FileHistory
 after_call Quiet files = files
@@ -48,9 +60,9 @@ abbrev pub after_calls : List DiskCall → PerFile FileHistory → PerFile FileH
 after_calls [] files = files
 after_calls (call ∷ calls) files = after_calls calls (after_call call files)
 
--- the files of a disk that had these calls
-abbrev pub files_after : List DiskCall → PerFile FileHistory
-files_after calls = after_calls calls new_files
+-- the files of a disk that began with this image and had these calls
+abbrev pub files_after : Image → List DiskCall → PerFile FileHistory
+files_after start calls = after_calls calls (clean_files start)
 
 -- what a read gives
 abbrev pub bytes_now : PerFile FileHistory → Image
@@ -81,15 +93,15 @@ reads_each files Hist = refl
 pub leaves_now : (files : PerFile FileHistory) → Leaves files (bytes_now files)
 leaves_now files = record { each = λ file. inl (reads_each files file) }
 
--- what is told of a disk that had these calls: a moment is the number of calls so far
-abbrev pub facts_after : List DiskCall → DiskFacts
-facts_after calls = record {
-  seen = Some (bytes_now (files_after calls));
-  may_leave = Leaves (files_after calls);
+-- what is told of such a disk: a moment is the number of calls so far
+abbrev pub facts_after : Image → List DiskCall → DiskFacts
+facts_after start calls = record {
+  seen = Some (bytes_now (files_after start calls));
+  may_leave = Leaves (files_after start calls);
   moment = length calls;
-  left_since = λ since image. SomeSince (λ first. Leaves (files_after first) image) calls since;
+  left_since = λ since image. SomeSince (λ first. Leaves (files_after start first) image) calls since;
   told = λ image leaves. refl;
-  reads = leaves_now (files_after calls);
-  counts_now = λ since image within leaves. counts_last (λ first. Leaves (files_after first) image) calls since within leaves;
-  only_now = λ image left. last_only (λ first. Leaves (files_after first) image) calls left;
+  reads = leaves_now (files_after start calls);
+  counts_now = λ since image within leaves. counts_last (λ first. Leaves (files_after start first) image) calls since within leaves;
+  only_now = λ image left. last_only (λ first. Leaves (files_after start first) image) calls left;
 }

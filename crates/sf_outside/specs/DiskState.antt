@@ -1,13 +1,15 @@
 -- What a disk in memory shows, and what each call makes of it.
-use Rattle.std.specs.Prelude.{ℕ, Bool, ◌||◌, List, [], ◌∷◌, ◌++◌, length, nat_le, if◌then◌else◌}
+use Rattle.std.specs.Prelude.{ℕ, ◌≡◌, Bool, ◌||◌, List, [], ◌∷◌, ◌++◌, length, min, nat_le, if◌then◌else◌}
 use Rattle.sf_outside.specs.Calls.{is_due}
 use Rattle.sf_outside.specs.Causes.{next_count}
-use Rattle.sf_outside.specs.DiskCalls.{DiskCall, Quiet}
+use Rattle.sf_outside.specs.DiskModel.{Image, DiskFacts}
+use Rattle.sf_outside.specs.DiskCalls.{DiskCall, Quiet, facts_after}
 use Rattle.sf_outside.specs.MountState.{MountState}
 
--- the calls that it noted, how many it notes and how many bytes its files and all its writes may have, the calls that
--- are to fail, how many calls and how many faults there were, and the mounts
+-- the image that it began with, the calls that it noted, how many it notes and how many bytes its files and all its
+-- writes may have, the calls that are to fail, how many calls and how many faults there were, and the mounts
 pub record DiskState : Type 0 where
+  pub start : Image
   pub calls : List DiskCall
   pub limit : ℕ
   pub room : ℕ
@@ -16,13 +18,17 @@ pub record DiskState : Type 0 where
   pub faults : ℕ
   pub mounts : MountState
 
+-- what is told of it
+abbrev pub facts_of : DiskState → DiskFacts
+facts_of disk = facts_after disk.start disk.calls
+
+-- each call that was made is noted, as long as there is room
+abbrev pub NotesAll : DiskState → Type 0
+NotesAll disk = length disk.calls ≡ min disk.made disk.limit
+
 -- whether the next call fails whatever it is: it is to fail, or the number of calls is used up
 abbrev pub fails_next : DiskState → Bool
 fails_next disk = is_due disk.fail_at (next_count disk.made) || nat_le disk.limit (length disk.calls)
-
--- one call was made
-abbrev pub after_begin : DiskState → DiskState
-after_begin disk = record disk { made = next_count disk.made }
 
 -- a call was made and noted
 abbrev pub after_done : DiskCall → DiskState → DiskState

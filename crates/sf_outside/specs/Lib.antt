@@ -8,10 +8,12 @@ pub mod DiskFiles
 pub mod DiskModel
 pub mod DiskState
 pub mod Gains
+pub mod Images
 pub mod ImageSteps
 pub mod LogState
 pub mod Memory
 pub mod MountState
 pub mod Named
+pub mod Replays
 pub mod SinceMoments
 pub mod Handing

@@ -1,10 +1,13 @@
 //! The log of a disk in memory: each call that it had. It takes all its room when it is made.
 
-ghost use Rattle.std.specs.Prelude.{◌≡◌, ◌+◌, ◌-◌, ◌<◌, ◌≤◌, ◌++◌, ◌∷◌, [], length, nat_le, IfOk};
+ghost use Rattle.std.specs.Prelude.{◌≡◌, ◌+◌, ◌-◌, ◌^◌, ◌<◌, ◌≤◌, ◌++◌, ◌∷◌, [], length, take, nat_le, IfOk};
 ghost use Rattle.sf_outside.specs.DiskCalls.{Quiet, Write, Sync, Mount};
 ghost use Rattle.sf_outside.specs.LogState.{bytes_written};
-ghost use Rattle.sf_outside.specs.CallLog.{calls_of, noted_bytes};
+ghost use Rattle.sf_outside.specs.CallLog.{calls_of, note_fits, noted_bytes};
+ghost use Rattle.sf_outside.specs.Images.{image_after};
 
+use crate::disk_files::DiskFiles;
+use crate::memory_images::play;
 use crate::store_disk::StoreFile;
 use std::alloc::{AllocError, Global};
 use std::marker::Model;
@@ -33,12 +36,13 @@ impl Model for CallLog {
 
     ghost Value = { LogState };
 
-    ghost use Rattle.sf_outside.specs.CallLog.{calls_of, noted_bytes};
+    ghost use Rattle.sf_outside.specs.CallLog.{calls_of, noted_bytes, notes_fit};
 
     ghost view = { λ log. record { calls = calls_of log.notes.items log.bytes.items; limit = log.limit; room = log.room } };
 
     ghost invariant = { λ log. (noted_bytes log.notes.items ≡ length log.bytes.items)
-        × (log.limit ≤ vec_capacity log.notes) × (log.room ≤ vec_capacity log.bytes) × (length log.bytes.items ≤ log.room) };
+        × (log.limit ≤ vec_capacity log.notes) × (log.room ≤ vec_capacity log.bytes) × (length log.bytes.items ≤ log.room)
+        × notes_fit log.room log.notes.items };
 }
 
 impl CallLog {
@@ -69,7 +73,8 @@ impl CallLog {
     }
 
     pub fn is_full(&self) -> bool
-        ensures { result ≡ nat_le self.now.limit (length self.now.calls) }
+        ensures answer { result ≡ nat_le self.now.limit (length self.now.calls) }
+        ensures few { self.now.limit < 2 ^ 64 }
     {
         self.limit <= self.notes.len() as u64
     }
@@ -107,6 +112,7 @@ impl CallLog {
     pub fn note_write(&mut self, file: StoreFile, at: u64, bytes: &[u8])
         requires calls { length self.old.calls < self.old.limit }
         requires bytes { bytes_written self.old.calls + length bytes.now ≤ self.old.room }
+        requires place { at + length bytes.now ≤ self.old.room }
         ensures { self.new ≡ record self.old { calls = self.old.calls ++ Write file at bytes.now ∷ [] } }
     {
         self.note(Note::Write(file, at, bytes.len()), bytes);
@@ -117,9 +123,26 @@ impl CallLog {
         requires calls { length self.old.calls < self.old.limit }
         requires room { length bytes.now ≤ self.old.room - bytes_written self.old.calls }
         requires bytes { noted_bytes (note ∷ []) ≡ length bytes.now }
+        requires place { note_fits self.old.room note }
         ensures { self.new ≡ record self.old { calls = self.old.calls ++ calls_of (note ∷ []) bytes.now } }
     {
         self.notes.push(note).unwrap();
         self.bytes.extend_from_slice(bytes).unwrap();
+    }
+
+    /// Plays the first calls on files: behind them `now` is as a read gives it, and `left` as a crash leaves it, with `fill` wherever any byte may stand.
+    /// Both are at first the files that the first call met.
+    pub fn replay(&self, moment: u64, fill: u8, now: &mut DiskFiles, left: &mut DiskFiles)
+        requires same { left.old.image ≡ now.old.image }
+        requires now { now.old.room ≡ self.now.room }
+        requires left { left.old.room ≡ self.now.room }
+        ensures { left.new ≡ record left.old { image = image_after fill now.old.image (take moment self.now.calls) } }
+    {
+        let end = (moment as usize).min(self.notes.len());
+        let notes = &self.notes[..end];
+        let mut used = 0;
+        for note in notes {
+            used += play(*note, &self.bytes[used..], fill, now, left);
+        }
     }
 }

@@ -32,6 +32,28 @@ impl Calls {
         })
     }
 
+    /// How many calls were made, as far as the count reaches.
+    pub fn made(&self) -> u64
+        ensures { result ≡ self.now.made }
+    {
+        self.made
+    }
+
+    /// Whether the next call is to fail.
+    pub fn is_next_due(&self) -> bool
+        ensures { result ≡ is_due self.now.fail_at (next_count self.now.made) }
+    {
+        let next = self.made.saturating_add(1);
+        self.fail_at.as_slice().contains(&next)
+    }
+
+    /// Counts a call.
+    pub fn count(&mut self)
+        ensures { self.new ≡ record self.old { made = next_count self.old.made } }
+    {
+        self.made = self.made.saturating_add(1);
+    }
+
     /// Counts a call, and says whether it is to fail.
     pub fn next_fails(&mut self) -> bool
         ensures answer { result ≡ is_due self.old.fail_at self.new.made }

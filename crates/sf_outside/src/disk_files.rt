@@ -1,7 +1,9 @@
 //! The files of a disk in memory. They take all their room when they are made.
 
-ghost use Rattle.std.specs.Prelude.{◌≡◌, ◌+◌, ◌-◌, ◌≤◌, [], length, take, drop, replicate, IfOk};
+ghost use Rattle.std.specs.Prelude.{◌≡◌, ◌+◌, ◌-◌, ◌^◌, ◌<◌, ◌≤◌, [], length, take, drop, replicate, IfOk};
+ghost use Rattle.sf_outside.specs.DiskFiles.{FitsIn};
 ghost use Rattle.sf_outside.specs.DiskModel.{of_file, with_file, written};
+ghost use Rattle.sf_outside.specs.Images.{filled, longest, SameLengths};
 
 use crate::store_disk::StoreFile;
 use std::alloc::{AllocError, Global};
@@ -47,6 +49,32 @@ impl DiskFile {
     {
         self.len = write_into(&mut self.bytes, self.len, at, bytes);
     }
+
+    /// A file of the same bytes with this room.
+    fn copied(&self, alloc: Global, room: usize) -> Result<DiskFile, AllocError>
+        requires { length self.now.bytes ≤ room }
+        ensures { IfOk result (λ made. made ≡ record { bytes = self.now.bytes; room = room }) }
+    {
+        let mut made = DiskFile::new(alloc, room)?;
+        made.write_at(0, self.bytes());
+        Ok(made)
+    }
+
+    /// Puts this byte wherever a write of `n` bytes that isn't whole may leave any.
+    fn fill_at(&mut self, at: usize, n: usize, fill: u8)
+        requires { at + n ≤ self.old.room }
+        ensures { self.new ≡ record self.old { bytes = filled fill at n self.old.bytes } }
+    {
+        self.len = fill_into(&mut self.bytes, self.len, at, n, fill);
+    }
+
+    /// Takes over the bytes of a file that is as long.
+    fn take_from(&mut self, other: &DiskFile)
+        requires { length other.now.bytes ≡ length self.old.bytes }
+        ensures { self.new ≡ record self.old { bytes = other.now.bytes } }
+    {
+        self.len = write_into(&mut self.bytes, self.len, 0, other.bytes());
+    }
 }
 
 /// Writes into the room of a file of this length, and gives its new length.
@@ -64,6 +92,24 @@ fn write_into(room: &mut [u8], len: usize, at: usize, bytes: &[u8]) -> usize
     let end = at + bytes.len();
     room[at..end].copy_from_slice(bytes);
     len.max(end)
+}
+
+/// Fills what a write of `n` bytes that isn't whole may change in a file of this length, and gives its new length.
+fn fill_into(room: &mut [u8], len: usize, at: usize, n: usize, fill: u8) -> usize
+    requires within { len ≤ length room.old }
+    requires fits { at + n ≤ length room.old }
+    requires zeros { drop len room.old ≡ replicate (length room.old - len) 0 }
+    ensures within { result ≤ length room.old }
+    ensures zeros { drop result room.new ≡ replicate (length room.old - result) 0 }
+    ensures filled { take result room.new ≡ filled fill at n (take len room.old) }
+{
+    if n == 0 {
+        return len;
+    }
+    let from = at.min(len);
+    let end = at + n;
+    room[from..end].fill(fill);
+    end.max(len)
 }
 
 /// The files of a store, each with the same room.
@@ -131,5 +177,75 @@ impl DiskFiles {
             StoreFile::Snap1 => self.snap1.write_at(at, bytes),
             StoreFile::Hist => self.hist.write_at(at, bytes),
         }
+    }
+
+    /// Files of the same bytes with this room.
+    pub fn copied(&self, alloc: Global, room: u64) -> Result<DiskFiles, AllocError>
+        requires { FitsIn room self.now.image }
+        ensures { IfOk result (λ made. made ≡ record { image = self.now.image; room = room }) }
+    {
+        let room = room as usize;
+        Ok(DiskFiles {
+            log0: self.log0.copied(alloc, room)?,
+            log1: self.log1.copied(alloc, room)?,
+            snap0: self.snap0.copied(alloc, room)?,
+            snap1: self.snap1.copied(alloc, room)?,
+            hist: self.hist.copied(alloc, room)?,
+        })
+    }
+
+    /// Puts this byte wherever a write of `n` bytes within the room that isn't whole may leave any.
+    pub fn fill_at(&mut self, file: StoreFile, at: u64, n: usize, fill: u8)
+        requires { at + n ≤ self.old.room }
+        ensures { self.new ≡ record self.old { image = with_file file (filled fill at n (of_file file self.old.image)) self.old.image } }
+    {
+        let at = at as usize;
+        match file {
+            StoreFile::Log0 => self.log0.fill_at(at, n, fill),
+            StoreFile::Log1 => self.log1.fill_at(at, n, fill),
+            StoreFile::Snap0 => self.snap0.fill_at(at, n, fill),
+            StoreFile::Snap1 => self.snap1.fill_at(at, n, fill),
+            StoreFile::Hist => self.hist.fill_at(at, n, fill),
+        }
+    }
+
+    /// Takes over the bytes of one file of others, which is as long.
+    pub fn take_file(&mut self, file: StoreFile, other: &DiskFiles)
+        requires { length (of_file file other.now.image) ≡ length (of_file file self.old.image) }
+        ensures { self.new ≡ record self.old { image = with_file file (of_file file other.now.image) self.old.image } }
+    {
+        match file {
+            StoreFile::Log0 => self.log0.take_from(&other.log0),
+            StoreFile::Log1 => self.log1.take_from(&other.log1),
+            StoreFile::Snap0 => self.snap0.take_from(&other.snap0),
+            StoreFile::Snap1 => self.snap1.take_from(&other.snap1),
+            StoreFile::Hist => self.hist.take_from(&other.hist),
+        }
+    }
+
+    /// Takes over the bytes of all files of others, which are as long.
+    pub fn take_all(&mut self, other: &DiskFiles)
+        requires { SameLengths other.now.image self.old.image }
+        ensures { self.new ≡ record self.old { image = other.now.image } }
+    {
+        self.log0.take_from(&other.log0);
+        self.log1.take_from(&other.log1);
+        self.snap0.take_from(&other.snap0);
+        self.snap1.take_from(&other.snap1);
+        self.hist.take_from(&other.hist);
+    }
+
+    /// How many bytes the longest file has.
+    pub fn longest(&self) -> usize
+        ensures is { result ≡ longest self.now.image }
+        ensures small { result < 2 ^ 63 }
+    {
+        self.log0
+            .bytes()
+            .len()
+            .max(self.log1.bytes().len())
+            .max(self.snap0.bytes().len())
+            .max(self.snap1.bytes().len())
+            .max(self.hist.bytes().len())
     }
 }

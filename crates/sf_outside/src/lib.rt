@@ -15,6 +15,7 @@ mod disk_files;
 mod gains;
 mod memory_disk;
 mod memory_files;
+mod memory_images;
 mod memory_sink;
 mod memory_source;
 mod mount_book;

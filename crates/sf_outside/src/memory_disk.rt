@@ -1,13 +1,13 @@
 //! A disk in memory. It notes each call, and so tells what a crash at each moment may have left.
 
-ghost use Rattle.std.specs.Prelude.{◌≡◌, ◌+◌, ◌^◌, ◌≤◌, ◌||◌, ◌⊎◌, ℕ, List, None, Some, [], length, is_err, true, false, not, nat_lt, if◌then◌else◌, IfOk, IfSome, OnOk, OnErr, IsErrOf};
+ghost use Rattle.std.specs.Prelude.{◌≡◌, ◌+◌, ◌^◌, ◌<◌, ◌≤◌, ◌||◌, ◌⊎◌, ℕ, List, None, Some, [], length, is_err, true, false, not, nat_lt, if◌then◌else◌, IfOk, IfSome, OnOk, OnErr, IsErrOf};
 ghost use Rattle.std.specs.Io.{ReadsAtMost};
 ghost use Rattle.sf_outside.specs.Bytes.{CopiedAll};
 ghost use Rattle.sf_outside.specs.Causes.{HasCause, Rose, next_count};
 ghost use Rattle.sf_outside.specs.DiskModel.{of_file, LeavesOnly, Stays, SeenWritten, SeenTorn, IsDurable, IsClean, mounted, NotMounted};
 ghost use Rattle.sf_outside.specs.ImageSteps.{ComesTorn};
-ghost use Rattle.sf_outside.specs.DiskCalls.{Quiet, Write, Sync, Mount, facts_after};
-ghost use Rattle.sf_outside.specs.DiskState.{fails_next, after_begin, after_done, after_quiet, after_fault, calls_quiet};
+ghost use Rattle.sf_outside.specs.DiskCalls.{Quiet, Write, Sync, Mount, no_bytes};
+ghost use Rattle.sf_outside.specs.DiskState.{facts_of, NotesAll, fails_next, after_done, after_quiet, after_fault};
 ghost use Rattle.sf_outside.specs.LogState.{bytes_written};
 ghost use Rattle.sf_outside.specs.MountState.{mounts_of, refusals_of, with_mount, with_refusal};
 
@@ -24,21 +24,23 @@ use std::marker::Model;
 /// A disk whose files are in memory. It keeps them when it is mounted.
 #[derive(Drop)]
 pub struct MemDisk {
-    files: DiskFiles,
-    log: CallLog,
-    calls: Calls,
-    faults: u64,
-    mounts: MountBook,
+    pub(crate) start: DiskFiles,
+    pub(crate) files: DiskFiles,
+    pub(crate) log: CallLog,
+    pub(crate) calls: Calls,
+    pub(crate) faults: u64,
+    pub(crate) mounts: MountBook,
 }
 
 impl Model for MemDisk {
-    ghost use Rattle.std.specs.Prelude.{◌≡◌};
+    ghost use Rattle.std.specs.Prelude.{◌≡◌, length, min};
     ghost use Rattle.sf_outside.specs.DiskState.{DiskState};
     ghost use Rattle.sf_outside.specs.DiskCalls.{bytes_now, files_after};
 
     ghost Value = { DiskState };
 
     ghost view = { λ disk. record {
+      start = disk.start.image;
       calls = disk.log.calls;
       limit = disk.log.limit;
       room = disk.log.room;
@@ -48,7 +50,10 @@ impl Model for MemDisk {
       mounts = disk.mounts;
     } };
 
-    ghost invariant = { λ disk. (disk.files.image ≡ bytes_now (files_after disk.log.calls)) × (disk.files.room ≡ disk.log.room) };
+    ghost use Rattle.sf_outside.specs.DiskFiles.{FitsIn};
+
+    ghost invariant = { λ disk. (disk.files.image ≡ bytes_now (files_after disk.start.image disk.log.calls)) × (disk.files.room ≡ disk.log.room)
+        × (length disk.log.calls ≡ min disk.calls.made disk.log.limit) × FitsIn disk.log.room disk.start.image };
 }
 
 impl MemDisk {
@@ -56,6 +61,7 @@ impl MemDisk {
     /// many. It takes `calls` calls, of which those fail whose numbers, from 1, `fail_at` lists.
     pub fn new(alloc: Global, room: u64, calls: u64, fail_at: &[u64]) -> Result<MemDisk, AllocError>
         ensures { IfOk result (λ made. made ≡ record {
+          start = no_bytes;
           calls = [];
           limit = calls;
           room = room;
@@ -66,6 +72,7 @@ impl MemDisk {
         }) }
     {
         Ok(MemDisk {
+            start: DiskFiles::new(alloc, 0)?,
             files: DiskFiles::new(alloc, room)?,
             log: CallLog::new(alloc, calls, room)?,
             calls: Calls::new(alloc, fail_at)?,
@@ -74,19 +81,28 @@ impl MemDisk {
         })
     }
 
-    /// Counts a call, and says whether it may be done.
-    fn begins(&mut self) -> bool
-        ensures answer { result ≡ not (fails_next self.old) }
-        ensures counted { self.new ≡ after_begin self.old }
+    /// How many calls were made, as far as the count reaches. Each is noted, as long as there is room.
+    pub fn calls(&self) -> u64
+        ensures made { result ≡ self.now.made }
+        ensures noted { NotesAll self.now }
     {
-        let is_due = self.calls.next_fails();
-        !is_due && !self.log.is_full()
+        self.calls.made()
     }
 
-    /// Notes a call that changes nothing, where there is room for it.
-    fn note_quiet(&mut self)
-        ensures { self.new ≡ record self.old { calls = calls_quiet self.old } }
+    /// Whether the next call fails whatever it is.
+    fn fails_next(&self) -> bool
+        ensures answer { result ≡ fails_next self.now }
+        ensures few { self.now.limit < 2 ^ 64 }
     {
+        let is_full = self.log.is_full();
+        is_full || self.calls.is_next_due()
+    }
+
+    /// Counts a call that does nothing, and notes it where there is room.
+    fn pass(&mut self)
+        ensures { self.new ≡ after_quiet self.old }
+    {
+        self.calls.count();
         if !self.log.is_full() {
             self.log.note_quiet();
         }
@@ -95,9 +111,9 @@ impl MemDisk {
     /// Ends a call that fails.
     fn fault(&mut self) -> Failed
         ensures later { self.old.faults ≤ self.new.faults }
-        ensures counted { self.new ≡ record self.old { calls = calls_quiet self.old; faults = next_count self.old.faults } }
+        ensures counted { self.new ≡ after_fault self.old }
     {
-        self.note_quiet();
+        self.pass();
         self.faults = self.faults.saturating_add(1);
         Failed
     }
@@ -112,9 +128,9 @@ impl MemDisk {
 }
 
 impl Disk for MemDisk {
-    ghost facts = { λ disk. facts_after disk.calls };
+    ghost facts = { facts_of };
 
-    ghost found = { λ disk name. (facts_after disk.calls).seen };
+    ghost found = { λ disk name. (facts_of disk).seen };
 
     ghost faults = { λ disk. disk.faults };
 
@@ -122,12 +138,12 @@ impl Disk for MemDisk {
 
     /// Keeps the files as they are.
     fn mount(&mut self, alloc: Global, name: &str) -> Result<(), MountFault>
-        ensures clean { OnOk result (IsClean (facts_after self.new.calls)) }
-        ensures found { OnOk result ((facts_after self.new.calls).seen ≡ (facts_after self.old.calls).seen) }
+        ensures clean { OnOk result (IsClean (facts_of self.new)) }
+        ensures found { OnOk result ((facts_of self.new).seen ≡ (facts_of self.old).seen) }
         ensures ok { OnOk result (mounts_of self.new.mounts ≡ mounted (mounts_of self.old.mounts) name.now (length self.new.calls)) }
         ensures err { OnErr result (NotMounted name.now (mounts_of self.old.mounts) (mounts_of self.new.mounts)) }
-        ensures kept { OnErr result (Stays (facts_after self.old.calls) (facts_after self.new.calls)) }
-        ensures same { OnErr result ((other : List ℕ) → (facts_after self.new.calls).seen ≡ (facts_after self.old.calls).seen) }
+        ensures kept { OnErr result (Stays (facts_of self.old) (facts_of self.new)) }
+        ensures same { OnErr result ((other : List ℕ) → (facts_of self.new).seen ≡ (facts_of self.old).seen) }
         ensures later { length self.old.calls ≤ length self.new.calls }
         ensures cause { IsErrOf result MountFault.Failed → Rose (refusals_of self.old.mounts.refusals name.now)
             (refusals_of self.new.mounts.refusals name.now) }
@@ -140,11 +156,12 @@ impl Disk for MemDisk {
         ensures settings { (self.new.limit ≡ self.old.limit) × (self.new.room ≡ self.old.room) × (self.new.fail_at ≡ self.old.fail_at) }
     {
         let taken = String::from_str(alloc, name)?;
-        if !self.begins() {
-            self.note_quiet();
+        if self.fails_next() {
+            self.pass();
             self.mounts.refuse(alloc, name)?;
             return Err(MountFault::Failed);
         }
+        self.calls.count();
         self.log.note_mount();
         let moment = self.log.len();
         self.mounts.succeed(taken, moment);
@@ -152,67 +169,71 @@ impl Disk for MemDisk {
     }
 
     fn len(&mut self, file: StoreFile) -> Result<u64, Failed>
-        ensures value { IfOk result (λ n. IfSome (facts_after self.old.calls).seen (λ now. n ≡ length (of_file file now))) }
-        ensures stays { Stays (facts_after self.old.calls) (facts_after self.new.calls) }
+        ensures value { IfOk result (λ n. IfSome (facts_of self.old).seen (λ now. n ≡ length (of_file file now))) }
+        ensures stays { Stays (facts_of self.old) (facts_of self.new) }
         ensures cause { HasCause self.old.faults self.new.faults result }
         ensures mounts { mounts_of self.new.mounts ≡ mounts_of self.old.mounts }
         ensures fails { is_err result ≡ fails_next self.old }
         ensures exact { self.new ≡ (if is_err result then after_fault self.old else after_done Quiet self.old) }
     {
-        if !self.begins() {
+        if self.fails_next() {
             return Err(self.fault());
         }
+        self.calls.count();
         self.log.note_quiet();
         Ok(self.files.bytes(file).len() as u64)
     }
 
     fn read_at(&mut self, file: StoreFile, at: u64, buf: &mut [u8]) -> Result<usize, Failed>
         ensures bound { ReadsAtMost result buf.new }
-        ensures bytes { IfOk result (λ n. IfSome (facts_after self.old.calls).seen (λ now. CopiedAll (of_file file now) at n buf.new)) }
-        ensures stays { Stays (facts_after self.old.calls) (facts_after self.new.calls) }
+        ensures bytes { IfOk result (λ n. IfSome (facts_of self.old).seen (λ now. CopiedAll (of_file file now) at n buf.new)) }
+        ensures stays { Stays (facts_of self.old) (facts_of self.new) }
         ensures cause { HasCause self.old.faults self.new.faults result }
         ensures mounts { mounts_of self.new.mounts ≡ mounts_of self.old.mounts }
         ensures fails { is_err result ≡ fails_next self.old }
         ensures exact { self.new ≡ (if is_err result then after_fault self.old else after_done Quiet self.old) }
     {
-        if !self.begins() {
+        if self.fails_next() {
             return Err(self.fault());
         }
+        self.calls.count();
         self.log.note_quiet();
         Ok(copy_at(self.files.bytes(file), at, buf))
     }
 
     fn write_at(&mut self, file: StoreFile, at: u64, bytes: &[u8]) -> Result<(), Failed>
         requires { at + length bytes.now ≤ 2 ^ 62 }
-        ensures ok { OnOk result (SeenWritten file at bytes.now (facts_after self.old.calls) (facts_after self.new.calls)) }
-        ensures err { OnErr result (SeenTorn file at (length bytes.now) (facts_after self.old.calls) (facts_after self.new.calls)) }
-        ensures moments { LeavesOnly (facts_after self.old.calls) (facts_after self.new.calls)
-            (ComesTorn file at (length bytes.now) (facts_after self.old.calls)) }
+        ensures ok { OnOk result (SeenWritten file at bytes.now (facts_of self.old) (facts_of self.new)) }
+        ensures err { OnErr result (SeenTorn file at (length bytes.now) (facts_of self.old) (facts_of self.new)) }
+        ensures moments { LeavesOnly (facts_of self.old) (facts_of self.new)
+            (ComesTorn file at (length bytes.now) (facts_of self.old)) }
         ensures cause { HasCause self.old.faults self.new.faults result }
         ensures mounts { mounts_of self.new.mounts ≡ mounts_of self.old.mounts }
         ensures fails { is_err result ≡ (fails_next self.old || nat_lt self.old.room (at + length bytes.now) || nat_lt self.old.room
             (bytes_written self.old.calls + length bytes.now)) }
         ensures exact { self.new ≡ (if is_err result then after_fault self.old else after_done (Write file at bytes.now) self.old) }
     {
-        if !self.begins() || !self.has_room(at, bytes.len()) {
+        if self.fails_next() || !self.has_room(at, bytes.len()) {
             return Err(self.fault());
         }
+        self.calls.count();
         self.files.write_at(file, at, bytes);
         self.log.note_write(file, at, bytes);
         Ok(())
     }
 
     fn sync(&mut self, file: StoreFile) -> Result<(), Failed>
-        ensures durable { OnOk result (IsDurable file (facts_after self.new.calls)) }
-        ensures stays { Stays (facts_after self.old.calls) (facts_after self.new.calls) }
+        ensures durable { OnOk result (IsDurable file (facts_of self.new)) }
+        ensures stays { Stays (facts_of self.old) (facts_of self.new) }
         ensures cause { HasCause self.old.faults self.new.faults result }
         ensures mounts { mounts_of self.new.mounts ≡ mounts_of self.old.mounts }
         ensures fails { is_err result ≡ fails_next self.old }
         ensures exact { self.new ≡ (if is_err result then after_fault self.old else after_done (Sync file) self.old) }
     {
-        if !self.begins() {
+        if self.fails_next() {
             return Err(self.fault());
         }
+        self.calls.count();
         self.log.note_sync(file);
         Ok(())
     }

@@ -1,19 +1,17 @@
 -- Requests come to short outcomes and leave short states.
-use Rattle.std.proofs.Common.{◌≡◌, Bool, true, false, ◌||◌, List, [], ◌∷◌, if◌then◌else◌, refl, sym, ◌∙◌}
+use Rattle.std.proofs.Common.{◌≡◌, Bool, true, false, [], ◌∷◌, if◌then◌else◌, refl, sym, ◌∙◌}
 use Rattle.std.specs.FinMap as map
-use Rattle.std.specs.List.{list_any}
-use Rattle.std.proofs.lemmas.Bool.{ltb-false}
 use Rattle.std.proofs.lemmas.Option.{none-some}
 use Rattle.sf_value.specs.Keys.{key_cmp}
-use Rattle.sf_value.specs.Weight.{weight_of}
 use Rattle.sf_value.specs.declared.Act.{Act}
 use Rattle.sf_value.specs.declared.Act.TheVariants as act
 use Rattle.sf_value.specs.declared.value.Value.{Value}
 use Rattle.program_meaning.specs.ClassTables.{Source}
 use Rattle.program_meaning.specs.World.{State, World, Gives, Got, Fell}
-use Rattle.program_meaning.specs.RequestRun.{Ran, run, begin, ended, refused, at_first, is_heavy, is_too_heavy, depth_limit, steps_at_first}
+use Rattle.program_meaning.specs.RequestRun.{Ran, run, begin, ended, refused, at_first, is_too_heavy, depth_limit, steps_at_first}
 use Rattle.program_meaning.specs.Serial.{serial_outcomes, serial_state}
-use Rattle.program_meaning.specs.LightValues.{IsLight, AreLight, no_value, one_more}
+use Rattle.program_meaning.specs.LightValues.{IsLight}
+use Rattle.program_meaning.proofs.LightRuns.{are_light, args_light}
 use Rattle.short_runs.specs.ShortRuns.{OutcomeIsShort, StateIsShort, FirstIsShort, RunsAreShort, SerialIsShort}
 use Rattle.short_runs.proofs.ShortValues.{light_short, no_text_short}
 use Rattle.short_runs.proofs.ShortCode.{GivesShort, got, fell}
@@ -26,21 +24,10 @@ first_is_short = record { each = λ at fields e. absurd (none-some fields (sym (
 abbrev IsShortRun : Ran → Type 0
 IsShortRun ran = OutcomeIsShort ran.outcome × StateIsShort ran.state
 
-not_heavy : (v : Value) → is_heavy v ≡ false → IsLight v
-not_heavy v light = record { most = ltb-false 65536 (weight_of v) light }
-
-none_heavy : (args : List Value) → list_any is_heavy args ≡ false → AreLight args
-none_heavy [] light = no_value
-none_heavy (v ∷ args) light = one_more (not_heavy v (neither (is_heavy v) (list_any is_heavy args) light).0) (none_heavy args (neither (is_heavy v) (list_any is_heavy args) light).1)
-  where
-    neither : (a b : Bool) → (a || b) ≡ false → (a ≡ false) × (b ≡ false)
-    neither false b e = (refl, e)
-    neither true b e = absurd cc
-
 begin_short : (src : Source) (s : State) (asked : Act) → StateIsShort s → is_too_heavy asked ≡ false → GivesShort HasShortState IsLight (begin src asked s)
-unfolding begin is_too_heavy
+unfolding begin
 begin_short src s (act.Call class key method args) short light = (calls_keep src depth_limit).call (class, key) method args (at_first s) steps_at_first short
-begin_short src s (act.New class args) short light = (calls_keep src depth_limit).make class args (at_first s) steps_at_first (none_heavy args light) short
+begin_short src s (act.New class args) short light = (calls_keep src depth_limit).make class args (at_first s) steps_at_first (are_light args (args_light (act.New class args) light)) short
 
 ended_short : (s : State) (g : Gives World Value) → StateIsShort s → GivesShort HasShortState IsLight g → IsShortRun (ended s g)
 ended_short s (Got v w n) short (got light after) = (light_short v light, after)

@@ -7,3 +7,4 @@ pub mod HeldRecords
 pub mod KeptLaws
 pub mod Accepted
 pub mod Engines
+pub mod RealLaws

@@ -25,7 +25,7 @@ asked_fit : (tables : List PlainTable) (rs : List Request) → AllByRecursion (R
 asked_fit tables [] all = tt
 asked_fit tables (r ∷ rs) all = (all.0.act, asked_fit tables rs all.1)
 
-acts_on : (src : Source) (s : State) (rs : List Request) → over (λ (r : Request). r.act) rs ≡ acts_of (over (entry_on src s) rs)
+pub acts_on : (src : Source) (s : State) (rs : List Request) → over (λ (r : Request). r.act) rs ≡ acts_of (over (entry_on src s) rs)
 acts_on src s [] = refl
 acts_on src s (r ∷ rs) = ap (λ acts. r.act ∷ acts) (acts_on src s rs)
 

@@ -1,2 +1,3 @@
 pub mod Storable
 pub mod StorableLaws
+pub mod RealCores

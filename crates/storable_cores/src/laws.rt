@@ -1,5 +1,6 @@
 //! What holds of every core, as the contracts of calls that do nothing.
 
+ghost use Rattle.storable_cores.specs.RealCores.{EmptyIsReal, ArrivalsAreReal, BatchesAreReal, ReplaysAreReal, SnapshotsAreReal};
 ghost use Rattle.storable_cores.specs.StorableLaws.{EmptyIsStorable, ArrivalsAreStorable, BatchesAreStorable, ReplaysAreStorable, SnapshotsAreStorable, RecordsAreSpelt, CoresAreSpelt};
 
 /// A core can be written to a store from the empty one on: behind each request of a line that arrives, behind each batch, and once it was read from a store.
@@ -15,4 +16,14 @@ pub fn cores_stay_storable()
 pub fn storable_cores_are_spelt()
     ensures records { RecordsAreSpelt }
     ensures snapshots { CoresAreSpelt }
+{}
+
+/// A core is real from the empty one on: behind each real request that arrives, behind each batch of an accepted program that writes what is real, and
+/// once it was read from a store, from a snapshot and from a batch of the log.
+pub fn cores_stay_real()
+    ensures empty { EmptyIsReal }
+    ensures arrived { ArrivalsAreReal }
+    ensures committed { BatchesAreReal }
+    ensures replayed { ReplaysAreReal }
+    ensures restored { SnapshotsAreReal }
 {}

@@ -4,5 +4,7 @@
 mod file_access;
 mod folder;
 mod open_files;
+#[cfg(test)]
+mod slow_files;
 
 pub use folder::Folder;

@@ -12,11 +12,11 @@ use std::io::{self, Read, Seek, Write};
 /// The files `log0`, `log1`, `snap0`, `snap1` and `hist` of a folder.
 #[derive(Drop)]
 pub(crate) struct OpenFiles<F> {
-    log0: F,
-    log1: F,
-    snap0: F,
-    snap1: F,
-    hist: F,
+    pub(crate) log0: F,
+    pub(crate) log1: F,
+    pub(crate) snap0: F,
+    pub(crate) snap1: F,
+    pub(crate) hist: F,
 }
 
 impl<F: Read + Write + Seek + OpenFile + Drop> OpenFiles<F> {

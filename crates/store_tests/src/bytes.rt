@@ -6,9 +6,8 @@ use sf_bytes::{
     write_request, write_snapshot, write_value,
 };
 use std::alloc::{AllocError, Global};
-use std::process::Abort;
 use std::test::Fail;
-use test_support::rows;
+use test_support::{hold_table, hold_text};
 use value_texts::{act_told, batch_told, bytes_of, outcome_told, value_told};
 
 /// That bytes are read as this, and whether these are the bytes behind it, and it is written so again.
@@ -103,25 +102,6 @@ fn told(alloc: Global, text: &str) -> Result<String, Fail> {
     Ok(told?)
 }
 
-/// The first row whose bytes are something else, or nothing.
-fn other(alloc: Global, table: &str) -> Result<String, Fail> {
-    let rows = rows(alloc, table)?;
-    for row in &rows {
-        let told = told(alloc, row.text.as_str())?;
-        if told.as_str() != row.wanted {
-            return Ok(format!(in alloc; "{}: {told}", row.label)?);
-        }
-    }
-    Ok(String::new(alloc))
-}
-
-/// Asserts that each row is as it says.
-fn hold(rt: &impl Abort, alloc: Global, table: &str) -> Result<(), Fail> {
-    let other = other(alloc, table)?;
-    assert_eq!(rt; other.as_str(), "");
-    Ok(())
-}
-
 const THINGS: &str = "
     None                                  | value 00                                                | None, 0 left
     a list of a list of -1, and an entity | value 05 00000002 05 00000001 03 ffffffffffffffffffffffffffffffff 06 00000001 00000001 6b | [[-1], 1:k], 0 left
@@ -137,7 +117,7 @@ const THINGS: &str = "
 
 #[test]
 fn each_thing_is_read_and_written_again(rt: HostRuntime) -> Result<(), Fail> {
-    hold(&rt, rt.alloc(), THINGS)
+    hold_table(&rt, rt.alloc(), THINGS, 10, told)
 }
 
 const NO_THINGS: &str = "
@@ -150,21 +130,27 @@ const NO_THINGS: &str = "
 
 #[test]
 fn what_is_no_value_is_none(rt: HostRuntime) -> Result<(), Fail> {
-    hold(&rt, rt.alloc(), NO_THINGS)
+    hold_table(&rt, rt.alloc(), NO_THINGS, 5, told)
 }
 
 #[test]
 fn a_batch_is_read(rt: HostRuntime) -> Result<(), Fail> {
-    let told = batch_of(rt.alloc(), &BATCH)?;
-    assert_eq!(rt; told.as_str(), "a: new 0('apple', 3), commits [0], 0 left");
-    Ok(())
+    let told = batch_of(rt.alloc(), &BATCH);
+    hold_text(&rt, told, "a: new 0('apple', 3), commits [0], 0 left")
+}
+
+/// What the first front of a batch is that is one, with its length, or that none is.
+fn fronts_told(alloc: Global) -> Result<String, AllocError> {
+    for length in 0..BATCH.len() {
+        let told = batch_of(alloc, &BATCH[..length])?;
+        if told.as_str() != "none" {
+            return format!(in alloc; "{length}: {told}");
+        }
+    }
+    String::from_str(alloc, "none")
 }
 
 #[test]
 fn a_batch_that_is_cut_is_none(rt: HostRuntime) -> Result<(), Fail> {
-    for length in 0..BATCH.len() {
-        let told = batch_of(rt.alloc(), &BATCH[..length])?;
-        assert_eq!(rt; told.as_str(), "none", "{length}");
-    }
-    Ok(())
+    hold_text(&rt, fronts_told(rt.alloc()), "none")
 }

@@ -6,6 +6,8 @@ use sf_outside::{
 };
 use std::alloc::{AllocError, Global};
 use std::test::Fail;
+use test_support::hold_text;
+use value_texts::digits_of;
 
 /// Puts what a call answered behind what the calls before it did.
 fn add(told: &mut String, answer: &str) -> Result<(), AllocError> {
@@ -23,7 +25,7 @@ fn read_told(
 ) -> Result<String, AllocError> {
     match answer {
         Ok(count) => {
-            let buf = hex::encode(alloc, buf)?;
+            let buf = digits_of(alloc, buf)?;
             format!(in alloc; "{count} {buf}")
         }
         Err(Failed) => String::from_str(alloc, "failed"),
@@ -55,26 +57,25 @@ fn source_gives_its_bytes_in_pieces(rt: HostRuntime) -> Result<(), Fail> {
     let mut source = MemSource::new(rt.alloc(), b"hello", &[2])?;
     let told = source_told(rt.alloc(), &mut source, 4);
     drop(source);
-    assert_eq!(rt; told?.as_str(), "3 68656c, failed, 2 6c6f00, 0 000000");
-    Ok(())
+    hold_text(&rt, told, "3 68656c, failed, 2 6c6f00, 0 000000")
 }
 
 /// Three picks of a chooser, which is then started anew, and one more.
-fn picks_told(chooser: &mut ListChooser) -> (u32, u32, u32, u32) {
+fn picks_told(alloc: Global, chooser: &mut ListChooser) -> Result<String, AllocError> {
     let first = chooser.pick(9);
     let second = chooser.pick(1);
     let third = chooser.pick(9);
     chooser.start(7);
-    (first, second, third, chooser.pick(9))
+    let again = chooser.pick(9);
+    format!(in alloc; "{first}, {second}, {third}, {again}")
 }
 
 #[test]
 fn list_is_picked_then_0_and_anew_behind_a_start(rt: HostRuntime) -> Result<(), Fail> {
     let mut chooser = ListChooser::new(rt.alloc(), &[5, 3])?;
-    let told = picks_told(&mut chooser);
+    let told = picks_told(rt.alloc(), &mut chooser);
     drop(chooser);
-    assert_eq!(rt; told, (5, 3, 0, 5));
-    Ok(())
+    hold_text(&rt, told, "5, 3, 0, 5")
 }
 
 /// What a sink answers to pieces, of which an empty one is a flush, and what it then holds.
@@ -88,7 +89,7 @@ fn sink_told(alloc: Global, sink: &mut MemSink, pieces: &[&[u8]]) -> Result<Stri
         };
         add(&mut told, done_told(answer))?;
     }
-    let held = hex::encode(alloc, sink.bytes())?;
+    let held = digits_of(alloc, sink.bytes())?;
     format!(in alloc; "{told}, holds {held}")
 }
 
@@ -97,11 +98,11 @@ fn sink_holds_pieces_up_to_its_room(rt: HostRuntime) -> Result<(), Fail> {
     let mut sink = MemSink::new(rt.alloc(), 5, &[3])?;
     let told = sink_told(rt.alloc(), &mut sink, &[b"abc", b"", b"x", b"def", b"de"]);
     drop(sink);
-    assert_eq!(rt;
-        told?.as_str(),
-        "done, done, failed, failed, done, holds 6162636465"
-    );
-    Ok(())
+    hold_text(
+        &rt,
+        told,
+        "done, done, failed, failed, done, holds 6162636465",
+    )
 }
 
 /// What reads of files of four bytes at most give, each from a place.
@@ -131,18 +132,18 @@ fn files_are_read_by_name(rt: HostRuntime) -> Result<(), Fail> {
     let reads = [("a", 2), ("b", 0), ("a", 0), ("c", 0), ("a", 9)];
     let told = files_told(rt.alloc(), &mut files, &reads);
     drop(files);
-    assert_eq!(rt;
-        told?.as_str(),
-        "3 72737400, 0 00000000, failed, failed, 0 00000000"
-    );
-    Ok(())
+    hold_text(
+        &rt,
+        told,
+        "3 72737400, 0 00000000, failed, failed, 0 00000000",
+    )
 }
 
 /// What two lines come to that are written, and what the sink then holds.
 fn lines_told(alloc: Global, sink: &mut MemSink) -> Result<String, AllocError> {
     let first = done_told(write_line(sink, b"one\n"));
     let second = done_told(write_line(sink, b"two\n"));
-    let held = hex::encode(alloc, sink.bytes())?;
+    let held = digits_of(alloc, sink.bytes())?;
     format!(in alloc; "{first}, {second}, holds {held}")
 }
 
@@ -151,8 +152,7 @@ fn a_line_is_written_or_stops(rt: HostRuntime) -> Result<(), Fail> {
     let mut sink = MemSink::new(rt.alloc(), 9, &[2])?;
     let told = lines_told(rt.alloc(), &mut sink);
     drop(sink);
-    assert_eq!(rt; told?.as_str(), "done, failed, holds 6f6e650a");
-    Ok(())
+    hold_text(&rt, told, "done, failed, holds 6f6e650a")
 }
 
 /// A disk of 8 bytes a file, which takes 7 calls, and whose fourth fails.
@@ -189,8 +189,7 @@ fn disk_keeps_what_was_written(rt: HostRuntime) -> Result<(), Fail> {
     let mut disk = small_disk(rt.alloc())?;
     let told = written_told(rt.alloc(), &mut disk);
     drop(disk);
-    assert_eq!(rt; told?.as_str(), "done, 5, failed, 4 00616263");
-    Ok(())
+    hold_text(&rt, told, "done, 5, failed, 4 00616263")
 }
 
 /// What a write past the room, the length and one more call answer.
@@ -206,8 +205,7 @@ fn disk_refuses_what_has_no_room(rt: HostRuntime) -> Result<(), Fail> {
     let mut disk = small_disk(rt.alloc())?;
     let told = refused_told(rt.alloc(), &mut disk);
     drop(disk);
-    assert_eq!(rt; told?.as_str(), "failed, 0, failed");
-    Ok(())
+    hold_text(&rt, told, "failed, 0, failed")
 }
 
 /// What so many calls for a length answer.
@@ -225,8 +223,7 @@ fn disk_takes_so_many_calls(rt: HostRuntime) -> Result<(), Fail> {
     let mut disk = small_disk(rt.alloc())?;
     let told = lengths_told(rt.alloc(), &mut disk, 7);
     drop(disk);
-    assert_eq!(rt; told?.as_str(), "0, 0, failed, 0, 0, 0, failed");
-    Ok(())
+    hold_text(&rt, told, "0, 0, failed, 0, 0, 0, failed")
 }
 
 /// What two mounts answer, of which the first is to fail.
@@ -240,7 +237,5 @@ fn mounts_told(alloc: Global) -> Result<String, AllocError> {
 
 #[test]
 fn a_mount_is_refused_and_then_done(rt: HostRuntime) -> Result<(), Fail> {
-    let told = mounts_told(rt.alloc())?;
-    assert_eq!(rt; told.as_str(), "Err(Failed), Ok(())");
-    Ok(())
+    hold_text(&rt, mounts_told(rt.alloc()), "Err(Failed), Ok(())")
 }

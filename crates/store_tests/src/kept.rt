@@ -2,8 +2,8 @@
 
 ghost use Rattle.std.specs.Prelude.{ℕ, ◌<◌, ◌^◌, IfOk, OnOk, length};
 ghost use Rattle.sf_bytes.specs.Gates.{ClosedAt};
-ghost use Rattle.sf_outside.specs.DiskCalls.{facts_after};
 ghost use Rattle.sf_outside.specs.DiskModel.{Image, of_file};
+ghost use Rattle.sf_outside.specs.DiskState.{facts_of};
 ghost use Rattle.sf_value.specs.declared.Snapshot.{Snapshot};
 ghost use Rattle.snapshot_store.specs.SlotFile.{log_of, IsEpoch, IsNext, IsNewest, IsNew};
 
@@ -36,7 +36,7 @@ pub const NO_PROGRAM: [u8; 20] = [0; 20];
 
 /// A disk whose files are empty, and of which these calls are to fail.
 pub fn failing_disk(alloc: Global, fail_at: &[u64]) -> Result<MemDisk, SnapFault>
-    ensures { IfOk result (λ disk. (image : Image) → (facts_after disk.calls).may_leave image → IsNew image) }
+    ensures { IfOk result (λ disk. (image : Image) → (facts_of disk).may_leave image → IsNew image) }
 {
     let mut disk = MemDisk::new(alloc, 256, 60, fail_at)?;
     match disk.mount(alloc, "s") {
@@ -47,7 +47,7 @@ pub fn failing_disk(alloc: Global, fail_at: &[u64]) -> Result<MemDisk, SnapFault
 
 /// A disk whose files are empty.
 pub fn new_disk(alloc: Global) -> Result<MemDisk, SnapFault>
-    ensures { IfOk result (λ disk. (image : Image) → (facts_after disk.calls).may_leave image → IsNew image) }
+    ensures { IfOk result (λ disk. (image : Image) → (facts_of disk).may_leave image → IsNew image) }
 {
     failing_disk(alloc, &[])
 }

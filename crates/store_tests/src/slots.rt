@@ -8,8 +8,8 @@ use sf_outside::{Disk, StoreFile};
 use snapshot_store::{SnapFault, newest};
 use std::alloc::{AllocError, Global};
 use std::test::Fail;
-use test_support::rows;
-use value_texts::bytes_of;
+use test_support::{hold_table, hold_text};
+use value_texts::{bytes_of, digits_of};
 
 /// The epoch of the newest snapshot, or none where there is none.
 fn newest_epoch<D: Disk>(alloc: Global, disk: &mut D) -> Result<Option<u64>, SnapFault> {
@@ -28,14 +28,16 @@ fn epoch_told(alloc: Global, found: Result<Option<u64>, SnapFault>) -> Result<St
 }
 
 /// The bytes of slot 1 and of the log of odd epochs, and the newest epoch, after a snapshot is kept.
-fn first_kept(alloc: Global) -> Result<(Vec<u8>, Vec<u8>, Option<u64>), SnapFault> {
+fn first_kept(alloc: Global) -> Result<String, SnapFault> {
     let mut disk = new_disk(alloc)?;
     keep_first(alloc, &mut disk, &PROGRAM_A)?;
-    let slot = content(alloc, &mut disk, StoreFile::Snap1)?;
+    let slot = content(alloc, &mut disk, StoreFile::Snap1);
     let log = content(alloc, &mut disk, StoreFile::Log1);
     let epoch = newest_epoch(alloc, &mut disk);
     drop(disk);
-    Ok((slot, log?, epoch?))
+    let slot = digits_of(alloc, slot?.as_slice())?;
+    let log = digits_of(alloc, log?.as_slice())?;
+    Ok(format!(in alloc; "{slot}, {log}, {epoch:?}")?)
 }
 
 /// An open gate, epoch 1, the length 21, and a body with the program `a`.
@@ -44,12 +46,9 @@ const FIRST_SLOT: &str =
 
 #[test]
 fn the_first_snapshot_takes_slot_1(rt: HostRuntime) -> Result<(), Fail> {
-    let wanted = bytes_of(rt.alloc(), FIRST_SLOT)?;
-    let (slot, log, epoch) = first_kept(rt.alloc())?;
-    assert_eq!(rt; slot.as_slice(), wanted.as_slice());
-    assert_eq!(rt; log.as_slice(), [0].as_slice());
-    assert_eq!(rt; epoch, Some(1));
-    Ok(())
+    let slot = FIRST_SLOT.replace(rt.alloc(), ' ', "")?;
+    let wanted = format!(in rt.alloc(); "{slot}, 00, Ok(Some(1))")?;
+    hold_text(&rt, first_kept(rt.alloc()), wanted.as_str())
 }
 
 /// Keeps one snapshot, and then another.
@@ -61,20 +60,18 @@ fn keep_two<D: Disk>(alloc: Global, disk: &mut D) -> Result<(), SnapFault>
 }
 
 /// How long slot 0 is, and the newest epoch, after two snapshots are kept.
-fn two_kept(alloc: Global) -> Result<(u64, Option<u64>), SnapFault> {
+fn two_kept(alloc: Global) -> Result<String, SnapFault> {
     let mut disk = new_disk(alloc)?;
     keep_two(alloc, &mut disk)?;
     let length = disk.len(StoreFile::Snap0);
     let epoch = newest_epoch(alloc, &mut disk);
     drop(disk);
-    Ok((length?, epoch?))
+    Ok(format!(in alloc; "{length:?}, {epoch:?}")?)
 }
 
 #[test]
 fn the_second_takes_slot_0(rt: HostRuntime) -> Result<(), Fail> {
-    let kept = two_kept(rt.alloc())?;
-    assert_eq!(rt; kept, (37, Some(2)));
-    Ok(())
+    hold_text(&rt, two_kept(rt.alloc()), "Ok(37), Ok(Some(2))")
 }
 
 /// What is found on a disk whose slots begin with these bytes.
@@ -107,10 +104,5 @@ const SLOTS: &str = "
 
 #[test]
 fn a_slot_is_closed_or_bad(rt: HostRuntime) -> Result<(), Fail> {
-    let rows = rows(rt.alloc(), SLOTS)?;
-    for row in &rows {
-        let told = told(rt.alloc(), row.text.as_str())?;
-        assert_eq!(rt; told.as_str(), row.wanted, "{}", row.label);
-    }
-    Ok(())
+    hold_table(&rt, rt.alloc(), SLOTS, 6, told)
 }

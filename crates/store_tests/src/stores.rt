@@ -6,7 +6,7 @@ use sf_outside::{MemDisk, StoreFile};
 use snapshot_store::SnapFault;
 use std::alloc::{AllocError, Global};
 use std::test::Fail;
-use test_support::rows;
+use test_support::{hold_cases, hold_table, hold_text};
 use value_texts::bytes_of;
 
 /// That a store is new, or its epoch, how many batches it has and from where, and where the log ends.
@@ -67,12 +67,7 @@ const SLOTS: &str = "
 
 #[test]
 fn a_store_without_a_snapshot_is_new_or_bad(rt: HostRuntime) -> Result<(), Fail> {
-    let rows = rows(rt.alloc(), SLOTS)?;
-    for row in &rows {
-        let told = told(rt.alloc(), row.text.as_str())?;
-        assert_eq!(rt; told.as_str(), row.wanted, "{}", row.label);
-    }
-    Ok(())
+    hold_table(&rt, rt.alloc(), SLOTS, 2, told)
 }
 
 /// Where a record that is added ends, and what the store then is.
@@ -86,16 +81,19 @@ fn added(alloc: Global) -> Result<String, SnapFault> {
 
 #[test]
 fn a_snapshot_and_a_batch_are_found(rt: HostRuntime) -> Result<(), Fail> {
-    let told = added(rt.alloc())?;
-    assert_eq!(rt; told.as_str(), "Ok(58): epoch 1, 1 batches from 0 to 58");
-    Ok(())
+    let wanted = "Ok(58): epoch 1, 1 batches from 0 to 58";
+    hold_text(&rt, added(rt.alloc()), wanted)
 }
 
-/// What a store is that keeps a snapshot, and whose log has these bytes.
-fn told_of_log(alloc: Global, log: &[u8]) -> Result<String, SnapFault> {
+/// What a store is that keeps a snapshot, and whose log is a record up to this length.
+fn told_of_log(alloc: Global, length: &usize) -> Result<String, Fail> {
     let mut disk = new_disk(alloc)?;
     keep_first(alloc, &mut disk, &NO_PROGRAM)?;
-    put(&mut disk, StoreFile::Log1, log)?;
+    put(
+        &mut disk,
+        StoreFile::Log1,
+        &RECORD[..RECORD.len().min(*length)],
+    )?;
     let told = reopened(alloc, &mut disk);
     drop(disk);
     Ok(told?)
@@ -103,17 +101,13 @@ fn told_of_log(alloc: Global, log: &[u8]) -> Result<String, SnapFault> {
 
 #[test]
 fn a_log_that_is_cut_is_bad_at_a_gate(rt: HostRuntime) -> Result<(), Fail> {
-    for (label, length, wanted) in [
+    let cases = [
         ("the whole record", 59, "epoch 1, 1 batches from 0 to 58"),
         ("no gate behind the body", 58, "Log1 is bad at 58"),
         ("a body without its last byte", 57, "Log1 is bad at 0"),
         ("half a body", 30, "Log1 is bad at 0"),
-    ] {
-        let log = &RECORD[..RECORD.len().min(length)];
-        let told = told_of_log(rt.alloc(), log)?;
-        assert_eq!(rt; told.as_str(), wanted, "{label}");
-    }
-    Ok(())
+    ];
+    hold_cases(&rt, rt.alloc(), &cases, told_of_log)
 }
 
 /// Whether a store has a snapshot and a batch where both were kept, and else what it had before or after.

@@ -1,6 +1,6 @@
 //! Stores that a run can't use, and what it says of them.
 
-use crate::runs::{ONE_BY_ONE, Run, disk, each_runs, runs_on};
+use crate::runs::{ONE_BY_ONE, Run, disk, each_runs, run_on};
 use sf_outside::{Disk, Failed, MemDisk, StoreFile};
 use std::alloc::Global;
 use std::test::Fail;
@@ -41,31 +41,30 @@ fn put_digits(
     }
 }
 
-/// Whether a run on a disk says what it has to, once the slots begin with these bytes.
-fn runs_behind_on(
+/// A run on a disk, once the slots begin with these bytes.
+fn run_behind_on(
     alloc: Global,
     disk: &mut MemDisk,
     first: &str,
     second: &str,
     run: &Run,
-) -> Result<bool, Fail> {
+) -> Result<(), Fail> {
     put_digits(alloc, disk, StoreFile::Snap0, first)?;
     put_digits(alloc, disk, StoreFile::Snap1, second)?;
-    Ok(runs_on(alloc, disk, run)?)
+    run_on(alloc, disk, run)
 }
 
 /// The same on a disk of its own.
-fn runs_behind(alloc: Global, first: &str, second: &str, run: &Run) -> Result<bool, Fail> {
+fn run_behind(alloc: Global, first: &str, second: &str, run: &Run) -> Result<(), Fail> {
     let mut disk = disk(alloc, &[])?;
-    let ran = runs_behind_on(alloc, &mut disk, first, second, run);
+    let ran = run_behind_on(alloc, &mut disk, first, second, run);
     drop(disk);
     ran
 }
 
 #[test]
 fn two_gates_alone_are_a_new_store(rt: HostRuntime) -> Result<(), Fail> {
-    assert!(rt; runs_behind(rt.alloc(), "a5", "a5", &CREATION)?);
-    Ok(())
+    run_behind(rt.alloc(), "a5", "a5", &CREATION)
 }
 
 #[test]
@@ -76,8 +75,7 @@ fn an_open_slot_of_zeros_is_bad(rt: HostRuntime) -> Result<(), Fail> {
         err: "stateflow: bad store: snap1 at 0\n",
         ..CREATION
     };
-    assert!(rt; runs_behind(rt.alloc(), "", "a5 0000000000", &refused)?);
-    Ok(())
+    run_behind(rt.alloc(), "", "a5 0000000000", &refused)
 }
 
 /// Puts the first bytes of a file of a disk on another.
@@ -100,17 +98,26 @@ fn cut(whole: &mut MemDisk, part: &mut MemDisk) -> Result<(), Failed> {
     copy_first(whole, part, StoreFile::Log1, 30)
 }
 
-/// Whether an item is made on a disk, and a run says what it has to where the log is cut.
-fn runs_on_cut(alloc: Global, whole: &mut MemDisk, run: &Run) -> Result<bool, Fail> {
-    let made = runs_on(alloc, whole, &CREATION)?;
-    let mut part = disk(alloc, &[])?;
-    let copied = cut(whole, &mut part);
-    let ran = runs_on(alloc, &mut part, run);
-    drop(part);
-    match copied {
-        Ok(()) => Ok(made && ran?),
+/// A run on a disk to which a store is copied, but of whose log its first 30 bytes alone.
+fn run_on_part(
+    alloc: Global,
+    whole: &mut MemDisk,
+    part: &mut MemDisk,
+    run: &Run,
+) -> Result<(), Fail> {
+    match cut(whole, part) {
+        Ok(()) => run_on(alloc, part, run),
         Err(_) => Err(Fail::from("a file can't be copied")),
     }
+}
+
+/// An item is made on a disk, and then a run is made where the log is cut.
+fn run_on_cut(alloc: Global, whole: &mut MemDisk, run: &Run) -> Result<(), Fail> {
+    run_on(alloc, whole, &CREATION)?;
+    let mut part = disk(alloc, &[])?;
+    let ran = run_on_part(alloc, whole, &mut part, run);
+    drop(part);
+    ran
 }
 
 #[test]
@@ -122,10 +129,9 @@ fn a_log_that_is_cut_is_bad(rt: HostRuntime) -> Result<(), Fail> {
         ..CREATION
     };
     let mut whole = disk(rt.alloc(), &[])?;
-    let ran = runs_on_cut(rt.alloc(), &mut whole, &refused);
+    let ran = run_on_cut(rt.alloc(), &mut whole, &refused);
     drop(whole);
-    assert!(rt; ran?);
-    Ok(())
+    ran
 }
 
 #[test]

@@ -1,11 +1,11 @@
 //! What a run keeps, and what the next one on the same store finds.
 
-use crate::runs::{ONE_BY_ONE, Run, disk, each_runs, each_runs_on};
+use crate::runs::{ONE_BY_ONE, Run, disk, each_runs, run_on};
 use sf_outside::{Disk, MemDisk, StoreFile};
 use std::alloc::Global;
 use std::test::Fail;
-use test_support::{NUM, SHOP};
-use value_texts::bytes_of;
+use test_support::{NUM, SHOP, hold_text};
+use value_texts::digits_of;
 
 const CREATION: Run = Run {
     label: "an item is made",
@@ -31,42 +31,38 @@ const NOTHING: Run = Run {
 const RECORD: &str = "a5 00000035 00000001 00000001 61 01 00000000 00000002 04 00000005 6170706c65 \
     03 00000000000000000000000000000003 00000001 00000000 00";
 
-/// Whether the log of epoch 1 holds these bytes.
-fn log_holds(alloc: Global, disk: &mut MemDisk, digits: &str) -> Result<bool, Fail> {
-    let wanted = bytes_of(alloc, digits)?;
+/// The log of epoch 1, in digits.
+fn log_told(alloc: Global, disk: &mut MemDisk) -> Result<String, Fail> {
     let mut bytes = [0; 2_000];
-    let same = match disk.read_at(StoreFile::Log1, 0, &mut bytes) {
-        Ok(count) => &bytes[..count] == wanted.as_slice(),
-        Err(_) => false,
-    };
-    drop(wanted);
-    Ok(same)
+    match disk.read_at(StoreFile::Log1, 0, &mut bytes) {
+        Ok(count) => Ok(digits_of(alloc, &bytes[..count])?),
+        Err(_) => Err(Fail::from("the log can't be read")),
+    }
 }
 
-/// Whether the log holds these bytes behind a run.
-fn logs_on(alloc: Global, disk: &mut MemDisk, run: &Run, digits: &str) -> Result<bool, Fail> {
-    each_runs_on(alloc, disk, &[*run])?;
-    log_holds(alloc, disk, digits)
+/// The log behind a run on a disk.
+fn log_behind_on(alloc: Global, disk: &mut MemDisk, run: &Run) -> Result<String, Fail> {
+    run_on(alloc, disk, run)?;
+    log_told(alloc, disk)
 }
 
 /// The same on a disk of its own.
-fn logs(alloc: Global, run: &Run, digits: &str) -> Result<bool, Fail> {
+fn log_behind(alloc: Global, run: &Run) -> Result<String, Fail> {
     let mut disk = disk(alloc, &[])?;
-    let held = logs_on(alloc, &mut disk, run, digits);
+    let told = log_behind_on(alloc, &mut disk, run);
     drop(disk);
-    held
+    told
 }
 
 #[test]
 fn a_batch_is_in_the_log_to_the_byte(rt: HostRuntime) -> Result<(), Fail> {
-    assert!(rt; logs(rt.alloc(), &CREATION, RECORD)?);
-    Ok(())
+    let wanted = RECORD.replace(rt.alloc(), ' ', "")?;
+    hold_text(&rt, log_behind(rt.alloc(), &CREATION), wanted.as_str())
 }
 
 #[test]
 fn a_new_store_has_an_empty_log(rt: HostRuntime) -> Result<(), Fail> {
-    assert!(rt; logs(rt.alloc(), &NOTHING, "00")?);
-    Ok(())
+    hold_text(&rt, log_behind(rt.alloc(), &NOTHING), "00")
 }
 
 #[test]

@@ -47,22 +47,24 @@ fn says(answer: &Answer, run: &Run) -> bool {
 
 /// Whether a run on a disk says what it has to.
 pub fn runs_on(alloc: Global, disk: &mut MemDisk, run: &Run) -> Result<bool, AllocError> {
-    match answer_on(alloc, disk, run) {
-        Ok(answer) => {
-            let said = says(&answer, run);
-            drop(answer);
-            Ok(said)
-        }
-        Err(error) => Err(error),
+    let answer = answer_on(alloc, disk, run)?;
+    let said = says(&answer, run);
+    drop(answer);
+    Ok(said)
+}
+
+/// A run on a disk, which fails by its label where it doesn't say what it has to.
+pub fn run_on(alloc: Global, disk: &mut MemDisk, run: &Run) -> Result<(), Fail> {
+    if runs_on(alloc, disk, run)? {
+        return Ok(());
     }
+    Err(Fail::from(run.label))
 }
 
 /// Runs one after another on a disk, up to one that says something else.
 pub fn each_runs_on(alloc: Global, disk: &mut MemDisk, runs: &[Run]) -> Result<(), Fail> {
     for run in runs {
-        if !runs_on(alloc, disk, run)? {
-            return Err(Fail::from(run.label));
-        }
+        run_on(alloc, disk, run)?;
     }
     Ok(())
 }

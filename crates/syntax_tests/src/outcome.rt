@@ -1,7 +1,7 @@
 //! What a text is by the lexical rules, and by these and the grammar.
 
 use py_lexer::{LexError, lex};
-use py_parser::{SyntaxError, parse};
+use py_parser::{Parsed, SyntaxError, parse};
 use std::alloc::{AllocError, Global};
 use std::process::Abort;
 use std::test::Fail;
@@ -22,15 +22,8 @@ pub fn lexed(alloc: Global, text: &[u8]) -> Result<String, AllocError> {
     }
 }
 
-/// The place and kind of a text's first refused token, or that it has a tree, or no lines.
-pub fn parsed(alloc: Global, text: &[u8]) -> Result<String, AllocError> {
-    let lines = match lex(alloc, text) {
-        Ok(lines) => lines,
-        Err(LexError::Fault(_)) => return String::from_str(alloc, "no lines"),
-        Err(LexError::NoMemory) => return Err(AllocError),
-    };
-    let tree = parse(alloc, &lines, text);
-    drop(lines);
+/// The place and kind of the first refused token, or that there is a tree.
+fn tree_told(alloc: Global, tree: Result<Parsed, SyntaxError>) -> Result<String, AllocError> {
     match tree {
         Ok(tree) => {
             drop(tree);
@@ -41,6 +34,19 @@ pub fn parsed(alloc: Global, text: &[u8]) -> Result<String, AllocError> {
             fault.place.line, fault.place.col, fault.kind
         ),
         Err(SyntaxError::NoMemory) => Err(AllocError),
+    }
+}
+
+/// The place and kind of a text's first refused token, or that it has a tree, or no lines.
+pub fn parsed(alloc: Global, text: &[u8]) -> Result<String, AllocError> {
+    match lex(alloc, text) {
+        Ok(lines) => {
+            let tree = parse(alloc, &lines, text);
+            drop(lines);
+            tree_told(alloc, tree)
+        }
+        Err(LexError::Fault(_)) => String::from_str(alloc, "no lines"),
+        Err(LexError::NoMemory) => Err(AllocError),
     }
 }
 

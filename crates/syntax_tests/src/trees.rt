@@ -10,7 +10,8 @@ use test_support::hold_text;
 const HERE: Place = Place { line: 3, col: 5 };
 
 /// The numbers that names are given, how many there are, and what is found by a text.
-fn names_told(alloc: Global, names: &mut Names) -> Result<String, AllocError> {
+fn names_told(alloc: Global) -> Result<String, AllocError> {
+    let mut names = Names::new(alloc);
     let first = names.number(alloc, "self")?;
     let second = names.number(alloc, "int")?;
     let again = names.number(alloc, "self")?;
@@ -26,10 +27,8 @@ fn names_told(alloc: Global, names: &mut Names) -> Result<String, AllocError> {
 
 #[test]
 fn names_are_numbered_in_order(rt: HostRuntime) -> Result<(), Fail> {
-    let mut names = Names::new(rt.alloc());
-    let told = names_told(rt.alloc(), &mut names);
-    drop(names);
-    hold_text(&rt, told, "0, 1, 0, 2 names, Some(Name(1)), None")
+    let wanted = "0, 1, 0, 2 names, Some(Name(1)), None";
+    hold_text(&rt, names_told(rt.alloc()), wanted)
 }
 
 /// Whether a type is the same as its copy, and as the type of its elements.

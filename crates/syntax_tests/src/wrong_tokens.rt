@@ -2,21 +2,14 @@
 
 use crate::outcome::parsed;
 use py_lexer::{LexError, Line, Token, lex};
-use py_parser::{SyntaxError, parse};
+use py_parser::{Parsed, SyntaxError, parse};
 use std::alloc::{AllocError, Global};
 use std::process::Abort;
 use std::test::Fail;
 use test_support::{SHOP, hold_text};
 
-/// The line on which a fault of a text stands, or 0 where it has a tree.
-fn line_of_fault(alloc: Global, text: &[u8]) -> Result<u32, AllocError> {
-    let lines = match lex(alloc, text) {
-        Ok(lines) => lines,
-        Err(LexError::Fault(fault)) => return Ok(fault.place.line),
-        Err(LexError::NoMemory) => return Err(AllocError),
-    };
-    let tree = parse(alloc, &lines, text);
-    drop(lines);
+/// The line on which a refused token stands, or 0 where there is a tree.
+fn line_refused(tree: Result<Parsed, SyntaxError>) -> Result<u32, AllocError> {
     match tree {
         Ok(tree) => {
             drop(tree);
@@ -24,6 +17,19 @@ fn line_of_fault(alloc: Global, text: &[u8]) -> Result<u32, AllocError> {
         }
         Err(SyntaxError::Fault(fault)) => Ok(fault.place.line),
         Err(SyntaxError::NoMemory) => Err(AllocError),
+    }
+}
+
+/// The line on which a fault of a text stands, or 0 where it has a tree.
+fn line_of_fault(alloc: Global, text: &[u8]) -> Result<u32, AllocError> {
+    match lex(alloc, text) {
+        Ok(lines) => {
+            let tree = parse(alloc, &lines, text);
+            drop(lines);
+            line_refused(tree)
+        }
+        Err(LexError::Fault(fault)) => Ok(fault.place.line),
+        Err(LexError::NoMemory) => Err(AllocError),
     }
 }
 

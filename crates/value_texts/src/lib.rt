@@ -5,7 +5,7 @@ mod hexes;
 mod requests;
 mod snapshots;
 
-pub use hexes::bytes_of;
+pub use hexes::{bytes_of, digits_of};
 pub use requests::{act_told, batch_told, request_told};
 use sf_value::{Failure, Outcome, Ref, Text, Value};
 pub use snapshots::{entries_told, outcomes_told, records_told, requests_told, snapshot_told};

@@ -1,7 +1,8 @@
 //! Numbers at both ends of their ranges, and one beyond.
 
-use crate::told::hold_asked;
+use crate::told::asked;
 use std::test::Fail;
+use test_support::hold_table;
 
 const RUNS: &str = "
     batch 0                  | run a.py --batch 0          | usage
@@ -28,7 +29,7 @@ const RUNS: &str = "
 
 #[test]
 fn a_number_of_run_is_in_its_range(rt: HostRuntime) -> Result<(), Fail> {
-    hold_asked(&rt, rt.alloc(), RUNS, 20)
+    hold_table(&rt, rt.alloc(), RUNS, 20, asked)
 }
 
 const WORKS: &str = "
@@ -46,7 +47,7 @@ const WORKS: &str = "
 
 #[test]
 fn a_number_of_gen_is_in_its_range(rt: HostRuntime) -> Result<(), Fail> {
-    hold_asked(&rt, rt.alloc(), WORKS, 10)
+    hold_table(&rt, rt.alloc(), WORKS, 10, asked)
 }
 
 const DIGITS: &str = "
@@ -68,5 +69,5 @@ const DIGITS: &str = "
 
 #[test]
 fn a_number_is_1_to_20_decimal_digits(rt: HostRuntime) -> Result<(), Fail> {
-    hold_asked(&rt, rt.alloc(), DIGITS, 14)
+    hold_table(&rt, rt.alloc(), DIGITS, 14, asked)
 }

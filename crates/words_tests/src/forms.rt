@@ -1,7 +1,8 @@
 //! Words that are a command's: each option in both forms, in any order.
 
-use crate::told::hold_asked;
+use crate::told::asked;
 use std::test::Fail;
+use test_support::hold_table;
 
 const FILES: &str = "
     check                    | check a.py                  | check a.py
@@ -17,7 +18,7 @@ const FILES: &str = "
 
 #[test]
 fn a_command_takes_its_file(rt: HostRuntime) -> Result<(), Fail> {
-    hold_asked(&rt, rt.alloc(), FILES, 9)
+    hold_table(&rt, rt.alloc(), FILES, 9, asked)
 }
 
 const RUNS: &str = "
@@ -46,7 +47,7 @@ const RUNS: &str = "
 
 #[test]
 fn run_takes_its_options(rt: HostRuntime) -> Result<(), Fail> {
-    hold_asked(&rt, rt.alloc(), RUNS, 21)
+    hold_table(&rt, rt.alloc(), RUNS, 21, asked)
 }
 
 const WORKS: &str = "
@@ -60,5 +61,5 @@ const WORKS: &str = "
 
 #[test]
 fn gen_takes_its_options(rt: HostRuntime) -> Result<(), Fail> {
-    hold_asked(&rt, rt.alloc(), WORKS, 6)
+    hold_table(&rt, rt.alloc(), WORKS, 6, asked)
 }

@@ -1,10 +1,12 @@
 //! Calls that serve generated work.
 
-use memory_calls::{Answer, Faults, NO_FAULTS, call, call_along};
-use operator_graph::Note;
+use memory_calls::{Answer, Call, Faults, NO_FAULTS, Wanted, call, call_along, hold_call};
+use operator_graph::{MemWatch, Note};
 use sf_outside::{ListChooser, MemSource};
 use std::alloc::{AllocError, Global};
+use std::process::Abort;
 use std::test::Fail;
+use test_support::hold_text;
 
 const THREE: [&str; 5] = ["gen", "--number", "7", "--size", "3"];
 
@@ -12,24 +14,37 @@ const THREE_OPENED: &[u8] = b"requests 3 committed 3 failed 0 batches 1 events 3
 
 const TEN_THOUSAND: [&str; 5] = ["gen", "--number", "1", "--size", "10000"];
 
-/// Calls with these words. A read of the file, or of the input, would fail.
-fn called(alloc: Global, words: &[&str], out: &[u64]) -> Result<Answer, AllocError> {
-    let faults = Faults {
-        file: &[1],
-        input: &[1],
-        out,
-        ..NO_FAULTS
+/// Faults where each read of the file, or of the input, fails.
+const UNREAD: Faults<'static> = Faults {
+    file: &[1],
+    input: &[1],
+    ..NO_FAULTS
+};
+
+/// A call with these words, of which no input is read.
+fn made_of<'a>(words: &'a [&'a str]) -> Call<'a> {
+    Call {
+        words,
+        file: "a.py",
+        text: b"",
+        input: b"{}\n",
+        faults: UNREAD,
+    }
+}
+
+/// Asserts the line that a call with these words prints.
+fn hold_line(rt: &impl Abort, alloc: Global, words: &[&str], line: &[u8]) -> Result<(), Fail> {
+    let wanted = Wanted {
+        status: 0,
+        out: line,
+        err: b"",
     };
-    call(alloc, words, "a.py", b"", b"{}\n", faults)
+    hold_call(rt, alloc, "generated work", made_of(words), wanted)
 }
 
 #[test]
 fn three_accounts_are_opened(rt: HostRuntime) -> Result<(), Fail> {
-    let answer = called(rt.alloc(), &THREE, &[])?;
-    assert_eq!(rt; answer.status, 0);
-    assert_eq!(rt; answer.out.bytes(), THREE_OPENED);
-    assert_eq!(rt; answer.err.bytes(), b"".as_slice());
-    Ok(())
+    hold_line(&rt, rt.alloc(), &THREE, THREE_OPENED)
 }
 
 /// One request, and each account in a batch of its own.
@@ -50,56 +65,97 @@ fn work_is_as_large_as_is_asked(rt: HostRuntime) -> Result<(), Fail> {
         ),
     ];
     for (words, line) in rows {
-        let answer = called(rt.alloc(), words, &[])?;
-        assert_eq!(rt; answer.status, 0);
-        assert_eq!(rt; answer.out.bytes(), line);
+        hold_line(&rt, rt.alloc(), words, line)?;
     }
     Ok(())
+}
+
+/// The status of a call and what it printed.
+fn answer_told(alloc: Global, answer: &Answer) -> Result<String, AllocError> {
+    let text = str::from_utf8(answer.out.bytes()).unwrap_or("no text");
+    format!(in alloc; "{} {text}", answer.status)
+}
+
+/// The status of a call with these words, and what it prints.
+fn printed(alloc: Global, words: &[&str]) -> Result<String, AllocError> {
+    let Call {
+        words,
+        file,
+        text,
+        input,
+        faults,
+    } = made_of(words);
+    let answer = call(alloc, words, file, text, input, faults)?;
+    let told = answer_told(alloc, &answer);
+    drop(answer);
+    told
 }
 
 /// Money moves among 200 accounts that opened with 100 each, and none of it is lost.
 #[test]
 fn ten_thousand_requests_lose_no_money(rt: HostRuntime) -> Result<(), Fail> {
-    let answer = called(rt.alloc(), &TEN_THOUSAND, &[])?;
-    assert_eq!(rt; answer.status, 0);
-    assert!(rt;
-        answer
-            .out
-            .bytes()
-            .starts_with(b"requests 10000 committed 10000 failed 0 batches ")
-    );
-    assert!(rt; answer.out.bytes().ends_with(b" total 20000\n"));
+    let line = printed(rt.alloc(), &TEN_THOUSAND)?;
+    let first = line.starts_with("0 requests 10000 committed 10000 failed 0 batches ");
+    let last = line.ends_with(" total 20000\n");
+    assert!(rt; first && last, "{line}");
     Ok(())
 }
 
+const SIX_HUNDRED: [&str; 5] = ["gen", "--number", "1", "--size", "600"];
+
 #[test]
 fn equal_calls_print_the_same_line(rt: HostRuntime) -> Result<(), Fail> {
-    let words = ["gen", "--number", "1", "--size", "600"];
-    let answer = called(rt.alloc(), &words, &[])?;
-    let again = called(rt.alloc(), &words, &[])?;
-    assert_eq!(rt; answer.status, 0);
-    assert_eq!(rt; again.out.bytes(), answer.out.bytes());
-    Ok(())
+    let again = printed(rt.alloc(), &SIX_HUNDRED)?;
+    assert!(rt; again.starts_with("0 "));
+    hold_text(&rt, printed(rt.alloc(), &SIX_HUNDRED), again.as_str())
+}
+
+/// The status of the call for 600 requests, and what it prints, where these are picked first of the events in flight.
+fn printed_along(alloc: Global, picks: &[u32]) -> Result<String, AllocError> {
+    let mut input = MemSource::new(alloc, b"", &[])?;
+    let mut chooser = ListChooser::new(alloc, picks)?;
+    let file = ("a.py", b"".as_slice());
+    let answer = call_along(
+        alloc,
+        &SIX_HUNDRED,
+        file,
+        &mut input,
+        &mut chooser,
+        NO_FAULTS,
+    );
+    drop(chooser);
+    drop(input);
+    let answer = answer?;
+    let told = answer_told(alloc, &answer);
+    drop(answer);
+    told
 }
 
 /// What is picked changes no number.
 #[test]
 fn order_of_events_changes_no_line(rt: HostRuntime) -> Result<(), Fail> {
-    let words = ["gen", "--number", "1", "--size", "600"];
-    let answer = called(rt.alloc(), &words, &[])?;
-    let mut chooser = ListChooser::new(rt.alloc(), &[5, 3, 8, 1, 0, 7, 2])?;
-    let mut input = MemSource::new(rt.alloc(), b"", &[])?;
-    let other = call_along(
-        rt.alloc(),
-        &words,
-        ("a.py", b""),
-        &mut input,
-        &mut chooser,
-        NO_FAULTS,
-    )?;
-    assert_eq!(rt; other.status, 0);
-    assert_eq!(rt; other.out.bytes(), answer.out.bytes());
-    Ok(())
+    let line = printed(rt.alloc(), &SIX_HUNDRED)?;
+    assert!(rt; line.starts_with("0 "));
+    let other = printed_along(rt.alloc(), &[5, 3, 8, 1, 0, 7, 2]);
+    hold_text(&rt, other, line.as_str())
+}
+
+/// Asserts what is written of the line where this call of the output fails.
+fn hold_prefix(rt: &impl Abort, alloc: Global, call: u64, written: &[u8]) -> Result<(), Fail> {
+    let faults = Faults {
+        out: &[call],
+        ..UNREAD
+    };
+    let made = Call {
+        faults,
+        ..made_of(&THREE)
+    };
+    let wanted = Wanted {
+        status: 4,
+        out: written,
+        err: b"stateflow: write fault\n",
+    };
+    hold_call(rt, alloc, "a failed output", made, wanted)
 }
 
 /// The thirteen parts of the line are written one after another, and then the output is flushed.
@@ -115,29 +171,36 @@ fn failed_output_leaves_a_prefix_of_the_line(rt: HostRuntime) -> Result<(), Fail
         (14, THREE_OPENED),
     ];
     for (call, written) in rows {
-        let answer = called(rt.alloc(), &THREE, &[call])?;
-        assert_eq!(rt; answer.status, 4, "{call}");
-        assert_eq!(rt; answer.out.bytes(), written, "{call}");
-        assert_eq!(rt;
-            answer.err.bytes(),
-            b"stateflow: write fault\n".as_slice(),
-            "{call}"
-        );
+        hold_prefix(&rt, rt.alloc(), call, written)?;
     }
     Ok(())
+}
+
+/// What a watch was told, note by note.
+fn notes_told(alloc: Global, watch: &MemWatch) -> Result<String, AllocError> {
+    let Some(notes) = watch.notes() else {
+        return String::from_str(alloc, "nothing");
+    };
+    let mut told = String::new(alloc);
+    for note in notes.as_slice() {
+        told.push_str(match note {
+            Note::Graph(_) => "graph ",
+            Note::Step(_, _) => "event ",
+        })?;
+    }
+    Ok(told)
+}
+
+/// What the watch is told by the call for three accounts.
+fn told(alloc: Global) -> Result<String, AllocError> {
+    let answer = call(alloc, &THREE, "a.py", b"", b"{}\n", UNREAD)?;
+    let told = notes_told(alloc, &answer.watch);
+    drop(answer);
+    told
 }
 
 /// The graph is told first, and each event behind it.
 #[test]
 fn graph_and_events_are_told(rt: HostRuntime) -> Result<(), Fail> {
-    let answer = called(rt.alloc(), &THREE, &[])?;
-    let Some(notes) = answer.watch.notes() else {
-        return Err(Fail::from("the watch tells nothing"));
-    };
-    assert_eq!(rt; notes.len(), 4);
-    assert!(rt; matches!(notes.get(0), Some(Note::Graph(_))));
-    for place in 1..4 {
-        assert!(rt; matches!(notes.get(place), Some(Note::Step(_, _))));
-    }
-    Ok(())
+    hold_text(&rt, told(rt.alloc()), "graph event event event ")
 }

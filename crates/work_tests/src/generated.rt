@@ -1,6 +1,7 @@
 //! The bank's program and its requests, number by number.
 
 use std::alloc::{AllocError, Global};
+use std::process::Abort;
 use std::test::Fail;
 use work_gen::{generate, next_number};
 
@@ -26,44 +27,70 @@ fn ends_with(alloc: Global, number: u64, size: u32, line: &[u8]) -> Result<bool,
     Ok(work.input.as_slice().ends_with(line))
 }
 
+/// Asserts that the work of this number and size ends with this line.
+fn hold_end(
+    rt: &impl Abort,
+    alloc: Global,
+    number: u64,
+    size: u32,
+    line: &[u8],
+) -> Result<(), Fail> {
+    assert!(rt; ends_with(alloc, number, size, line)?, "{number} {size}");
+    Ok(())
+}
+
 #[test]
 fn work_ends_with_the_request_of_its_size(rt: HostRuntime) -> Result<(), Fail> {
     let alloc = rt.alloc();
-    assert!(rt; ends_with(alloc, 0, 1, FIRST)?);
-    assert!(rt; ends_with(alloc, 5, 200, LAST_OPENING)?);
-    assert!(rt; ends_with(alloc, 0, 201, FIRST_FROM_0)?);
-    assert!(rt; ends_with(alloc, 7, 203, THIRD_FROM_7)?);
-    assert!(rt; ends_with(alloc, u64::MAX, 203, THIRD_FROM_GREATEST)?);
-    Ok(())
+    hold_end(&rt, alloc, 0, 1, FIRST)?;
+    hold_end(&rt, alloc, 5, 200, LAST_OPENING)?;
+    hold_end(&rt, alloc, 0, 201, FIRST_FROM_0)?;
+    hold_end(&rt, alloc, 7, 203, THIRD_FROM_7)?;
+    hold_end(&rt, alloc, u64::MAX, 203, THIRD_FROM_GREATEST)
 }
 
 #[test]
 fn one_request_is_one_line(rt: HostRuntime) -> Result<(), Fail> {
     let work = generate(rt.alloc(), 0, 1)?;
-    assert_eq!(rt; work.input.len(), FIRST.len());
+    let length = work.input.len();
+    drop(work);
+    assert_eq!(rt; length, FIRST.len());
     Ok(())
+}
+
+const PROGRAM_HEAD: &[u8] = b"from stateflow import entity
+
+
+@entity
+class Account:
+";
+
+const PROGRAM_END: &[u8] = b"        self.balance -= amount
+        return True
+";
+
+/// Whether a program has these ends.
+fn has_ends(program: &[u8]) -> bool {
+    program.starts_with(PROGRAM_HEAD) && program.ends_with(PROGRAM_END)
 }
 
 #[test]
 fn the_program_is_that_of_a_bank(rt: HostRuntime) -> Result<(), Fail> {
     let work = generate(rt.alloc(), 0, 1)?;
-    assert!(rt;
-        work.program.as_slice().starts_with(
-            b"from stateflow import entity\n\n\n@entity\nclass Account:\n"
-        )
-    );
-    assert!(rt;
-        work.program
-            .as_slice()
-            .ends_with(b"        self.balance -= amount\n        return True\n")
-    );
+    let is_bank = has_ends(work.program.as_slice());
+    drop(work);
+    assert!(rt; is_bank);
     Ok(())
 }
 
 #[test]
 fn the_generator_goes_on_modulo_2_to_the_64th(rt: HostRuntime) -> Result<(), Fail> {
-    assert_eq!(rt; next_number(0), 1_442_695_040_888_963_407);
-    assert_eq!(rt; next_number(1), 7_806_831_264_735_756_412);
-    assert_eq!(rt; next_number(u64::MAX), 13_525_302_890_751_722_018);
+    let found = (next_number(0), next_number(1), next_number(u64::MAX));
+    let wanted = (
+        1_442_695_040_888_963_407,
+        7_806_831_264_735_756_412,
+        13_525_302_890_751_722_018,
+    );
+    assert_eq!(rt; found, wanted);
     Ok(())
 }

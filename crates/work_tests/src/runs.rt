@@ -2,14 +2,27 @@
 
 ghost use Rattle.std.specs.Prelude.{◌≤◌};
 
-use generated_run::{GenSettings, GenStop, run_generated, write_summary};
+use generated_run::{GenSettings, GenStop, Summary, run_generated, write_summary};
 use operator_graph::NoWatch;
 use sf_outside::{ListChooser, MemSink};
 use std::alloc::Global;
 use std::test::Fail;
+use test_support::hold_text;
+
+/// The line of a summary.
+fn summary_told(alloc: Global, summary: &Summary) -> Result<String, Fail> {
+    let mut out = MemSink::new(alloc, 1000, &[])?;
+    let written = write_summary(&mut out, summary);
+    let told = String::from_str(alloc, str::from_utf8(out.bytes()).unwrap_or("no text"));
+    drop(out);
+    match written {
+        Ok(()) => Ok(told?),
+        Err(_) => Err(Fail::from("the line isn't written")),
+    }
+}
 
 /// The line of a run, where these are picked first of the events in flight.
-fn line_of(alloc: Global, settings: &GenSettings, picks: &[u32]) -> Result<MemSink, Fail>
+fn line_of(alloc: Global, settings: &GenSettings, picks: &[u32]) -> Result<String, Fail>
     requires size { settings.now.size ≤ 100000 }
     requires some { 1 ≤ settings.now.batch }
     requires batch { settings.now.batch ≤ 256 }
@@ -21,12 +34,8 @@ fn line_of(alloc: Global, settings: &GenSettings, picks: &[u32]) -> Result<MemSi
     let came = run_generated(alloc, settings, &mut chooser, &mut watch);
     let NoWatch = watch;
     drop(chooser);
-    let mut out = MemSink::new(alloc, 1000, &[])?;
     match came {
-        Ok(summary) => match write_summary(&mut out, &summary) {
-            Ok(()) => Ok(out),
-            Err(_) => Err(Fail::from("the line isn't written")),
-        },
+        Ok(summary) => summary_told(alloc, &summary),
         Err(GenStop::Refused(_)) => Err(Fail::from("the program is refused")),
         Err(GenStop::NoMemory) => Err(Fail::from("no memory for the run")),
     }
@@ -40,12 +49,8 @@ fn three_accounts_are_opened(rt: HostRuntime) -> Result<(), Fail> {
         batch: 64,
         parts: 4,
     };
-    let line = line_of(rt.alloc(), &settings, &[])?;
-    assert_eq!(rt;
-        line.bytes(),
-        "requests 3 committed 3 failed 0 batches 1 events 3 total 300\n".as_bytes()
-    );
-    Ok(())
+    let wanted = "requests 3 committed 3 failed 0 batches 1 events 3 total 300\n";
+    hold_text(&rt, line_of(rt.alloc(), &settings, &[]), wanted)
 }
 
 /// Each of three accounts in a batch of its own.
@@ -57,12 +62,8 @@ fn batches_of_one_are_as_many_as_requests(rt: HostRuntime) -> Result<(), Fail> {
         batch: 1,
         parts: 4,
     };
-    let line = line_of(rt.alloc(), &settings, &[])?;
-    assert_eq!(rt;
-        line.bytes(),
-        "requests 3 committed 3 failed 0 batches 3 events 3 total 300\n".as_bytes()
-    );
-    Ok(())
+    let wanted = "requests 3 committed 3 failed 0 batches 3 events 3 total 300\n";
+    hold_text(&rt, line_of(rt.alloc(), &settings, &[]), wanted)
 }
 
 /// Money moves among 200 accounts that opened with 100 each, and none is lost.
@@ -75,11 +76,9 @@ fn no_money_is_lost(rt: HostRuntime) -> Result<(), Fail> {
         parts: 4,
     };
     let line = line_of(rt.alloc(), &settings, &[])?;
-    assert!(rt;
-        line.bytes()
-            .starts_with(b"requests 10000 committed 10000 failed 0 batches ")
-    );
-    assert!(rt; line.bytes().ends_with(b" total 20000\n"));
+    let first = line.starts_with("requests 10000 committed 10000 failed 0 batches ");
+    let last = line.ends_with(" total 20000\n");
+    assert!(rt; first && last, "{line}");
     Ok(())
 }
 
@@ -99,9 +98,7 @@ fn order_of_events_and_partitions_change_no_number(rt: HostRuntime) -> Result<()
         parts: 1,
     };
     let line = line_of(alloc, &settings, &[])?;
-    let again = line_of(alloc, &settings, &[])?;
-    let other = line_of(alloc, &alone, &[5, 3, 8, 1, 0, 7, 2])?;
-    assert_eq!(rt; line.bytes(), again.bytes());
-    assert_eq!(rt; line.bytes(), other.bytes());
-    Ok(())
+    hold_text(&rt, line_of(alloc, &settings, &[]), line.as_str())?;
+    let other = line_of(alloc, &alone, &[5, 3, 8, 1, 0, 7, 2]);
+    hold_text(&rt, other, line.as_str())
 }

@@ -3,6 +3,7 @@
 import ast
 import functools
 import inspect
+import sys
 import textwrap
 import types
 from collections.abc import Callable, Mapping, Sequence
@@ -18,7 +19,8 @@ class Unusable(TypeError):
     """A marked class that can't act, and why."""
 
     def __init__(self, cls: type, why: object) -> None:
-        super().__init__(f"{cls.__module__}.{cls.__qualname__} can't act as an entity: {why}; `python3 -m stateflow check FILE` says what to mend")
+        file = getattr(sys.modules.get(cls.__module__), "__file__", None) or "FILE"
+        super().__init__(f"{cls.__module__}.{cls.__qualname__} can't act as an entity: {why}; `python3 -m stateflow check {file}` says what to mend")
 
 
 def tree_of(cls: type) -> ast.ClassDef:

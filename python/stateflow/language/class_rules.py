@@ -174,17 +174,32 @@ class ClassRules:
         for statement in tree.without_text(creation.body):
             if isinstance(statement, tree.Broken):
                 fields += sorted(statement.fields)
-            elif self.has_creation_form(statement, fields, methods) and isinstance(statement, tree.Assign):
+            elif self.has_creation_form(statement, creation, fields, methods) and isinstance(statement, tree.Assign):
                 self.look_at_field(statement, fields, methods)
             if isinstance(statement, tree.Assign) and isinstance(statement.target, tree.FieldTarget):
                 fields.append(statement.target.name)
 
-    def has_creation_form(self, statement: tree.Statement, fields: Sequence[str], methods: Iterable[str]) -> bool:
+    def likely_type(self, value: tree.Expression, creation: tree.Method) -> str:
+        """The type of a field that has none, as far as its value tells it."""
+        match value:
+            case tree.Literal(value=bool() | int() | str() as literal):
+                return type(literal).__name__
+            case tree.Name(name=name):
+                given = next((parameter.type for parameter in creation.parameters if parameter.name == name), None)
+                return "T" if given is None else str(kind_of(given, self.names))
+        return "T"
+
+    def has_creation_form(
+        self, statement: tree.Statement, creation: tree.Method, fields: Sequence[str], methods: Iterable[str]
+    ) -> bool:
         match statement:
             case tree.Assign(target=tree.FieldTarget(), annotation=annotation, value=value) if annotation is not None:
                 read = [value]
             case tree.Assert(test=test, message=message):
                 read = [test] if message is None else [test, message]
+            case tree.Assign(target=tree.FieldTarget(name=name), value=value):
+                self.fault("InitForm", statement.place, words.init_field(name, self.likely_type(value, creation)))
+                return False
             case _:
                 self.fault("InitForm", statement.place, words.init_statement(statement))
                 return False

@@ -67,7 +67,8 @@ def no_result_type(name: str) -> Advice:
 def unknown_type(name: str, names: Iterable[str]) -> Advice:
     if name in TYPES:
         return TYPES[name]
-    return Advice(f"there is no class `{name}` in the program", near(name, [*names, "int", "bool", "str"]) or "write a class of the program, `int`, `bool`, `str`, `List[T]` or `Optional[T]`")
+    mend = near(name, [*names, "int", "bool", "str"])
+    return Advice(f"there is no class `{name}` in the program", mend or "write one of its classes, `int`, `bool`, `str`, `List[T]` or `Optional[T]`")
 
 
 def nested_optional(is_none: bool) -> Advice:
@@ -88,14 +89,18 @@ def init_result() -> Advice:
     return Advice("`__init__` gives nothing", "write `-> None`, or no result type")
 
 
+def init_field(name: str, kind: str) -> Advice:
+    mend = f"write `self.{name}: {kind} = ...`" + (", with its type for T" if kind == "T" else "")
+    return Advice(f"a field is declared with its type: `{name}` has none", mend)
+
+
 def init_statement(statement: tree.Statement) -> Advice:
     match statement:
-        case tree.Assign(target=tree.FieldTarget(name=name), annotation=None):
-            return Advice(f"a field is declared with its type: `{name}` has none", f"write `self.{name}: T = ...` with its type for T")
         case tree.Assign() | tree.Augment():
             return Advice("`__init__` declares fields, and has no locals", "write the value at the field, or let the request give it")
         case tree.If() | tree.While() | tree.For():
-            return Advice("`__init__` declares fields and asserts, and has no branches and loops", "write a choice as `a if test else b`, or let a method do the rest")
+            mend = "write a choice as `a if test else b`, or let a method do the rest"
+            return Advice("`__init__` declares fields and asserts, and has no branches and loops", mend)
         case tree.Raise():
             return Advice("`__init__` declares fields and asserts", "write `assert test, message`")
     return Advice("in `__init__` stand `self.f: T = e` and `assert` alone", "let a method do it")
@@ -106,7 +111,7 @@ def init_call(name: str) -> Advice:
 
 
 def init_creation(name: str) -> Advice:
-    return Advice(f"`__init__` makes no entity, as here a `{name}`", "let a method make it, or take it as a parameter")
+    return Advice(f"`__init__` makes no entity, as here of `{name}`", "let a method make it, or take it as a parameter")
 
 
 def init_self() -> Advice:
@@ -132,4 +137,5 @@ def key_body() -> Advice:
 
 
 def key_not_given(name: str) -> Advice:
-    return Advice(f"the key `{name}` isn't a text field that a parameter gives", f"declare it in `__init__` as `self.{name}: str = {name}`, with a parameter `{name}: str`")
+    mend = f"declare it in `__init__` as `self.{name}: str = {name}`, with a parameter `{name}: str`"
+    return Advice(f"the key `{name}` isn't a text field that a parameter gives", mend)

@@ -1,10 +1,10 @@
 """Faults: where a program isn't accepted, why, and what mends it."""
 
 from dataclasses import dataclass, field
+from typing import NamedTuple
 
 
-@dataclass(frozen=True, order=True, slots=True)
-class Place:
+class Place(NamedTuple):
     """A place in a text: a line from 1, and a column that is 1 plus the bytes before it on the line."""
 
     line: int

@@ -53,31 +53,43 @@ def bodies(statement: tree.Statement) -> list[tree.Statements]:
     return [*[arm.body for arm in statement.arms], statement.other] if isinstance(statement, tree.If) else []
 
 
-def goes_on(statement: tree.Statement) -> bool:
-    """Whether the point behind a statement can be reached."""
+@dataclass(frozen=True, slots=True)
+class Ways:
+    """The ways out of statements that can be reached: to the point behind them, and to that behind the loop around them."""
+
+    go_on: bool
+    break_out: bool
+
+
+def ways_of(statement: tree.Statement) -> Ways:
     match statement:
         case tree.If():
-            return any(all(map(goes_on, body)) for body in bodies(statement))
+            ways = [ways_through(body) for body in bodies(statement)]
+            return Ways(any(way.go_on for way in ways), any(way.break_out for way in ways))
         case tree.While(body=body) if is_endless(statement):
-            return breaks(body)
+            return Ways(ways_through(body).break_out, False)
         case tree.Word(word=word):
-            return word == "pass"
-    return not isinstance(statement, (tree.Return, tree.Raise))
+            return Ways(word == "pass", word == "break")
+    return Ways(not isinstance(statement, (tree.Return, tree.Raise)), False)
+
+
+def ways_through(statements: tree.Statements) -> Ways:
+    """The ways out of statements, one after another."""
+    break_out = False
+    for statement in statements:
+        ways = ways_of(statement)
+        break_out = break_out or ways.break_out
+        if not ways.go_on:
+            return Ways(False, break_out)
+    return Ways(True, break_out)
 
 
 def reached(statements: tree.Statements) -> Iterator[tree.Statement]:
     """The statements up to the first one behind which none can be reached."""
     for statement in statements:
         yield statement
-        if not goes_on(statement):
+        if not ways_of(statement).go_on:
             return
-
-
-def breaks(statements: tree.Statements) -> bool:
-    """Whether a `break` of the loop around these can be reached."""
-    return any(
-        (isinstance(statement, tree.Word) and statement.word == "break") or any(map(breaks, bodies(statement))) for statement in reached(statements)
-    )
 
 
 def assigned(statements: tree.Statements) -> Names:

@@ -4,8 +4,8 @@ from stateflow.language.faults import Advice
 from stateflow.limits import GREATEST_INT, LONGEST_TEXT
 
 CHARACTERS = {
-    "{": Advice("the language has no dicts and no sets, and no f-strings", "make an entity for each key, or keep two lists of one length"),
-    "}": Advice("the language has no dicts and no sets, and no f-strings", "make an entity for each key, or keep two lists of one length"),
+    "{": Advice("the language has no dicts and no sets", "make an entity for each key, or keep two lists of one length"),
+    "}": Advice("`}` is no sign of the language", "leave it out"),
     "/": Advice("the language has no `/`: it has no floats", "divide whole numbers with `//`, in a smaller unit such as cents"),
     "|": Advice("`|` is no sign of the language", "write `Optional[int]` for `int | None`, and `or` between tests"),
     "&": Advice("`&` is no sign of the language: it has no operators on bits", "write `and` between tests"),
@@ -65,7 +65,8 @@ def bad_escape(behind: str) -> Advice:
         return Advice(f"the language has no escape `\\{behind}`", "write the character itself, or `\\uhhhh` with four digits")
     if behind in ("x", "u"):
         digits = "two" if behind == "x" else "four"
-        return Advice(f"behind `\\{behind}` come {digits} hexadecimal digits, and no half of a pair", f"write `\\{behind}` with {digits} digits, or the character itself")
+        message = f"behind `\\{behind}` come {digits} hexadecimal digits, and no half of a pair"
+        return Advice(message, f"write `\\{behind}` with {digits} digits, or the character itself")
     if behind in ("", "\n", "\r"):
         return Advice("a string isn't joined over two lines by a backslash", "join two strings with `+`")
     return Advice(f"`\\{behind}` is no escape of the language", f"write `\\\\{behind}` for a backslash and `{behind}`")

@@ -78,6 +78,7 @@ class Reader:
         self.tokens: list[Token] = []
         self.indents: list[int] = []
         self.brackets: list[Place] = []
+        self.braces: list[Place] = []
         self.indent: int | None = None
         self.is_in_line = False
 
@@ -175,7 +176,16 @@ class Reader:
             self.read_bad_character()
 
     def read_bad_character(self) -> None:
-        self.fault("BadCharacter", self.place(), words.bad_character(self.text[self.at]))
+        """What begins nothing. Behind a curly bracket lines go on up to the one that closes it, so a dict is one fault."""
+        character, place = self.text[self.at], self.place()
+        if character == "}" and self.braces and self.brackets[-1:] == self.braces[-1:]:
+            self.braces.pop()
+            self.brackets.pop()
+        else:
+            self.fault("BadCharacter", place, words.bad_character(character))
+        if character == "{":
+            self.braces.append(place)
+            self.brackets.append(place)
         self.at += 1
 
     # Tokens

@@ -84,8 +84,9 @@ def may_be_none(node: tree.Expression, kind: Kind) -> Advice:
 
 
 def none_beside(sign: str, left: Kind, right: Kind) -> Advice:
-    side = "both sides" if isinstance(left, OptionalOf) and isinstance(right, OptionalOf) else "a side"
-    return Advice(f"{side} of `{sign}` may be `None`: it stands between {an(left)} and {an(right)}", "test it first by `is not None`; put a field into a local before")
+    optional = [side for side, kind in (("left", left), ("right", right)) if kind == NONE or isinstance(kind, OptionalOf)]
+    sides = "both sides" if len(optional) == 2 else f"the {optional[0]} side"
+    return Advice(f"{sides} of `{sign}` may be `None`", "test it first by `is not None`; put a field into a local before")
 
 
 def operand(what: str, wanted: Kind, kind: Kind) -> Advice:
@@ -167,7 +168,8 @@ def unknown_name(name: str, kinds: Iterable[str], fields: Iterable[str], tables:
         return Advice(f"`{name}` itself is no value", "call it, or take another name")
     if name in fields:
         return Advice(f"no local and no parameter is called `{name}`", f"write `self.{name}` for the field")
-    return Advice(f"no local and no parameter is called `{name}`", near(name, kinds) or "assign it before, make it a parameter, or a field: there are no values of the module")
+    mend = near(name, kinds) or "assign it before, make it a parameter, or a field: there are no values of the module"
+    return Advice(f"no local and no parameter is called `{name}`", mend)
 
 
 def unknown_function(name: str, tables: Tables) -> Advice:
@@ -176,7 +178,8 @@ def unknown_function(name: str, tables: Tables) -> Advice:
     mend = near(name, [*tables, "len", "str", "abs", "min", "max"])
     if name[0].isupper():
         return Advice(f"there is no class `{name}` in the program", mend or "write it in this file: a program is one file")
-    return Advice(f"`{name}` is no class and none of `len`, `str`, `abs`, `min` and `max`", mend or "call a method: `self.m(...)`; there are no functions of one's own")
+    message = f"`{name}` is no class and none of `len`, `str`, `abs`, `min` and `max`"
+    return Advice(message, mend or "call a method: `self.m(...)`; there are no functions of one's own")
 
 
 def unassigned(name: str) -> Advice:
@@ -210,7 +213,8 @@ def counted(count: int) -> str:
 
 
 def argument_count(name: str, wanted: int, given: int) -> Advice:
-    return Advice(f"`{name}` takes {counted(wanted)}, and {counted(given)} stands here" if given < 2 else f"`{name}` takes {counted(wanted)}, and {counted(given)} stand here", "give one for each parameter")
+    stand = "stands" if given < 2 else "stand"
+    return Advice(f"`{name}` takes {counted(wanted)}, and {counted(given)} {stand} here", "give one for each parameter")
 
 
 def function_count(name: str, wanted: int, given: int) -> Advice:

@@ -1,7 +1,7 @@
 use Rattle.std.proofs.Common.{◌≡◌, length, rules, arith}
 use Rattle.sf_bytes.specs.ByteForms.{long_bytes}
 use Rattle.sf_outside.specs.DiskModel.{SeenWritten}
-use Rattle.sf_outside.proofs.DiskLaws.{IsDurable-written}
+use Rattle.sf_outside.proofs.DiskLaws.{IsDurable-written, IsDurable-torn}
 use Rattle.sf_outside.proofs.ImageSteps.{on_ok}
 use Rattle.snapshot_store.specs.SlotFile.{behind_gate}
 use Rattle.snapshot_store.proofs.Fillings.{staged_write, staged_then, seen_behind}
@@ -18,6 +18,15 @@ returns-in_err-write_at-2-clause-moments g c =
     staged_then c.args.slot 9 (length c.to_be_bytes-2.result) (omega arith) old first (g.D.Disk.facts c.write_at-2.new.self)
     (staged_write c.args.slot 1 (length c.to_be_bytes.result) (omega arith) old first c.write_at.ensures.moments)
     c.write_at-2.ensures.moments
+
+pub returns-in_err-write_at-2-clause-others : goal.returns-in_err-write_at-2-clause-others
+returns-in_err-write_at-2-clause-others g c = λ other differs durable.
+    let slot = c.args.slot in
+    let old = g.D.Disk.facts c.args.disk.now in
+    let first = g.D.Disk.facts c.write_at.new.self in
+    IsDurable-torn slot other differs 9 (length c.to_be_bytes-2.result) first (g.D.Disk.facts c.write_at-2.new.self)
+    (IsDurable-written slot other differs 1 c.to_be_bytes.result old first durable c.in_ok-write_at.ensures.ok c.write_at.ensures.moments)
+    c.in_err-write_at-2.ensures.err c.write_at-2.ensures.moments
 
 pub returns-clause-seen : goal.returns-clause-seen
 unfolding long_bytes

@@ -1,7 +1,7 @@
 use Rattle.std.proofs.Common.{◌≡◌, ◌+◌, ◌≤◌, ◌<◌, ◌++◌, ◌∷◌, [], length, vec_len, vec_capacity, ap, arith, length-append}
 use Rattle.std.proofs.lemmas.Grind.{common_steps}
 use Rattle.sf_outside.specs.CallLog.{calls_of}
-use Rattle.sf_outside.proofs.LogLaws.{length-calls_of, bytes_written-calls_of, noted_bytes-more, calls_of-more}
+use Rattle.sf_outside.proofs.LogLaws.{length-calls_of, bytes_written-calls_of, noted_bytes-more, calls_of-more, notes_fit-more}
 use Rattle.sf_outside.proofs.call_log.CallLog.note.Goals as goal
 
 pub unwrap-requires : goal.unwrap-requires
@@ -27,6 +27,7 @@ invariant_of-self c =
       omega (arith, c.self.invariant.1, c.push.ensures.capacity),
       omega (arith, c.self.invariant.2, c.extend_from_slice.ensures.capacity),
       rw bytes (omega (arith, c.self.invariant.3, free, used, length-append c.self.inside.bytes.items c.args.bytes.now)),
+      rw notes (notes_fit-more c.self.inside.room c.self.inside.notes.items c.args.note c.self.invariant.4 (rw (← c.self.view_is) at c.requires.place)),
     )
 
 pub returns : goal.returns
