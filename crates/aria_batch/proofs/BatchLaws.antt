@@ -13,7 +13,7 @@ use Rattle.keyed_state.specs.declared.Work.{Work}
 use Rattle.commit_order.specs.CommittedSerial.{AreWorksOf}
 use Rattle.block_step.specs.declared.compiled.Compiled.{Compiled}
 use Rattle.block_step.specs.CompiledViews.{compiled_program, compiled_names, compiled_tables, compiled_blocks, IsWhole}
-use Rattle.interleaving.specs.Turns.{Parts, running, told, after, along}
+use Rattle.interleaving.specs.Turns.{Parts, running, told, after, counts, along}
 use Rattle.batch_events.specs.Vocabulary.{Transaction, firsts, Told, AlsoTold, Flight, all_come_to, EachTransaction, turns_of, Outside, PicksOne, Turns, acts_of}
 use Rattle.batch_events.specs.BatchRuns.{AreRuns, ComesToRuns}
 use Rattle.batch_events.proofs.OwnRuns.{batches_come_to_their_runs}
@@ -21,7 +21,7 @@ use Rattle.batch_events.proofs.BatchWorks.{works_are}
 use Rattle.aria_batch.specs.declared.events.Ended.{Ended}
 use Rattle.aria_batch.specs.Counts.{counted_in_run}
 use Rattle.aria_batch.specs.BatchRun.{source_of, own_outcomes, Batch, batch_of, AlsoPicked, IsToldAlong}
-use Rattle.aria_batch.proofs.PickLaws.{none_picked, one_picked, none_told, more_told, nothing_picked, after_one_more, along_one_more, one_more_note}
+use Rattle.aria_batch.proofs.PickLaws.{none_picked, one_picked, none_told, more_told, nothing_picked, none_counted, after_one_more, counts_one_more, along_one_more, one_more_note}
 use Rattle.aria_batch.proofs.FlightLaws.{each_buffers, outcomes_are}
 
 -- where memory ran out no events are counted
@@ -50,7 +50,7 @@ module _ (c : Compiled) (snapshot : State) (requests : List Request) (parts : �
 
   -- along some picks: they are told besides, and the events along them, of which there were so many
   pub record PickedSoFar (events : ℕ) (old new : Outside) (picks : List ℕ) : Type 0 where
-    pub picked : AlsoPicked old.choices new.choices picks
+    pub picked : AlsoPicked old.choices new.choices (counts m picks begun) picks
     pub told_of_them : AlsoTold old.told new.told (along m picks begun)
     pub one_each : length picks ≡ length (along m picks begun)
     pub counted : events ≡ length (along m picks begun)
@@ -63,7 +63,7 @@ module _ (c : Compiled) (snapshot : State) (requests : List Request) (parts : �
 
   nothing_yet : (o : Outside) → PickedSoFar 0 o o []
   nothing_yet o = record {
-    picked = none_picked o.choices;
+    picked = subst (λ l. AlsoPicked o.choices o.choices l []) (sym (none_counted m begun)) (none_picked o.choices);
     told_of_them = subst (AlsoTold o.told o.told) (sym (nothing_picked m begun).1) (none_told o.told);
     one_each = sym (ap length (nothing_picked m begun).1);
     counted = sym (ap length (nothing_picked m begun).1);
@@ -74,7 +74,9 @@ module _ (c : Compiled) (snapshot : State) (requests : List Request) (parts : �
 
   one_more : (events : ℕ) (old mid new : Outside) (picks : List ℕ) → PickedSoFar events old mid picks → (p : PicksOne m (after m picks begun) mid new) → PickedSoFar (events + 1) old new (picks ++ p.pick ∷ [])
   one_more events old mid new picks s p = record {
-    picked = one_picked old.choices mid.choices new.choices picks p.pick s.picked p.picked;
+    picked =
+        subst (λ l. AlsoPicked old.choices new.choices l (picks ++ p.pick ∷ [])) (sym (counts_one_more m picks p.pick begun))
+        (one_picked old.choices mid.choices new.choices (counts m picks begun) picks (running m (after m picks begun)) p.pick s.picked p.picked);
     told_of_them =
         subst (AlsoTold old.told new.told) (sym (along_one_more m picks p.pick begun))
         (more_told old.told mid.told new.told (along m picks begun) (told m p.pick (after m picks begun)) s.told_of_them p.told_of_it);

@@ -4,24 +4,24 @@ use Rattle.std.specs.Prelude.{if◌then◌else◌}
 use Rattle.std.proofs.Math.Nat.{mod-lt}
 use Rattle.std.proofs.lemmas.List.{append-nil}
 use Rattle.sf_outside.specs.Choices.{Choices, Picks}
-use Rattle.interleaving.specs.Turns.{Parts, running, here_or, noted, turned, told, after, along}
+use Rattle.interleaving.specs.Turns.{Parts, running, here_or, noted, turned, told, after, counts, along}
 use Rattle.batch_events.specs.Vocabulary.{Told, AlsoTold}
 use Rattle.aria_batch.specs.BatchRun.{AlsoPicked}
 
 -- What is told besides
 
-pub none_picked : (c : Option Choices) → AlsoPicked c c []
+pub none_picked : (c : Option Choices) → AlsoPicked c c [] []
 none_picked None = tt
-none_picked (Some c) = λ i. record { starts = c.starts; number = c.number; picks = sym (append-nil c.picks) i }
+none_picked (Some c) = λ i. record { starts = c.starts; number = c.number; asked = sym (append-nil c.asked) i; picks = sym (append-nil c.picks) i }
 
-pub one_picked : (a b c : Option Choices) (picks : List ℕ) (pick : ℕ) → AlsoPicked a b picks → Picks b pick c → AlsoPicked a c (picks ++ pick ∷ [])
-one_picked a b None picks pick before now = tt
-one_picked a None (Some c) picks pick before now = absurd now
-one_picked None (Some b) (Some c) picks pick before now = absurd before
-one_picked (Some a) (Some b) (Some c) picks pick before now =
+pub one_picked : (a b c : Option Choices) (counts picks : List ℕ) (count pick : ℕ) → AlsoPicked a b counts picks → Picks b count pick c → AlsoPicked a c (counts ++ count ∷ []) (picks ++ pick ∷ [])
+one_picked a b None counts picks count pick before now = tt
+one_picked a None (Some c) counts picks count pick before now = absurd now
+one_picked None (Some b) (Some c) counts picks count pick before now = absurd before
+one_picked (Some a) (Some b) (Some c) counts picks count pick before now =
     now
-    ∙ (λ i. record { starts = (before i).starts; number = (before i).number; picks = (before i).picks ++ pick ∷ [] })
-    ∙ (λ i. record { starts = a.starts; number = a.number; picks = append_assoc a.picks picks (pick ∷ []) i })
+    ∙ (λ i. record { starts = (before i).starts; number = (before i).number; asked = (before i).asked ++ count ∷ []; picks = (before i).picks ++ pick ∷ [] })
+    ∙ (λ i. record { starts = a.starts; number = a.number; asked = append_assoc a.asked counts (count ∷ []) i; picks = append_assoc a.picks picks (pick ∷ []) i })
 
 pub none_told : (n : Option (List Told)) → AlsoTold n n []
 none_told None = tt
@@ -44,6 +44,15 @@ module _ {T N : Type 0} (m : Parts T N) where
   unfolding after
   after_one_more [] pick ts = refl
   after_one_more (p ∷ picks) pick ts = after_one_more picks pick (turned m p ts)
+
+  pub none_counted : (ts : List T) → counts m [] ts ≡ []
+  unfolding counts
+  none_counted ts = refl
+
+  pub counts_one_more : (picks : List ℕ) (pick : ℕ) (ts : List T) → counts m (picks ++ pick ∷ []) ts ≡ counts m picks ts ++ running m (after m picks ts) ∷ []
+  unfolding after counts
+  counts_one_more [] pick ts = refl
+  counts_one_more (p ∷ picks) pick ts = ap (λ l. running m ts ∷ l) (counts_one_more picks pick (turned m p ts))
 
   pub along_one_more : (picks : List ℕ) (pick : ℕ) (ts : List T) → along m (picks ++ pick ∷ []) ts ≡ along m picks ts ++ told m pick (after m picks ts)
   unfolding after along

@@ -13,7 +13,7 @@ use Rattle.block_code.specs.PlainBlocks.{PlainBlock}
 use Rattle.quiet_methods.specs.MarksKeepWithin.{source}
 use Rattle.block_step.specs.CompiledViews.{compiled_program, compiled_names, compiled_tables, compiled_blocks}
 use Rattle.block_step.specs.declared.compiled.Compiled.{Compiled}
-use Rattle.batch_events.specs.Vocabulary.{acts_of, Told, AlsoTold, batch_told, batch_running, Outside}
+use Rattle.batch_events.specs.Vocabulary.{acts_of, Told, AlsoTold, batch_told, batch_running, batch_counts, Outside}
 
 abbrev pub source_of : Compiled → Source
 source_of compiled = source (compiled_names compiled) (compiled_program compiled)
@@ -41,11 +41,11 @@ batch_of compiled snapshot requests = record {
 
 -- What is told
 
--- these picks were made besides, one after another; who tells nothing any more never tells anything again
-abbrev pub AlsoPicked : Option Choices → Option Choices → List ℕ → Type 0
-AlsoPicked old None more = Unit {0}
-AlsoPicked None (Some new) more = ⊥
-AlsoPicked (Some old) (Some new) more = new ≡ record { starts = old.starts; number = old.number; picks = old.picks ++ more }
+-- these picks were made besides, one after another, each asked for of so many; who tells nothing any more never tells anything again
+abbrev pub AlsoPicked : Option Choices → Option Choices → List ℕ → List ℕ → Type 0
+AlsoPicked old None counts more = Unit {0}
+AlsoPicked None (Some new) counts more = ⊥
+AlsoPicked (Some old) (Some new) counts more = new ≡ record { starts = old.starts; number = old.number; asked = old.asked ++ counts; picks = old.picks ++ more }
 
 module _ (b : Batch) (parts : ℕ) where
   abbrev pub told_along : List ℕ → List Told
@@ -54,11 +54,14 @@ module _ (b : Batch) (parts : ℕ) where
   abbrev pub running_along : List ℕ → ℕ
   running_along picks = batch_running b.src b.tables b.graph b.snapshot b.asked parts picks
 
-  -- along some picks: they are told besides, and so are the events along them, one for each pick. Where events were counted the batch was run to its
+  abbrev pub counts_along : List ℕ → List ℕ
+  counts_along picks = batch_counts b.src b.tables b.graph b.snapshot b.asked parts picks
+
+  -- along some picks, each asked for of as many as aren't over then: they are told besides, and so are the events along them, one for each pick. Where events were counted the batch was run to its
   -- end, and they are as many as were told
   pub record IsToldAlong (counted : Option ℕ) (old new : Outside) : Type 0 where
     pub picks : List ℕ
-    pub picked : AlsoPicked old.choices new.choices picks
+    pub picked : AlsoPicked old.choices new.choices (counts_along picks) picks
     pub told_of_them : AlsoTold old.told new.told (told_along picks)
     pub one_each : length picks ≡ length (told_along picks)
     pub ended : IfSome counted (λ n. running_along picks ≡ 0)

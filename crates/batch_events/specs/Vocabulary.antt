@@ -1,5 +1,5 @@
 -- The definitions of lower crates that the crates above this one name from here.
-pub use Rattle.operator_graph.specs.BatchEvents.{batch_running, batch_told, transactions}
+pub use Rattle.operator_graph.specs.BatchEvents.{batch_counts, batch_running, batch_told, transactions}
 pub use Rattle.operator_graph.specs.BatchInFlight.{IsUnderWay, flights_in, weight_in_flight}
 pub use Rattle.operator_graph.specs.BufferedWorks.{EachBuffers}
 pub use Rattle.operator_graph.specs.FirstFlights.{acts_of}

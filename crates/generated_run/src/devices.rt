@@ -4,6 +4,7 @@ ghost use Rattle.std.specs.Prelude.{None, IsOk, OnOk, OnErr};
 ghost use Rattle.std.specs.Io.KnownBytes.{Keeps, Appends};
 ghost use Rattle.sf_outside.specs.Bytes.{AppendsPrefix};
 ghost use Rattle.sf_outside.specs.Causes.{HasCause};
+ghost use Rattle.sf_outside.specs.Handing.{HandsOn, IsHandedOn};
 
 use sf_outside::{Failed, Sink, Source};
 
@@ -14,12 +15,15 @@ pub struct DroppingSink;
 impl Sink for DroppingSink {
     ghost held = { λ sink. None };
 
+    ghost handed = { λ sink. None };
+
     ghost faults = { λ sink. 0 };
 
     /// It never fails.
     fn write(&mut self, bytes: &[u8]) -> Result<(), Failed>
         ensures whole { OnOk result (Appends None None bytes.now) }
         ensures part { OnErr result (AppendsPrefix None None bytes.now) }
+        ensures hands { HandsOn None None None }
         ensures cause { HasCause 0 0 result }
         ensures never { IsOk result }
     {
@@ -30,6 +34,8 @@ impl Sink for DroppingSink {
     /// It never fails.
     fn flush(&mut self) -> Result<(), Failed>
         ensures kept { Keeps None None }
+        ensures hands { HandsOn None None None }
+        ensures all { OnOk result (IsHandedOn None None) }
         ensures cause { HasCause 0 0 result }
         ensures never { IsOk result }
     {

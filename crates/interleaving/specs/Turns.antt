@@ -42,6 +42,11 @@ module _ {T N : Type 0} (m : Parts T N) where
   after [] ts = ts
   after (pick ∷ picks) ts = after picks (turned pick ts)
 
+  -- how many ran at each pick
+  unfoldable pub counts : List ℕ → List T → List ℕ
+  counts [] ts = []
+  counts (pick ∷ picks) ts = running ts ∷ counts picks (turned pick ts)
+
   unfoldable pub along : List ℕ → List T → List N
   along [] ts = []
   along (pick ∷ picks) ts = told pick ts ++ along picks (turned pick ts)

@@ -8,7 +8,7 @@ use Rattle.std.proofs.lemmas.Option.{same_Some, none-some, slice_get_within}
 use Rattle.sf_value.specs.declared.value.Ref.{Ref}
 use Rattle.program_meaning.specs.World.{State}
 use Rattle.keyed_state.specs.declared.Work.{Work}
-use Rattle.sf_outside.specs.Choices.{Picks}
+use Rattle.sf_outside.specs.Choices.{Choices, Picks}
 use Rattle.block_code.specs.declared.event.Event.{Event}
 use Rattle.block_code.specs.EventsFit.{EventFits}
 use Rattle.block_runs.specs.EventStep.{lasts, target_of}
@@ -127,8 +127,12 @@ module _ (c : Compiled) (whole : IsWhole c) (parts : ℕ) (snapshot : State) (fs
   some_run : (ts : List Transaction) → EachTransaction snapshot ts fs works → running m ts ≡ 0 → ⊥
   some_run ts each none = h.some (sym (as_counted ts each) ∙ none)
 
-  pub picks_one : (ts : List Transaction) → EachTransaction snapshot ts fs works → (old new : Outside) → Picks old.choices pick new.choices → ((f : Flight) → slice_get fs place ≡ Some f → AlsoTold old.told new.told (event_told parts f.next ∷ [])) → PicksOne m ts old new
-  picks_one ts each old new picks tells = record { pick = pick; runs = some_run ts each; picked = picks; told_of_it = told_so ts each old.told new.told tells }
+  -- as many were asked for as run
+  asked_so : (ts : List Transaction) → EachTransaction snapshot ts fs works → (old new : Option Choices) → Picks old count pick new → Picks old (running m ts) pick new
+  asked_so ts each old new picks = subst (λ n. Picks old n pick new) (sym (as_counted ts each)) picks
+
+  pub picks_one : (ts : List Transaction) → EachTransaction snapshot ts fs works → (old new : Outside) → Picks old.choices count pick new.choices → ((f : Flight) → slice_get fs place ≡ Some f → AlsoTold old.told new.told (event_told parts f.next ∷ [])) → PicksOne m ts old new
+  picks_one ts each old new picks tells = record { pick = pick; runs = some_run ts each; picked = asked_so ts each old.choices new.choices picks; told_of_it = told_so ts each old.told new.told tells }
 
   -- Behind the turn
 
@@ -163,9 +167,9 @@ module _ (c : Compiled) (whole : IsWhole c) (parts : ℕ) (snapshot : State) (fs
         subst (λ n. EachTransaction snapshot (stepped m (pick % n) ts) after left) (sym (as_counted ts each)) (put_there _ (p.put gone.new gone.work moved))
 
     -- one was picked, was told, and has taken a step
-    pub took_turn : (ts : List Transaction) → EachTransaction snapshot ts fs works → (old new : Outside) → Picks old.choices pick new.choices → ((f : Flight) → slice_get fs place ≡ Some f → AlsoTold old.told new.told (event_told parts f.next ∷ []))
+    pub took_turn : (ts : List Transaction) → EachTransaction snapshot ts fs works → (old new : Outside) → Picks old.choices count pick new.choices → ((f : Flight) → slice_get fs place ≡ Some f → AlsoTold old.told new.told (event_told parts f.next ∷ []))
         → Turns m ts snapshot (Ok true) after left old new
-    took_turn ts each old new picks tells = (record { pick = pick; runs = some_run ts each; picked = picks; told_of_it = told_so ts each old.told new.told tells }, turned_so ts each)
+    took_turn ts each old new picks tells = (record { pick = pick; runs = some_run ts each; picked = asked_so ts each old.choices new.choices picks; told_of_it = told_so ts each old.told new.told tells }, turned_so ts each)
 
     pub still_fit : FlightsFit c snapshot after left
     still_fit = record {

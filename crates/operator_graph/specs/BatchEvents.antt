@@ -12,7 +12,7 @@ use Rattle.program_meaning.specs.World.{State}
 use Rattle.block_code.specs.declared.event.Event.{Event}
 use Rattle.block_code.specs.PlainBlocks.{PlainBlock}
 use Rattle.block_runs.specs.EventStep.{lasts, target_of}
-use Rattle.interleaving.specs.Turns.{Parts, running, after, along}
+use Rattle.interleaving.specs.Turns.{Parts, running, after, along, counts}
 use Rattle.transaction_steps.specs.Transactions.{Transaction, firsts, handled, is_done}
 use Rattle.operator_graph.specs.Routing.{operator_of}
 use Rattle.operator_graph.specs.Telling.{Told, StepTold}
@@ -45,6 +45,10 @@ module _ (src : Source) (tables : List PlainTable) (graph : List (List PlainBloc
   -- what was told
   abbrev pub batch_told : List Told
   batch_told = along (transactions src tables graph parts) picks (firsts src snapshot batch)
+
+  -- of how many each pick was one
+  abbrev pub batch_counts : List ℕ
+  batch_counts = counts (transactions src tables graph parts) picks (firsts src snapshot batch)
 
   -- how many of them aren't over
   abbrev pub batch_running : ℕ

@@ -18,11 +18,11 @@ pub record Outside : Type 0 where
   pub told : Option (List Told)
 
 module _ (m : Parts Transaction Told) (ts : List Transaction) where
-  -- one more pick was made of those that aren't over, and told
+  -- one more pick was asked for of as many as aren't over, made of them, and told
   pub record PicksOne (old new : Outside) : Type 0 where
     pub pick : ℕ
     pub runs : running m ts ≡ 0 → ⊥
-    pub picked : Picks old.choices pick new.choices
+    pub picked : Picks old.choices (running m ts) pick new.choices
     pub told_of_it : AlsoTold old.told new.told (told m pick ts)
 
   -- where there was a turn, the one that was picked has taken a step; where there was none, none is left, and all is as it was; where

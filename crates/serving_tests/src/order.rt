@@ -19,6 +19,8 @@ struct CountingSink<'a> {
 impl Sink for CountingSink<'_> {
     ghost held = { λ _. None };
 
+    ghost handed = { λ _. None };
+
     ghost faults = { λ _. 0 };
 
     fn write(&mut self, bytes: &[u8]) -> Result<(), Failed> {

@@ -15,3 +15,4 @@ pub mod Refusals
 pub mod Replays
 pub mod Writes
 pub mod WrittenBytes
+pub mod HandingLaws

@@ -16,3 +16,4 @@ pub mod MountState
 pub mod Named
 pub mod Replays
 pub mod SinceMoments
+pub mod Handing

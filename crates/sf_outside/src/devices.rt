@@ -4,6 +4,7 @@ ghost use Rattle.std.specs.Prelude.{◌≡◌, ◌≤◌, ℕ, List, OnOk, OnErr
 ghost use Rattle.std.specs.declared.option.Option.{Option};
 ghost use Rattle.std.specs.Io.{ReadsAtMost};
 ghost use Rattle.std.specs.Io.KnownBytes.{Keeps, Appends, ReadConsumes};
+ghost use Rattle.sf_outside.specs.Handing.{HandsOn, IsHandedOn};
 ghost use Rattle.sf_outside.specs.Causes.{HasCause};
 ghost use Rattle.sf_outside.specs.Bytes.{AppendsPrefix, ReadsAt};
 
@@ -31,6 +32,9 @@ pub trait Sink {
     /// What it holds, where the sink tells it.
     ghost held: { Self → Option (List ℕ) };
 
+    /// What of it was handed on, where the sink tells that.
+    ghost handed: { Self → Option (List ℕ) };
+
     /// How many calls failed, as far as the count reaches.
     ghost faults: { Self → ℕ };
 
@@ -38,11 +42,14 @@ pub trait Sink {
     fn write(&mut self, bytes: &[u8]) -> Result<(), Failed>
         ensures whole { OnOk result (Appends (held self.old) (held self.new) bytes.now) }
         ensures part { OnErr result (AppendsPrefix (held self.old) (held self.new) bytes.now) }
+        ensures hands { HandsOn (handed self.old) (handed self.new) (held self.new) }
         ensures cause { HasCause (faults self.old) (faults self.new) result };
 
     /// Hands on what was written. Adds nothing.
     fn flush(&mut self) -> Result<(), Failed>
         ensures kept { Keeps (held self.old) (held self.new) }
+        ensures hands { HandsOn (handed self.old) (handed self.new) (held self.new) }
+        ensures all { OnOk result (IsHandedOn (handed self.new) (held self.new)) }
         ensures cause { HasCause (faults self.old) (faults self.new) result };
 }
 

@@ -69,6 +69,8 @@ impl<W: Write> Writing<W> {
 impl<W: Write> Sink for Writing<W> {
     ghost held = { λ writing. W.contents writing.inner };
 
+    ghost handed = { λ _. None };
+
     ghost faults = { λ writing. writing.faults };
 
     fn write(&mut self, bytes: &[u8]) -> Result<(), Failed> {
