@@ -4,7 +4,7 @@ use Rattle.sf_outside.specs.Choices.{Begins, ListState, Picks, pick_at, picked, 
 
 pub began : (list asked then : List ℕ) (number starts taken later : ℕ) (given : Option ℕ) (b : Bool) → later ≡ starts + 1 → then ≡ []
     → Begins (told_by (record { list = list; starts = starts; number = given; asked = asked; taken = taken; exact = b })) number
-        (told_by (record { list = list; starts = later; number = Some number; asked = then; taken = 0; exact = b }))
+    (told_by (record { list = list; starts = later; number = Some number; asked = then; taken = 0; exact = b }))
 unfolding picked
 began list asked then number starts taken later given true is none =
     ap (λ n. record { starts = n; number = Some number; asked = then; picks = [] }) is ∙ ap (λ l. record { starts = starts + 1; number = Some number; asked = l; picks = [] }) none
