@@ -3,8 +3,8 @@
 
 usage: drawn_programs.py PROGRAM [--first SEED] [--count N] [--spoiled PERCENT] [--served PERCENT]
 
-PROGRAM is the built program (./stateflow builds it). A seed gives a program. `--spoiled` says how many of a hundred are spoiled: in their text
-words are left out, doubled and replaced. `check` has to print of each the line that `python3 -m stateflow check --like-program` gives, without a process of
+PROGRAM is the built program (./stateflow builds it). A seed gives a program. `--spoiled` says how many of a hundred are spoiled: in their text, or in
+that of a program of the repository, words are left out, doubled and replaced. `check` has to print of each the line that `python3 -m stateflow check --like-program` gives, without a process of
 its own. Of the accepted ones that aren't spoiled `--served` of a hundred are served requests by `local`, by `run --batch 1` and by runs in batches, and each reply has to
 be the one that the classes give in plain Python, where they act as in a test, to the letter, where the requests run one after another in the order of the
 replies. Prints each difference, and the sums at the end. The status is 0 where there is none."""
@@ -19,13 +19,14 @@ from drawn.calls import ended, printed, replies, words_of
 from drawn import plain
 from drawn.programs import Drawer, Undrawn
 from drawn.requests import drawn_requests
-from drawn.spoiled import spoiled
+from drawn.spoiled import samples, spoiled
 from stateflow.check import like_program
 from stateflow.language.program import read
 
 NOISES = [0, 0, 0.003, 0.01, 0.03, 0.1]
 DEEPEST_STACK = 20_000  # frames of CPython that the deepest request may take
 COUNTS = [10, 40, 100]
+SAMPLES = samples()
 RUNS = [["local"], ["run", "--batch", "1"], ["run", "--batch", "7", "--partitions", "3"], ["run", "--batch", "256", "--partitions", "64"]]
 
 
@@ -73,11 +74,11 @@ def looked_at(given, seed, folder):
     """What a seed's program comes to, and the differences."""
     chance = random.Random(seed)
     drawer = Drawer(seed, chance.choice(NOISES))
+    is_spoiled, is_served = chance.random() * 100 < given.spoiled, chance.random() * 100 < given.served
     try:
-        text = drawer.program()
+        text = chance.choice(SAMPLES) if is_spoiled and chance.random() < 0.5 else drawer.program()
     except Undrawn:
         return "not drawn", []
-    is_spoiled, is_served = chance.random() * 100 < given.spoiled, chance.random() * 100 < given.served
     content = spoiled(text, chance) if is_spoiled else text.encode()
     program = Folder(given.program, folder, seed, content)
     reading = read(content)

@@ -2,6 +2,7 @@
 
 import argparse
 import json
+import os
 import sys
 from collections.abc import Sequence
 from pathlib import Path
@@ -10,7 +11,7 @@ from stateflow.check import like_program, report_lines
 from stateflow.describe import description_of, openapi_of
 from stateflow.language.program import Reading, read
 
-REFUSED, UNREADABLE = 1, 3
+REFUSED, UNREADABLE, UNWRITTEN = 1, 3, 4
 
 
 def parser() -> argparse.ArgumentParser:
@@ -59,5 +60,16 @@ def main(words: Sequence[str] | None = None) -> int:
     return described(given.file, content, reading, given.openapi)
 
 
+def main_on_pipes() -> int:
+    """The commands, where what reads their output may end before them."""
+    try:
+        status = main()
+        sys.stdout.flush()
+    except BrokenPipeError:
+        os.dup2(os.open(os.devnull, os.O_WRONLY), sys.stdout.fileno())
+        return UNWRITTEN
+    return status
+
+
 if __name__ == "__main__":
-    sys.exit(main())
+    sys.exit(main_on_pipes())

@@ -1,9 +1,12 @@
 """The line that the program prints of a text: each kind of fault, with its place. What is wanted was worked out by hand from docs/RULES.md."""
 
+import re
 import unittest
+from pathlib import Path
 
 from stateflow.language.program import read
 
+PAGE = Path(__file__).resolve().parent.parent.parent / "docs/RULES.md"
 HEAD = "@entity\nclass A:\n    def __init__(self, k: str):\n        self.k: str = k\n    def __key__(self): return self.k\n"
 """A class of which the sixth line is the first that is free."""
 
@@ -162,6 +165,17 @@ class Table(unittest.TestCase):
                 "two hundred and fifty-seven names": (method(*[f"x{number} = 1" for number in range(254)], "return n"), "260:9: TooMany"),
             }
         )
+
+    @unittest.skipUnless(PAGE.exists(), "the page of the rules isn't there")
+    def test_the_page_of_the_rules(self) -> None:
+        text = PAGE.read_text(encoding="utf-8").partition("## A broken line and its mend")[2]
+        frame = text.split("```python\n")[1].split("```")[0]
+        rows = re.findall(r"^\| `(\w+)` \| `(.*?)` \| `(.*?)` \|$", text.partition("stands elsewhere")[0], re.M)
+        self.assertGreater(len(rows), 25)
+        for kind, broken, mended in rows:
+            with self.subTest(broken):
+                lines = [frame.replace("LINE", line.replace("↵", "\n").replace("⇥", "\t")) for line in (broken, mended)]
+                self.assertEqual([told(line).rpartition(": ")[2] for line in lines], [kind, "2 classes, 2 methods"])
 
 
 if __name__ == "__main__":

@@ -3,9 +3,11 @@
 import subprocess
 import sys
 import unittest
+from collections.abc import Callable
 from pathlib import Path
 
-from tests import calendar_program
+from tests import calc_program, calendar_program
+from tests.calc_program import Calc, Maybe
 from tests.calendar_program import Account, Product, Room, Work
 
 from stateflow import entity
@@ -120,9 +122,59 @@ class Limits(TestCase):
         self.assertEqual(ann.balance, 0)
 
 
+class Values(TestCase):
+    def setUp(self) -> None:
+        self.calc = Calc("c", 10)
+
+    def failure(self, call: Callable[[], object]) -> tuple[str, str]:
+        """The name and the message of the failure of a call."""
+        with self.assertRaises(Exception) as failed:
+            call()
+        return type(failed.exception).__name__, str(failed.exception)
+
+    def test_each_failure_has_its_name_and_its_message(self) -> None:
+        calc = self.calc
+        self.assertEqual(self.failure(lambda: calc.div(1, 0)), ("ZeroDivisionError", ""))
+        self.assertEqual(self.failure(lambda: calc.at(3)), ("IndexError", ""))
+        self.assertEqual(self.failure(lambda: calc.at(-4)), ("IndexError", ""))
+        self.assertEqual(self.failure(lambda: calc.positive(0)), ("AssertionError", "not positive"))
+        self.assertEqual(self.failure(lambda: calc.more(1)), ("OverflowError", ""))
+        self.assertEqual(self.failure(lambda: calc.stop(0)), ("Exception", "nothing"))
+        self.assertEqual(self.failure(lambda: calc.stop(1)), ("ValueError", ""))
+        self.assertEqual(self.failure(lambda: calc.stop(2)), ("RuntimeError", "a is 2"))
+        self.assertEqual(self.failure(calc.spin), ("StepLimit", ""))
+        self.assertEqual(calc.other(1), 1)
+        self.assertEqual(self.failure(lambda: calc.other(1)), ("AlreadyExists", ""))
+
+    def test_signs_at_the_ends_of_the_range(self) -> None:
+        calc = self.calc
+        self.assertEqual([calc.div(-7, 2), calc.rest(-7, 2), calc.rest(7, -2), calc.at(-1)], [-4, 1, -1, 30])
+        self.assertEqual(calc.more(0), GREATEST)
+        self.assertEqual(self.failure(lambda: calc.less(1)), ("OverflowError", ""))
+        self.assertEqual(self.failure(lambda: calc.div(-(2**127), -1)), ("OverflowError", ""))
+        self.assertEqual(calc.rest(-(2**127), -1), 0)
+
+    def test_what_is_read_before_a_call_counts(self) -> None:
+        self.assertEqual(self.calc.before(Calc("d", 0)), 11)
+
+    def test_entities_are_equal_by_class_and_key(self) -> None:
+        self.assertTrue(self.calc.same(named(Calc, "c"), [named(Calc, "c"), self.calc]))
+        self.assertFalse(self.calc.same(named(Calc, "d"), []))
+
+    def test_a_list_weighs_what_is_in_it(self) -> None:
+        self.assertEqual(self.calc.nested(14), 16_384)
+        self.assertEqual(self.failure(lambda: self.calc.nested(15)), ("SizeLimit", ""))
+
+    def test_a_key_that_is_none_is_empty_until_it_is_looked_at(self) -> None:
+        self.assertEqual(self.failure(lambda: Maybe(None)), ("AssertionError", "no key"))
+        Maybe("")
+        self.assertEqual(self.failure(lambda: Maybe(None)), ("AlreadyExists", ""))
+
+
 class Marks(unittest.TestCase):
     def test_the_program_is_accepted(self) -> None:
         assert_accepted(calendar_program)
+        assert_accepted(calc_program)
         with self.assertRaisesRegex(AssertionError, "imports names from"):
             assert_accepted(sys.modules[__name__])
 

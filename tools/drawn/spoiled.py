@@ -1,7 +1,9 @@
 """Spoils texts of programs: words and signs are left out, doubled, exchanged and replaced, and characters and bytes are put in."""
 
 import re
+from pathlib import Path
 
+HOME = Path(__file__).resolve().parent.parent.parent
 PARTS = re.compile(r"[A-Za-z_]\w*|\d+|[ \t]+|\n|//=|->|[=!<>+\-*%]=|//|'[^'\n]*'|\"[^\"\n]*\"|.", re.S)
 WORDS = (
     "False None True and as assert async await break class continue def del elif else except finally for from global if import in is lambda nonlocal not or"
@@ -11,6 +13,14 @@ WORDS = (
 ).split() + ["'a'", "'First'", '"', "'", '"""', "f'a'", "'\\q'", "'\\u00e9'", "\n", "\n    ", "\n  ", "\t", "\r", "\r\n", " ", "\\\n", "é", "\0"]
 BYTES = b"\x00\xff\xc3\xe2\x82\xed\xf4\r\n\t\f\\'\"#"
 CHANGES = [1, 1, 1, 2, 3]
+
+
+def samples():
+    """The programs of the repository: those of its examples, of its pages and of the tests in Python."""
+    files = [*HOME.glob("examples/*/*.py"), *HOME.glob("python/tests/*_program.py")]
+    pages = [page.read_text(encoding="utf-8") for page in sorted(HOME.glob("docs/*.md"))]
+    blocks = [block for page in pages for block in re.findall(r"```python\n(.*?)```", page, re.S)]
+    return [file.read_text(encoding="utf-8") for file in sorted(files)] + blocks
 
 
 def spoiled(text, chance):
