@@ -19,6 +19,7 @@ from typing import Any, List, Tuple
 from stateflow import client
 from stateflow.client import Client, Failed, Refused, Reply, Stopped, StoreBusy, Value, creation, find_program, method_call
 from stateflow.pytest_plugin import served
+from tests.programs import has_program
 
 MOST_KILLS = 40
 
@@ -56,14 +57,6 @@ class Account:
 
 def setUpModule() -> None:
     logging.getLogger("stateflow").setLevel(logging.ERROR)
-
-
-def has_program() -> bool:
-    try:
-        find_program()
-    except FileNotFoundError:
-        return False
-    return True
 
 
 class Lines(unittest.TestCase):

@@ -14,17 +14,10 @@ from pathlib import Path
 from typing import List
 
 from stateflow.client import find_program
+from tests.programs import has_program
 
 TOP = Path(__file__).resolve().parents[2]
 STOCK = TOP / "examples" / "stock"
-
-
-def has_program() -> bool:
-    try:
-        find_program()
-    except FileNotFoundError:
-        return False
-    return True
 
 
 def text_of(page: str) -> str:

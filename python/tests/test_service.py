@@ -17,18 +17,10 @@ from concurrent.futures import ThreadPoolExecutor
 from pathlib import Path
 from typing import Any, Dict, Iterator, Optional, Tuple
 
-from stateflow.client import find_program
+from tests.programs import has_program
 
 TOP = Path(__file__).resolve().parents[2]
 EXAMPLE = TOP / "examples" / "service"
-
-
-def has_program() -> bool:
-    try:
-        find_program()
-    except FileNotFoundError:
-        return False
-    return True
 
 
 class Service:
