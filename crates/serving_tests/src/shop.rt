@@ -63,12 +63,12 @@ const COUNTED: &str = r#"{"id":"a","ok":"p","seq":1}
 "#;
 
 /// Asserts what is answered to an input on a program, by `local` and by `run`.
-fn hold_served(
+fn hold_served<'a>(
     rt: &impl Abort,
     alloc: Global,
     label: &str,
-    program: &str,
-    input: &str,
+    program: &'a str,
+    input: &'a str,
     replies: &str,
 ) -> Result<(), Fail> {
     let local = Call {
