@@ -7,6 +7,7 @@ use Rattle.py_tree.specs.PlainProgram.{PlainMethod}
 use Rattle.py_tree.specs.ClassRules.{body_of, params_of}
 use Rattle.sf_value.specs.Keys.{Key}
 use Rattle.sf_value.specs.Weight.{weight_of}
+use Rattle.sf_value.specs.declared.Failure.{Failure}
 use Rattle.sf_value.specs.declared.value.Value.{Value}
 use Rattle.sf_value.specs.declared.value.Value.TheVariants as value
 use Rattle.sf_value.proofs.Weights.{weight-Str, weight-Entity}
