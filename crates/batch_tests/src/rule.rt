@@ -51,7 +51,7 @@ fn told(alloc: Global, batch: &str) -> Result<String, Fail> {
 
 #[test]
 fn earlier_writers_stand_in_the_way(rt: HostRuntime) -> Result<(), Fail> {
-    hold_table(&rt, rt.alloc(), BATCHES, 15, told)
+    hold_table(rt.alloc(), BATCHES, 15, told)
 }
 
 /// Places that are reserved for one entity, one after another, a digit each.
@@ -75,5 +75,5 @@ fn least_of(alloc: Global, digits: &str) -> Result<String, Fail> {
 
 #[test]
 fn the_least_place_is_kept(rt: HostRuntime) -> Result<(), Fail> {
-    hold_table(&rt, rt.alloc(), RESERVED, 5, least_of)
+    hold_table(rt.alloc(), RESERVED, 5, least_of)
 }

@@ -91,7 +91,7 @@ fn after(alloc: Global, text: &str) -> Result<String, Fail> {
 
 #[test]
 fn committed_writes_are_made(rt: HostRuntime) -> Result<(), Fail> {
-    hold_table(&rt, rt.alloc(), COMMITS, 9, after)
+    hold_table(rt.alloc(), COMMITS, 9, after)
 }
 
 /// The entities that there are, and one that is looked for.
@@ -122,5 +122,5 @@ fn found(alloc: Global, text: &str) -> Result<String, Fail> {
 
 #[test]
 fn a_record_is_found_by_its_entity(rt: HostRuntime) -> Result<(), Fail> {
-    hold_table(&rt, rt.alloc(), FOUND, 4, found)
+    hold_table(rt.alloc(), FOUND, 4, found)
 }

@@ -12,7 +12,7 @@ const CLASSES: &str = "
 
 #[test]
 fn each_rule_on_programs_is_told_at_its_place(rt: HostRuntime) -> Result<(), Fail> {
-    hold(&rt, rt.alloc(), PROGRAM, CLASSES, 4)
+    hold(rt.alloc(), PROGRAM, CLASSES, 4)
 }
 
 const WHOLE_CLASSES: &str = "
@@ -28,7 +28,7 @@ const WHOLE_CLASSES: &str = "
 
 #[test]
 fn each_rule_on_classes_is_told_at_its_place(rt: HostRuntime) -> Result<(), Fail> {
-    hold(&rt, rt.alloc(), CLASS, WHOLE_CLASSES, 8)
+    hold(rt.alloc(), CLASS, WHOLE_CLASSES, 8)
 }
 
 const CLASS_MEMBERS: &str = "
@@ -46,7 +46,7 @@ const CLASS_MEMBERS: &str = "
 
 #[test]
 fn each_rule_on_members_is_told_at_its_place(rt: HostRuntime) -> Result<(), Fail> {
-    hold(&rt, rt.alloc(), MEMBERS, CLASS_MEMBERS, 10)
+    hold(rt.alloc(), MEMBERS, CLASS_MEMBERS, 10)
 }
 
 const FLOW: &str = "
@@ -69,7 +69,7 @@ const FLOW: &str = "
 
 #[test]
 fn each_rule_on_statements_is_told_at_its_place(rt: HostRuntime) -> Result<(), Fail> {
-    hold(&rt, rt.alloc(), STATEMENTS, FLOW, 15)
+    hold(rt.alloc(), STATEMENTS, FLOW, 15)
 }
 
 const ENDS: &str = "
@@ -83,7 +83,7 @@ const ENDS: &str = "
 
 #[test]
 fn end_that_is_reached_without_a_result_is_told(rt: HostRuntime) -> Result<(), Fail> {
-    hold(&rt, rt.alloc(), MEMBERS, ENDS, 6)
+    hold(rt.alloc(), MEMBERS, ENDS, 6)
 }
 
 const TYPES: &str = "
@@ -109,5 +109,5 @@ const TYPES: &str = "
 
 #[test]
 fn each_rule_on_types_is_told_at_its_place(rt: HostRuntime) -> Result<(), Fail> {
-    hold(&rt, rt.alloc(), STATEMENTS, TYPES, 18)
+    hold(rt.alloc(), STATEMENTS, TYPES, 18)
 }

@@ -4,7 +4,6 @@ use crate::last::{LAST, mended};
 use crate::verdict::UNREAD;
 use memory_calls::{Call, Faults, NO_FAULTS, Wanted, hold_call};
 use std::alloc::Global;
-use std::process::Abort;
 use std::test::Fail;
 
 /// The compilation of a text as `last.py`. The input fails wherever it is read.
@@ -24,26 +23,20 @@ method L.last: 1 blocks
 ";
 
 /// Asserts the graph that is printed of a text.
-fn hold_graph(
-    rt: &impl Abort,
-    alloc: Global,
-    label: &str,
-    text: &[u8],
-    graph: &[u8],
-) -> Result<(), Fail> {
+fn hold_graph(alloc: Global, label: &str, text: &[u8], graph: &[u8]) -> Result<(), Fail> {
     let wanted = Wanted {
         status: 0,
         out: graph,
         err: b"",
     };
-    hold_call(rt, alloc, label, compile_of(text), wanted)
+    hold_call(alloc, label, compile_of(text), wanted)
 }
 
 #[test]
 fn text_of_the_graph_is_printed(rt: HostRuntime) -> Result<(), Fail> {
     let text = mended(rt.alloc(), b"\n")?;
-    hold_graph(&rt, rt.alloc(), "no class", b"", b"")?;
-    hold_graph(&rt, rt.alloc(), "mended", text.as_slice(), GRAPH)
+    hold_graph(rt.alloc(), "no class", b"", b"")?;
+    hold_graph(rt.alloc(), "mended", text.as_slice(), GRAPH)
 }
 
 #[test]
@@ -53,7 +46,7 @@ fn fault_of_the_text_is_told(rt: HostRuntime) -> Result<(), Fail> {
         out: b"",
         err: b"stateflow: last.py:11:16: Unassigned\n",
     };
-    hold_call(&rt, rt.alloc(), "last", compile_of(LAST), wanted)
+    hold_call(rt.alloc(), "last", compile_of(LAST), wanted)
 }
 
 #[test]
@@ -68,17 +61,11 @@ fn missing_file_is_a_read_fault(rt: HostRuntime) -> Result<(), Fail> {
         out: b"",
         err: b"stateflow: read fault\n",
     };
-    hold_call(&rt, rt.alloc(), "another file", made, wanted)
+    hold_call(rt.alloc(), "another file", made, wanted)
 }
 
 /// Asserts what is written of the graph of a text where this call of the output fails.
-fn hold_prefix(
-    rt: &impl Abort,
-    alloc: Global,
-    text: &[u8],
-    call: u64,
-    written: &[u8],
-) -> Result<(), Fail> {
+fn hold_prefix(alloc: Global, text: &[u8], call: u64, written: &[u8]) -> Result<(), Fail> {
     let faults = Faults {
         out: &[call],
         ..UNREAD
@@ -92,13 +79,13 @@ fn hold_prefix(
         out: written,
         err: b"stateflow: write fault\n",
     };
-    hold_call(rt, alloc, "a failed output", made, wanted)
+    hold_call(alloc, "a failed output", made, wanted)
 }
 
 /// Where the second call of the output fails, its flush, the whole text stands.
 #[test]
 fn failed_output_leaves_a_prefix_of_the_text(rt: HostRuntime) -> Result<(), Fail> {
     let text = mended(rt.alloc(), b"\n")?;
-    hold_prefix(&rt, rt.alloc(), text.as_slice(), 1, b"")?;
-    hold_prefix(&rt, rt.alloc(), text.as_slice(), 2, GRAPH)
+    hold_prefix(rt.alloc(), text.as_slice(), 1, b"")?;
+    hold_prefix(rt.alloc(), text.as_slice(), 2, GRAPH)
 }

@@ -24,5 +24,5 @@ const STATEMENTS_KEPT: &str = "
 
 #[test]
 fn statements_that_keep_every_rule_are_accepted(rt: HostRuntime) -> Result<(), Fail> {
-    hold(&rt, rt.alloc(), STATEMENTS, STATEMENTS_KEPT, 16)
+    hold(rt.alloc(), STATEMENTS, STATEMENTS_KEPT, 16)
 }

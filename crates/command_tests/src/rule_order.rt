@@ -16,7 +16,7 @@ const CLASSES: &str = "
 
 #[test]
 fn first_broken_rule_of_a_class_is_told(rt: HostRuntime) -> Result<(), Fail> {
-    hold(&rt, rt.alloc(), CLASS, CLASSES, 8)
+    hold(rt.alloc(), CLASS, CLASSES, 8)
 }
 
 const CLASS_MEMBERS: &str = "
@@ -28,7 +28,7 @@ const CLASS_MEMBERS: &str = "
 
 #[test]
 fn first_broken_rule_of_members_is_told(rt: HostRuntime) -> Result<(), Fail> {
-    hold(&rt, rt.alloc(), MEMBERS, CLASS_MEMBERS, 4)
+    hold(rt.alloc(), MEMBERS, CLASS_MEMBERS, 4)
 }
 
 const PROGRAMS: &str = "
@@ -39,7 +39,7 @@ const PROGRAMS: &str = "
 
 #[test]
 fn first_broken_rule_of_a_program_is_told(rt: HostRuntime) -> Result<(), Fail> {
-    hold(&rt, rt.alloc(), BEHIND_A_CLASS, PROGRAMS, 3)
+    hold(rt.alloc(), BEHIND_A_CLASS, PROGRAMS, 3)
 }
 
 const TWO_CLASSES: &str = "
@@ -48,7 +48,7 @@ const TWO_CLASSES: &str = "
 
 #[test]
 fn second_class_is_told_before_members(rt: HostRuntime) -> Result<(), Fail> {
-    hold(&rt, rt.alloc(), PROGRAM, TWO_CLASSES, 1)
+    hold(rt.alloc(), PROGRAM, TWO_CLASSES, 1)
 }
 
 const STATEMENT_RULES: &str = "
@@ -71,5 +71,5 @@ const STATEMENT_RULES: &str = "
 
 #[test]
 fn first_broken_rule_of_a_statement_is_told(rt: HostRuntime) -> Result<(), Fail> {
-    hold(&rt, rt.alloc(), STATEMENTS, STATEMENT_RULES, 15)
+    hold(rt.alloc(), STATEMENTS, STATEMENT_RULES, 15)
 }

@@ -2,7 +2,6 @@
 
 use memory_calls::{Answer, NO_FAULTS, call};
 use std::alloc::{AllocError, Global};
-use std::process::Abort;
 use std::test::Fail;
 use test_support::{Case, hold_cases, hold_text};
 
@@ -27,13 +26,8 @@ fn told(alloc: Global, file: &str, text: &[u8]) -> Result<String, Fail> {
 }
 
 /// Asserts what is told of texts as this file.
-fn hold_told(
-    rt: &impl Abort,
-    alloc: Global,
-    file: &str,
-    cases: &[Case<'_, &[u8]>],
-) -> Result<(), Fail> {
-    hold_cases(rt, alloc, cases, |alloc, text| told(alloc, file, text))
+fn hold_told(alloc: Global, file: &str, cases: &[Case<'_, &[u8]>]) -> Result<(), Fail> {
+    hold_cases(alloc, cases, |alloc, text| told(alloc, file, text))
 }
 
 const BETWEEN_TWO_COLUMNS: &[u8] = b"@entity
@@ -46,7 +40,7 @@ class L:
 #[test]
 fn line_less_deep_than_its_suite_is_a_bad_dedent(rt: HostRuntime) -> Result<(), Fail> {
     let told = told(rt.alloc(), "bad.py", BETWEEN_TWO_COLUMNS);
-    hold_text(&rt, told, "5:7: BadDedent")
+    hold_text(told, "5:7: BadDedent")
 }
 
 const LEXICAL: [Case<'static, &[u8]>; 9] = [
@@ -67,7 +61,7 @@ const LEXICAL: [Case<'static, &[u8]>; 9] = [
 
 #[test]
 fn each_lexical_fault_is_told_by_its_name(rt: HostRuntime) -> Result<(), Fail> {
-    hold_told(&rt, rt.alloc(), "a.py", &LEXICAL)
+    hold_told(rt.alloc(), "a.py", &LEXICAL)
 }
 
 const DEEP: &[u8] = b"@entity
@@ -97,7 +91,7 @@ const SYNTAX: [Case<'static, &[u8]>; 4] = [
 
 #[test]
 fn each_syntax_fault_is_told_by_its_name(rt: HostRuntime) -> Result<(), Fail> {
-    hold_told(&rt, rt.alloc(), "b.py", &SYNTAX)
+    hold_told(rt.alloc(), "b.py", &SYNTAX)
 }
 
 const NO_METHOD: &[u8] = b"@entity
@@ -116,7 +110,7 @@ const ACCEPTED: [Case<'static, &[u8]>; 3] = [
 
 #[test]
 fn programs_that_no_request_can_call_are_run(rt: HostRuntime) -> Result<(), Fail> {
-    hold_told(&rt, rt.alloc(), "c.py", &ACCEPTED)
+    hold_told(rt.alloc(), "c.py", &ACCEPTED)
 }
 
 const NO_RESULT: &[u8] = b"@entity
@@ -141,5 +135,5 @@ const BROKEN: [Case<'static, &[u8]>; 2] = [
 
 #[test]
 fn run_tells_the_first_broken_rule(rt: HostRuntime) -> Result<(), Fail> {
-    hold_told(&rt, rt.alloc(), "d.py", &BROKEN)
+    hold_told(rt.alloc(), "d.py", &BROKEN)
 }

@@ -2,7 +2,6 @@
 
 use memory_calls::{Answer, Faults, NO_FAULTS, call};
 use std::alloc::{AllocError, Global};
-use std::process::Abort;
 use std::test::Fail;
 use test_support::{Setting, hold_table, text_in};
 
@@ -91,14 +90,8 @@ fn verdict(alloc: Global, setting: Setting, text: &str) -> Result<String, Fail> 
 }
 
 /// Asserts that a table has so many rows, and what a check says of each in its setting.
-pub fn hold(
-    rt: &impl Abort,
-    alloc: Global,
-    setting: Setting,
-    table: &str,
-    count: usize,
-) -> Result<(), Fail> {
-    hold_table(rt, alloc, table, count, |alloc, text| {
+pub fn hold(alloc: Global, setting: Setting, table: &str, count: usize) -> Result<(), Fail> {
+    hold_table(alloc, table, count, |alloc, text| {
         verdict(alloc, setting, text)
     })
 }

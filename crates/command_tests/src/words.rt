@@ -80,7 +80,7 @@ const SERVED: &str = "
 
 #[test]
 fn words_that_are_served(rt: HostRuntime) -> Result<(), Fail> {
-    hold_table(&rt, rt.alloc(), SERVED, 16, told)
+    hold_table(rt.alloc(), SERVED, 16, told)
 }
 
 const OTHER_WORDS: &str = "
@@ -111,7 +111,7 @@ const OTHER_WORDS: &str = "
 
 #[test]
 fn words_of_no_command_are_told_the_usage(rt: HostRuntime) -> Result<(), Fail> {
-    hold_table(&rt, rt.alloc(), OTHER_WORDS, 23, told)
+    hold_table(rt.alloc(), OTHER_WORDS, 23, told)
 }
 
 const WORKS: &str = "
@@ -141,7 +141,7 @@ const WORKS: &str = "
 
 #[test]
 fn words_of_generated_work(rt: HostRuntime) -> Result<(), Fail> {
-    hold_table(&rt, rt.alloc(), WORKS, 22, told)
+    hold_table(rt.alloc(), WORKS, 22, told)
 }
 
 const OTHER_WORKS: &str = "
@@ -172,5 +172,5 @@ const OTHER_WORKS: &str = "
 
 #[test]
 fn words_of_no_generated_work_are_told_the_usage(rt: HostRuntime) -> Result<(), Fail> {
-    hold_table(&rt, rt.alloc(), OTHER_WORKS, 23, told)
+    hold_table(rt.alloc(), OTHER_WORKS, 23, told)
 }

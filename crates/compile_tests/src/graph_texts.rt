@@ -150,7 +150,7 @@ fn own_blocks(line: &str) -> &str {
 
 #[test]
 fn the_shop_has_the_graph_of_its_definition(rt: HostRuntime) -> Result<(), Fail> {
-    hold_text(&rt, told(rt.alloc(), SHOP), SHOP_GRAPH)
+    hold_text(told(rt.alloc(), SHOP), SHOP_GRAPH)
 }
 
 /// What the program of a row in its setting is compiled to, in one line.
@@ -169,7 +169,7 @@ const COMPILED: &str = "
 
 #[test]
 fn a_method_is_compiled_or_its_fault_is_told(rt: HostRuntime) -> Result<(), Fail> {
-    hold_table(&rt, rt.alloc(), COMPILED, 4, |alloc, text| {
+    hold_table(rt.alloc(), COMPILED, 4, |alloc, text| {
         Ok(line_in(alloc, LAST, text)?)
     })
 }
@@ -183,7 +183,7 @@ const OWN_BLOCKS: &str = "
 
 #[test]
 fn methods_have_their_own_blocks(rt: HostRuntime) -> Result<(), Fail> {
-    hold_table(&rt, rt.alloc(), OWN_BLOCKS, 4, |alloc, text| {
+    hold_table(rt.alloc(), OWN_BLOCKS, 4, |alloc, text| {
         let line = line_in(alloc, AWAY, text)?;
         Ok(String::from_str(alloc, own_blocks(line.as_str()))?)
     })
@@ -235,10 +235,10 @@ const CUT_OR_NOT: &str = "
 
 #[test]
 fn a_method_that_may_leave_its_entity_is_cut(rt: HostRuntime) -> Result<(), Fail> {
-    hold_table(&rt, rt.alloc(), CUT_OR_NOT, 14, kinds_of)
+    hold_table(rt.alloc(), CUT_OR_NOT, 14, kinds_of)
 }
 
 #[test]
 fn an_empty_text_has_an_empty_graph(rt: HostRuntime) -> Result<(), Fail> {
-    hold_text(&rt, told(rt.alloc(), ""), "")
+    hold_text(told(rt.alloc(), ""), "")
 }

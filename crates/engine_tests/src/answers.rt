@@ -138,7 +138,7 @@ fn served(alloc: Global, row: &Served) -> Result<String, Fail> {
 
 #[test]
 fn lines_are_answered_in_batches(rt: HostRuntime) -> Result<(), Fail> {
-    hold_cases(&rt, rt.alloc(), &SERVED, served)
+    hold_cases(rt.alloc(), &SERVED, served)
 }
 
 /// Ten orders of the events, by lists of picks.
@@ -169,8 +169,8 @@ fn other_along(alloc: Global, picks: &[u32], partitions: u32) -> Result<String, 
 #[test]
 fn answers_are_the_same_in_each_order_of_events(rt: HostRuntime) -> Result<(), Fail> {
     for picks in ORDERS {
-        hold_text(&rt, other_along(rt.alloc(), picks, 1), "")?;
-        hold_text(&rt, other_along(rt.alloc(), picks, 64), "")?;
+        hold_text(other_along(rt.alloc(), picks, 1), "")?;
+        hold_text(other_along(rt.alloc(), picks, 64), "")?;
     }
     Ok(())
 }

@@ -80,5 +80,5 @@ fn turn_told(alloc: Global, turn: &Turn) -> Result<String, Fail> {
 
 #[test]
 fn events_are_told_in_the_order_of_the_picks(rt: HostRuntime) -> Result<(), Fail> {
-    hold_cases(&rt, rt.alloc(), &TURNS, turn_told)
+    hold_cases(rt.alloc(), &TURNS, turn_told)
 }

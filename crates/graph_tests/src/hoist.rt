@@ -86,7 +86,6 @@ fn flat_told(alloc: Global, text: &str, class: u32, method: u32) -> Result<Strin
 #[test]
 fn an_item_is_bought_by_two_calls(rt: HostRuntime) -> Result<(), Fail> {
     hold_text(
-        &rt,
         flat_told(rt.alloc(), SHOP, 1, 0),
         "mark; t0 = amount; t1 = call item.price  {amount item t0 t1}; total = (t0 * t1); code; mark; if <not <t2 = call item.update_stock (-amount) {amount item total t2}; t2>> [code; ] else []; code; code; ",
     )
@@ -94,13 +93,12 @@ fn an_item_is_bought_by_two_calls(rt: HostRuntime) -> Result<(), Fail> {
 
 #[test]
 fn a_method_without_a_call_stays_as_it_is(rt: HostRuntime) -> Result<(), Fail> {
-    hold_text(&rt, flat_told(rt.alloc(), SHOP, 0, 1), "code; code; code; ")
+    hold_text(flat_told(rt.alloc(), SHOP, 0, 1), "code; code; code; ")
 }
 
 #[test]
 fn a_loop_over_items_goes_by_places(rt: HostRuntime) -> Result<(), Fail> {
     hold_text(
-        &rt,
         flat_told(rt.alloc(), SHOP, 2, 0),
         "code; mark; t0 = items; t2 = (); t0 = (t2 + t0); t1 = 0; while <(t1 < (len t0))> [it = (t0 at t1); t1 = (t1 + 1); mark; if <t3 = call it.price  {items least found it t0 t1 t2 t3}; (t3 >= least)> [mark; t4 = call it.price  {items least found it t0 t1 t2 t4}; found = t4; mark; break; ] else []; ]; code; ",
     )
@@ -139,7 +137,7 @@ const PLACES: &str = "
 
 #[test]
 fn calls_are_taken_out_of_each_place(rt: HostRuntime) -> Result<(), Fail> {
-    hold_table(&rt, rt.alloc(), PLACES, 19, row_told)
+    hold_table(rt.alloc(), PLACES, 19, row_told)
 }
 
 const STATEMENTS: &str = "
@@ -167,5 +165,5 @@ const STATEMENTS: &str = "
 
 #[test]
 fn calls_are_taken_out_of_each_statement(rt: HostRuntime) -> Result<(), Fail> {
-    hold_table(&rt, rt.alloc(), STATEMENTS, 14, row_told)
+    hold_table(rt.alloc(), STATEMENTS, 14, row_told)
 }

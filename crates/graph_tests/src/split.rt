@@ -147,19 +147,19 @@ fn told(alloc: Global, body: Result<FlatStmts, AllocError>) -> Result<String, Al
 #[test]
 fn straight_code_is_one_block(rt: HostRuntime) -> Result<(), Fail> {
     let told = told(rt.alloc(), returning(rt.alloc()));
-    hold_text(&rt, told, "mark give leave /0; ")
+    hold_text(told, "mark give leave /0; ")
 }
 
 #[test]
 fn a_branch_has_a_block_for_each_way_and_one_behind(rt: HostRuntime) -> Result<(), Fail> {
     let told = told(rt.alloc(), branching(rt.alloc()));
     let wanted = "branch 3 2 /1; leave /0; mark jump 1 /0; mark give leave /0; ";
-    hold_text(&rt, told, wanted)
+    hold_text(told, wanted)
 }
 
 #[test]
 fn a_loop_has_a_head_and_a_body_that_begins_with_a_step(rt: HostRuntime) -> Result<(), Fail> {
     let told = told(rt.alloc(), looping(rt.alloc()));
     let wanted = "jump 2 /2; leave /0; branch 3 1 /1; mark jump 2 /0; ";
-    hold_text(&rt, told, wanted)
+    hold_text(told, wanted)
 }

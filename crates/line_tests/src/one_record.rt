@@ -7,7 +7,6 @@ use sf_list::Sequence;
 use sf_value::{Outcome, Record, Ref, Text, Value};
 use source_meaning::{Ended, eval_here, run_here};
 use std::alloc::{AllocError, Global};
-use std::process::Abort;
 use std::test::Fail;
 use test_support::{Case, Setting, hold_cases, hold_table, text_in};
 use text_trees::{last_method, tree_in, written};
@@ -149,15 +148,9 @@ fn lines_told(alloc: Global, program: &Checked, text: &str, wrote: bool) -> Resu
 }
 
 /// Asserts that a table has so many rows, and of each how its lines end in the program of the class A, and what they leave.
-fn hold(
-    rt: &impl Abort,
-    alloc: Global,
-    table: &str,
-    count: usize,
-    wrote: bool,
-) -> Result<(), Fail> {
+fn hold(alloc: Global, table: &str, count: usize, wrote: bool) -> Result<(), Fail> {
     let program = program(alloc)?;
-    let held = hold_table(rt, alloc, table, count, |alloc, text| {
+    let held = hold_table(alloc, table, count, |alloc, text| {
         lines_told(alloc, &program, text, wrote)
     });
     drop(program);
@@ -172,7 +165,7 @@ const UNWRITTEN: &str = "
 
 #[test]
 fn a_record_is_written_where_a_field_is_assigned(rt: HostRuntime) -> Result<(), Fail> {
-    hold(&rt, rt.alloc(), UNWRITTEN, 3, false)
+    hold(rt.alloc(), UNWRITTEN, 3, false)
 }
 
 const WRITTEN: &str = "
@@ -183,7 +176,7 @@ const WRITTEN: &str = "
 fn a_failing_statement_leaves_the_locals_and_the_steps_of_that_moment(
     rt: HostRuntime,
 ) -> Result<(), Fail> {
-    hold(&rt, rt.alloc(), WRITTEN, 1, true)
+    hold(rt.alloc(), WRITTEN, 1, true)
 }
 
 /// Computes an expression with so many calls open, and gives what it comes to.
@@ -243,13 +236,8 @@ fn expr_told(alloc: Global, program: &Checked, text: &str, depth: u32) -> Result
 type ExprCase = Case<'static, (&'static str, u32)>;
 
 /// Asserts what the expression of each case comes to in a program, and what it leaves.
-fn hold_exprs(
-    rt: &impl Abort,
-    alloc: Global,
-    program: Checked,
-    cases: &[ExprCase],
-) -> Result<(), Fail> {
-    let held = hold_cases(rt, alloc, cases, |alloc, (text, depth)| {
+fn hold_exprs(alloc: Global, program: Checked, cases: &[ExprCase]) -> Result<(), Fail> {
+    let held = hold_cases(alloc, cases, |alloc, (text, depth)| {
         expr_told(alloc, &program, text, *depth)
     });
     drop(program);
@@ -268,7 +256,7 @@ fn a_call_fails_where_64_are_open(rt: HostRuntime) -> Result<(), Fail> {
         ("64 open", ("self.g()", 64), failed),
         ("65 open", ("self.g()", 65), failed),
     ];
-    hold_exprs(&rt, rt.alloc(), program(rt.alloc())?, &cases)
+    hold_exprs(rt.alloc(), program(rt.alloc())?, &cases)
 }
 
 #[test]
@@ -283,7 +271,7 @@ fn a_call_of_no_method_gives_none_or_fails_where_64_are_open(rt: HostRuntime) ->
         ("64 open", ("self.x()", 64), failed),
         ("65 open", ("self.x()", 65), failed),
     ];
-    hold_exprs(&rt, rt.alloc(), accepted(rt.alloc(), "")?, &cases)
+    hold_exprs(rt.alloc(), accepted(rt.alloc(), "")?, &cases)
 }
 
 #[test]
@@ -293,5 +281,5 @@ fn a_creation_fails_without_a_step(rt: HostRuntime) -> Result<(), Fail> {
         ("no class", ("x()", 1), failed),
         ("a class", ("A(self.k, 1)", 1), failed),
     ];
-    hold_exprs(&rt, rt.alloc(), program(rt.alloc())?, &cases)
+    hold_exprs(rt.alloc(), program(rt.alloc())?, &cases)
 }

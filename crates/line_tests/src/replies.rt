@@ -82,7 +82,7 @@ const VALUES: &str = r#"
 
 #[test]
 fn lines_of_values(rt: HostRuntime) -> Result<(), Fail> {
-    hold_table(&rt, rt.alloc(), VALUES, 8, told)
+    hold_table(rt.alloc(), VALUES, 8, told)
 }
 
 const FAILURES: &str = r#"
@@ -93,7 +93,7 @@ const FAILURES: &str = r#"
 
 #[test]
 fn lines_of_failures(rt: HostRuntime) -> Result<(), Fail> {
-    hold_table(&rt, rt.alloc(), FAILURES, 3, told)
+    hold_table(rt.alloc(), FAILURES, 3, told)
 }
 
 /// A list of an entity and a list without elements, which no program makes.
@@ -122,7 +122,7 @@ fn line_of_a_list_whose_elements_differ(rt: HostRuntime) -> Result<(), Fail> {
     let program = accepted(rt.alloc(), "")?;
     let told = mixed_line(rt.alloc(), &program);
     drop(program);
-    hold_text(&rt, told, r#"{"id":"r1","ok":["apple",[]],"seq":7}"#)
+    hold_text(told, r#"{"id":"r1","ok":["apple",[]],"seq":7}"#)
 }
 
 /// The line of a refusal, without its end.
@@ -136,5 +136,5 @@ fn refused_line(alloc: Global) -> Result<String, AllocError> {
 #[test]
 fn line_of_a_refusal(rt: HostRuntime) -> Result<(), Fail> {
     let wanted = r#"{"bad":"argument type","line":7}"#;
-    hold_text(&rt, refused_line(rt.alloc()), wanted)
+    hold_text(refused_line(rt.alloc()), wanted)
 }

@@ -103,7 +103,7 @@ const ARITHMETIC: &str = r#"
 
 #[test]
 fn arithmetic_is_floored_and_stays_in_range(rt: HostRuntime) -> Result<(), Fail> {
-    hold_table(&rt, rt.alloc(), ARITHMETIC, 8, told)
+    hold_table(rt.alloc(), ARITHMETIC, 8, told)
 }
 
 const LIMITS: &str = "
@@ -115,7 +115,7 @@ const LIMITS: &str = "
 
 #[test]
 fn steps_and_depth_have_limits(rt: HostRuntime) -> Result<(), Fail> {
-    hold_table(&rt, rt.alloc(), LIMITS, 4, told)
+    hold_table(rt.alloc(), LIMITS, 4, told)
 }
 
 const INDEXES: &str = "
@@ -127,7 +127,7 @@ const INDEXES: &str = "
 
 #[test]
 fn index_counts_from_either_end_within_the_list(rt: HostRuntime) -> Result<(), Fail> {
-    hold_table(&rt, rt.alloc(), INDEXES, 4, told)
+    hold_table(rt.alloc(), INDEXES, 4, told)
 }
 
 /// What a call comes to that is to double a text of so many letters.
@@ -156,7 +156,7 @@ fn values_weigh_at_most_so_much(rt: HostRuntime) -> Result<(), Fail> {
             "SizeLimit reads none writes none leaves 100000",
         ),
     ];
-    hold_cases(&rt, rt.alloc(), &cases, doubled)
+    hold_cases(rt.alloc(), &cases, doubled)
 }
 
 const EFFECTS: &str = r#"
@@ -169,5 +169,5 @@ const EFFECTS: &str = r#"
 
 #[test]
 fn failed_requests_write_nothing_and_keep_their_reads(rt: HostRuntime) -> Result<(), Fail> {
-    hold_table(&rt, rt.alloc(), EFFECTS, 5, told)
+    hold_table(rt.alloc(), EFFECTS, 5, told)
 }

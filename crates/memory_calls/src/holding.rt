@@ -2,7 +2,6 @@
 
 use crate::{Answer, Faults, call};
 use std::alloc::Global;
-use std::process::Abort;
 use std::test::Fail;
 
 /// A call with words, where a file has a text, on an input, and the numbers of the devices' calls that are to fail.
@@ -23,20 +22,34 @@ pub struct Wanted<'a> {
     pub err: &'a [u8],
 }
 
-/// Asserts that a call answered and wrote what is wanted.
-pub fn hold_answer(rt: &impl Abort, label: &str, answer: &Answer, wanted: Wanted<'_>) {
-    assert_eq!(rt; answer.status, wanted.status, "the status of {label}");
-    assert_eq!(rt; answer.out.bytes(), wanted.out, "the output of {label}");
-    assert_eq!(rt;
-        answer.err.bytes(),
-        wanted.err,
-        "the error stream of {label}"
-    );
+/// The first of these that is not so, or nothing.
+fn other_part(answer: &Answer, wanted: Wanted<'_>) -> Option<&'static str> {
+    if answer.status != wanted.status {
+        Some("the status")
+    } else if answer.out.bytes() != wanted.out {
+        Some("the output")
+    } else if answer.err.bytes() != wanted.err {
+        Some("the error stream")
+    } else {
+        None
+    }
 }
 
-/// Makes a call, and asserts that it answers and writes what is wanted.
+/// Fails unless a call answered and wrote what is wanted.
+pub fn hold_answer(label: &str, answer: &Answer, wanted: Wanted<'_>) -> Result<(), Fail> {
+    match other_part(answer, wanted) {
+        Some(part) => Err(Fail::new(format_args!(
+            "{part} of {label}: status {}, output {:?}, error stream {:?}",
+            answer.status,
+            answer.out.bytes(),
+            answer.err.bytes()
+        ))),
+        None => Ok(()),
+    }
+}
+
+/// Makes a call, and fails unless it answers and writes what is wanted.
 pub fn hold_call(
-    rt: &impl Abort,
     alloc: Global,
     label: &str,
     made: Call<'_>,
@@ -50,7 +63,7 @@ pub fn hold_call(
         faults,
     } = made;
     let answer = call(alloc, words, file, text, input, faults)?;
-    hold_answer(rt, label, &answer, wanted);
+    let held = hold_answer(label, &answer, wanted);
     drop(answer);
-    Ok(())
+    held
 }

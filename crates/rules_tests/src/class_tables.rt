@@ -6,7 +6,6 @@ use py_parser::Parsed;
 use py_tree::Names;
 use sf_list::TryClone;
 use std::alloc::{AllocError, Global};
-use std::process::Abort;
 use std::test::Fail;
 use test_support::{Setting, hold_cases, hold_table};
 use text_trees::tree_in;
@@ -108,14 +107,8 @@ fn told_in(alloc: Global, setting: Setting, text: &str) -> Result<String, Fail> 
 }
 
 /// Asserts that a table has so many rows, and of each its tables or the rule that it breaks.
-fn hold(
-    rt: &impl Abort,
-    alloc: Global,
-    setting: Setting,
-    table: &str,
-    count: usize,
-) -> Result<(), Fail> {
-    hold_table(rt, alloc, table, count, |alloc, text| {
+fn hold(alloc: Global, setting: Setting, table: &str, count: usize) -> Result<(), Fail> {
+    hold_table(alloc, table, count, |alloc, text| {
         told_in(alloc, setting, text)
     })
 }
@@ -126,7 +119,7 @@ const ITEM: &str = "
 
 #[test]
 fn an_item_has_its_table(rt: HostRuntime) -> Result<(), Fail> {
-    hold(&rt, rt.alloc(), MEMBERS, ITEM, 1)
+    hold(rt.alloc(), MEMBERS, ITEM, 1)
 }
 
 const CLASSES: &str = "
@@ -137,7 +130,7 @@ const CLASSES: &str = "
 
 #[test]
 fn names_of_classes_come_first(rt: HostRuntime) -> Result<(), Fail> {
-    hold(&rt, rt.alloc(), BEHIND, CLASSES, 3)
+    hold(rt.alloc(), BEHIND, CLASSES, 3)
 }
 
 const PARAMETERS: &str = "
@@ -149,7 +142,7 @@ const PARAMETERS: &str = "
 
 #[test]
 fn parameters_are_told_in_order(rt: HostRuntime) -> Result<(), Fail> {
-    hold(&rt, rt.alloc(), MEMBERS, PARAMETERS, 4)
+    hold(rt.alloc(), MEMBERS, PARAMETERS, 4)
 }
 
 const METHODS: &str = "
@@ -161,7 +154,7 @@ const METHODS: &str = "
 
 #[test]
 fn methods_have_names_and_results(rt: HostRuntime) -> Result<(), Fail> {
-    hold(&rt, rt.alloc(), MEMBERS, METHODS, 4)
+    hold(rt.alloc(), MEMBERS, METHODS, 4)
 }
 
 const RESULTS: &str = "
@@ -171,7 +164,7 @@ const RESULTS: &str = "
 
 #[test]
 fn types_are_told_at_their_parts(rt: HostRuntime) -> Result<(), Fail> {
-    hold(&rt, rt.alloc(), MEMBERS, RESULTS, 2)
+    hold(rt.alloc(), MEMBERS, RESULTS, 2)
 }
 
 const INIT_RESULTS: &str = "
@@ -182,7 +175,7 @@ const INIT_RESULTS: &str = "
 
 #[test]
 fn an_init_gives_nothing(rt: HostRuntime) -> Result<(), Fail> {
-    hold(&rt, rt.alloc(), CLASS, INIT_RESULTS, 3)
+    hold(rt.alloc(), CLASS, INIT_RESULTS, 3)
 }
 
 const DECLARED: &str = "
@@ -195,7 +188,7 @@ const DECLARED: &str = "
 
 #[test]
 fn an_init_declares_fields(rt: HostRuntime) -> Result<(), Fail> {
-    hold(&rt, rt.alloc(), INIT, DECLARED, 5)
+    hold(rt.alloc(), INIT, DECLARED, 5)
 }
 
 const COMPUTED: &str = "
@@ -206,7 +199,7 @@ const COMPUTED: &str = "
 
 #[test]
 fn an_init_only_computes(rt: HostRuntime) -> Result<(), Fail> {
-    hold(&rt, rt.alloc(), INIT, COMPUTED, 3)
+    hold(rt.alloc(), INIT, COMPUTED, 3)
 }
 
 const KEYS: &str = "
@@ -218,7 +211,7 @@ const KEYS: &str = "
 
 #[test]
 fn a_key_is_one_field(rt: HostRuntime) -> Result<(), Fail> {
-    hold(&rt, rt.alloc(), KEY, KEYS, 4)
+    hold(rt.alloc(), KEY, KEYS, 4)
 }
 
 const NO_KEYS: &str = "
@@ -228,7 +221,7 @@ const NO_KEYS: &str = "
 
 #[test]
 fn a_class_has_a_key(rt: HostRuntime) -> Result<(), Fail> {
-    hold(&rt, rt.alloc(), CLASS, NO_KEYS, 2)
+    hold(rt.alloc(), CLASS, NO_KEYS, 2)
 }
 
 /// A piece so many times, with its number in place of `#`.
@@ -291,5 +284,5 @@ fn there_are_256_of_a_kind(rt: HostRuntime) -> Result<(), Fail> {
         ("methods", (CLASS, method, 257), "TooMany 259:9"),
         ("classes", (PROGRAM, class, 257), "TooMany 770:7"),
     ];
-    hold_cases(&rt, rt.alloc(), &cases, told_of_many)
+    hold_cases(rt.alloc(), &cases, told_of_many)
 }

@@ -85,7 +85,7 @@ const NAMES: &str = "
 
 #[test]
 fn a_name_is_a_local_that_is_assigned(rt: HostRuntime) -> Result<(), Fail> {
-    hold_table(&rt, rt.alloc(), NAMES, 10, told)
+    hold_table(rt.alloc(), NAMES, 10, told)
 }
 
 const FIELDS: &str = "
@@ -97,7 +97,7 @@ const FIELDS: &str = "
 
 #[test]
 fn a_field_is_one_of_self(rt: HostRuntime) -> Result<(), Fail> {
-    hold_table(&rt, rt.alloc(), FIELDS, 4, told)
+    hold_table(rt.alloc(), FIELDS, 4, told)
 }
 
 const CALLS: &str = "
@@ -110,7 +110,7 @@ const CALLS: &str = "
 
 #[test]
 fn a_call_is_of_a_method_of_an_entity(rt: HostRuntime) -> Result<(), Fail> {
-    hold_table(&rt, rt.alloc(), CALLS, 5, told)
+    hold_table(rt.alloc(), CALLS, 5, told)
 }
 
 const ARGUMENTS: &str = "
@@ -122,7 +122,7 @@ const ARGUMENTS: &str = "
 
 #[test]
 fn arguments_are_told_one_by_one(rt: HostRuntime) -> Result<(), Fail> {
-    hold_table(&rt, rt.alloc(), ARGUMENTS, 4, told)
+    hold_table(rt.alloc(), ARGUMENTS, 4, told)
 }
 
 const CREATIONS: &str = "
@@ -134,7 +134,7 @@ const CREATIONS: &str = "
 
 #[test]
 fn a_creation_takes_what_init_takes(rt: HostRuntime) -> Result<(), Fail> {
-    hold_table(&rt, rt.alloc(), CREATIONS, 4, told)
+    hold_table(rt.alloc(), CREATIONS, 4, told)
 }
 
 const FUNCTIONS: &str = "
@@ -149,7 +149,7 @@ const FUNCTIONS: &str = "
 
 #[test]
 fn functions_ask_for_their_operands(rt: HostRuntime) -> Result<(), Fail> {
-    hold_table(&rt, rt.alloc(), FUNCTIONS, 7, told)
+    hold_table(rt.alloc(), FUNCTIONS, 7, told)
 }
 
 const INDEXES: &str = "
@@ -161,7 +161,7 @@ const INDEXES: &str = "
 
 #[test]
 fn an_index_is_an_int_into_a_list(rt: HostRuntime) -> Result<(), Fail> {
-    hold_table(&rt, rt.alloc(), INDEXES, 4, told)
+    hold_table(rt.alloc(), INDEXES, 4, told)
 }
 
 const LISTS: &str = "
@@ -174,7 +174,7 @@ const LISTS: &str = "
 
 #[test]
 fn a_list_has_a_type_for_its_elements(rt: HostRuntime) -> Result<(), Fail> {
-    hold_table(&rt, rt.alloc(), LISTS, 5, told)
+    hold_table(rt.alloc(), LISTS, 5, told)
 }
 
 const OPERATORS: &str = "
@@ -189,7 +189,7 @@ const OPERATORS: &str = "
 
 #[test]
 fn an_operator_has_two_sides_of_one_type(rt: HostRuntime) -> Result<(), Fail> {
-    hold_table(&rt, rt.alloc(), OPERATORS, 7, told)
+    hold_table(rt.alloc(), OPERATORS, 7, told)
 }
 
 const TRUTHS: &str = "
@@ -204,7 +204,7 @@ const TRUTHS: &str = "
 
 #[test]
 fn operands_know_what_those_before_show(rt: HostRuntime) -> Result<(), Fail> {
-    hold_table(&rt, rt.alloc(), TRUTHS, 7, told)
+    hold_table(rt.alloc(), TRUTHS, 7, told)
 }
 
 const COMPARISONS: &str = "
@@ -218,7 +218,7 @@ const COMPARISONS: &str = "
 
 #[test]
 fn a_comparison_has_sides_that_compare(rt: HostRuntime) -> Result<(), Fail> {
-    hold_table(&rt, rt.alloc(), COMPARISONS, 6, told)
+    hold_table(rt.alloc(), COMPARISONS, 6, told)
 }
 
 const CONDITIONALS: &str = "
@@ -231,7 +231,7 @@ const CONDITIONALS: &str = "
 
 #[test]
 fn a_conditional_joins_its_parts(rt: HostRuntime) -> Result<(), Fail> {
-    hold_table(&rt, rt.alloc(), CONDITIONALS, 5, told)
+    hold_table(rt.alloc(), CONDITIONALS, 5, told)
 }
 
 /// The test that is the row's line of this number.
@@ -273,7 +273,7 @@ const NARROWED: &str = "
 
 #[test]
 fn a_test_narrows_a_copy(rt: HostRuntime) -> Result<(), Fail> {
-    hold_table(&rt, rt.alloc(), NARROWED, 1, told_of_test)
+    hold_table(rt.alloc(), NARROWED, 1, told_of_test)
 }
 
 /// The names that are surely not None once a test holds, and once it doesn't either.
@@ -300,7 +300,7 @@ const NARROWED_HERE: &str = "
 
 #[test]
 fn a_test_narrows_in_place(rt: HostRuntime) -> Result<(), Fail> {
-    hold_table(&rt, rt.alloc(), NARROWED_HERE, 1, told_here)
+    hold_table(rt.alloc(), NARROWED_HERE, 1, told_here)
 }
 
 /// Whether the last line is a condition where those before hold, or the rule that it breaks.
@@ -338,5 +338,5 @@ const CONDITIONS: &str = "
 
 #[test]
 fn a_condition_is_bool(rt: HostRuntime) -> Result<(), Fail> {
-    hold_table(&rt, rt.alloc(), CONDITIONS, 3, told_of_conditions)
+    hold_table(rt.alloc(), CONDITIONS, 3, told_of_conditions)
 }

@@ -15,7 +15,6 @@ use py_parser::Parsed;
 use py_tree::{Class, Method, Name, Names, Place, Program, Stmt, StmtKind, Stmts};
 use sf_list::{Sequence, TryClone};
 use std::alloc::{AllocError, Global};
-use std::process::Abort;
 use std::test::Fail;
 use test_support::{Setting, hold_table};
 use text_trees::{last_method, tree_in, written};
@@ -114,14 +113,8 @@ fn told(alloc: Global, setting: Setting, text: &str) -> Result<String, Fail> {
 }
 
 /// Asserts that a table has so many rows, and of each its locals or the rule that it breaks.
-fn hold(
-    rt: &impl Abort,
-    alloc: Global,
-    setting: Setting,
-    table: &str,
-    count: usize,
-) -> Result<(), Fail> {
-    hold_table(rt, alloc, table, count, |alloc, text| {
+fn hold(alloc: Global, setting: Setting, table: &str, count: usize) -> Result<(), Fail> {
+    hold_table(alloc, table, count, |alloc, text| {
         told(alloc, setting, text)
     })
 }
@@ -136,7 +129,7 @@ const TYPED: &str = "
 
 #[test]
 fn a_local_keeps_the_type_of_its_first_assignment(rt: HostRuntime) -> Result<(), Fail> {
-    hold(&rt, rt.alloc(), ENDS, TYPED, 5)
+    hold(rt.alloc(), ENDS, TYPED, 5)
 }
 
 const NARROWED: &str = "
@@ -146,7 +139,7 @@ const NARROWED: &str = "
 
 #[test]
 fn an_assignment_narrows_and_widens(rt: HostRuntime) -> Result<(), Fail> {
-    hold(&rt, rt.alloc(), ENDS, NARROWED, 2)
+    hold(rt.alloc(), ENDS, NARROWED, 2)
 }
 
 const WAYS: &str = "
@@ -158,7 +151,7 @@ const WAYS: &str = "
 
 #[test]
 fn a_name_is_assigned_where_it_is_on_each_way(rt: HostRuntime) -> Result<(), Fail> {
-    hold(&rt, rt.alloc(), ENDS, WAYS, 4)
+    hold(rt.alloc(), ENDS, WAYS, 4)
 }
 
 const FORS: &str = "
@@ -169,7 +162,7 @@ const FORS: &str = "
 
 #[test]
 fn the_name_of_a_for_is_as_assigned_as_before(rt: HostRuntime) -> Result<(), Fail> {
-    hold(&rt, rt.alloc(), ENDS, FORS, 3)
+    hold(rt.alloc(), ENDS, FORS, 3)
 }
 
 const HEADS: &str = "
@@ -179,7 +172,7 @@ const HEADS: &str = "
 
 #[test]
 fn the_head_of_a_loop_forgets_what_its_body_assigns(rt: HostRuntime) -> Result<(), Fail> {
-    hold(&rt, rt.alloc(), ENDS, HEADS, 2)
+    hold(rt.alloc(), ENDS, HEADS, 2)
 }
 
 const LOOPS: &str = "
@@ -190,7 +183,7 @@ const LOOPS: &str = "
 
 #[test]
 fn behind_while_true_only_breaks_count(rt: HostRuntime) -> Result<(), Fail> {
-    hold(&rt, rt.alloc(), ENDS, LOOPS, 3)
+    hold(rt.alloc(), ENDS, LOOPS, 3)
 }
 
 const UNREACHED: &str = "
@@ -200,7 +193,7 @@ const UNREACHED: &str = "
 
 #[test]
 fn what_cannot_be_reached_is_not_looked_at(rt: HostRuntime) -> Result<(), Fail> {
-    hold(&rt, rt.alloc(), ENDS, UNREACHED, 2)
+    hold(rt.alloc(), ENDS, UNREACHED, 2)
 }
 
 const LOOP_WORDS: &str = "
@@ -211,7 +204,7 @@ const LOOP_WORDS: &str = "
 
 #[test]
 fn break_and_continue_stand_in_loops(rt: HostRuntime) -> Result<(), Fail> {
-    hold(&rt, rt.alloc(), ENDS, LOOP_WORDS, 3)
+    hold(rt.alloc(), ENDS, LOOP_WORDS, 3)
 }
 
 const FIELDS: &str = "
@@ -224,7 +217,7 @@ const FIELDS: &str = "
 
 #[test]
 fn a_field_is_assigned_unless_it_is_the_key(rt: HostRuntime) -> Result<(), Fail> {
-    hold(&rt, rt.alloc(), ENDS, FIELDS, 5)
+    hold(rt.alloc(), ENDS, FIELDS, 5)
 }
 
 const COMBINED: &str = "
@@ -236,7 +229,7 @@ const COMBINED: &str = "
 
 #[test]
 fn what_is_combined_is_read_first(rt: HostRuntime) -> Result<(), Fail> {
-    hold(&rt, rt.alloc(), ENDS, COMBINED, 4)
+    hold(rt.alloc(), ENDS, COMBINED, 4)
 }
 
 const ENDED: &str = "
@@ -245,7 +238,7 @@ const ENDED: &str = "
 
 #[test]
 fn a_method_of_nothing_may_end(rt: HostRuntime) -> Result<(), Fail> {
-    hold(&rt, rt.alloc(), ENDS, ENDED, 1)
+    hold(rt.alloc(), ENDS, ENDED, 1)
 }
 
 const GIVEN: &str = "
@@ -258,7 +251,7 @@ const GIVEN: &str = "
 
 #[test]
 fn a_method_gives_what_it_is_to_give(rt: HostRuntime) -> Result<(), Fail> {
-    hold(&rt, rt.alloc(), GIVES, GIVEN, 5)
+    hold(rt.alloc(), GIVES, GIVEN, 5)
 }
 
 /// A row has the declarations behind that of the key.
@@ -301,7 +294,7 @@ const DECLARED: &str = "
 
 #[test]
 fn a_program_is_checked_with_its_init(rt: HostRuntime) -> Result<(), Fail> {
-    hold_table(&rt, rt.alloc(), DECLARED, 2, told_of_init)
+    hold_table(rt.alloc(), DECLARED, 2, told_of_init)
 }
 
 /// A row has the lines of a method f, from line 7 on. Its parameter `sure` is surely not None.
@@ -365,7 +358,7 @@ const WALKED: &str = "
 
 #[test]
 fn a_body_is_walked_step_by_step(rt: HostRuntime) -> Result<(), Fail> {
-    hold_table(&rt, rt.alloc(), WALKED, 4, told_of_walk)
+    hold_table(rt.alloc(), WALKED, 4, told_of_walk)
 }
 
 /// What is known at the head of a loop.
@@ -402,5 +395,5 @@ const LOOP_HEADS: &str = "
 
 #[test]
 fn a_loop_begins_with_what_stays_known(rt: HostRuntime) -> Result<(), Fail> {
-    hold_table(&rt, rt.alloc(), LOOP_HEADS, 3, told_of_loop)
+    hold_table(rt.alloc(), LOOP_HEADS, 3, told_of_loop)
 }

@@ -2,7 +2,6 @@
 
 use memory_calls::{Answer, Call, Faults, NO_FAULTS, Wanted, call, hold_answer, hold_call};
 use std::alloc::{AllocError, Global};
-use std::process::Abort;
 use std::test::Fail;
 use test_support::{NUM, PING, SHOP};
 
@@ -214,17 +213,11 @@ batch 2: pending 1, committed 1, events 1
 ];
 
 /// Asserts what a run of a row's program answers and writes, with these faults.
-fn hold_run(
-    rt: &impl Abort,
-    alloc: Global,
-    row: &Row,
-    faults: Faults<'_>,
-    wanted: Wanted<'_>,
-) -> Result<(), Fail> {
+fn hold_run(alloc: Global, row: &Row, faults: Faults<'_>, wanted: Wanted<'_>) -> Result<(), Fail> {
     let answer = run(alloc, row, faults)?;
-    hold_answer(rt, row.label, &answer, wanted);
+    let held = hold_answer(row.label, &answer, wanted);
     drop(answer);
-    Ok(())
+    held
 }
 
 #[test]
@@ -235,7 +228,7 @@ fn batches_are_answered_and_traced(rt: HostRuntime) -> Result<(), Fail> {
             out: row.replies.as_bytes(),
             err: row.traced.as_bytes(),
         };
-        hold_run(&rt, rt.alloc(), row, NO_FAULTS, wanted)?;
+        hold_run(rt.alloc(), row, NO_FAULTS, wanted)?;
     }
     Ok(())
 }
@@ -264,7 +257,7 @@ fn full_history_is_status_10(rt: HostRuntime) -> Result<(), Fail> {
         out: TWO_REPLIES.as_bytes(),
         err: b"stateflow: history full\n",
     };
-    hold_call(&rt, rt.alloc(), "three requests", made, wanted)
+    hold_call(rt.alloc(), "three requests", made, wanted)
 }
 
 /// The first line of the trace fails behind the replies to its batch.
@@ -279,7 +272,7 @@ fn failed_trace_is_status_4(rt: HostRuntime) -> Result<(), Fail> {
         out: b"{\"id\":\"a\",\"ok\":\"x\",\"seq\":1}\n",
         err: b"stateflow: write fault\n",
     };
-    hold_run(&rt, rt.alloc(), &CALLED_BACK, faults, wanted)
+    hold_run(rt.alloc(), &CALLED_BACK, faults, wanted)
 }
 
 /// What waits when the input fails isn't run.
@@ -300,5 +293,5 @@ fn what_waits_at_a_read_fault_isnt_run(rt: HostRuntime) -> Result<(), Fail> {
         out: b"",
         err: b"stateflow: read fault\n",
     };
-    hold_call(&rt, rt.alloc(), "the purchases", made, wanted)
+    hold_call(rt.alloc(), "the purchases", made, wanted)
 }

@@ -6,7 +6,6 @@ use crate::batches::{CARRIED, CARRIED_REPLIES, CARRIED_TRACE};
 use memory_calls::{Answer, Generator, NO_FAULTS, Wanted, call_along, hold_answer};
 use sf_outside::{Chooser, Failed, ListChooser, MemSource, Source};
 use std::alloc::{AllocError, Global};
-use std::process::Abort;
 use std::test::Fail;
 use test_support::{SHOP, hold_text};
 
@@ -34,21 +33,21 @@ fn run<C: Chooser>(
 }
 
 /// Asserts that an answer has the bytes of the purchases on both outputs.
-fn hold_bytes(rt: &impl Abort, label: &str, answer: Answer) {
+fn hold_bytes(label: &str, answer: Answer) -> Result<(), Fail> {
     let wanted = Wanted {
         status: 0,
         out: CARRIED_REPLIES.as_bytes(),
         err: CARRIED_TRACE.as_bytes(),
     };
-    hold_answer(rt, label, &answer, wanted);
+    let held = hold_answer(label, &answer, wanted);
     drop(answer);
+    held
 }
 
 /// Asserts that along the schedule of this number the purchases have these bytes, on one partition and on 64.
-fn hold_schedule(rt: &impl Abort, alloc: Global, number: &str) -> Result<(), Fail> {
-    hold_bytes(rt, number, run(alloc, number, "1", &mut Generator::new())?);
-    hold_bytes(rt, number, run(alloc, number, "64", &mut Generator::new())?);
-    Ok(())
+fn hold_schedule(alloc: Global, number: &str) -> Result<(), Fail> {
+    hold_bytes(number, run(alloc, number, "1", &mut Generator::new())?)?;
+    hold_bytes(number, run(alloc, number, "64", &mut Generator::new())?)
 }
 
 const NUMBERS: [&str; 10] = ["0", "1", "2", "3", "4", "5", "6", "7", "8", "9"];
@@ -56,7 +55,7 @@ const NUMBERS: [&str; 10] = ["0", "1", "2", "3", "4", "5", "6", "7", "8", "9"];
 #[test]
 fn schedules_and_partitions_change_no_byte(rt: HostRuntime) -> Result<(), Fail> {
     for number in NUMBERS {
-        hold_schedule(&rt, rt.alloc(), number)?;
+        hold_schedule(rt.alloc(), number)?;
     }
     Ok(())
 }
@@ -75,18 +74,17 @@ const PICKS: [&[u32]; 10] = [
 ];
 
 /// Asserts that along these picks the purchases have these bytes.
-fn hold_picks(rt: &impl Abort, alloc: Global, picks: &[u32]) -> Result<(), Fail> {
+fn hold_picks(alloc: Global, picks: &[u32]) -> Result<(), Fail> {
     let mut chooser = ListChooser::new(alloc, picks)?;
     let answer = run(alloc, "0", "4", &mut chooser);
     drop(chooser);
-    hold_bytes(rt, "picks", answer?);
-    Ok(())
+    hold_bytes("picks", answer?)
 }
 
 #[test]
 fn picks_change_no_byte(rt: HostRuntime) -> Result<(), Fail> {
     for picks in PICKS {
-        hold_picks(&rt, rt.alloc(), picks)?;
+        hold_picks(rt.alloc(), picks)?;
     }
     Ok(())
 }
@@ -105,7 +103,7 @@ fn picks_told(alloc: Global, chooser: &mut Generator) -> Result<String, AllocErr
 fn generator_picks_the_upper_halves(rt: HostRuntime) -> Result<(), Fail> {
     let told = picks_told(rt.alloc(), &mut Generator::new());
     let wanted = "(335903614, 436792849, 2599843874) (2118330556, 4104526463)";
-    hold_text(&rt, told, wanted)
+    hold_text(told, wanted)
 }
 
 /// An input that gives a byte at a time. It tells no content.
@@ -138,6 +136,5 @@ fn run_bytes(alloc: Global) -> Result<Answer, AllocError> {
 
 #[test]
 fn input_byte_by_byte_is_answered_alike(rt: HostRuntime) -> Result<(), Fail> {
-    hold_bytes(&rt, "byte by byte", run_bytes(rt.alloc())?);
-    Ok(())
+    hold_bytes("byte by byte", run_bytes(rt.alloc())?)
 }

@@ -69,7 +69,7 @@ const CALLS: [Case<'static, &[&str]>; 7] = [
 
 #[test]
 fn graph_is_told_once_and_then_each_event(rt: HostRuntime) -> Result<(), Fail> {
-    hold_cases(&rt, rt.alloc(), &CALLS, counts_told)
+    hold_cases(rt.alloc(), &CALLS, counts_told)
 }
 
 /// The text of the graph that a watch was told first, with the names of a program.
@@ -116,7 +116,7 @@ fn printed_graph(alloc: Global) -> Result<String, Fail> {
 fn graph_that_is_told_is_printed(rt: HostRuntime) -> Result<(), Fail> {
     let printed = printed_graph(rt.alloc())?;
     let compiled = told_graph(rt.alloc(), &["compile", "shop.py"]);
-    hold_text(&rt, compiled, printed.as_str())?;
+    hold_text(compiled, printed.as_str())?;
     let ran = told_graph(rt.alloc(), &["run", "shop.py"]);
-    hold_text(&rt, ran, printed.as_str())
+    hold_text(ran, printed.as_str())
 }

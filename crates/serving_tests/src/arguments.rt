@@ -68,7 +68,7 @@ const INTS: &str = r#"
 
 #[test]
 fn ints_are_numbers_of_64_bits_or_texts(rt: HostRuntime) -> Result<(), Fail> {
-    hold_table(&rt, rt.alloc(), INTS, 31, called)
+    hold_table(rt.alloc(), INTS, 31, called)
 }
 
 const TYPES: &str = r#"
@@ -107,5 +107,5 @@ const TYPES: &str = r#"
 
 #[test]
 fn values_have_the_form_of_their_type(rt: HostRuntime) -> Result<(), Fail> {
-    hold_table(&rt, rt.alloc(), TYPES, 31, called)
+    hold_table(rt.alloc(), TYPES, 31, called)
 }

@@ -41,7 +41,7 @@ fn hold_length(
         out: b"",
         err: line,
     };
-    hold_call(rt, alloc, "a program of this length", made, wanted)
+    hold_call(alloc, "a program of this length", made, wanted)
 }
 
 #[test]

@@ -2,7 +2,6 @@
 
 use memory_calls::{Call, Faults, NO_FAULTS, Wanted, hold_call};
 use std::alloc::Global;
-use std::process::Abort;
 use std::test::Fail;
 use test_support::COUNTER;
 
@@ -61,18 +60,13 @@ const WRITE_FAULT: Wanted<'static> = Wanted {
 type FaultRow = (&'static str, Faults<'static>, Wanted<'static>);
 
 /// Asserts that a call does what each row wants where the row's calls of the devices fail.
-fn hold_faults(
-    rt: &impl Abort,
-    alloc: Global,
-    made: Call<'_>,
-    rows: &[FaultRow],
-) -> Result<(), Fail> {
+fn hold_faults(alloc: Global, made: Call<'_>, rows: &[FaultRow]) -> Result<(), Fail> {
     for (label, faults, wanted) in rows {
         let made = Call {
             faults: *faults,
             ..made
         };
-        hold_call(rt, alloc, label, made, *wanted)?;
+        hold_call(alloc, label, made, *wanted)?;
     }
     Ok(())
 }
@@ -103,7 +97,7 @@ fn of_out(calls: &'static [u64]) -> Faults<'static> {
 
 #[test]
 fn counter_answers_its_requests(rt: HostRuntime) -> Result<(), Fail> {
-    hold_call(&rt, rt.alloc(), "run", run(), SERVED)
+    hold_call(rt.alloc(), "run", run(), SERVED)
 }
 
 #[test]
@@ -112,7 +106,7 @@ fn failed_read_of_the_file_is_status_3(rt: HostRuntime) -> Result<(), Fail> {
         ("the first read", of_file(&[1]), READ_FAULT),
         ("the second read", of_file(&[2]), READ_FAULT),
     ];
-    hold_faults(&rt, rt.alloc(), run(), &rows)
+    hold_faults(rt.alloc(), run(), &rows)
 }
 
 #[test]
@@ -125,11 +119,11 @@ fn failed_read_of_the_input_leaves_whole_lines(rt: HostRuntime) -> Result<(), Fa
         ("the first read", of_input(&[1]), READ_FAULT),
         ("the second read", of_input(&[2]), replied),
     ];
-    hold_faults(&rt, rt.alloc(), run(), &rows)
+    hold_faults(rt.alloc(), run(), &rows)
 }
 
 /// Asserts that of the replies so many bytes are written where this call of the output fails.
-fn hold_written(rt: &impl Abort, alloc: Global, call: u64, written: usize) -> Result<(), Fail> {
+fn hold_written(alloc: Global, call: u64, written: usize) -> Result<(), Fail> {
     let faults = Faults {
         out: &[call],
         ..NO_FAULTS
@@ -139,7 +133,7 @@ fn hold_written(rt: &impl Abort, alloc: Global, call: u64, written: usize) -> Re
         ..WRITE_FAULT
     };
     let made = Call { faults, ..run() };
-    hold_call(rt, alloc, "a write", made, wanted)
+    hold_call(alloc, "a write", made, wanted)
 }
 
 /// The output is flushed behind the lines of each batch, and at the end.
@@ -157,7 +151,7 @@ fn failed_write_leaves_the_lines_before(rt: HostRuntime) -> Result<(), Fail> {
         (9, 162),
     ];
     for (call, written) in rows {
-        hold_written(&rt, rt.alloc(), call, written)?;
+        hold_written(rt.alloc(), call, written)?;
     }
     Ok(())
 }
@@ -184,12 +178,12 @@ fn failed_error_stream_is_status_4(rt: HostRuntime) -> Result<(), Fail> {
         ("once", of_err(&[1]), WRITE_FAULT),
         ("twice", of_err(&[1, 2]), untold),
     ];
-    hold_faults(&rt, rt.alloc(), made, &rows)
+    hold_faults(rt.alloc(), made, &rows)
 }
 
 #[test]
 fn local_serves_the_counter(rt: HostRuntime) -> Result<(), Fail> {
-    hold_call(&rt, rt.alloc(), "local", local(), SERVED)
+    hold_call(rt.alloc(), "local", local(), SERVED)
 }
 
 #[test]
@@ -199,5 +193,5 @@ fn local_tells_a_fault_of_a_device(rt: HostRuntime) -> Result<(), Fail> {
         ("the input", of_input(&[1]), READ_FAULT),
         ("the output", of_out(&[1]), WRITE_FAULT),
     ];
-    hold_faults(&rt, rt.alloc(), local(), &rows)
+    hold_faults(rt.alloc(), local(), &rows)
 }

@@ -2,7 +2,6 @@
 
 use memory_calls::{Call, NO_FAULTS, Wanted, hold_call};
 use std::alloc::Global;
-use std::process::Abort;
 use std::test::Fail;
 
 /// A clerk makes a box of its own at the first call, and adds to it in a loop.
@@ -62,7 +61,7 @@ const REPLIES: &[u8] = b"{\"id\":\"a\",\"ok\":\"ann\",\"seq\":1}
 ";
 
 /// Asserts what is answered to the requests by a call with these words.
-fn hold_boxes(rt: &impl Abort, alloc: Global, words: &[&str]) -> Result<(), Fail> {
+fn hold_boxes(alloc: Global, words: &[&str]) -> Result<(), Fail> {
     let made = Call {
         words,
         file: "boxes.py",
@@ -75,15 +74,15 @@ fn hold_boxes(rt: &impl Abort, alloc: Global, words: &[&str]) -> Result<(), Fail
         out: REPLIES,
         err: b"",
     };
-    hold_call(rt, alloc, "the boxes", made, wanted)
+    hold_call(alloc, "the boxes", made, wanted)
 }
 
 #[test]
 fn run_serves_entities_that_call_one_another(rt: HostRuntime) -> Result<(), Fail> {
-    hold_boxes(&rt, rt.alloc(), &["run", "boxes.py", "--batch", "1"])
+    hold_boxes(rt.alloc(), &["run", "boxes.py", "--batch", "1"])
 }
 
 #[test]
 fn local_serves_them_the_same(rt: HostRuntime) -> Result<(), Fail> {
-    hold_boxes(&rt, rt.alloc(), &["local", "boxes.py"])
+    hold_boxes(rt.alloc(), &["local", "boxes.py"])
 }

@@ -56,5 +56,5 @@ fn limit_of_three_bytes_takes_three(rt: HostRuntime) -> Result<(), Fail> {
         ("three bytes", "\n\n\n", three),
         ("four bytes", "\n\n\n\n", "Err(InputTooLong)"),
     ];
-    hold_cases(&rt, rt.alloc(), &cases, |alloc, bytes| told(alloc, bytes))
+    hold_cases(rt.alloc(), &cases, |alloc, bytes| told(alloc, bytes))
 }

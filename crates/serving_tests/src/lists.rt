@@ -89,5 +89,5 @@ fn list_is_read_before_its_index(rt: HostRuntime) -> Result<(), Fail> {
         out: REPLIES,
         err: b"",
     };
-    hold_call(&rt, rt.alloc(), "the lists", made, wanted)
+    hold_call(rt.alloc(), "the lists", made, wanted)
 }

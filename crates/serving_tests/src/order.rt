@@ -88,7 +88,7 @@ fn lines_of_a_piece_are_answered_before_the_next_is_read(rt: HostRuntime) -> Res
         ("two at a time", "2", "28"),
         ("three at a time", "3", "0"),
     ];
-    hold_cases(&rt, rt.alloc(), &cases, |alloc, size| {
+    hold_cases(rt.alloc(), &cases, |alloc, size| {
         let written = written_before_second(alloc, size)?;
         Ok(format!(in alloc; "{written}")?)
     })

@@ -63,7 +63,7 @@ const REFUSED: &str = r#"
 
 #[test]
 fn the_first_refusal_in_order_is_told(rt: HostRuntime) -> Result<(), Fail> {
-    hold_table(&rt, rt.alloc(), REFUSED, 32, told)
+    hold_table(rt.alloc(), REFUSED, 32, told)
 }
 
 /// What is answered to bytes that no row can hold.
@@ -88,7 +88,7 @@ fn bytes_that_are_no_json_are_refused(rt: HostRuntime) -> Result<(), Fail> {
         ("blanks", b"   ", "not json"),
         ("a return", b"\r", "not json"),
     ];
-    hold_cases(&rt, rt.alloc(), &cases, |alloc, line| {
+    hold_cases(rt.alloc(), &cases, |alloc, line| {
         told_of_bytes(alloc, line)
     })
 }
@@ -105,7 +105,7 @@ fn told_of_nested(alloc: Global, depth: &usize) -> Result<String, Fail> {
 #[test]
 fn json_nests_127_deep(rt: HostRuntime) -> Result<(), Fail> {
     let cases = [("127", 127, "not a request"), ("128", 128, "not json")];
-    hold_cases(&rt, rt.alloc(), &cases, told_of_nested)
+    hold_cases(rt.alloc(), &cases, told_of_nested)
 }
 
 /// What is answered to a creation whose id has 63 bytes with this end behind them.
@@ -124,5 +124,5 @@ fn an_id_has_1_to_64_bytes(rt: HostRuntime) -> Result<(), Fail> {
         ("65 bytes", "ff", "not a request"),
         ("64 letters in 65 bytes", "é", "not a request"),
     ];
-    hold_cases(&rt, rt.alloc(), &cases, told_of_id)
+    hold_cases(rt.alloc(), &cases, told_of_id)
 }

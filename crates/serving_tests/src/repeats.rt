@@ -45,5 +45,5 @@ fn a_repeat_is_answered_by_its_line_again(rt: HostRuntime) -> Result<(), Fail> {
         out: ANSWERED.as_bytes(),
         err: b"",
     };
-    hold_call(&rt, rt.alloc(), "the repeats", made, wanted)
+    hold_call(rt.alloc(), "the repeats", made, wanted)
 }

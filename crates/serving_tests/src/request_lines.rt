@@ -59,14 +59,13 @@ const REQUESTS: &str = r#"
 
 #[test]
 fn lines_that_are_requests(rt: HostRuntime) -> Result<(), Fail> {
-    hold_table(&rt, rt.alloc(), REQUESTS, 5, told)
+    hold_table(rt.alloc(), REQUESTS, 5, told)
 }
 
 #[test]
 fn blanks_around_a_request_are_no_matter(rt: HostRuntime) -> Result<(), Fail> {
     let spaced = r#" {"new" : ["\u0078",-3], "class":"Counter","id":"a"} "#;
     hold_cases(
-        &rt,
         rt.alloc(),
         &[("blanks", spaced, "made")],
         |alloc, line| told(alloc, line),
@@ -99,14 +98,13 @@ const NO_REQUESTS: &str = r#"
 
 #[test]
 fn lines_that_are_none(rt: HostRuntime) -> Result<(), Fail> {
-    hold_table(&rt, rt.alloc(), NO_REQUESTS, 21, told)
+    hold_table(rt.alloc(), NO_REQUESTS, 21, told)
 }
 
 #[test]
 fn a_line_that_is_no_text_is_none(rt: HostRuntime) -> Result<(), Fail> {
     let no_text: &[u8] = b"{\"id\":\"\xff\",\"class\":\"Counter\",\"new\":[\"x\",3]}";
     hold_cases(
-        &rt,
         rt.alloc(),
         &[("a byte of 255", no_text, "not json")],
         |alloc, line| told_by(alloc, COUNTER, line),
@@ -128,7 +126,7 @@ fn an_id_has_at_most_64_bytes(rt: HostRuntime) -> Result<(), Fail> {
         ("64 bytes", "f", "another"),
         ("65 bytes", "é", "not a request"),
     ];
-    hold_cases(&rt, rt.alloc(), &cases, told_of_id)
+    hold_cases(rt.alloc(), &cases, told_of_id)
 }
 
 /// Methods and creations that take values of each type.
@@ -183,7 +181,7 @@ const TYPED_LINES: &str = r#"
 
 #[test]
 fn declared_types_decide_what_can_be_asked_for(rt: HostRuntime) -> Result<(), Fail> {
-    hold_table(&rt, rt.alloc(), TYPED_LINES, 19, |alloc, line| {
+    hold_table(rt.alloc(), TYPED_LINES, 19, |alloc, line| {
         told_by(alloc, TYPED, line.as_bytes())
     })
 }

@@ -2,7 +2,6 @@
 
 use memory_calls::{Call, NO_FAULTS, Wanted, hold_call};
 use std::alloc::Global;
-use std::process::Abort;
 use std::test::Fail;
 use test_support::{NUM, SHOP};
 
@@ -64,7 +63,6 @@ const COUNTED: &str = r#"{"id":"a","ok":"p","seq":1}
 
 /// Asserts what is answered to an input on a program, by `local` and by `run`.
 fn hold_served<'a>(
-    rt: &impl Abort,
     alloc: Global,
     label: &str,
     program: &'a str,
@@ -87,12 +85,12 @@ fn hold_served<'a>(
         out: replies.as_bytes(),
         err: b"",
     };
-    hold_call(rt, alloc, label, local, wanted)?;
-    hold_call(rt, alloc, label, run, wanted)
+    hold_call(alloc, label, local, wanted)?;
+    hold_call(alloc, label, run, wanted)
 }
 
 #[test]
 fn values_of_each_type_are_passed_and_printed(rt: HostRuntime) -> Result<(), Fail> {
-    hold_served(&rt, rt.alloc(), "shop", SHOP, SHOPPING, SHOPPED)?;
-    hold_served(&rt, rt.alloc(), "num", NUM, COUNTING, COUNTED)
+    hold_served(rt.alloc(), "shop", SHOP, SHOPPING, SHOPPED)?;
+    hold_served(rt.alloc(), "num", NUM, COUNTING, COUNTED)
 }

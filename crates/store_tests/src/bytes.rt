@@ -117,7 +117,7 @@ const THINGS: &str = "
 
 #[test]
 fn each_thing_is_read_and_written_again(rt: HostRuntime) -> Result<(), Fail> {
-    hold_table(&rt, rt.alloc(), THINGS, 10, told)
+    hold_table(rt.alloc(), THINGS, 10, told)
 }
 
 const NO_THINGS: &str = "
@@ -130,13 +130,13 @@ const NO_THINGS: &str = "
 
 #[test]
 fn what_is_no_value_is_none(rt: HostRuntime) -> Result<(), Fail> {
-    hold_table(&rt, rt.alloc(), NO_THINGS, 5, told)
+    hold_table(rt.alloc(), NO_THINGS, 5, told)
 }
 
 #[test]
 fn a_batch_is_read(rt: HostRuntime) -> Result<(), Fail> {
     let told = batch_of(rt.alloc(), &BATCH);
-    hold_text(&rt, told, "a: new 0('apple', 3), commits [0], 0 left")
+    hold_text(told, "a: new 0('apple', 3), commits [0], 0 left")
 }
 
 /// What the first front of a batch is that is one, with its length, or that none is.
@@ -152,5 +152,5 @@ fn fronts_told(alloc: Global) -> Result<String, AllocError> {
 
 #[test]
 fn a_batch_that_is_cut_is_none(rt: HostRuntime) -> Result<(), Fail> {
-    hold_text(&rt, fronts_told(rt.alloc()), "none")
+    hold_text(fronts_told(rt.alloc()), "none")
 }

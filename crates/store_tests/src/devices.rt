@@ -57,7 +57,7 @@ fn source_gives_its_bytes_in_pieces(rt: HostRuntime) -> Result<(), Fail> {
     let mut source = MemSource::new(rt.alloc(), b"hello", &[2])?;
     let told = source_told(rt.alloc(), &mut source, 4);
     drop(source);
-    hold_text(&rt, told, "3 68656c, failed, 2 6c6f00, 0 000000")
+    hold_text(told, "3 68656c, failed, 2 6c6f00, 0 000000")
 }
 
 /// Three picks of a chooser, which is then started anew, and one more.
@@ -75,7 +75,7 @@ fn list_is_picked_then_0_and_anew_behind_a_start(rt: HostRuntime) -> Result<(), 
     let mut chooser = ListChooser::new(rt.alloc(), &[5, 3])?;
     let told = picks_told(rt.alloc(), &mut chooser);
     drop(chooser);
-    hold_text(&rt, told, "5, 3, 0, 5")
+    hold_text(told, "5, 3, 0, 5")
 }
 
 /// What a sink answers to pieces, of which an empty one is a flush, and what it then holds.
@@ -98,11 +98,7 @@ fn sink_holds_pieces_up_to_its_room(rt: HostRuntime) -> Result<(), Fail> {
     let mut sink = MemSink::new(rt.alloc(), 5, &[3])?;
     let told = sink_told(rt.alloc(), &mut sink, &[b"abc", b"", b"x", b"def", b"de"]);
     drop(sink);
-    hold_text(
-        &rt,
-        told,
-        "done, done, failed, failed, done, holds 6162636465",
-    )
+    hold_text(told, "done, done, failed, failed, done, holds 6162636465")
 }
 
 /// What reads of files of four bytes at most give, each from a place.
@@ -132,11 +128,7 @@ fn files_are_read_by_name(rt: HostRuntime) -> Result<(), Fail> {
     let reads = [("a", 2), ("b", 0), ("a", 0), ("c", 0), ("a", 9)];
     let told = files_told(rt.alloc(), &mut files, &reads);
     drop(files);
-    hold_text(
-        &rt,
-        told,
-        "3 72737400, 0 00000000, failed, failed, 0 00000000",
-    )
+    hold_text(told, "3 72737400, 0 00000000, failed, failed, 0 00000000")
 }
 
 /// What two lines come to that are written, and what the sink then holds.
@@ -152,7 +144,7 @@ fn a_line_is_written_or_stops(rt: HostRuntime) -> Result<(), Fail> {
     let mut sink = MemSink::new(rt.alloc(), 9, &[2])?;
     let told = lines_told(rt.alloc(), &mut sink);
     drop(sink);
-    hold_text(&rt, told, "done, failed, holds 6f6e650a")
+    hold_text(told, "done, failed, holds 6f6e650a")
 }
 
 /// A disk of 8 bytes a file, which takes 7 calls, and whose fourth fails.
@@ -189,7 +181,7 @@ fn disk_keeps_what_was_written(rt: HostRuntime) -> Result<(), Fail> {
     let mut disk = small_disk(rt.alloc())?;
     let told = written_told(rt.alloc(), &mut disk);
     drop(disk);
-    hold_text(&rt, told, "done, 5, failed, 4 00616263")
+    hold_text(told, "done, 5, failed, 4 00616263")
 }
 
 /// What a write past the room, the length and one more call answer.
@@ -205,7 +197,7 @@ fn disk_refuses_what_has_no_room(rt: HostRuntime) -> Result<(), Fail> {
     let mut disk = small_disk(rt.alloc())?;
     let told = refused_told(rt.alloc(), &mut disk);
     drop(disk);
-    hold_text(&rt, told, "failed, 0, failed")
+    hold_text(told, "failed, 0, failed")
 }
 
 /// What so many calls for a length answer.
@@ -223,7 +215,7 @@ fn disk_takes_so_many_calls(rt: HostRuntime) -> Result<(), Fail> {
     let mut disk = small_disk(rt.alloc())?;
     let told = lengths_told(rt.alloc(), &mut disk, 7);
     drop(disk);
-    hold_text(&rt, told, "0, 0, failed, 0, 0, 0, failed")
+    hold_text(told, "0, 0, failed, 0, 0, 0, failed")
 }
 
 /// What two mounts answer, of which the first is to fail.
@@ -237,5 +229,5 @@ fn mounts_told(alloc: Global) -> Result<String, AllocError> {
 
 #[test]
 fn a_mount_is_refused_and_then_done(rt: HostRuntime) -> Result<(), Fail> {
-    hold_text(&rt, mounts_told(rt.alloc()), "Err(Failed), Ok(())")
+    hold_text(mounts_told(rt.alloc()), "Err(Failed), Ok(())")
 }

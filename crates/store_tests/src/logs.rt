@@ -21,7 +21,7 @@ fn added(alloc: Global) -> Result<String, SnapFault> {
 
 #[test]
 fn a_record_is_added(rt: HostRuntime) -> Result<(), Fail> {
-    hold_text(&rt, added(rt.alloc()), "Ok(58), true")
+    hold_text(added(rt.alloc()), "Ok(58), true")
 }
 
 /// What stands at a place of the log of these bytes: a record, by the place of the gate behind it, or none.
@@ -64,7 +64,7 @@ fn a_log_that_is_cut_is_bad_where_a_gate_or_a_record_is_cut(rt: HostRuntime) -> 
         ("a gate alone", (1, 0), "bad at 0"),
         ("no byte", (0, 0), "bad at 0"),
     ];
-    hold_cases(&rt, rt.alloc(), &cases, |alloc, (length, at)| {
+    hold_cases(rt.alloc(), &cases, |alloc, (length, at)| {
         gate_of_record(alloc, *length, *at)
     })
 }
@@ -72,5 +72,5 @@ fn a_log_that_is_cut_is_bad_where_a_gate_or_a_record_is_cut(rt: HostRuntime) -> 
 #[test]
 fn a_record_that_claims_more_than_there_is_is_bad(rt: HostRuntime) -> Result<(), Fail> {
     let told = gate_told(rt.alloc(), &[0xA5, 255, 255, 255, 255, 0], 0);
-    hold_text(&rt, told, "bad at 0")
+    hold_text(told, "bad at 0")
 }

@@ -48,7 +48,7 @@ const FIRST_SLOT: &str =
 fn the_first_snapshot_takes_slot_1(rt: HostRuntime) -> Result<(), Fail> {
     let slot = FIRST_SLOT.replace(rt.alloc(), ' ', "")?;
     let wanted = format!(in rt.alloc(); "{slot}, 00, Ok(Some(1))")?;
-    hold_text(&rt, first_kept(rt.alloc()), wanted.as_str())
+    hold_text(first_kept(rt.alloc()), wanted.as_str())
 }
 
 /// Keeps one snapshot, and then another.
@@ -71,7 +71,7 @@ fn two_kept(alloc: Global) -> Result<String, SnapFault> {
 
 #[test]
 fn the_second_takes_slot_0(rt: HostRuntime) -> Result<(), Fail> {
-    hold_text(&rt, two_kept(rt.alloc()), "Ok(37), Ok(Some(2))")
+    hold_text(two_kept(rt.alloc()), "Ok(37), Ok(Some(2))")
 }
 
 /// What is found on a disk whose slots begin with these bytes.
@@ -104,5 +104,5 @@ const SLOTS: &str = "
 
 #[test]
 fn a_slot_is_closed_or_bad(rt: HostRuntime) -> Result<(), Fail> {
-    hold_table(&rt, rt.alloc(), SLOTS, 6, told)
+    hold_table(rt.alloc(), SLOTS, 6, told)
 }

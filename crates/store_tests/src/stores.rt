@@ -67,7 +67,7 @@ const SLOTS: &str = "
 
 #[test]
 fn a_store_without_a_snapshot_is_new_or_bad(rt: HostRuntime) -> Result<(), Fail> {
-    hold_table(&rt, rt.alloc(), SLOTS, 2, told)
+    hold_table(rt.alloc(), SLOTS, 2, told)
 }
 
 /// Where a record that is added ends, and what the store then is.
@@ -82,7 +82,7 @@ fn added(alloc: Global) -> Result<String, SnapFault> {
 #[test]
 fn a_snapshot_and_a_batch_are_found(rt: HostRuntime) -> Result<(), Fail> {
     let wanted = "Ok(58): epoch 1, 1 batches from 0 to 58";
-    hold_text(&rt, added(rt.alloc()), wanted)
+    hold_text(added(rt.alloc()), wanted)
 }
 
 /// What a store is that keeps a snapshot, and whose log is a record up to this length.
@@ -107,7 +107,7 @@ fn a_log_that_is_cut_is_bad_at_a_gate(rt: HostRuntime) -> Result<(), Fail> {
         ("a body without its last byte", 57, "Log1 is bad at 0"),
         ("half a body", 30, "Log1 is bad at 0"),
     ];
-    hold_cases(&rt, rt.alloc(), &cases, told_of_log)
+    hold_cases(rt.alloc(), &cases, told_of_log)
 }
 
 /// Whether a store has a snapshot and a batch where both were kept, and else what it had before or after.

@@ -57,12 +57,12 @@ fn log_behind(alloc: Global, run: &Run) -> Result<String, Fail> {
 #[test]
 fn a_batch_is_in_the_log_to_the_byte(rt: HostRuntime) -> Result<(), Fail> {
     let wanted = RECORD.replace(rt.alloc(), ' ', "")?;
-    hold_text(&rt, log_behind(rt.alloc(), &CREATION), wanted.as_str())
+    hold_text(log_behind(rt.alloc(), &CREATION), wanted.as_str())
 }
 
 #[test]
 fn a_new_store_has_an_empty_log(rt: HostRuntime) -> Result<(), Fail> {
-    hold_text(&rt, log_behind(rt.alloc(), &NOTHING), "00")
+    hold_text(log_behind(rt.alloc(), &NOTHING), "00")
 }
 
 #[test]

@@ -75,5 +75,5 @@ fn other_front(alloc: Global) -> Result<String, AllocError> {
 fn a_program_that_is_cut_ends_within_a_string_or_a_bracket_or_has_lines(
     rt: HostRuntime,
 ) -> Result<(), Fail> {
-    hold_text(&rt, other_front(rt.alloc()), "")
+    hold_text(other_front(rt.alloc()), "")
 }

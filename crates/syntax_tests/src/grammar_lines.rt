@@ -106,5 +106,5 @@ fn each_line_of_the_grammar_has_a_tree(rt: HostRuntime) -> Result<(), Fail> {
         ("terms and atoms", TERMS, "tree"),
         ("two classes", TWO_CLASSES, "tree"),
     ];
-    hold_parsed(&rt, rt.alloc(), &cases)
+    hold_parsed(rt.alloc(), &cases)
 }

@@ -58,7 +58,7 @@ fn each_opener_within_an_expression_opens_64_levels_and_no_more(
         ("plus", [b"", b"+", b"1", b""], "4:95: TooDeep"),
         ("ifs", [b"", b"x if y else ", b"z", b""], "4:795: TooDeep"),
     ];
-    hold_cases(&rt, rt.alloc(), &openers, levels_told)
+    hold_cases(rt.alloc(), &openers, levels_told)
 }
 
 /// What the parser makes of a method whose lines each hold the next.
@@ -82,5 +82,5 @@ fn suites_open_64_levels_and_no_more(rt: HostRuntime) -> Result<(), Fail> {
         ("63", 63, "tree"),
         ("64", 64, "67:73: TooDeep"),
     ];
-    hold_cases(&rt, rt.alloc(), &cases, suites)
+    hold_cases(rt.alloc(), &cases, suites)
 }

@@ -2,7 +2,6 @@
 
 use crate::outcome::lexed;
 use std::alloc::{AllocError, Global};
-use std::process::Abort;
 use std::test::Fail;
 use test_support::{Case, hold_cases, hold_text};
 
@@ -16,8 +15,8 @@ fn placed(alloc: Global, kind: &str, text: &[u8]) -> Result<String, Fail> {
 }
 
 /// Asserts that the text of each case has a fault of this kind, at the place that is wanted.
-fn hold(rt: &impl Abort, alloc: Global, kind: &str, cases: &[Case<'_, &[u8]>]) -> Result<(), Fail> {
-    hold_cases(rt, alloc, cases, |alloc, text| placed(alloc, kind, text))
+fn hold(alloc: Global, kind: &str, cases: &[Case<'_, &[u8]>]) -> Result<(), Fail> {
+    hold_cases(alloc, cases, |alloc, text| placed(alloc, kind, text))
 }
 
 #[test]
@@ -32,7 +31,7 @@ fn texts_without_a_token_have_lines(rt: HostRuntime) -> Result<(), Fail> {
         ),
         ("lines that a return ends", b"\r\n\r\n", "lines"),
     ];
-    hold_cases(&rt, rt.alloc(), &cases, |alloc, text| {
+    hold_cases(rt.alloc(), &cases, |alloc, text| {
         Ok(lexed(alloc, text)?)
     })
 }
@@ -50,7 +49,7 @@ fn bytes_that_are_no_text_are_told(rt: HostRuntime) -> Result<(), Fail> {
         ("behind a number", b"1\xff", "1:2"),
         ("in brackets", b"(\xff", "1:2"),
     ];
-    hold(&rt, rt.alloc(), "NotUtf8", &rows)
+    hold(rt.alloc(), "NotUtf8", &rows)
 }
 
 #[test]
@@ -63,7 +62,7 @@ fn tabs_before_a_token_are_told(rt: HostRuntime) -> Result<(), Fail> {
         ("behind a space", b"a\n \t'abc'\n", "2:2"),
         ("before a bad character", b"\tx $ \n", "1:1"),
     ];
-    hold(&rt, rt.alloc(), "TabIndent", &rows)
+    hold(rt.alloc(), "TabIndent", &rows)
 }
 
 #[test]
@@ -76,7 +75,7 @@ fn dedents_to_no_open_column_are_told(rt: HostRuntime) -> Result<(), Fail> {
         ("between two columns", b"a\n        b\n    c\n", "3:5"),
         ("below the first", b"  a\n b\n", "2:2"),
     ];
-    hold(&rt, rt.alloc(), "BadDedent", &rows)
+    hold(rt.alloc(), "BadDedent", &rows)
 }
 
 #[test]
@@ -90,7 +89,7 @@ fn escapes_that_are_none_are_told(rt: HostRuntime) -> Result<(), Fail> {
         ("in an open string", b"x = '\\b\n", "1:6"),
         ("of a byte of 0", b"'\\\x00'", "1:2"),
     ];
-    hold(&rt, rt.alloc(), "BadEscape", &rows)
+    hold(rt.alloc(), "BadEscape", &rows)
 }
 
 #[test]
@@ -102,7 +101,7 @@ fn strings_without_an_end_are_told(rt: HostRuntime) -> Result<(), Fail> {
         ("in brackets at the end", b"('a", "1:2"),
         ("two quotes of three", b"'''a''", "1:1"),
     ];
-    hold(&rt, rt.alloc(), "OpenString", &rows)
+    hold(rt.alloc(), "OpenString", &rows)
 }
 
 #[test]
@@ -118,7 +117,7 @@ fn numbers_that_are_none_are_told(rt: HostRuntime) -> Result<(), Fail> {
         ("an attribute", b"x = 1.real\n", "1:5"),
         ("two points", b"1..2\n", "1:1"),
     ];
-    hold(&rt, rt.alloc(), "BadNumber", &rows)
+    hold(rt.alloc(), "BadNumber", &rows)
 }
 
 #[test]
@@ -130,7 +129,7 @@ fn numbers_above_the_greatest_are_told(rt: HostRuntime) -> Result<(), Fail> {
         ("one above it, in parts", parted, "1:5"),
         ("one above it", whole, "1:1"),
     ];
-    hold(&rt, rt.alloc(), "LiteralTooWide", &rows)
+    hold(rt.alloc(), "LiteralTooWide", &rows)
 }
 
 #[test]
@@ -156,7 +155,7 @@ fn characters_of_no_token_are_told(rt: HostRuntime) -> Result<(), Fail> {
         ("a backslash on a line alone", b"x\n\\\ny\n", "2:1"),
         ("behind a long string", b"x = '''a\nbc''' $\n", "2:7"),
     ];
-    hold(&rt, rt.alloc(), "BadCharacter", &rows)
+    hold(rt.alloc(), "BadCharacter", &rows)
 }
 
 #[test]
@@ -168,7 +167,7 @@ fn brackets_that_stay_open_are_told(rt: HostRuntime) -> Result<(), Fail> {
         ("closed by another kind", b"([)\n", "1:1"),
         ("behind closed ones", b"a[0](2, (1)[3]\n", "1:5"),
     ];
-    hold(&rt, rt.alloc(), "OpenBracket", &rows)
+    hold(rt.alloc(), "OpenBracket", &rows)
 }
 
 /// What the lexer makes of a comment of so many bytes.
@@ -179,6 +178,6 @@ fn comment_of(alloc: Global, length: usize) -> Result<String, AllocError> {
 
 #[test]
 fn a_text_may_have_a_mebibyte(rt: HostRuntime) -> Result<(), Fail> {
-    hold_text(&rt, comment_of(rt.alloc(), 1_048_576), "lines")?;
-    hold_text(&rt, comment_of(rt.alloc(), 1_048_577), "1:1: TooLong")
+    hold_text(comment_of(rt.alloc(), 1_048_576), "lines")?;
+    hold_text(comment_of(rt.alloc(), 1_048_577), "1:1: TooLong")
 }

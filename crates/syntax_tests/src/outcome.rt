@@ -3,7 +3,6 @@
 use py_lexer::{LexError, lex};
 use py_parser::{Parsed, SyntaxError, parse};
 use std::alloc::{AllocError, Global};
-use std::process::Abort;
 use std::test::Fail;
 use test_support::{Case, hold_cases};
 
@@ -51,6 +50,6 @@ pub fn parsed(alloc: Global, text: &[u8]) -> Result<String, AllocError> {
 }
 
 /// Asserts what the texts of cases are by the lexical rules and the grammar.
-pub fn hold_parsed(rt: &impl Abort, alloc: Global, cases: &[Case<'_, &[u8]>]) -> Result<(), Fail> {
-    hold_cases(rt, alloc, cases, |alloc, text| Ok(parsed(alloc, text)?))
+pub fn hold_parsed(alloc: Global, cases: &[Case<'_, &[u8]>]) -> Result<(), Fail> {
+    hold_cases(alloc, cases, |alloc, text| Ok(parsed(alloc, text)?))
 }

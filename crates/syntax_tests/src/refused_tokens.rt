@@ -2,7 +2,6 @@
 
 use crate::outcome::parsed;
 use std::alloc::{AllocError, Global};
-use std::process::Abort;
 use std::test::Fail;
 use test_support::hold_table;
 
@@ -26,14 +25,8 @@ fn behind(alloc: Global, front: &str, text: &str) -> Result<Vec<u8>, AllocError>
 }
 
 /// Asserts that a table has so many rows, and of each what a front with its text behind it is.
-fn hold(
-    rt: &impl Abort,
-    alloc: Global,
-    front: &str,
-    table: &str,
-    count: usize,
-) -> Result<(), Fail> {
-    hold_table(rt, alloc, table, count, |alloc, text| {
+fn hold(alloc: Global, front: &str, table: &str, count: usize) -> Result<(), Fail> {
+    hold_table(alloc, table, count, |alloc, text| {
         let whole = behind(alloc, front, text)?;
         Ok(parsed(alloc, whole.as_slice())?)
     })
@@ -57,7 +50,7 @@ const IMPORTS: &str = "
 
 #[test]
 fn a_token_refused_in_an_import_is_told(rt: HostRuntime) -> Result<(), Fail> {
-    hold(&rt, rt.alloc(), WHOLE, IMPORTS, 13)
+    hold(rt.alloc(), WHOLE, IMPORTS, 13)
 }
 
 const CLASSES: &str = "
@@ -79,7 +72,7 @@ const CLASSES: &str = "
 
 #[test]
 fn a_token_refused_in_a_class_is_told(rt: HostRuntime) -> Result<(), Fail> {
-    hold(&rt, rt.alloc(), WHOLE, CLASSES, 14)
+    hold(rt.alloc(), WHOLE, CLASSES, 14)
 }
 
 const SIGNATURES: &str = "
@@ -95,7 +88,7 @@ const SIGNATURES: &str = "
 
 #[test]
 fn a_token_refused_in_a_signature_is_told(rt: HostRuntime) -> Result<(), Fail> {
-    hold(&rt, rt.alloc(), MEMBER, SIGNATURES, 8)
+    hold(rt.alloc(), MEMBER, SIGNATURES, 8)
 }
 
 const SIMPLE_STATEMENTS: &str = "
@@ -117,7 +110,7 @@ const SIMPLE_STATEMENTS: &str = "
 
 #[test]
 fn a_token_refused_in_a_simple_statement_is_told(rt: HostRuntime) -> Result<(), Fail> {
-    hold(&rt, rt.alloc(), MEMBER, SIMPLE_STATEMENTS, 14)
+    hold(rt.alloc(), MEMBER, SIMPLE_STATEMENTS, 14)
 }
 
 const SUITES: &str = "
@@ -140,7 +133,7 @@ const SUITES: &str = "
 
 #[test]
 fn a_token_refused_in_a_suite_is_told(rt: HostRuntime) -> Result<(), Fail> {
-    hold(&rt, rt.alloc(), MEMBER, SUITES, 15)
+    hold(rt.alloc(), MEMBER, SUITES, 15)
 }
 
 const OPERATORS: &str = "
@@ -159,7 +152,7 @@ const OPERATORS: &str = "
 
 #[test]
 fn a_token_refused_beside_an_operator_is_told(rt: HostRuntime) -> Result<(), Fail> {
-    hold(&rt, rt.alloc(), MEMBER, OPERATORS, 11)
+    hold(rt.alloc(), MEMBER, OPERATORS, 11)
 }
 
 const ATOMS: &str = "
@@ -181,5 +174,5 @@ const ATOMS: &str = "
 
 #[test]
 fn a_token_refused_in_an_atom_is_told(rt: HostRuntime) -> Result<(), Fail> {
-    hold(&rt, rt.alloc(), MEMBER, ATOMS, 14)
+    hold(rt.alloc(), MEMBER, ATOMS, 14)
 }

@@ -65,5 +65,5 @@ fn each_form_of_number_has_its_value(rt: HostRuntime) -> Result<(), Fail> {
         ("digits apart", "1_2_3", "123"),
         ("the greatest", greatest, greatest),
     ];
-    hold_cases(&rt, rt.alloc(), &cases, told)
+    hold_cases(rt.alloc(), &cases, told)
 }

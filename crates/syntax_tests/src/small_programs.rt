@@ -38,7 +38,7 @@ fn read(alloc: Global, text: &str) -> Result<String, AllocError> {
 
 #[test]
 fn a_class_has_a_tree(rt: HostRuntime) -> Result<(), Fail> {
-    hold_text(&rt, read(rt.alloc(), COUNTER), "3;")
+    hold_text(read(rt.alloc(), COUNTER), "3;")
 }
 
 const DELETED: &str = "@entity
@@ -48,5 +48,5 @@ class C:
 
 #[test]
 fn a_word_that_is_left_out_is_told(rt: HostRuntime) -> Result<(), Fail> {
-    hold_text(&rt, read(rt.alloc(), DELETED), "3: LeftOut")
+    hold_text(read(rt.alloc(), DELETED), "3: LeftOut")
 }

@@ -47,7 +47,7 @@ fn a_string_has_its_text(rt: HostRuntime) -> Result<(), Fail> {
         ("the euro sign", b"'\\u20AC'", "\u{20ac}"),
         ("nothing", b"''", ""),
     ];
-    hold_cases(&rt, rt.alloc(), &cases, |alloc, text| {
+    hold_cases(rt.alloc(), &cases, |alloc, text| {
         string_told(alloc, text)
     })
 }
@@ -94,11 +94,11 @@ const TWO_LINES: &str = "0 deep: Word 0-1 at 1:1; Sign(19) 2-3 at 1:3; Int(10) 4
 #[test]
 fn a_text_has_lines_of_tokens(rt: HostRuntime) -> Result<(), Fail> {
     let text = b"a = 1_0\n  b //= '\\x41\\n'\n";
-    hold_text(&rt, told(rt.alloc(), text), TWO_LINES)
+    hold_text(told(rt.alloc(), text), TWO_LINES)
 }
 
 #[test]
 fn the_first_fault_is_told_with_its_place(rt: HostRuntime) -> Result<(), Fail> {
     let found = lexed(rt.alloc(), b"  a\n b $\n");
-    hold_text(&rt, found, "2:2: BadDedent")
+    hold_text(found, "2:2: BadDedent")
 }

@@ -28,7 +28,7 @@ fn names_told(alloc: Global) -> Result<String, AllocError> {
 #[test]
 fn names_are_numbered_in_order(rt: HostRuntime) -> Result<(), Fail> {
     let wanted = "0, 1, 0, 2 names, Some(Name(1)), None";
-    hold_text(&rt, names_told(rt.alloc()), wanted)
+    hold_text(names_told(rt.alloc()), wanted)
 }
 
 /// Whether a type is the same as its copy, and as the type of its elements.
@@ -44,7 +44,7 @@ fn a_copy_is_the_same_type(rt: HostRuntime) -> Result<(), Fail> {
     let list = Ty::List(Box::new(rt.alloc(), Ty::Entity(Name(7)))?);
     let told = same_told(rt.alloc(), &list);
     drop(list);
-    hold_text(&rt, told, "true, false")
+    hold_text(told, "true, false")
 }
 
 /// The name of the attribute that a statement returns.

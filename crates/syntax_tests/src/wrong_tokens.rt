@@ -126,7 +126,7 @@ fn hold_tokens(
 
 #[test]
 fn the_shop_has_a_tree(rt: HostRuntime) -> Result<(), Fail> {
-    hold_text(&rt, parsed(rt.alloc(), SHOP.as_bytes()), "tree")
+    hold_text(parsed(rt.alloc(), SHOP.as_bytes()), "tree")
 }
 
 #[test]

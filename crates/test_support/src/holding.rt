@@ -2,20 +2,13 @@
 
 use crate::tables::rows;
 use std::alloc::Global;
-use std::process::Abort;
 use std::test::Fail;
 
-/// Asserts that this text is told.
-pub fn hold_text<E: Into<Fail>>(
-    rt: &impl Abort,
-    told: Result<String, E>,
-    wanted: &str,
-) -> Result<(), Fail> {
+/// Fails unless this text is told.
+pub fn hold_text<E: Into<Fail>>(told: Result<String, E>, wanted: &str) -> Result<(), Fail> {
     match told {
-        Ok(told) => {
-            assert_eq!(rt; told.as_str(), wanted);
-            Ok(())
-        }
+        Ok(told) if told.as_str() == wanted => Ok(()),
+        Ok(told) => Err(Fail::new(format_args!("{wanted:?} is wanted, and {told:?} is told"))),
         Err(error) => Err(error.into()),
     }
 }
@@ -43,9 +36,8 @@ fn other_in_table<F: Fn(Global, &str) -> Result<String, Fail>>(
     Ok(String::new(alloc))
 }
 
-/// Asserts that a table has so many rows, and that of the text of each is told what is wanted.
+/// Fails unless a table has so many rows, and of the text of each is told what is wanted.
 pub fn hold_table<F: Fn(Global, &str) -> Result<String, Fail>>(
-    rt: &impl Abort,
     alloc: Global,
     table: &str,
     count: usize,
@@ -53,7 +45,7 @@ pub fn hold_table<F: Fn(Global, &str) -> Result<String, Fail>>(
 ) -> Result<(), Fail>
     requires { F.IsAlwaysCallable told }
 {
-    hold_text(rt, other_in_table(alloc, table, count, told), "")
+    hold_text(other_in_table(alloc, table, count, told), "")
 }
 
 /// A label, what is looked at, and what is wanted of it.
@@ -76,16 +68,15 @@ fn other_case<T, F: Fn(Global, &T) -> Result<String, Fail>>(
     Ok(String::new(alloc))
 }
 
-/// Asserts that of each case is told what is wanted.
+/// Fails unless of each case is told what is wanted.
 pub fn hold_cases<T, F: Fn(Global, &T) -> Result<String, Fail>>(
-    rt: &impl Abort,
     alloc: Global,
     cases: &[Case<'_, T>],
     told: F,
 ) -> Result<(), Fail>
     requires { F.IsAlwaysCallable told }
 {
-    hold_text(rt, other_case(alloc, cases, told), "")
+    hold_text(other_case(alloc, cases, told), "")
 }
 
 #[cfg(test)]
@@ -115,7 +106,7 @@ mod tests {
 
     #[test]
     fn the_other_row_is_told(rt: HostRuntime) -> Result<(), Fail> {
-        hold_cases(&rt, rt.alloc(), &TABLES, |alloc, (table, count)| {
+        hold_cases(rt.alloc(), &TABLES, |alloc, (table, count)| {
             other_in_table(alloc, table, *count, marked)
         })
     }
@@ -133,7 +124,7 @@ mod tests {
             ("one that is so", &CASES[..1], ""),
             ("two", &CASES, "the second: 2!"),
         ];
-        hold_cases(&rt, rt.alloc(), &cases, |alloc, cases| {
+        hold_cases(rt.alloc(), &cases, |alloc, cases| {
             other_case(alloc, cases, number_marked)
         })
     }

@@ -29,7 +29,7 @@ const RUNS: &str = "
 
 #[test]
 fn a_number_of_run_is_in_its_range(rt: HostRuntime) -> Result<(), Fail> {
-    hold_table(&rt, rt.alloc(), RUNS, 20, asked)
+    hold_table(rt.alloc(), RUNS, 20, asked)
 }
 
 const WORKS: &str = "
@@ -47,7 +47,7 @@ const WORKS: &str = "
 
 #[test]
 fn a_number_of_gen_is_in_its_range(rt: HostRuntime) -> Result<(), Fail> {
-    hold_table(&rt, rt.alloc(), WORKS, 10, asked)
+    hold_table(rt.alloc(), WORKS, 10, asked)
 }
 
 const DIGITS: &str = "
@@ -69,5 +69,5 @@ const DIGITS: &str = "
 
 #[test]
 fn a_number_is_1_to_20_decimal_digits(rt: HostRuntime) -> Result<(), Fail> {
-    hold_table(&rt, rt.alloc(), DIGITS, 14, asked)
+    hold_table(rt.alloc(), DIGITS, 14, asked)
 }

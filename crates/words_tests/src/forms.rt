@@ -18,7 +18,7 @@ const FILES: &str = "
 
 #[test]
 fn a_command_takes_its_file(rt: HostRuntime) -> Result<(), Fail> {
-    hold_table(&rt, rt.alloc(), FILES, 9, asked)
+    hold_table(rt.alloc(), FILES, 9, asked)
 }
 
 const RUNS: &str = "
@@ -47,7 +47,7 @@ const RUNS: &str = "
 
 #[test]
 fn run_takes_its_options(rt: HostRuntime) -> Result<(), Fail> {
-    hold_table(&rt, rt.alloc(), RUNS, 21, asked)
+    hold_table(rt.alloc(), RUNS, 21, asked)
 }
 
 const WORKS: &str = "
@@ -61,5 +61,5 @@ const WORKS: &str = "
 
 #[test]
 fn gen_takes_its_options(rt: HostRuntime) -> Result<(), Fail> {
-    hold_table(&rt, rt.alloc(), WORKS, 6, asked)
+    hold_table(rt.alloc(), WORKS, 6, asked)
 }

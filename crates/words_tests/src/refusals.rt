@@ -6,7 +6,7 @@ use test_support::hold_table;
 
 #[test]
 fn no_words_are_no_command(rt: HostRuntime) -> Result<(), Fail> {
-    hold_table(&rt, rt.alloc(), "    none |  | usage", 1, asked)
+    hold_table(rt.alloc(), "    none |  | usage", 1, asked)
 }
 
 const FILES: &str = "
@@ -31,7 +31,7 @@ const FILES: &str = "
 
 #[test]
 fn a_command_takes_one_file_where_it_has_one(rt: HostRuntime) -> Result<(), Fail> {
-    hold_table(&rt, rt.alloc(), FILES, 17, asked)
+    hold_table(rt.alloc(), FILES, 17, asked)
 }
 
 const REPEATS: &str = "
@@ -51,7 +51,7 @@ const REPEATS: &str = "
 
 #[test]
 fn an_option_stands_once(rt: HostRuntime) -> Result<(), Fail> {
-    hold_table(&rt, rt.alloc(), REPEATS, 12, asked)
+    hold_table(rt.alloc(), REPEATS, 12, asked)
 }
 
 const HYPHENS: &str = "
@@ -83,7 +83,7 @@ const HYPHENS: &str = "
 
 #[test]
 fn a_hyphen_begins_options_alone(rt: HostRuntime) -> Result<(), Fail> {
-    hold_table(&rt, rt.alloc(), HYPHENS, 24, asked)
+    hold_table(rt.alloc(), HYPHENS, 24, asked)
 }
 
 const OPTIONS: &str = "
@@ -117,5 +117,5 @@ const OPTIONS: &str = "
 
 #[test]
 fn other_options_are_refused(rt: HostRuntime) -> Result<(), Fail> {
-    hold_table(&rt, rt.alloc(), OPTIONS, 26, asked)
+    hold_table(rt.alloc(), OPTIONS, 26, asked)
 }

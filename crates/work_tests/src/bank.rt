@@ -48,7 +48,7 @@ fn money_moves_or_stays(rt: HostRuntime) -> Result<(), Fail> {
         out: REPLIES.as_bytes(),
         err: b"",
     };
-    hold_call(&rt, rt.alloc(), "the bank", made, wanted)
+    hold_call(rt.alloc(), "the bank", made, wanted)
 }
 
 /// The status of `local` on generated work, and the first and the last line that it prints.
@@ -66,5 +66,5 @@ fn generated_requests_are_served(rt: HostRuntime) -> Result<(), Fail> {
     let told = served(rt.alloc(), work.program.as_slice(), work.input.as_slice());
     drop(work);
     let wanted = r#"0 {"id":"g1","ok":"a1","seq":1} {"id":"g20","ok":"a20","seq":20}"#;
-    hold_text(&rt, told, wanted)
+    hold_text(told, wanted)
 }

@@ -4,7 +4,6 @@ use memory_calls::{Answer, Call, Faults, NO_FAULTS, Wanted, call, call_along, ho
 use operator_graph::{MemWatch, Note};
 use sf_outside::{ListChooser, MemSource};
 use std::alloc::{AllocError, Global};
-use std::process::Abort;
 use std::test::Fail;
 use test_support::hold_text;
 
@@ -33,18 +32,18 @@ fn made_of<'a>(words: &'a [&'a str]) -> Call<'a> {
 }
 
 /// Asserts the line that a call with these words prints.
-fn hold_line(rt: &impl Abort, alloc: Global, words: &[&str], line: &[u8]) -> Result<(), Fail> {
+fn hold_line(alloc: Global, words: &[&str], line: &[u8]) -> Result<(), Fail> {
     let wanted = Wanted {
         status: 0,
         out: line,
         err: b"",
     };
-    hold_call(rt, alloc, "generated work", made_of(words), wanted)
+    hold_call(alloc, "generated work", made_of(words), wanted)
 }
 
 #[test]
 fn three_accounts_are_opened(rt: HostRuntime) -> Result<(), Fail> {
-    hold_line(&rt, rt.alloc(), &THREE, THREE_OPENED)
+    hold_line(rt.alloc(), &THREE, THREE_OPENED)
 }
 
 /// One request, and each account in a batch of its own.
@@ -65,7 +64,7 @@ fn work_is_as_large_as_is_asked(rt: HostRuntime) -> Result<(), Fail> {
         ),
     ];
     for (words, line) in rows {
-        hold_line(&rt, rt.alloc(), words, line)?;
+        hold_line(rt.alloc(), words, line)?;
     }
     Ok(())
 }
@@ -107,7 +106,7 @@ const SIX_HUNDRED: [&str; 5] = ["gen", "--number", "1", "--size", "600"];
 fn equal_calls_print_the_same_line(rt: HostRuntime) -> Result<(), Fail> {
     let again = printed(rt.alloc(), &SIX_HUNDRED)?;
     assert!(rt; again.starts_with("0 "));
-    hold_text(&rt, printed(rt.alloc(), &SIX_HUNDRED), again.as_str())
+    hold_text(printed(rt.alloc(), &SIX_HUNDRED), again.as_str())
 }
 
 /// The status of the call for 600 requests, and what it prints, where these are picked first of the events in flight.
@@ -137,11 +136,11 @@ fn order_of_events_changes_no_line(rt: HostRuntime) -> Result<(), Fail> {
     let line = printed(rt.alloc(), &SIX_HUNDRED)?;
     assert!(rt; line.starts_with("0 "));
     let other = printed_along(rt.alloc(), &[5, 3, 8, 1, 0, 7, 2]);
-    hold_text(&rt, other, line.as_str())
+    hold_text(other, line.as_str())
 }
 
 /// Asserts what is written of the line where this call of the output fails.
-fn hold_prefix(rt: &impl Abort, alloc: Global, call: u64, written: &[u8]) -> Result<(), Fail> {
+fn hold_prefix(alloc: Global, call: u64, written: &[u8]) -> Result<(), Fail> {
     let faults = Faults {
         out: &[call],
         ..UNREAD
@@ -155,7 +154,7 @@ fn hold_prefix(rt: &impl Abort, alloc: Global, call: u64, written: &[u8]) -> Res
         out: written,
         err: b"stateflow: write fault\n",
     };
-    hold_call(rt, alloc, "a failed output", made, wanted)
+    hold_call(alloc, "a failed output", made, wanted)
 }
 
 /// The thirteen parts of the line are written one after another, and then the output is flushed.
@@ -171,7 +170,7 @@ fn failed_output_leaves_a_prefix_of_the_line(rt: HostRuntime) -> Result<(), Fail
         (14, THREE_OPENED),
     ];
     for (call, written) in rows {
-        hold_prefix(&rt, rt.alloc(), call, written)?;
+        hold_prefix(rt.alloc(), call, written)?;
     }
     Ok(())
 }
@@ -202,5 +201,5 @@ fn told(alloc: Global) -> Result<String, AllocError> {
 /// The graph is told first, and each event behind it.
 #[test]
 fn graph_and_events_are_told(rt: HostRuntime) -> Result<(), Fail> {
-    hold_text(&rt, told(rt.alloc()), "graph event event event ")
+    hold_text(told(rt.alloc()), "graph event event event ")
 }

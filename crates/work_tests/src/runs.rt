@@ -50,7 +50,7 @@ fn three_accounts_are_opened(rt: HostRuntime) -> Result<(), Fail> {
         parts: 4,
     };
     let wanted = "requests 3 committed 3 failed 0 batches 1 events 3 total 300\n";
-    hold_text(&rt, line_of(rt.alloc(), &settings, &[]), wanted)
+    hold_text(line_of(rt.alloc(), &settings, &[]), wanted)
 }
 
 /// Each of three accounts in a batch of its own.
@@ -63,7 +63,7 @@ fn batches_of_one_are_as_many_as_requests(rt: HostRuntime) -> Result<(), Fail> {
         parts: 4,
     };
     let wanted = "requests 3 committed 3 failed 0 batches 3 events 3 total 300\n";
-    hold_text(&rt, line_of(rt.alloc(), &settings, &[]), wanted)
+    hold_text(line_of(rt.alloc(), &settings, &[]), wanted)
 }
 
 /// Money moves among 200 accounts that opened with 100 each, and none is lost.
@@ -98,7 +98,7 @@ fn order_of_events_and_partitions_change_no_number(rt: HostRuntime) -> Result<()
         parts: 1,
     };
     let line = line_of(alloc, &settings, &[])?;
-    hold_text(&rt, line_of(alloc, &settings, &[]), line.as_str())?;
+    hold_text(line_of(alloc, &settings, &[]), line.as_str())?;
     let other = line_of(alloc, &alone, &[5, 3, 8, 1, 0, 7, 2]);
-    hold_text(&rt, other, line.as_str())
+    hold_text(other, line.as_str())
 }
