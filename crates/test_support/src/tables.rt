@@ -65,7 +65,6 @@ mod tests {
         let told = rows_told(rt.alloc(), rows.as_slice());
         drop(rows);
         hold_text(
-            &rt,
             told,
             "3:a label;one\n  two;1:2 wanted;b;  three;ok;a label;        a line with fewer parts;three parts;",
         )
