@@ -2,11 +2,12 @@
 """What a gate takes: minutes of one processor by crate, for its proof, its tests and its edits.
 
     tools/gate_minutes.py run FOLDER [NAME..]   runs `rt ci [NAME..]` at the top of the repository; FOLDER gets its log and its times
-    tools/gate_minutes.py table FOLDER..        prints the table of these runs, their times added up
+    tools/gate_minutes.py table FOLDER..        prints the table of these runs, each over what those before it kept
 
 The processes of the toolchain are looked at four times a second: each names its crate, `--test` tells a proof of tests, and an edit is
 tried on a copy in a temporary folder. What lies between the last look at a process and its end, and what is no proof (layout, links,
 runs), is in the row `other`, which is what the system counted for the whole run less the rows. A run that is cut off leaves the times so far.
+Where there are several runs, a proof that was cut off in one was done whole in another, so the longest counts; edits add up.
 """
 import json
 import os
@@ -100,14 +101,20 @@ def minutes(seconds):
     return f"{seconds / 60:.1f}" if seconds else "–"
 
 
-def table(folders):
-    sums, whole, elapsed = defaultdict(float), 0.0, 0.0
+def times_of(folders):
+    """The seconds by crate and part, and what of the runs belongs to none."""
+    sums, other = defaultdict(float), 0.0
     for folder in folders:
         told = json.loads((folder / "times.json").read_text())
-        for crate, part, seconds in told["rows"]:
-            sums[crate, part] += seconds
-        whole += told["whole"] or sum(row[2] for row in told["rows"])
-        elapsed += told["elapsed"]
+        rows = told["rows"]
+        for crate, part, seconds in rows:
+            sums[crate, part] = sums[crate, part] + seconds if part == "edits" else max(sums[crate, part], seconds)
+        other += (told["whole"] or 0) - sum(row[2] for row in rows) if told["whole"] else 0
+    return sums, max(other, 0.0)
+
+
+def table(folders):
+    sums, other = times_of(folders)
     of_crate = defaultdict(float)
     for (crate, _part), seconds in sums.items():
         of_crate[crate] += seconds
@@ -116,10 +123,10 @@ def table(folders):
     for crate in sorted(of_crate, key=lambda it: (-of_crate[it], it)):
         print(f"| `{crate}` | " + " | ".join(minutes(sums[crate, part]) for part in PARTS) + f" | {minutes(of_crate[crate])} |")
     in_parts = [sum(seconds for (_crate, of), seconds in sums.items() if of == part) for part in PARTS]
-    print(f"| other | | | | {minutes(whole - sum(in_parts))} |")
+    whole = sum(in_parts) + other
+    print(f"| other | | | | {minutes(other)} |")
     print("| all | " + " | ".join(map(minutes, in_parts)) + f" | {minutes(whole)} |")
     print(f"| left for new crates, of {BUDGET_MINUTES} | | | | {minutes(BUDGET_MINUTES * 60 - whole)} |")
-    print(f"\nElapsed: {minutes(elapsed)} minutes.")
     return 0
 
 
