@@ -62,7 +62,8 @@ class Watch:
 
     def look(self):
         for process, seconds, folder in processes_of(self.session):
-            if process not in self.places:
+            # (a process that was just started has no words of its own yet)
+            if self.places.get(process) is None:
                 self.places[process] = place_of(folder)
             self.seconds[process] = seconds
 
