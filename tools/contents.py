@@ -2,7 +2,8 @@
 """Writes the pages of docs/contents: the crates, the definitions, the edits that must fail, and the tests, each by its own name and head.
 
     tools/contents.py           writes them
-    tools/contents.py --check   tells the pages that are not as the sources say, and ends with status 1 where there is one
+    tools/contents.py --check   tells the pages that are not as the sources say, and what pages link to or name that isn't there, and ends with status 1 where
+                                there is one
     tools/contents.py --words   counts the words of each page that is written by hand, as `wc -w` does, and names the pages that it leaves out
 
 What a crate, a file of definitions or a file of tests is for is said once, in the comment at its head; these pages gather the heads.
@@ -103,18 +104,43 @@ def pages():
     return {PAGES / f"{name}.md": "\n".join(page()) + "\n" for name, page in made.items()}
 
 
+def pages_by_hand():
+    """The pages that are written by hand, in order."""
+    for page in sorted(TOP.rglob("*.md")):
+        parts = page.relative_to(TOP).parts
+        if page.parent.name not in LEFT_OUT and not any(part == "out" or part.startswith(".") for part in parts):
+            yield page
+
+
+def headings(page):
+    """What links to the headings of a page name behind `#`."""
+    return {re.sub(r"[^\w\- ]", "", title.lower()).replace(" ", "-") for title in re.findall(r"^#+ (.*)$", page.read_text(), re.M)}
+
+
+def is_there(page, name):
+    """Whether a link of a page leads somewhere, or a path that it names does."""
+    file, _, heading = name.partition("#")
+    target = page.parent / file if file else page
+    return target.exists() and (not heading or heading in headings(target))
+
+
+def missing_names():
+    """The links of pages that lead nowhere, and the paths of the repository that they name which aren't there; of a path with a star any."""
+    for page in pages_by_hand():
+        text = re.sub(r"```.*?```", "", page.read_text(), flags=re.S)
+        links = [link for link in re.findall(r"\]\(([^)\s]+)\)", text) if "://" not in link]
+        paths = re.findall(r"`(?:python3 )?((?:docs|tools|python|examples|bench|crates)/[\w./*]+)", text)
+        for name in [link for link in links if not is_there(page, link)] + [path for path in paths if not any(TOP.glob(path))]:
+            if "/out" not in name:
+                yield f"{page.relative_to(TOP)} names {name}, which isn't there"
+
+
 def told_words():
     """Lines that tell how many words each page has that is written by hand, how many they have together, and how many pages are left out."""
-    total, left_out = 0, dict.fromkeys(LEFT_OUT, 0)
-    for page in sorted(TOP.rglob("*.md")):
-        at = page.relative_to(TOP)
-        if page.parent.name in LEFT_OUT:
-            left_out[page.parent.name] += 1
-        elif not any(part == "out" or part.startswith(".") for part in at.parts):
-            count = len(page.read_text().split())
-            total += count
-            yield f"{count:7} {at}"
-    yield f"{total:7} in all"
+    counts = [(len(page.read_text().split()), page.relative_to(TOP)) for page in pages_by_hand()]
+    yield from (f"{count:7} {page}" for count, page in counts)
+    yield f"{sum(count for count, _ in counts):7} in all"
+    left_out = {folder: len(list(TOP.rglob(f"{folder}/*.md"))) for folder in LEFT_OUT}
     for folder, pages in left_out.items():
         yield f"left out: {pages} pages in {folder} ({LEFT_OUT[folder]})"
 
@@ -133,7 +159,10 @@ def main(words):
         else:
             file.parent.mkdir(exist_ok=True)
             file.write_text(pages()[file])
-    return 1 if words and stale else 0
+    missing = list(missing_names()) if words else []
+    for line in missing:
+        print(f"contents: {line}")
+    return 1 if words and (stale or missing) else 0
 
 
 if __name__ == "__main__":
