@@ -19,7 +19,8 @@ nought_is_real = fits_signed_from_abs w128 (pos 0) (lit< tt)
 names_are_utf8 : (names : List (List ℕ)) → IsTable names → All IsUtf8 names
 names_are_utf8 names table k d within = IsUtf8-from_is_utf8 _ (table.utf8 k (slice_index_or names k d) (slice_get-get_or names k d within))
 
-pub accepted_is_real : (text : List ℕ) (program : PlainProgram) (names : List (List ℕ)) → IsAcceptedText text program names → IsTable names → IsRealProgram (record { program = program; names = names })
+pub accepted_is_real : (text : List ℕ) (program : PlainProgram) (names : List (List ℕ)) → IsAcceptedText text program names → IsTable names
+    → IsRealProgram (record { program = program; names = names })
 accepted_is_real text program names is table = record {
   ints = program_ints IsReal nought_is_real is.logical program names is.parsed (lexed_ints text is.logical is.lexed);
   texts = names_are_utf8 names table;

@@ -16,4 +16,5 @@ AcceptedAreShort = (text : List ℕ) (program : PlainProgram) (names : List (Lis
 
 -- what its program writes is real, where its names are a table
 abbrev pub AcceptedAreReal : Type 0
-AcceptedAreReal = (text : List ℕ) (program : PlainProgram) (names : List (List ℕ)) → IsAcceptedText text program names → IsTable names → IsRealProgram (record { program = program; names = names })
+AcceptedAreReal = (text : List ℕ) (program : PlainProgram) (names : List (List ℕ)) → IsAcceptedText text program names → IsTable names
+    → IsRealProgram (record { program = program; names = names })
