@@ -3,3 +3,10 @@ pub mod AsciiFronts
 pub mod FrontPlaces
 pub mod LexedTexts
 pub mod AcceptedTexts
+pub mod LeftInts
+pub mod LexedInts
+pub mod TypesRead
+pub mod ExpressionInts
+pub mod StatementInts
+pub mod ProgramInts
+pub mod RealPrograms

@@ -1,4 +1,4 @@
--- Frames and what they keep: the last frame, those that stay, and variables that move.
+-- Frames and what they keep: the last frame, those that stay, and names that are kept.
 use Rattle.std.proofs.Common.{Option, ◌≡◌, ◌<◌, ◌≤◌, ◌+◌, ℕ, zero, suc, arith, Bool, true, false, not, ◌||◌, ◌&&◌, ◌-◌, true≢false, Some, None, List, [], ◌∷◌, ◌++◌, length, take, drop, get_or, if◌then◌else◌, refl, sym, ap, ◌∙◌, add-one, drop-cons}
 use Rattle.std.specs.Prelude.{option_map, ◌==◌, slice_get, nat_eq}
 use Rattle.std.specs.List.{list_any, flat_map}
@@ -8,7 +8,6 @@ use Rattle.std.proofs.lemmas.List.Folds.{list_any-append}
 use Rattle.std.proofs.lemmas.Map.Views.{any-filter_same}
 use Rattle.std.proofs.lemmas.Option.{same_Some, none-some}
 use Rattle.sf_value.specs.declared.Outcome.{Outcome}
-use Rattle.program_meaning.specs.declared.vars.Var.{Var}
 use Rattle.block_code.specs.declared.event.EventKind.TheVariants as kind
 use Rattle.block_code.specs.declared.event.Frame.{Frame}
 use Rattle.block_code.specs.declared.block.Catch.{Catch}
@@ -16,7 +15,7 @@ use Rattle.block_code.specs.declared.vars.VarType.{VarType}
 use Rattle.block_code.specs.PlainVars.{PlainVar, plain_vars}
 use Rattle.block_code.specs.PlainBlocks.{PlainCatch, PlainBlock, plain_catch, plain_catches}
 use Rattle.block_code.specs.EventsFit.{Awaits, catch_of, params_if_there, kept_params}
-use Rattle.block_runs.specs.EventStep.{kept, behind_it, up_to, Lasts, one_before, lasts, target_of}
+use Rattle.block_runs.specs.EventStep.{behind_it, up_to, Lasts, one_before, lasts, target_of}
 
 -- The last frame
 
@@ -99,26 +98,6 @@ entity_is_there fs at long is = let x : (x : Frame) × (slice_get fs at ≡ Some
 pub resumes_entity : (o : Outcome) (l : Option Lasts) → option_map (λ (l : Lasts). l.last.at) l ≡ target_of (kind.Resume o) l
 resumes_entity o None = refl
 resumes_entity o (Some l) = refl
-
--- What is kept
-
-kept_cut : {A : Type 0} (b : Bool) (x : A) (xs : List A) → (if b then x ∷ xs else xs) ≡ (if b then x ∷ [] else []) ++ xs
-kept_cut true x xs = refl
-kept_cut false x xs = refl
-
--- the first variable, and the others
-pub kept_first : (params : List PlainVar) (vars rest : List Var) (v : Var) → slice_get vars 0 ≡ Some v → rest ≡ take 0 vars ++ drop (0 + 1) vars → kept params vars ≡ kept params (v ∷ []) ++ kept params rest
-kept_first params [] rest v first is = absurd (none-some v first)
-kept_first params (u ∷ vars) rest v first is =
-    kept_cut (list_any (λ (p : PlainVar). p.name == u.name.0) params) u (kept params vars)
-    ∙ ap (λ w. kept params (w ∷ []) ++ kept params vars) (same_Some _ _ first)
-    ∙ ap (λ l. kept params (v ∷ []) ++ kept params l) (sym is)
-
-pub kept_one : (params : List PlainVar) (v : Var) (b : Bool) → b ≡ list_any (λ (p : PlainVar). p.name == v.name.0) params → kept params (v ∷ []) ≡ (if b then v ∷ [] else [])
-kept_one params v b is = ap (λ b. if b then v ∷ [] else []) (sym is)
-
-pub kept_none : (params : List PlainVar) (vars : List Var) → vars ≡ [] → kept params vars ≡ []
-kept_none params vars none = ap (kept params) none
 
 -- Which names are kept
 

@@ -40,13 +40,12 @@ fn keep_all(
     blocks: &[Block],
     block: &Block,
     awaits: Awaits,
-    vars: &mut Vars,
+    vars: Vars,
     made: &mut Vars,
 ) -> Result<(), AllocError>
-    ensures { OnOk result (made.new ≡ made.old ++ kept (kept_params (plain_blocks blocks.now) (plain_block block.now) (plain_awaits awaits)) vars.old) }
+    ensures { OnOk result (made.new ≡ made.old ++ kept (kept_params (plain_blocks blocks.now) (plain_block block.now) (plain_awaits awaits)) vars) }
 {
-    'vars: while !vars.is_empty() {
-        let var = vars.remove(0);
+    for var in vars {
         keep_one(alloc, blocks, block, awaits, var, made)?;
     }
     Ok(())
@@ -62,11 +61,8 @@ fn kept_vars(
 ) -> Result<Vars, AllocError>
     ensures { IfOk result (λ made. made ≡ kept (kept_params (plain_blocks blocks.now) (plain_block block.now) (plain_awaits awaits)) vars) }
 {
-    let mut vars = vars;
     let mut made = Sequence::new(alloc);
-    let moved = keep_all(alloc, blocks, block, awaits, &mut vars, &mut made);
-    drop(vars);
-    match moved {
+    match keep_all(alloc, blocks, block, awaits, vars, &mut made) {
         Ok(()) => Ok(made),
         Err(error) => {
             drop(made);

@@ -1,5 +1,5 @@
 -- Which points can be reached at each kind of statement, one equation each; and statement by statement in a list.
-use Rattle.std.proofs.Common.{◌≡◌, ℕ, ℤ, ◌+◌, ◌<◌, ◌≤◌, Bool, true, false, not, ◌||◌, ◌&&◌, List, [], ◌∷◌, ◌++◌, length, drop, get_or, Option, ap, ◌∙◌}
+use Rattle.std.proofs.Common.{◌≡◌, ℕ, ℤ, ◌+◌, ◌<◌, ◌≤◌, Bool, true, false, not, ◌||◌, ◌&&◌, List, [], ◌∷◌, ◌++◌, length, drop, get_or, Option, refl, ap, ◌∙◌}
 use Rattle.std.specs.declared.alloc.Global.{Global}
 use Rattle.std.specs.declared.boxed.Box.{Box}
 use Rattle.py_tree.specs.declared.names.Name.{Name}
@@ -239,45 +239,44 @@ pub all_ends : (ss : List Stmt) (i : ℕ) → length ss ≤ i → all_go_on (stm
 unfolding all_go_on
 all_ends ss i past = ap all_go_on (stmts_end ss i past)
 
-pub arm_passes : (xs : List Arm) (i : ℕ) (x : Arm) → i < length xs → x ≡ get_or xs i x → all_go_on (stmts_of (plain_stmts (out-Arm x).body)) ≡ false → an_arm_goes_on (arms_of (plain_arms (drop i xs))) ≡ an_arm_goes_on (arms_of (plain_arms (drop (i + 1) xs)))
-unfolding an_arm_goes_on
-arm_passes xs i x within is off = ap an_arm_goes_on (arms_from xs i x within is) ∙ ap (λ b. b || an_arm_goes_on (arms_of (plain_arms (drop (i + 1) xs)))) off
-
-pub arm_stops : (xs : List Arm) (i : ℕ) (x : Arm) → i < length xs → x ≡ get_or xs i x → all_go_on (stmts_of (plain_stmts (out-Arm x).body)) ≡ true → an_arm_goes_on (arms_of (plain_arms (drop i xs))) ≡ true
-unfolding an_arm_goes_on
-arm_stops xs i x within is on = ap an_arm_goes_on (arms_from xs i x within is) ∙ ap (λ b. b || an_arm_goes_on (arms_of (plain_arms (drop (i + 1) xs)))) on
-
 pub arm_ends : (xs : List Arm) (i : ℕ) → length xs ≤ i → an_arm_goes_on (arms_of (plain_arms (drop i xs))) ≡ false
 unfolding an_arm_goes_on
 arm_ends xs i past = ap an_arm_goes_on (arms_end xs i past)
-
-pub break_found : (ss : List Stmt) (i : ℕ) (x : Stmt) → i < length ss → x ≡ get_or ss i x → breaks (plain_stmt x) ≡ true → break_in (stmts_of (plain_stmts (drop i ss))) ≡ true
-unfolding break_in
-break_found ss i x within is found = ap break_in (stmts_from ss i x within is) ∙ ap (λ b. b || (goes_on (plain_stmt x) && break_in (stmts_of (plain_stmts (drop (i + 1) ss))))) found
-
-pub break_cut : (ss : List Stmt) (i : ℕ) (x : Stmt) → i < length ss → x ≡ get_or ss i x → breaks (plain_stmt x) ≡ false → goes_on (plain_stmt x) ≡ false → break_in (stmts_of (plain_stmts (drop i ss))) ≡ false
-unfolding break_in
-break_cut ss i x within is none off = ap break_in (stmts_from ss i x within is) ∙ (λ j. none j || (off j && break_in (stmts_of (plain_stmts (drop (i + 1) ss)))))
-
-pub break_passes : (ss : List Stmt) (i : ℕ) (x : Stmt) → i < length ss → x ≡ get_or ss i x → breaks (plain_stmt x) ≡ false → goes_on (plain_stmt x) ≡ true → break_in (stmts_of (plain_stmts (drop i ss))) ≡ break_in (stmts_of (plain_stmts (drop (i + 1) ss)))
-unfolding break_in
-break_passes ss i x within is none on = ap break_in (stmts_from ss i x within is) ∙ (λ j. none j || (on j && break_in (stmts_of (plain_stmts (drop (i + 1) ss)))))
 
 pub break_ends : (ss : List Stmt) (i : ℕ) → length ss ≤ i → break_in (stmts_of (plain_stmts (drop i ss))) ≡ false
 unfolding break_in
 break_ends ss i past = ap break_in (stmts_end ss i past)
 
-pub break_arm_found : (xs : List Arm) (i : ℕ) (x : Arm) → i < length xs → x ≡ get_or xs i x → break_in (stmts_of (plain_stmts (out-Arm x).body)) ≡ true → break_in_arm (arms_of (plain_arms (drop i xs))) ≡ true
-unfolding break_in_arm
-break_arm_found xs i x within is found = ap break_in_arm (arms_from xs i x within is) ∙ ap (λ b. b || break_in_arm (arms_of (plain_arms (drop (i + 1) xs)))) found
-
-pub break_arm_passes : (xs : List Arm) (i : ℕ) (x : Arm) → i < length xs → x ≡ get_or xs i x → break_in (stmts_of (plain_stmts (out-Arm x).body)) ≡ false → break_in_arm (arms_of (plain_arms (drop i xs))) ≡ break_in_arm (arms_of (plain_arms (drop (i + 1) xs)))
-unfolding break_in_arm
-break_arm_passes xs i x within is none = ap break_in_arm (arms_from xs i x within is) ∙ ap (λ b. b || break_in_arm (arms_of (plain_arms (drop (i + 1) xs)))) none
-
 pub break_arm_ends : (xs : List Arm) (i : ℕ) → length xs ≤ i → break_in_arm (arms_of (plain_arms (drop i xs))) ≡ false
 unfolding break_in_arm
 break_arm_ends xs i past = ap break_in_arm (arms_end xs i past)
+
+-- what one more of them adds
+pub all_from : (ss : List Stmt) (i : ℕ) (x : Stmt) → i < length ss → x ≡ get_or ss i x → all_go_on (stmts_of (plain_stmts (drop i ss))) ≡ (goes_on (plain_stmt x) && all_go_on (stmts_of (plain_stmts (drop (i + 1) ss))))
+unfolding all_go_on
+all_from ss i x within is = ap all_go_on (stmts_from ss i x within is)
+
+pub break_from : (ss : List Stmt) (i : ℕ) (x : Stmt) → i < length ss → x ≡ get_or ss i x → break_in (stmts_of (plain_stmts (drop i ss))) ≡ (breaks (plain_stmt x) || (goes_on (plain_stmt x) && break_in (stmts_of (plain_stmts (drop (i + 1) ss)))))
+unfolding break_in
+break_from ss i x within is = ap break_in (stmts_from ss i x within is)
+
+pub arm_from : (xs : List Arm) (i : ℕ) (x : Arm) → i < length xs → x ≡ get_or xs i x → an_arm_goes_on (arms_of (plain_arms (drop i xs))) ≡ (all_go_on (stmts_of (plain_stmts (out-Arm x).body)) || an_arm_goes_on (arms_of (plain_arms (drop (i + 1) xs))))
+unfolding an_arm_goes_on
+arm_from xs i x within is = ap an_arm_goes_on (arms_from xs i x within is)
+
+pub break_arm_from : (xs : List Arm) (i : ℕ) (x : Arm) → i < length xs → x ≡ get_or xs i x → break_in_arm (arms_of (plain_arms (drop i xs))) ≡ (break_in (stmts_of (plain_stmts (out-Arm x).body)) || break_in_arm (arms_of (plain_arms (drop (i + 1) xs))))
+unfolding break_in_arm
+break_arm_from xs i x within is = ap break_in_arm (arms_from xs i x within is)
+
+-- the way on and the way out of three in turn are those of the first two in turn, and then of the third
+pub on_in_turn : (on next rest : Bool) → (on && (next && rest)) ≡ ((on && next) && rest)
+on_in_turn true next rest = refl
+on_in_turn false next rest = refl
+
+pub out_in_turn : (on out next_on next_out rest : Bool) → (out || (on && (next_out || (next_on && rest)))) ≡ ((out || (on && next_out)) || ((on && next_on) && rest))
+out_in_turn on true next_on next_out rest = refl
+out_in_turn true false next_on next_out rest = refl
+out_in_turn false false next_on next_out rest = refl
 
 pub ruleset true_rules = (true-Int, true-Bool, true-Str, true-Nil, true-Var, true-SelfRef, true-Attr, true-Call, true-Apply, true-Index, true-List, true-Neg, true-Pos, true-Not, true-Chain, true-And, true-Or, true-Compare, true-IsNone, true-Cond)
 
@@ -286,11 +285,3 @@ pub ruleset goes_on_rules = (goes-Pass, goes-Break, goes-Continue, goes-Expr, go
 pub ruleset breaks_rules = (breaks-Pass, breaks-Break, breaks-Continue, breaks-Expr, breaks-Return, breaks-Raise, breaks-Assert, breaks-Assign, breaks-Augment, breaks-If, breaks-While, breaks-For)
 
 pub ruleset assigns_rules = (assigns-Pass, assigns-Break, assigns-Continue, assigns-Expr, assigns-Return, assigns-Raise, assigns-Assert, assigns-Assign, assigns-Augment, assigns-If, assigns-While, assigns-For)
-
-pub ruleset all_rules = (all_passes, all_stops, all_ends)
-
-pub ruleset arm_rules = (arm_passes, arm_stops, arm_ends)
-
-pub ruleset break_in_rules = (break_found, break_cut, break_passes, break_ends)
-
-pub ruleset break_arm_rules = (break_arm_found, break_arm_passes, break_arm_ends)

@@ -1,6 +1,6 @@
 //! Which points can be reached.
 
-ghost use Rattle.std.specs.Prelude.{◌≡◌};
+ghost use Rattle.std.specs.Prelude.{◌≡◌, ◌||◌, ◌&&◌};
 ghost use Rattle.py_tree.specs.PlainExpressions.{plain_expr};
 ghost use Rattle.py_tree.specs.PlainStatements.{plain_stmt, plain_stmts, stmts_of, plain_arms, arms_of};
 ghost use Rattle.py_tree.specs.Reachability as spec;
@@ -37,103 +37,115 @@ pub fn is_true(expr: &Expr) -> bool
     }
 }
 
+/// The ways out of code that can be reached: on to the point behind it, and out of the loop around it.
+#[derive(Clone, Copy)]
+struct Ways {
+    on: bool,
+    out: bool,
+}
+
+/// The ways out of two pieces of code, the second of which stands behind the first.
+fn in_turn(first: Ways, second: Ways) -> Ways
+    ensures on { result.on ≡ (first.on && second.on) }
+    ensures out { result.out ≡ (first.out || (first.on && second.out)) }
+{
+    Ways {
+        on: first.on && second.on,
+        out: first.out || (first.on && second.out),
+    }
+}
+
+/// The ways out of two pieces of code, either of which may run.
+fn either(one: Ways, other: Ways) -> Ways
+    ensures on { result.on ≡ (one.on || other.on) }
+    ensures out { result.out ≡ (one.out || other.out) }
+{
+    Ways {
+        on: one.on || other.on,
+        out: one.out || other.out,
+    }
+}
+
 /// Whether the point behind a statement that can be reached can be reached.
-#[cycle(reach)]
-#[tactic(auto, using(crate::proofs::ReachRules::goes_on_rules))]
 pub fn goes_on(stmt: &Stmt) -> bool
     ensures { result ≡ spec.goes_on (plain_stmt stmt.now) }
 {
-    match &stmt.kind {
-        StmtKind::Break | StmtKind::Continue | StmtKind::Return(_) | StmtKind::Raise(..) => false,
-        StmtKind::If { arms, other } => {
-            an_arm_goes_on(arms.as_slice()) || all_go_on(other.as_slice())
-        }
-        StmtKind::While { test, body } => !is_true(test) || break_in(body.as_slice()),
-        StmtKind::Pass
-        | StmtKind::Expr(_)
-        | StmtKind::Assert(..)
-        | StmtKind::Assign { .. }
-        | StmtKind::Augment { .. }
-        | StmtKind::For { .. } => true,
-    }
+    ways_of(stmt).on
 }
 
 /// Whether the point behind these statements can be reached.
-#[cycle(reach)]
-#[tactic(auto, using(crate::proofs::ReachRules::all_rules))]
 pub fn all_go_on(stmts: &[Stmt]) -> bool
     ensures { result ≡ spec.all_go_on (stmts_of (plain_stmts stmts.now)) }
 {
-    for stmt in stmts {
-        if !goes_on(stmt) {
-            return false;
-        }
-    }
-    true
+    ways_of_all(stmts).on
 }
 
+/// The ways out of a statement. One walk finds both, so that each statement in it is seen once.
 #[cycle(reach)]
-#[tactic(auto, using(crate::proofs::ReachRules::arm_rules))]
-fn an_arm_goes_on(arms: &[Arm]) -> bool
-    ensures { result ≡ spec.an_arm_goes_on (arms_of (plain_arms arms.now)) }
-{
-    for arm in arms {
-        if all_go_on(arm.body.as_slice()) {
-            return true;
-        }
-    }
-    false
-}
-
-/// Whether a `break` of the loop around a statement can be reached in it.
-#[cycle(reach)]
-#[tactic(auto, using(crate::proofs::ReachRules::breaks_rules))]
-fn breaks(stmt: &Stmt) -> bool
-    ensures { result ≡ spec.breaks (plain_stmt stmt.now) }
+#[tactic(auto, using(crate::proofs::ReachRules::goes_on_rules, crate::proofs::ReachRules::breaks_rules))]
+fn ways_of(stmt: &Stmt) -> Ways
+    ensures on { result.on ≡ spec.goes_on (plain_stmt stmt.now) }
+    ensures out { result.out ≡ spec.breaks (plain_stmt stmt.now) }
 {
     match &stmt.kind {
-        StmtKind::Break => true,
+        StmtKind::Break => Ways {
+            on: false,
+            out: true,
+        },
+        StmtKind::Continue | StmtKind::Return(_) | StmtKind::Raise(..) => Ways {
+            on: false,
+            out: false,
+        },
         StmtKind::If { arms, other } => {
-            break_in_arm(arms.as_slice()) || break_in(other.as_slice())
+            either(ways_of_arms(arms.as_slice()), ways_of_all(other.as_slice()))
         }
+        StmtKind::While { test, body } => Ways {
+            on: !is_true(test) || ways_of_all(body.as_slice()).out,
+            out: false,
+        },
         StmtKind::Pass
-        | StmtKind::Continue
         | StmtKind::Expr(_)
-        | StmtKind::Return(_)
-        | StmtKind::Raise(..)
         | StmtKind::Assert(..)
         | StmtKind::Assign { .. }
         | StmtKind::Augment { .. }
-        | StmtKind::While { .. }
-        | StmtKind::For { .. } => false,
+        | StmtKind::For { .. } => Ways {
+            on: true,
+            out: false,
+        },
     }
 }
 
+/// The ways out of statements, of which those behind a point that can't be reached give none.
 #[cycle(reach)]
-#[tactic(auto, using(crate::proofs::ReachRules::break_in_rules))]
-fn break_in(stmts: &[Stmt]) -> bool
-    ensures { result ≡ spec.break_in (stmts_of (plain_stmts stmts.now)) }
+fn ways_of_all(stmts: &[Stmt]) -> Ways
+    ensures on { result.on ≡ spec.all_go_on (stmts_of (plain_stmts stmts.now)) }
+    ensures out { result.out ≡ spec.break_in (stmts_of (plain_stmts stmts.now)) }
 {
+    let mut ways = Ways {
+        on: true,
+        out: false,
+    };
     for stmt in stmts {
-        if breaks(stmt) {
-            return true;
+        if !ways.on {
+            return ways;
         }
-        if !goes_on(stmt) {
-            return false;
-        }
+        ways = in_turn(ways, ways_of(stmt));
     }
-    false
+    ways
 }
 
+/// The ways out of arms, any of which may run.
 #[cycle(reach)]
-#[tactic(auto, using(crate::proofs::ReachRules::break_arm_rules))]
-fn break_in_arm(arms: &[Arm]) -> bool
-    ensures { result ≡ spec.break_in_arm (arms_of (plain_arms arms.now)) }
+fn ways_of_arms(arms: &[Arm]) -> Ways
+    ensures on { result.on ≡ spec.an_arm_goes_on (arms_of (plain_arms arms.now)) }
+    ensures out { result.out ≡ spec.break_in_arm (arms_of (plain_arms arms.now)) }
 {
+    let mut ways = Ways {
+        on: false,
+        out: false,
+    };
     for arm in arms {
-        if break_in(arm.body.as_slice()) {
-            return true;
-        }
+        ways = either(ways, ways_of_all(arm.body.as_slice()));
     }
-    false
+    ways
 }

@@ -1,6 +1,6 @@
 -- Ids that differ, along a list of entries.
 use Rattle.std.proofs.Common.{◌≡◌, ℕ, true, false, cond, not, List, [], ◌∷◌, ◌++◌, ◌+◌, None, Some, refl, sym, ap, ◌∙◌}
-use Rattle.std.specs.Prelude.{bytes_eq, slice_get, take, drop}
+use Rattle.std.specs.Prelude.{bytes_eq}
 use Rattle.std.proofs.lemmas.Bool.{and_parts, or_parts, or_from, not-true}
 use Rattle.std.proofs.lemmas.Cmp.{nat_list_eq_equiv}
 use Rattle.std.proofs.lemmas.List.Folds.{list_any-append}
@@ -28,8 +28,3 @@ not_kept_from first (e ∷ es) id h =
 pub not_kept : (es : List Entry) (id : List ℕ) → is_committed es id ≡ false → kept_of es id ≡ None
 unfolding kept_of
 not_kept es id h = not_kept_from 1 es id h
-
--- the first of a list, taken out
-pub first_taken : (all rest : List Entry) (first : Entry) → slice_get all 0 ≡ Some first → rest ≡ take 0 all ++ drop 1 all → all ≡ first ∷ rest
-first_taken [] rest first at is = cc
-first_taken (x ∷ all) rest first at is = let same : x ≡ first = cc in λ i. same i ∷ sym is i

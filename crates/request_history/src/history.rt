@@ -116,10 +116,8 @@ impl History {
         requires room { length entries ≤ self.old.spare }
         ensures { self.new.entries ≡ self.old.entries ++ entries }
     {
-        let mut entries = entries;
-        while !entries.is_empty() {
-            let first = entries.remove(0);
-            self.commit_in_room(first.request, first.outcome);
+        for entry in entries {
+            self.commit_in_room(entry.request, entry.outcome);
         }
     }
 

@@ -1,7 +1,7 @@
 -- The arguments as the first locals, one after another.
-use Rattle.std.proofs.Common.{◌≡◌, ◌<◌, ◌≤◌, ◌+◌, ℕ, zero, suc, List, [], ◌∷◌, ◌++◌, take, drop, get_or, length, slice_get, unwrap_or, Some, None, refl, sym, ap, ◌∙◌, add-one, drop-cons, arith}
+use Rattle.std.proofs.Common.{◌≡◌, ◌<◌, ◌≤◌, ◌+◌, ℕ, zero, suc, List, [], ◌∷◌, drop, get_or, length, slice_get, unwrap_or, Some, None, refl, sym, ap, ◌∙◌, add-one, drop-cons, arith}
 use Rattle.std.proofs.lemmas.List.{drop_all}
-use Rattle.std.proofs.lemmas.Option.{slice_get_within, unwrap_or-slice_get, same_Some, none-some}
+use Rattle.std.proofs.lemmas.Option.{slice_get_within, unwrap_or-slice_get}
 use Rattle.py_tree.specs.declared.program.Param.{Param}
 use Rattle.py_tree.specs.PlainProgram.{plain_param, plain_params, PlainParam}
 use Rattle.sf_value.specs.declared.value.Value.{Value}
@@ -52,12 +52,8 @@ bound_past ps args i le = let cut : drop i ps ≡ [] = drop_all i ps le in ap (�
 pub bound_none : (ps : List Param) (args : List Value) → args ≡ [] → bound (plain_params ps) args ≡ []
 bound_none ps args none = ap (bound (plain_params ps)) none ∙ bound_nothing (plain_params ps)
 
-first_and_rest : {A : Type 0} (xs rest : List A) (x : A) → slice_get xs 0 ≡ Some x → rest ≡ take 0 xs ++ drop (0 + 1) xs → xs ≡ x ∷ rest
-first_and_rest [] rest x first is = absurd (none-some x first)
-first_and_rest (y ∷ xs) rest x first is = λ i. same_Some y x first i ∷ sym is i
-
 -- the first argument, and the others
-pub bound_next : (ps : List Param) (args rest : List Value) (i : ℕ) (p : Param) (v : Value) → i < length ps → p ≡ get_or ps i p → slice_get args 0 ≡ Some v → rest ≡ take 0 args ++ drop (0 + 1) args
+pub bound_next : (ps : List Param) (args rest : List Value) (i : ℕ) (p : Param) (v : Value) → i < length ps → p ≡ get_or ps i p → args ≡ v ∷ rest
     → bound (plain_params (drop i ps)) args ≡ record { name = p.name; value = v } ∷ bound (plain_params (drop (i + 1) ps)) rest
 unfolding bound
-bound_next ps args rest i p v lt is first left = λ j. bound (params_from ps i p lt is j) (first_and_rest args rest v first left j)
+bound_next ps args rest i p v lt is first = λ j. bound (params_from ps i p lt is j) (first j)

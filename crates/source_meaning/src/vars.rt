@@ -119,16 +119,16 @@ pub(crate) fn bind(alloc: Global, params: &[Param], args: &Values) -> Result<Var
 fn move_args(
     alloc: Global,
     params: &[Param],
-    args: &mut Values,
+    args: Values,
     vars: &mut Vars,
 ) -> Result<(), AllocError>
-    ensures { OnOk result (vars.new ≡ vars.old ++ bound (plain_params params.now) args.old) }
+    ensures { OnOk result (vars.new ≡ vars.old ++ bound (plain_params params.now) args) }
 {
+    let mut args = args.into_iter();
     for param in params {
-        if args.is_empty() {
+        let Some(value) = args.next() else {
             return Ok(());
-        }
-        let value = args.remove(0);
+        };
         vars.push(
             alloc,
             Var {
@@ -144,11 +144,8 @@ fn move_args(
 pub fn bind_moved(alloc: Global, params: &[Param], args: Values) -> Result<Vars, AllocError>
     ensures { IfOk result (λ vars. vars ≡ bound (plain_params params.now) args) }
 {
-    let mut args = args;
     let mut vars = Sequence::new(alloc);
-    let moved = move_args(alloc, params, &mut args, &mut vars);
-    drop(args);
-    match moved {
+    match move_args(alloc, params, args, &mut vars) {
         Ok(()) => Ok(vars),
         Err(error) => {
             drop(vars);
