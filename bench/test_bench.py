@@ -10,6 +10,7 @@ from pathlib import Path
 import in_memory
 import in_sqlite
 import inputs
+import instructions
 import measure
 import replay
 import sides
@@ -157,6 +158,32 @@ class TheFigures(unittest.TestCase):
             ["| one | 10000.00 | 20000.00 | 2.00 |", "| two | 5000.00 | 15000.00 | 3.00 |", "| three | – | – | – |"],
         )
         self.assertEqual(tables.growth_table(measured[:1]), [])
+
+
+# A function calls another one three times; a number in brackets stands for a name that was told before (Valgrind's manual, "Callgrind Format Specification").
+COUNTED = """\
+events: Ir
+fn=(1) source_meaning::run
+12 40
+cfn=(2) malloc
+calls=3 +5
++2 300
+* 2
+fn=(2)
+7 290
++1 10
+"""
+
+
+class Instructions(unittest.TestCase):
+    def test_a_function_has_what_it_ran_itself(self):
+        with tempfile.NamedTemporaryFile("w", suffix=".out") as file:
+            file.write(COUNTED)
+            file.flush()
+            counts = instructions.read_counts(file.name)
+        self.assertEqual(counts.own, {"source_meaning::run": 42, "malloc": 300})
+        self.assertEqual(counts.calls, {"malloc": 3})
+        self.assertEqual(instructions.by_cause(counts.own), {"the interpreter": 42, "the allocator": 300})
 
 
 if __name__ == "__main__":
