@@ -2,8 +2,8 @@
 use Rattle.std.proofs.Common.{◌≡◌, ◌≤◌, List, length, inl, inr, Ok, Err, IfOk, IfSome, refl, sym, ap, subst, arith}
 use Rattle.std.specs.declared.result.Result.{Result}
 use Rattle.byte_sizes.specs.Spelt.{IsShortText}
-use Rattle.sf_outside.specs.DiskModel.{Image, DiskFacts, LeavesOnly, Stays, IsClean}
-use Rattle.sf_outside.proofs.DiskLaws.{LeavesOnly-start, LeavesOnly-then, LeavesOnly-weaker, LeavesOnly-stays}
+use Rattle.sf_outside.specs.DiskModel.{Image, DiskFacts, LeavesOnly, Stays, LeavesNoMore, IsClean}
+use Rattle.sf_outside.proofs.DiskLaws.{LeavesNoMore-stays, LeavesOnly-start, LeavesOnly-then, LeavesOnly-weaker, LeavesOnly-no_more}
 use Rattle.sf_outside.proofs.ImageSteps.{if_one}
 use Rattle.sf_value.specs.declared.Snapshot.{Snapshot}
 use Rattle.snapshot_store.specs.SlotFile.{IsEpoch, IsNew}
@@ -96,12 +96,14 @@ pub same_left : (p : Program) (facts : DiskFacts) → IsClean facts → LeavesOn
 same_left p facts clean = LeavesOnly-start facts (LeavesFound p facts.seen) (λ image leaves. inl (clean image leaves))
 
 -- calls that only read, and then others
-module _ (p : Program) (old between : DiskFacts) (stays : Stays old between) (clean : IsClean old) where
-  pub read_left : LeavesOnly old between (LeavesFound p old.seen)
-  read_left = LeavesOnly-weaker old between old.may_leave (LeavesFound p old.seen) (LeavesOnly-stays old between stays) (λ image leaves. inl (clean image leaves))
+module _ (p : Program) (old between : DiskFacts) (clean : IsClean old) where
+  pub read_left : LeavesNoMore old between → LeavesOnly old between (LeavesFound p old.seen)
+  read_left fewer = LeavesOnly-weaker old between old.may_leave (LeavesFound p old.seen) (LeavesOnly-no_more old between fewer) (λ image leaves. inl (clean image leaves))
 
-  pub then_left : (new : DiskFacts) → LeavesOnly between new (LeavesFound p between.seen) → LeavesOnly old new (LeavesFound p old.seen)
-  then_left new moments = LeavesOnly-then old between new (LeavesFound p old.seen) read_left (subst (λ seen. LeavesOnly between new (LeavesFound p seen)) stays.seen moments)
+  pub then_left : Stays old between → (new : DiskFacts) → LeavesOnly between new (LeavesFound p between.seen) → LeavesOnly old new (LeavesFound p old.seen)
+  then_left stays new moments =
+      LeavesOnly-then old between new (LeavesFound p old.seen) (read_left (LeavesNoMore-stays old between stays))
+      (subst (λ seen. LeavesOnly between new (LeavesFound p seen)) stays.seen moments)
 
 -- ---- a new store
 
