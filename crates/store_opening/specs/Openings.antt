@@ -63,15 +63,16 @@ pub record IsMounted (name : List ℕ) (P : Image → Type 0) (old new : Mounts)
   pub mounts : new ≡ mounted old name moment
   pub each : (image : Image) → now.left_since moment image → P image
 
--- it wasn't, and nothing is changed
-pub record IsRefused (name : List ℕ) (old new : Mounts) (before now : DiskFacts) : Type 0 where
+-- it wasn't, and nothing is changed, nor is the count of faults, which any call but a mount may raise
+pub record IsRefused (name : List ℕ) (old new : Mounts) (count count' : ℕ) (before now : DiskFacts) : Type 0 where
   pub mounts : NotMounted name old new
+  pub faults : count' ≡ count
   pub stays : Stays before now
 
-abbrev pub MountsFor : Result OpenedStore OpenStop → List ℕ → (Image → Type 0) → Mounts → Mounts → DiskFacts → DiskFacts → Type 0
-MountsFor (Ok made) name P old new before now = IsMounted name P old new before now
-MountsFor (Err (Bad file at)) name P old new before now = IsMounted name P old new before now
-MountsFor (Err OtherProgram) name P old new before now = IsMounted name P old new before now
-MountsFor (Err DiskFault) name P old new before now =
-    IsMounted name P old new before now ⊎ (IsRefused name old new before now × Rose (old.refused name) (new.refused name))
-MountsFor (Err NoMemory) name P old new before now = IsMounted name P old new before now ⊎ IsRefused name old new before now
+abbrev pub MountsFor : Result OpenedStore OpenStop → List ℕ → (Image → Type 0) → Mounts → Mounts → ℕ → ℕ → DiskFacts → DiskFacts → Type 0
+MountsFor (Ok made) name P old new faults faults' before now = IsMounted name P old new before now
+MountsFor (Err (Bad file at)) name P old new faults faults' before now = IsMounted name P old new before now
+MountsFor (Err OtherProgram) name P old new faults faults' before now = IsMounted name P old new before now
+MountsFor (Err DiskFault) name P old new faults faults' before now =
+    IsMounted name P old new before now ⊎ (IsRefused name old new faults faults' before now × Rose (old.refused name) (new.refused name))
+MountsFor (Err NoMemory) name P old new faults faults' before now = IsMounted name P old new before now ⊎ IsRefused name old new faults faults' before now

@@ -42,7 +42,7 @@ pub fn open_store<D: Disk>(
     ensures kept { IfOk result (KeepsOpened (D.facts disk.new)) }
     ensures unchanged { KeepsFound result (D.found disk.old name.now) (D.facts disk.new) }
     ensures mounts { MountsFor result name.now (LeavesFound (program_for compiled settings.program) (D.found disk.old name.now))
-        (D.mounts disk.old) (D.mounts disk.new) (D.facts disk.old) (D.facts disk.new) }
+        (D.mounts disk.old) (D.mounts disk.new) (D.faults disk.old) (D.faults disk.new) (D.facts disk.old) (D.facts disk.new) }
     ensures later { D.faults disk.old ≤ D.faults disk.new }
     ensures cause { IsErrOf result OpenStop.DiskFault → Rose (D.faults disk.old) (D.faults disk.new)
         ⊎ Rose ((D.mounts disk.old).refused name.now) ((D.mounts disk.new).refused name.now)
@@ -50,10 +50,10 @@ pub fn open_store<D: Disk>(
 {
     match disk.mount(alloc, name) {
         Ok(()) => open_mounted(alloc, disk, compiled, settings),
-        Err(fault) => {
+        Err(refused) => {
             drop(compiled);
             drop(settings);
-            Err(OpenStop::from(fault))
+            Err(OpenStop::from(refused))
         }
     }
 }
