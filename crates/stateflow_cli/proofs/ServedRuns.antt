@@ -206,7 +206,7 @@ module _ (limit : ℕ) (file dir : List ℕ) (w : words.RunSettings) (before aft
   -- it wasn't opened
   pub not_opened : (stopped : OpenStop) → IfSome (before.disk.found dir) (AnswersFound (Err stopped) (program_for made.compiled made.text))
       → KeepsFound (Err stopped) (before.disk.found dir) now
-      → MountsFor (Err stopped) dir (LeavesFound (program_for made.compiled made.text) (before.disk.found dir)) before.disk.mounts after.disk.mounts was now
+      → MountsFor {T = OpenedStore} (Err stopped) dir (LeavesFound (program_for made.compiled made.text) (before.disk.found dir)) before.disk.mounts after.disk.mounts before.disk.faults after.disk.faults was now
       → (IsErrOf {T = OpenedStore} {E = OpenStop} (Err stopped) of_store.DiskFault → Rose before.disk.faults after.disk.faults
       ⊎ (Rose (before.disk.mounts.refused dir) (after.disk.mounts.refused dir) ⊎ (IfSome (before.disk.found dir) IsNew × HasSnapshotPast made.text empty_core)))
       → IsStill before after → RunEnds limit file w before after was now (Unopened stopped)
@@ -218,7 +218,7 @@ module _ (limit : ℕ) (file dir : List ℕ) (w : words.RunSettings) (before aft
     fails = record {
       answer = subst (λ t. IfSome (before.disk.found dir) (AnswersFound (Err stopped) (program_for made.compiled t))) holds.is.characters answer;
       unchanged = unchanged;
-      mounts = subst (λ t. MountsFor (Err stopped) dir (LeavesFound (program_for made.compiled t) (before.disk.found dir)) before.disk.mounts after.disk.mounts was now)
+      mounts = subst (λ t. MountsFor {T = OpenedStore} (Err stopped) dir (LeavesFound (program_for made.compiled t) (before.disk.found dir)) before.disk.mounts after.disk.mounts before.disk.faults after.disk.faults was now)
           holds.is.characters mounts;
       cause = λ is. by (cause (ap Err is));
     };

@@ -205,6 +205,7 @@ module _ (limit : ℕ) (before after : Devices) (was now : DiskFacts) (behind : 
     untouched_leaves idle u why None = tt
     untouched_leaves idle u why (Some dir) = inl (record {
       count = ap (λ (d : StoreDisk). d.mounts.count) u.disk;
+      faults = ap (λ (d : StoreDisk). d.faults) u.disk;
       stays = u.stays;
       idle = idle;
       why = by why;
@@ -232,8 +233,8 @@ module _ (limit : ℕ) (before after : Devices) (was now : DiskFacts) (behind : 
             why = why;
           }))
 
-      refused_leaves : IsRefused u.dir before.disk.mounts after.disk.mounts was now → MayBeUnmounted u.dir before after status → Leaves (Some u.dir)
-      refused_leaves r why = inl (record { count = r.mounts.count; stays = r.stays; idle = still_idle before after behind u.still; why = why })
+      refused_leaves : IsRefused u.dir before.disk.mounts after.disk.mounts before.disk.faults after.disk.faults was now → MayBeUnmounted u.dir before after status → Leaves (Some u.dir)
+      refused_leaves r why = inl (record { count = r.mounts.count; faults = r.faults; stays = r.stays; idle = still_idle before after behind u.still; why = why })
 
     bad_leaves : (bad : StoreFile) (at : ℕ) (u : WasNotOpened (of_store.Bad bad at)) → IsOneOf status 6 → Leaves (Some u.dir)
     bad_leaves bad at u one = mounted_leaves (of_store.Bad bad at) u u.fails.mounts (λ n. u.fails.unchanged) (by one)
@@ -270,7 +271,7 @@ module _ (limit : ℕ) (before after : Devices) (was now : DiskFacts) (behind : 
         unmounted rose (inr n) = inr (inr (inl n))
 
         by : IsMounted u.dir (LeavesFound (program_of (source_of u.compiled) u.holds.text) (before.disk.found u.dir)) before.disk.mounts after.disk.mounts was now
-            ⊎ (IsRefused u.dir before.disk.mounts after.disk.mounts was now × Rose (before.disk.mounts.refused u.dir) (after.disk.mounts.refused u.dir))
+            ⊎ (IsRefused u.dir before.disk.mounts after.disk.mounts before.disk.faults after.disk.faults was now × Rose (before.disk.mounts.refused u.dir) (after.disk.mounts.refused u.dir))
             → Leaves (Some u.dir)
         by (inl m) = mounted_leaves of_store.DiskFault u m (not_found_bad 5 one (inl refl)) (mounted one)
         by (inr r) = refused_leaves of_store.DiskFault u r.0 (unmounted r.1 one)
@@ -287,7 +288,7 @@ module _ (limit : ℕ) (before after : Devices) (was now : DiskFacts) (behind : 
         unmounted (inr n) = inr (inr (inl n))
 
         by : IsMounted u.dir (LeavesFound (program_of (source_of u.compiled) u.holds.text) (before.disk.found u.dir)) before.disk.mounts after.disk.mounts was now
-            ⊎ IsRefused u.dir before.disk.mounts after.disk.mounts was now → Leaves (Some u.dir)
+            ⊎ IsRefused u.dir before.disk.mounts after.disk.mounts before.disk.faults after.disk.faults was now → Leaves (Some u.dir)
         by (inl m) = mounted_leaves of_store.NoMemory u m (not_found_bad 8 one (inr refl)) (mounted one)
         by (inr r) = refused_leaves of_store.NoMemory u r (unmounted one)
 

@@ -134,9 +134,10 @@ abbrev pub MayBeUnmounted : List ℕ → Devices → Devices → ℕ → Type 0
 MayBeUnmounted dir before after status =
     (status ≡ 1) ⊎ ((status ≡ 3) ⊎ ((status ≡ 4) ⊎ ((status ≡ 8) ⊎ ((status ≡ 5) × Rose (before.disk.mounts.refused dir) (after.disk.mounts.refused dir)))))
 
--- then no byte of the disk is changed
+-- then no byte of the disk is changed, nor is its count of faults, which any call but a mount may raise
 pub record IsUnmounted (dir : List ℕ) (before after : Devices) (was now : DiskFacts) (status : ℕ) : Type 0 where
   pub count : after.disk.mounts.count ≡ before.disk.mounts.count
+  pub faults : after.disk.faults ≡ before.disk.faults
   pub stays : Stays was now
   pub idle : IsIdle before after
   pub why : MayBeUnmounted dir before after status

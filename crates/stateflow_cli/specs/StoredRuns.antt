@@ -113,5 +113,6 @@ KeepsIn (Some dir) s src text start last before after now result = KeepsRun dir 
 pub record FailsToOpen (dir : List ℕ) (src : Source) (text : List ℕ) (before after : StoreDisk) (was now : DiskFacts) (stop : OpenStop) : Type 0 where
   pub answer : IfSome (before.found dir) (AnswersFound (Err stop) (program_of src text))
   pub unchanged : KeepsFound (Err stop) (before.found dir) now
-  pub mounts : MountsFor (Err stop) dir (LeavesFound (program_of src text) (before.found dir)) before.mounts after.mounts was now
+  pub mounts : MountsFor {T = OpenedStore} (Err stop) dir (LeavesFound (program_of src text) (before.found dir)) before.mounts after.mounts
+      before.faults after.faults was now
   pub cause : stop ≡ of_store.DiskFault → DiskRose dir before after ⊎ HasSnapshotPast (chars text) empty_core

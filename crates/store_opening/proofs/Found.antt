@@ -1,32 +1,31 @@
 -- What is told of a store that was found, and what is left of it.
-use Rattle.std.proofs.Common.{◌≡◌, ◌≤◌, List, length, inl, inr, Ok, Err, IfOk, IfSome, refl, sym, ap, subst, arith}
-use Rattle.std.specs.declared.result.Result.{Result}
+use Rattle.std.proofs.Common.{◌≡◌, ◌≤◌, length, inl, inr, Ok, Err, IfSome, refl, sym, ap, subst, arith}
+use Rattle.std.specs.declared.option.Option.{Option}
 use Rattle.byte_sizes.specs.Spelt.{IsShortText}
-use Rattle.sf_outside.specs.DiskModel.{Image, DiskFacts, LeavesOnly, Stays, IsClean}
-use Rattle.sf_outside.proofs.DiskLaws.{LeavesOnly-start, LeavesOnly-then, LeavesOnly-weaker, LeavesOnly-stays}
+use Rattle.sf_outside.specs.DiskModel.{Image, DiskFacts, LeavesOnly, LeavesNoMore, IsClean}
+use Rattle.sf_outside.proofs.DiskLaws.{LeavesOnly-start, LeavesOnly-weaker, LeavesOnly-no_more}
 use Rattle.sf_outside.proofs.ImageSteps.{if_one}
-use Rattle.sf_value.specs.declared.Snapshot.{Snapshot}
 use Rattle.snapshot_store.specs.SlotFile.{IsEpoch, IsNew}
 use Rattle.block_step.specs.declared.compiled.Compiled.{Compiled}
 use Rattle.block_step.specs.CompiledViews.{compiled_program, compiled_names}
 use Rattle.quiet_methods.specs.MarksKeepWithin.{source}
-use Rattle.recovery.specs.declared.opened.Placed.{Placed}
-use Rattle.recovery.specs.StoreImage.{IsOld}
 use Rattle.engine.specs.Cores.{Core, CoreFits, empty_core}
 use Rattle.engine.specs.EngineViews.{core_of, source_of, tables_of, compiled_of, limit_of, fresh_of}
 use Rattle.store_meaning.specs.declared.position.Position.{Position}
 use Rattle.store_meaning.specs.Checkpoints.{start_of}
 use Rattle.store_meaning.specs.Keeping.{KeepsCore}
-use Rattle.store_meaning.specs.StandsFor.{Program, new_position, StandsFor}
+use Rattle.store_meaning.specs.StandsFor.{Program, new_position, OldStandsFor, StandsFor}
 use Rattle.store_meaning.proofs.Opening.{seen_new, clean_keeps}
 use Rattle.session_store.specs.Stores.{program_with, StandsSomewhere}
 use Rattle.session_store.proofs.NoStore.{none_storable}
+use Rattle.store_opening.specs.declared.finding.FoundStore.TheVariants.{Old}
 use Rattle.store_opening.specs.declared.opened_store.OpenSettings.{OpenSettings}
 use Rattle.store_opening.specs.declared.opened_store.OpenedStore.{OpenedStore}
 use Rattle.store_opening.specs.declared.stop.OpenStop.{OpenStop}
 use Rattle.store_opening.specs.declared.stop.OpenStop.TheVariants.{DiskFault, Bad, OtherProgram, NoMemory}
+use Rattle.store_opening.specs.Findings.{Judges, IsFoundFor, IsAsFound}
 use Rattle.store_opening.specs.OpenedStores.{program_for, settings_at, IsReady, KeepsOpened}
-use Rattle.store_opening.specs.Openings.{AnswersFound, AnswersOld, LeavesFound}
+use Rattle.store_opening.specs.Openings.{AnswersFound, AnswersOld, LeavesAsFound, LeavesFound}
 
 -- ---- an opened store
 
@@ -50,58 +49,51 @@ module _ (compiled : Compiled) (settings : OpenSettings) (made : OpenedStore) (r
 
 -- ---- an old store
 
+-- what stands somewhere in an epoch is old
+is_old : (p : Program) (image : Image) (core : Core) (position : Position) → 1 ≤ position.epoch → StandsFor p image core position → OldStandsFor p image core position
+is_old p image core position begun (inl new) = absurd (omega (arith, begun, ap (λ (q : Position). q.epoch) new.2))
+is_old p image core position begun (inr old) = old
+
+-- it is judged by what it answers
 module _ (p : Program) (image : Image) where
-  pub old_found : (result : Result OpenedStore OpenStop) → IfOk result (λ made. 1 ≤ made.store.position.epoch) → AnswersOld result p image → AnswersFound result p image
-  old_found (Ok made) begun stands = (made.store.position, inl (begun, refl), stands)
-  old_found (Err (Bad file at)) begun wrong = inr wrong
-  old_found (Err OtherProgram) begun other = other
-  old_found (Err DiskFault) begun none = absurd none
-  old_found (Err NoMemory) begun free = tt
+  pub old_judged : (made : OpenedStore) (position : Position) → IsEpoch position.epoch → made.store.position ≡ position → AnswersOld (Ok made) p image → Judges (Ok (Old made)) p image
+  old_judged made position in_range place stands =
+      is_old p image (core_of made.engine) made.store.position (subst (λ (q : Position). 1 ≤ q.epoch) (sym place) in_range.0) stands
 
--- an old store is at its position, which is of an epoch
-epoch_begun : (position : Position) → IsEpoch position.epoch → (result : Result OpenedStore OpenStop) → IfOk result (λ made. made.store.position ≡ position)
-    → IfOk result (λ made. 1 ≤ made.store.position.epoch)
-epoch_begun position in_range (Ok made) place = subst (λ (q : Position). 1 ≤ q.epoch) (sym place) in_range.0
-epoch_begun position in_range (Err stop) place = tt
+  pub stop_judged : (stop : OpenStop) → AnswersOld (Err stop) p image → Judges (Err stop) p image
+  stop_judged (Bad file at) wrong = inr wrong
+  stop_judged OtherProgram other = other
+  stop_judged DiskFault none = absurd none
+  stop_judged NoMemory free = tt
 
--- what a read gives is an old store
-module _ (compiled : Compiled) (settings : OpenSettings) (position : Position) (kept : Snapshot) (batches : List Placed) (facts : DiskFacts)
-    (found : IfSome facts.seen (λ now. IsOld now position.epoch kept batches position.at)) (result : Result OpenedStore OpenStop)
-    (answer : (image : Image) → IsOld image position.epoch kept batches position.at → AnswersOld result (program_for compiled settings.program) image) where
-  abbrev Found : Image → Type 0
-  Found now = IsOld now position.epoch kept batches position.at
-
+-- it is opened where it is
+module _ (compiled : Compiled) (settings : OpenSettings) (made : OpenedStore) (given : IsFoundFor compiled settings (Old made)) (found : Option Image)
+    (judged : IfSome found (Judges (Ok (Old made)) (program_for compiled settings.program))) where
   abbrev of_text : Program
   of_text = program_for compiled settings.program
 
-  pub old_seen : IfOk result (λ made. made.store.position ≡ position) → IsEpoch position.epoch → IfSome facts.seen (AnswersFound result of_text)
-  old_seen place in_range =
-      if_one facts.seen Found (AnswersFound result of_text) (λ now old. old_found of_text now result (epoch_begun position in_range result place) (answer now old)) found
+  abbrev Stands : Image → Type 0
+  Stands image = StandsFor of_text image (core_of made.engine) made.store.position
 
-  pub old_kept : IfOk result (IsReady compiled settings) → IfOk result (λ made. made.store.position ≡ position) → IsClean facts → IsEpoch position.epoch → IsShortText settings.program → 1 ≤ settings.every
-      → IfOk result (KeepsOpened facts)
-  old_kept ready place clean in_range short every = by result answer ready place
-    where
-      by : (r : Result OpenedStore OpenStop) → ((image : Image) → Found image → AnswersOld r of_text image) → IfOk r (IsReady compiled settings) → IfOk r (λ made. made.store.position ≡ position)
-          → IfOk r (KeepsOpened facts)
-      by (Err stop) stands ready place = tt
-      by (Ok made) stands ready place =
-          let seen : IfSome facts.seen (λ now. StandsFor of_text now (core_of made.engine) position) =
-          if_one facts.seen Found (λ now. StandsFor of_text now (core_of made.engine) position)
-          (λ now old. subst (StandsFor of_text now (core_of made.engine)) place (stands now old)) found in
-          keeps_opened compiled settings made ready facts position place in_range short every (clean_keeps of_text facts (core_of made.engine) position seen clean)
+  pub old_found : IfSome found (AnswersFound (Ok made) of_text)
+  old_found =
+      if_one found (Judges (Ok (Old made)) of_text) (AnswersFound (Ok made) of_text) (λ image old. (made.store.position, inl (given.1.0, refl), inr old)) judged
 
--- where nothing is written
+  pub old_kept : (facts : DiskFacts) → LeavesAsFound found facts → IsShortText settings.program → 1 ≤ settings.every → KeepsOpened facts made
+  old_kept facts left short every =
+      let seen : IfSome facts.seen Stands = subst (λ s. IfSome s Stands) (sym left.1) (if_one found (Judges (Ok (Old made)) of_text) Stands (λ image old. inr old) judged) in
+      keeps_opened compiled settings made given.0 facts made.store.position refl given.1 short every
+      (clean_keeps of_text facts (core_of made.engine) made.store.position seen left.0)
+
+-- ---- where nothing is written
+
+-- calls that only read
+pub as_found : (old new : DiskFacts) → IsClean old → LeavesNoMore old new → LeavesOnly old new (IsAsFound old.seen)
+as_found old new clean fewer = LeavesOnly-weaker old new old.may_leave (IsAsFound old.seen) (LeavesOnly-no_more old new fewer) clean
+
+-- no call
 pub same_left : (p : Program) (facts : DiskFacts) → IsClean facts → LeavesOnly facts facts (LeavesFound p facts.seen)
 same_left p facts clean = LeavesOnly-start facts (LeavesFound p facts.seen) (λ image leaves. inl (clean image leaves))
-
--- calls that only read, and then others
-module _ (p : Program) (old between : DiskFacts) (stays : Stays old between) (clean : IsClean old) where
-  pub read_left : LeavesOnly old between (LeavesFound p old.seen)
-  read_left = LeavesOnly-weaker old between old.may_leave (LeavesFound p old.seen) (LeavesOnly-stays old between stays) (λ image leaves. inl (clean image leaves))
-
-  pub then_left : (new : DiskFacts) → LeavesOnly between new (LeavesFound p between.seen) → LeavesOnly old new (LeavesFound p old.seen)
-  then_left new moments = LeavesOnly-then old between new (LeavesFound p old.seen) read_left (subst (λ seen. LeavesOnly between new (LeavesFound p seen)) stays.seen moments)
 
 -- ---- a new store
 

@@ -1,3 +1,4 @@
 mod ReplayLaws
 mod OldStores
 mod Found
+mod Mounts

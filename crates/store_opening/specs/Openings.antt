@@ -23,13 +23,17 @@ use Rattle.store_opening.specs.declared.stop.OpenStop.TheVariants.{DiskFault, Ba
 abbrev pub WasAt : Position → Position → Type 0
 WasAt place position = ((1 ≤ position.epoch) × (place ≡ position)) ⊎ ((place ≡ new_position) × (position ≡ start_of 1))
 
--- what was found stands for the core of the engine, or is bad at exactly this place, or is of another program
+-- what was found is bad at exactly this place, or of another program
+abbrev pub TellsWhy : OpenStop → Program → Image → Type 0
+TellsWhy (Bad file at) p image = Means p image (meaning.Bad file at) ⊎ Means p image (meaning.Wrong file at)
+TellsWhy OtherProgram p image = (text : List ℕ) × Means p image (meaning.Differs text)
+TellsWhy DiskFault p image = ⊤
+TellsWhy NoMemory p image = ⊤
+
+-- what was found stands for the core of the engine, or is bad or of another program
 abbrev pub AnswersFound : Result OpenedStore OpenStop → Program → Image → Type 0
 AnswersFound (Ok made) p image = (place : Position) × WasAt place made.store.position × StandsFor p image (core_of made.engine) place
-AnswersFound (Err (Bad file at)) p image = Means p image (meaning.Bad file at) ⊎ Means p image (meaning.Wrong file at)
-AnswersFound (Err OtherProgram) p image = (text : List ℕ) × Means p image (meaning.Differs text)
-AnswersFound (Err DiskFault) p image = ⊤
-AnswersFound (Err NoMemory) p image = ⊤
+AnswersFound (Err stop) p image = TellsWhy stop p image
 
 -- the same of an old store, at its position
 abbrev pub AnswersOld : Result OpenedStore OpenStop → Program → Image → Type 0
@@ -41,13 +45,20 @@ AnswersOld (Err NoMemory) p image = ⊤
 
 -- ---- what is left
 
--- a store that is bad or of another program stays as it was found, and a crash leaves what a read gives
+-- a read gives what was found, and a crash leaves what a read gives
+abbrev pub LeavesAsFound : Option Image → DiskFacts → Type 0
+LeavesAsFound found facts = IsClean facts × (facts.seen ≡ found)
+
+-- so it is with a store that is bad or of another program
+abbrev pub StoppedAsFound : OpenStop → Option Image → DiskFacts → Type 0
+StoppedAsFound (Bad file at) found facts = LeavesAsFound found facts
+StoppedAsFound OtherProgram found facts = LeavesAsFound found facts
+StoppedAsFound DiskFault found facts = ⊤
+StoppedAsFound NoMemory found facts = ⊤
+
 abbrev pub KeepsFound : Result OpenedStore OpenStop → Option Image → DiskFacts → Type 0
 KeepsFound (Ok made) found facts = ⊤
-KeepsFound (Err (Bad file at)) found facts = IsClean facts × (facts.seen ≡ found)
-KeepsFound (Err OtherProgram) found facts = IsClean facts × (facts.seen ≡ found)
-KeepsFound (Err DiskFault) found facts = ⊤
-KeepsFound (Err NoMemory) found facts = ⊤
+KeepsFound (Err stop) found facts = StoppedAsFound stop found facts
 
 -- an image is what was found, or a new store was found and the image stands for nothing committed
 abbrev pub LeavesFound : Program → Option Image → Image → Type 0
@@ -63,15 +74,16 @@ pub record IsMounted (name : List ℕ) (P : Image → Type 0) (old new : Mounts)
   pub mounts : new ≡ mounted old name moment
   pub each : (image : Image) → now.left_since moment image → P image
 
--- it wasn't, and nothing is changed
-pub record IsRefused (name : List ℕ) (old new : Mounts) (before now : DiskFacts) : Type 0 where
+-- it wasn't, and nothing is changed, nor is the count of faults, which any call but a mount may raise
+pub record IsRefused (name : List ℕ) (old new : Mounts) (count count' : ℕ) (before now : DiskFacts) : Type 0 where
   pub mounts : NotMounted name old new
+  pub faults : count' ≡ count
   pub stays : Stays before now
 
-abbrev pub MountsFor : Result OpenedStore OpenStop → List ℕ → (Image → Type 0) → Mounts → Mounts → DiskFacts → DiskFacts → Type 0
-MountsFor (Ok made) name P old new before now = IsMounted name P old new before now
-MountsFor (Err (Bad file at)) name P old new before now = IsMounted name P old new before now
-MountsFor (Err OtherProgram) name P old new before now = IsMounted name P old new before now
-MountsFor (Err DiskFault) name P old new before now =
-    IsMounted name P old new before now ⊎ (IsRefused name old new before now × Rose (old.refused name) (new.refused name))
-MountsFor (Err NoMemory) name P old new before now = IsMounted name P old new before now ⊎ IsRefused name old new before now
+abbrev pub MountsFor : {T : Type 0} → Result T OpenStop → List ℕ → (Image → Type 0) → Mounts → Mounts → ℕ → ℕ → DiskFacts → DiskFacts → Type 0
+MountsFor (Ok store) name P old new faults faults' before now = IsMounted name P old new before now
+MountsFor (Err (Bad file at)) name P old new faults faults' before now = IsMounted name P old new before now
+MountsFor (Err OtherProgram) name P old new faults faults' before now = IsMounted name P old new before now
+MountsFor (Err DiskFault) name P old new faults faults' before now =
+    IsMounted name P old new before now ⊎ (IsRefused name old new faults faults' before now × Rose (old.refused name) (new.refused name))
+MountsFor (Err NoMemory) name P old new faults faults' before now = IsMounted name P old new before now ⊎ IsRefused name old new faults faults' before now

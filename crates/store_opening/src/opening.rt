@@ -1,24 +1,22 @@
-//! A store from its mount to the engine that a session begins with.
+//! Opening the store of a program in a folder: what is found there is gone on with, or a new store is begun.
 
-ghost use Rattle.std.specs.Prelude.{◌≡◌, ◌≤◌, ◌⊎◌, IfOk, IfSome, IsErrOf, Ok};
+ghost use Rattle.std.specs.Prelude.{◌≡◌, ◌≤◌, ◌⊎◌, IfOk, IfSome, IsErrOf};
 ghost use Rattle.sf_outside.specs.Causes.{Rose};
 ghost use Rattle.sf_outside.specs.DiskModel.{IsClean, LeavesOnly};
 ghost use Rattle.byte_sizes.specs.Spelt.{IsShortText};
 ghost use Rattle.block_step.specs.CompiledViews.{IsWhole};
 ghost use Rattle.snapshot_store.specs.SlotFile.{IsNew};
-ghost use Rattle.recovery.specs.Answers.{Answers, IsPlaced};
 ghost use Rattle.engine.specs.Cores.{CoreFits, empty_core};
 ghost use Rattle.engine.specs.EngineViews.{core_of, tables_of, compiled_of, limit_of, fresh_of};
 ghost use Rattle.session_store.specs.Stores.{HasSnapshotPast};
 ghost use Rattle.store_opening.specs.Openings.{AnswersFound, KeepsFound, LeavesFound, MountsFor};
 ghost use Rattle.store_opening.specs.OpenedStores.{program_for, IsReady, KeepsOpened};
 
-use crate::old_store::go_on;
+use crate::finding::{FoundStore, find_store};
 use crate::opened_store::{OpenSettings, OpenedStore, store_at};
 use crate::stop::OpenStop;
 use block_step::Compiled;
 use engine::Engine;
-use recovery::{Opened, reopen};
 use session_store::keep_core;
 use sf_outside::Disk;
 use std::alloc::Global;
@@ -42,92 +40,16 @@ pub fn open_store<D: Disk>(
     ensures kept { IfOk result (KeepsOpened (D.facts disk.new)) }
     ensures unchanged { KeepsFound result (D.found disk.old name.now) (D.facts disk.new) }
     ensures mounts { MountsFor result name.now (LeavesFound (program_for compiled settings.program) (D.found disk.old name.now))
-        (D.mounts disk.old) (D.mounts disk.new) (D.facts disk.old) (D.facts disk.new) }
+        (D.mounts disk.old) (D.mounts disk.new) (D.faults disk.old) (D.faults disk.new) (D.facts disk.old) (D.facts disk.new) }
     ensures later { D.faults disk.old ≤ D.faults disk.new }
     ensures cause { IsErrOf result OpenStop.DiskFault → Rose (D.faults disk.old) (D.faults disk.new)
         ⊎ Rose ((D.mounts disk.old).refused name.now) ((D.mounts disk.new).refused name.now)
         ⊎ (IfSome (D.found disk.old name.now) IsNew × HasSnapshotPast settings.program empty_core) }
 {
-    match disk.mount(alloc, name) {
-        Ok(()) => open_mounted(alloc, disk, compiled, settings),
-        Err(fault) => {
-            drop(compiled);
-            drop(settings);
-            Err(OpenStop::from(fault))
-        }
-    }
-}
-
-/// Opens the store on a disk that is mounted.
-fn open_mounted<D: Disk>(
-    alloc: Global,
-    disk: &mut D,
-    compiled: Compiled,
-    settings: OpenSettings,
-) -> Result<OpenedStore, OpenStop>
-    requires whole { IsWhole compiled }
-    requires short { IsShortText settings.program }
-    requires every { 1 ≤ settings.every }
-    requires clean { IsClean (D.facts disk.old) }
-    ensures answer { IfSome (D.facts disk.old).seen (AnswersFound result (program_for compiled settings.program)) }
-    ensures ready { IfOk result (IsReady compiled settings) }
-    ensures kept { IfOk result (KeepsOpened (D.facts disk.new)) }
-    ensures unchanged { KeepsFound result (D.facts disk.old).seen (D.facts disk.new) }
-    ensures moments { LeavesOnly (D.facts disk.old) (D.facts disk.new) (LeavesFound (program_for compiled settings.program) (D.facts disk.old).seen) }
-    ensures mounts { D.mounts disk.new ≡ D.mounts disk.old }
-    ensures later { D.faults disk.old ≤ D.faults disk.new }
-    ensures cause { IsErrOf result OpenStop.DiskFault → Rose (D.faults disk.old) (D.faults disk.new)
-        ⊎ (IfSome (D.facts disk.old).seen IsNew × HasSnapshotPast settings.program empty_core) }
-{
-    match reopen(alloc, disk) {
-        Ok(opened) => open_found(alloc, disk, compiled, settings, opened),
-        Err(fault) => {
-            drop(compiled);
-            drop(settings);
-            Err(OpenStop::from(fault))
-        }
-    }
-}
-
-/// Opens the store that was found.
-fn open_found<D: Disk>(
-    alloc: Global,
-    disk: &mut D,
-    compiled: Compiled,
-    settings: OpenSettings,
-    opened: Opened,
-) -> Result<OpenedStore, OpenStop>
-    requires whole { IsWhole compiled }
-    requires short { IsShortText settings.program }
-    requires every { 1 ≤ settings.every }
-    requires clean { IsClean (D.facts disk.old) }
-    requires found { IfSome (D.facts disk.old).seen (λ now. Answers now (Ok opened)) }
-    requires placed { IsPlaced (Ok opened) }
-    ensures answer { IfSome (D.facts disk.old).seen (AnswersFound result (program_for compiled settings.program)) }
-    ensures ready { IfOk result (IsReady compiled settings) }
-    ensures kept { IfOk result (KeepsOpened (D.facts disk.new)) }
-    ensures unchanged { KeepsFound result (D.facts disk.old).seen (D.facts disk.new) }
-    ensures moments { LeavesOnly (D.facts disk.old) (D.facts disk.new) (LeavesFound (program_for compiled settings.program) (D.facts disk.old).seen) }
-    ensures mounts { D.mounts disk.new ≡ D.mounts disk.old }
-    ensures later { D.faults disk.old ≤ D.faults disk.new }
-    ensures cause { IsErrOf result OpenStop.DiskFault → Rose (D.faults disk.old) (D.faults disk.new)
-        ⊎ (IfSome (D.facts disk.old).seen IsNew × HasSnapshotPast settings.program empty_core) }
-{
-    match opened {
-        Opened::New => begin(alloc, disk, compiled, settings),
-        Opened::Old {
-            epoch,
-            kept,
-            batches,
-            at,
-        } => go_on(
-            alloc,
-            compiled,
-            settings,
-            Position { epoch, at },
-            kept,
-            batches,
-        ),
+    match find_store(alloc, disk, name, compiled, settings) {
+        Ok(FoundStore::New { compiled, settings }) => begin(alloc, disk, compiled, settings),
+        Ok(FoundStore::Old(opened)) => Ok(opened),
+        Err(stop) => Err(stop),
     }
 }
 
