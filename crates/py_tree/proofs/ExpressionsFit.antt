@@ -81,7 +81,19 @@ mutual
   pub tails_fit : {n : ℕ} {at : Place} {x : PlainExpr} {i : Input} {y : PlainExpr} {m : Input} → IsTails n at x i (found y m) → (d : ℕ) → ExprNames (length i.names) x → expr_depth x + n ≤ d → atom_depth n + n ≤ d → TailsFit d x i y m
   tails_fit (tails_end {i = i} _ _) d p deep room = record { read = stays i; names = p; size = omega arith; depth = omega arith }
   tails_fit (tails_dot {n = n} {x = x} {i = i} h0 h1 h2 _ h4) d p deep room = let t0 = taken k.Dot i h0 in let d1 = deeper n h1 in let t2 = taken_name (next i) h2 in let r1 = passed_name (next i) t2 in let r0 = reads_on (passed i) r1 in let l = leaf_depth (n - 1) in let s4 = tails_fit h4 d (expr_kept r0.more x p, name_stands (next i)) (omega arith) (omega arith) in record { read = reads_on r0 s4.read; names = s4.names; size = omega arith; depth = s4.depth }
-  tails_fit (tails_call {n = n} {x = x} {i = i} h0 h1 h2 h3 h4 h5) d p deep room = let t0 = taken k.Dot i h0 in let d1 = deeper n h1 in let t2 = taken_name (next i) h2 in let t3 = taken k.Open (named (next i)) h3 in let s4 = enclosed_fit h4 in let r1 = reads_on (passed_name (next i) t2) s4.read in let r0 = reads_on (passed i) r1 in let l = leaf_depth (n - 1) in let s5 = tails_fit h5 d (expr_kept r0.more x p, omega (arith, name_stands (next i), s4.read.more), s4.names) (above_by _ _ _ _ (omega arith) (omega arith)) (omega arith) in record { read = reads_on r0 s5.read; names = s5.names; size = omega arith; depth = s5.depth }
+  tails_fit (tails_call {n = n} {x = x} {i = i} h0 h1 h2 h3 h4 h5) d p deep room =
+      let t0 = taken k.Dot i h0 in
+      let d1 = deeper n h1 in
+      let t2 = taken_name (next i) h2 in
+      let t3 = taken k.Open (named (next i)) h3 in
+      let s4 = enclosed_fit h4 in
+      let r1 = reads_on (passed_name (next i) t2) s4.read in
+      let r0 = reads_on (passed i) r1 in
+      let l = leaf_depth (n - 1) in
+      let s5 =
+      tails_fit h5 d (expr_kept r0.more x p, omega (arith, name_stands (next i), s4.read.more), s4.names) (above_by _ _ _ _ (omega arith) (omega arith))
+      (omega arith) in
+      record { read = reads_on r0 s5.read; names = s5.names; size = omega arith; depth = s5.depth }
   tails_fit (tails_index {n = n} {x = x} {i = i} {y = y} {m1 = m1} _ h1 h2 h3 h4 h5) d p deep room = let t1 = taken k.OpenBracket i h1 in let d2 = deeper n h2 in let s3 = whole_fits h3 in let t4 = taken k.CloseBracket m1 h4 in let r2 = passed m1 in let r1 = reads_on s3.read r2 in let r0 = reads_on (passed i) r1 in let l = leaf_depth (n - 1) in let s5 = tails_fit h5 d (expr_kept r0.more x p, expr_kept r2.more y s3.names) (above_by _ _ _ _ (omega arith) (omega arith)) (omega arith) in record { read = reads_on r0 s5.read; names = s5.names; size = omega arith; depth = s5.depth }
 
   pub enclosed_fit : {n : ℕ} {c : Terminal} {i : Input} {xs : List PlainExpr} {m : Input} → IsEnclosed n c i (found xs m) → EnclosedFit (atom_depth n) i xs m

@@ -70,7 +70,22 @@ line_fits (line_is h0 _) low = simples_fit h0 low
 pub over_fits : {n : ℕ} {i : Input} {v : PlainOver} {m : Input} → IsOver n i (found v m) → OverFits (6 + (atom_depth n + n)) i v m
 over_fits (over_items _ h1) = let s1 = whole_fits h1 in record { read = s1.read; names = s1.names; size = omega arith; depth = omega arith }
 over_fits (over_end {n = n} {i = i} {x = x} {m1 = m1} _ h1 h2 _ h4) = let d1 = deeper n h1 in let s2 = whole_fits h2 in let t4 = taken k.Close m1 h4 in let r3 = passed m1 in let r2 = reads_on s2.read r3 in let p1 = passed (next i) in let r1 = reads_on p1 r2 in let p0 = passed i in let r0 = reads_on p0 r1 in record { read = r0; names = (tt, expr_kept r3.more x s2.names); size = omega arith; depth = max-le (omega arith) (omega arith) }
-over_fits (over_ends {n = n} {i = i} {x = x} {m1 = m1} {y = y} {m2 = m2} _ h1 h2 h3 h4 h5) = let d1 = deeper n h1 in let s2 = whole_fits h2 in let t3 = taken k.Comma m1 h3 in let s4 = whole_fits h4 in let t5 = taken k.Close m2 h5 in let r5 = passed m2 in let r4 = reads_on s4.read r5 in let r3 = reads_on (passed m1) r4 in let r2 = reads_on s2.read r3 in let p1 = passed (next i) in let r1 = reads_on p1 r2 in let p0 = passed i in let r0 = reads_on p0 r1 in record { read = r0; names = (expr_kept r3.more x s2.names, expr_kept r5.more y s4.names); size = omega arith; depth = max-le (omega arith) (omega arith) }
+over_fits (over_ends {n = n} {i = i} {x = x} {m1 = m1} {y = y} {m2 = m2} _ h1 h2 h3 h4 h5) =
+    let d1 = deeper n h1 in
+    let s2 = whole_fits h2 in
+    let t3 = taken k.Comma m1 h3 in
+    let s4 = whole_fits h4 in
+    let t5 = taken k.Close m2 h5 in
+    let r5 = passed m2 in
+    let r4 = reads_on s4.read r5 in
+    let r3 = reads_on (passed m1) r4 in
+    let r2 = reads_on s2.read r3 in
+    let p1 = passed (next i) in
+    let r1 = reads_on p1 r2 in
+    let p0 = passed i in
+    let r0 = reads_on p0 r1 in
+    record
+    { read = r0; names = (expr_kept r3.more x s2.names, expr_kept r5.more y s4.names); size = omega arith; depth = max-le (omega arith) (omega arith) }
 
 mutual
   unfolding StmtNames StmtsNames ArmNames ArmsNames EachStmt EachOfStmts EachOfArm EachOfArms stmt_size stmts_size arm_size arms_size stmt_depth stmts_depth arm_depth arms_depth
@@ -102,7 +117,18 @@ mutual
   while_fits (while_is {i = i} {x = x} h0 h1) low = let s0 = whole_fits h0 in let s1 = body_fits h1 (omega arith) in let r1 = reads_on s0.read s1.read in let p0 = passed i in let r0 = reads_on p0 r1 in record { read = r0; names = (expr_kept s1.read.more x s0.names, s1.names); failures = (tt, s1.failures); types = (tt, s1.types); size = omega arith; depth = above _ _ _ (omega arith) (omega arith) }
 
   pub for_fits : {n : ℕ} {c : ℕ} {i : Input} {x : PlainStmt} {m : Input} → IsFor n c i (found x m) → n ≤ 63 → StmtFits (7 + (atom_depth n + n)) i x m
-  for_fits (for_is {i = i} {v = v} h0 h1 h2 h3) low = let t0 = taken_name (next i) h0 in let t1 = taken k.In (named (next i)) h1 in let s2 = over_fits h2 in let s3 = body_fits h3 (omega arith) in let r3 = reads_on s2.read s3.read in let r2 = reads_on (passed (named (next i))) r3 in let r1 = reads_on (passed_name (next i) t0) r2 in let p0 = passed i in let r0 = reads_on p0 r1 in record { read = r0; names = (omega (arith, name_stands (next i), r2.more), over_kept s3.read.more v s2.names, s3.names); failures = (tt, s3.failures); types = (tt, s3.types); size = omega arith; depth = above _ _ _ (omega arith) (omega arith) }
+  for_fits (for_is {i = i} {v = v} h0 h1 h2 h3) low =
+      let t0 = taken_name (next i) h0 in
+      let t1 = taken k.In (named (next i)) h1 in
+      let s2 = over_fits h2 in
+      let s3 = body_fits h3 (omega arith) in
+      let r3 = reads_on s2.read s3.read in
+      let r2 = reads_on (passed (named (next i))) r3 in
+      let r1 = reads_on (passed_name (next i) t0) r2 in
+      let p0 = passed i in
+      let r0 = reads_on p0 r1 in
+      record
+      { read = r0; names = (omega (arith, name_stands (next i), r2.more), over_kept s3.read.more v s2.names, s3.names); failures = (tt, s3.failures); types = (tt, s3.types); size = omega arith; depth = above _ _ _ (omega arith) (omega arith) }
 
   pub arm_fits : {n : ℕ} {c : ℕ} {i : Input} {a : PlainArm} {m : Input} → IsArm n c i (found a m) → n ≤ 63 → ArmFits (6 + (atom_depth n + n)) i a m
   arm_fits (arm_is {x = x} h0 h1) low = let s0 = whole_fits h0 in let s1 = body_fits h1 (omega arith) in let r0 = reads_on s0.read s1.read in record { read = r0; names = (expr_kept s1.read.more x s0.names, s1.names); failures = s1.failures; types = s1.types; size = omega arith; depth = max-le (omega arith) (omega arith) }
