@@ -222,14 +222,7 @@ value-returns-in_ok-two-in-Compare t c =
     let start = plain_stage c.args.stage.now in
     let asks : expr_suspends leaves (plain_expr x) ≡ true = sym c.suspends.ensures ∙ c.if-not-suspends.false in
     let wanted = plain_wanted c.args.wanted in
-    ok_as c.compared.result (λ made. hoisted_at made c.two-in-Compare.new.stage) _ _
-    (ap (built (λ r. PCompare x.place c.in-Compare.op c.in-Compare.op_place r.0 r.1)) c.in_ok-two-in-Compare.ensures
-    ∙ value-Compare leaves here wanted start x.place c.in-Compare.op c.in-Compare.op_place (plain_expr c.deref-in-Compare.result.now)
-    (plain_expr c.deref-in-Compare-2.result.now) (plain_expr x)
-    (is-Compare x c.in-Compare.op c.in-Compare.op_place c.in-Compare.left c.in-Compare.right c.deref-in-Compare.result.now
-    c.deref-in-Compare-2.result.now c.in-Compare.is c.deref-in-Compare.ensures c.deref-in-Compare-2.ensures)
-    asks)
-    c.compared.ensures
+    ok_as c.compared.result (λ made. hoisted_at made c.two-in-Compare.new.stage) _ _ (ap (built (λ r. PCompare x.place c.in-Compare.op c.in-Compare.op_place r.0 r.1)) c.in_ok-two-in-Compare.ensures ∙ value-Compare leaves here wanted start x.place c.in-Compare.op c.in-Compare.op_place (plain_expr c.deref-in-Compare.result.now) (plain_expr c.deref-in-Compare-2.result.now) (plain_expr x) (is-Compare x c.in-Compare.op c.in-Compare.op_place c.in-Compare.left c.in-Compare.right c.deref-in-Compare.result.now c.deref-in-Compare-2.result.now c.in-Compare.is c.deref-in-Compare.ensures c.deref-in-Compare-2.ensures) asks) c.compared.ensures
 
 pub value-returns-in-List : goal.value-returns-in-List
 value-returns-in-List t c =

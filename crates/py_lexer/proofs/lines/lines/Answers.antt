@@ -26,9 +26,7 @@ lines-preserved c = record {
       (subst (λ i. IsLine (columns_of c.lines.items) i (found (plain_line c.args.text.now.text c.in_ok-line.line) c.logical_line.new.text)) c.copy-begin.ensures (subst (λ w. IsLine (columns_of c.lines.items) c.copy-begin.result (found (plain_line w c.in_ok-line.line) c.logical_line.new.text)) (c.pass_blanks.ensures.same_text ∙ c.lines.invariant.same_text) (c.in_ok-line.ensures.comes (columns_of c.lines.items) c.lines.invariant.columns)))
       c.pass_line-in-lines.ensures.past c.in_ok-push.ensures.ok;
   columns = subst (λ cs. AreOpen c.logical_line.new.kept.items cs) (sym (ap columns_of c.in_ok-push.ensures.ok ∙ map-append (λ l. l.column) c.lines.items (c.in_ok-line.line ∷ []))) (c.in_ok-line.ensures.opens (columns_of c.lines.items) c.lines.invariant.columns);
-  rises =
-      subst (λ ls. LinesRise c.args.text.now.text c.args.text.now.at ls c.pass_line-in-lines.new.self.at) (sym c.in_ok-push.ensures.ok)
-      (lines_rise_more c.args.text.now.text c.args.text.now.at c.lines.text.at c.pass_blanks.new.text.at c.pass_line-in-lines.new.self.at c.lines.items c.in_ok-line.line c.lines.invariant.rises c.pass_blanks.ensures.forward (rise_wider c.args.text.now.text c.pass_blanks.new.text.at c.logical_line.new.text.at c.pass_line-in-lines.new.self.at c.in_ok-line.line.tokens (subst (λ w. Rise w c.pass_blanks.new.text.at c.in_ok-line.line.tokens c.logical_line.new.text.at) (c.pass_blanks.ensures.same_text ∙ c.lines.invariant.same_text) c.in_ok-line.ensures.rise) c.pass_line-in-lines.ensures.forward));
+  rises = subst (λ ls. LinesRise c.args.text.now.text c.args.text.now.at ls c.pass_line-in-lines.new.self.at) (sym c.in_ok-push.ensures.ok) (lines_rise_more c.args.text.now.text c.args.text.now.at c.lines.text.at c.pass_blanks.new.text.at c.pass_line-in-lines.new.self.at c.lines.items c.in_ok-line.line c.lines.invariant.rises c.pass_blanks.ensures.forward (rise_wider c.args.text.now.text c.pass_blanks.new.text.at c.logical_line.new.text.at c.pass_line-in-lines.new.self.at c.in_ok-line.line.tokens (subst (λ w. Rise w c.pass_blanks.new.text.at c.in_ok-line.line.tokens c.logical_line.new.text.at) (c.pass_blanks.ensures.same_text ∙ c.lines.invariant.same_text) c.in_ok-line.ensures.rise) c.pass_line-in-lines.ensures.forward));
   same_text = c.pass_line-in-lines.ensures.same_text ∙ (c.logical_line.ensures.same_text ∙ (c.pass_blanks.ensures.same_text ∙ c.lines.invariant.same_text));
 }
 

@@ -21,23 +21,11 @@ returns-in_err-pass_gap-clause-comes c =
 pub returns-then-ends-clause-comes : goal.returns-then-ends-clause-comes
 returns-then-ends-clause-comes c =
     let t : IsToken c.tokens.text (found (plain_token c.args.text.now.text c.in_ok-token.token) c.one_token.new.text) = subst (λ w. IsToken c.tokens.text (found (plain_token w c.in_ok-token.token) c.one_token.new.text)) c.tokens.invariant.same_text c.in_ok-token.ensures.comes in
-    tokens_closed (plain_token c.args.text.now.text) c.args.text.now c.tokens.brackets.items c.note_bracket.new.brackets.items c.tokens.text
-    c.one_token.new.text c.pass_gap.new.text c.tokens.items c.push.new.self c.in_ok-token.token c.closed.result c.tokens.invariant.so_far t
-    (c.in_ok-note_bracket.ensures.behind c.args.text.now.text)
-    (subst (λ d. IsGap d c.one_token.new.text (reaches c.pass_gap.new.text)) (c.len.ensures ∙ c.note_bracket.new.brackets.ok.0)
-    c.in_ok-pass_gap.ensures.comes)
-    (sym c.if-ends.ensures.ends) c.in_ok-push.ensures.ok
-    (subst (λ b. Closes (innermost b) c.push.new.self c.closed.result) c.deref.ensures.value c.closed.ensures)
+    tokens_closed (plain_token c.args.text.now.text) c.args.text.now c.tokens.brackets.items c.note_bracket.new.brackets.items c.tokens.text c.one_token.new.text c.pass_gap.new.text c.tokens.items c.push.new.self c.in_ok-token.token c.closed.result c.tokens.invariant.so_far t (c.in_ok-note_bracket.ensures.behind c.args.text.now.text) (subst (λ d. IsGap d c.one_token.new.text (reaches c.pass_gap.new.text)) (c.len.ensures ∙ c.note_bracket.new.brackets.ok.0) c.in_ok-pass_gap.ensures.comes) (sym c.if-ends.ensures.ends) c.in_ok-push.ensures.ok (subst (λ b. Closes (innermost b) c.push.new.self c.closed.result) c.deref.ensures.value c.closed.ensures)
 
 pub returns-then-ends-clause-rise : goal.returns-then-ends-clause-rise
 returns-then-ends-clause-rise c =
-    closed_rise c.args.text.now.text c.args.text.now.at c.pass_gap.new.text.at c.push.new.self (innermost c.note_bracket.new.brackets.items) c.closed.result
-    (subst (λ ts. Rise c.args.text.now.text c.args.text.now.at ts c.pass_gap.new.text.at) (sym c.in_ok-push.ensures.ok)
-    (rise_more c.args.text.now.text c.args.text.now.at c.tokens.text.at c.pass_gap.new.text.at c.tokens.items c.in_ok-token.token
-    c.tokens.invariant.rises (omega (arith, c.in_ok-token.ensures.spans.0))
-    (subst (λ w. IsOf w c.in_ok-token.token) c.tokens.invariant.same_text c.in_ok-token.ensures.of)
-    (omega (arith, c.in_ok-token.ensures.spans.1, c.pass_gap.ensures.forward))))
-    (subst (λ b. Closes (innermost b) c.push.new.self c.closed.result) c.deref.ensures.value c.closed.ensures)
+    closed_rise c.args.text.now.text c.args.text.now.at c.pass_gap.new.text.at c.push.new.self (innermost c.note_bracket.new.brackets.items) c.closed.result (subst (λ ts. Rise c.args.text.now.text c.args.text.now.at ts c.pass_gap.new.text.at) (sym c.in_ok-push.ensures.ok) (rise_more c.args.text.now.text c.args.text.now.at c.tokens.text.at c.pass_gap.new.text.at c.tokens.items c.in_ok-token.token c.tokens.invariant.rises (omega (arith, c.in_ok-token.ensures.spans.0)) (subst (λ w. IsOf w c.in_ok-token.token) c.tokens.invariant.same_text c.in_ok-token.ensures.of) (omega (arith, c.in_ok-token.ensures.spans.1, c.pass_gap.ensures.forward)))) (subst (λ b. Closes (innermost b) c.push.new.self c.closed.result) c.deref.ensures.value c.closed.ensures)
 
 pub tokens-preserved : goal.tokens-preserved
 tokens-preserved c =
