@@ -1,4 +1,5 @@
-use Rattle.std.proofs.Common.{refl, ap, sym, ◌+◌, true≢false, false, inl, inr, Ok, Err, Some, None, arith}
+use Rattle.std.proofs.Common.{◌≡◌, ◌∙◌, refl, ap, sym, ◌+◌, true≢false, false, inl, inr, Ok, Err, Some, None, arith}
+use Rattle.request_json.specs.Actions.{Line}
 use Rattle.engine.specs.EngineViews.{core_of, source_of}
 use Rattle.session_store.specs.Stores.{settings_of}
 use Rattle.session_store.specs.Vocabulary.{logged_of}
@@ -14,48 +15,54 @@ use Rattle.batch_session.proofs.LineLaws.{start_answered}
 use Rattle.batch_session.proofs.LoggedLaws.{ended_logs, start_logged}
 use Rattle.batch_session.proofs.ReportLaws.{Line-ended}
 use Rattle.batch_session.proofs.StateLaws.{ran_on, then_ended, ready_behind, unwritten_is, stop_unwritten}
-use Rattle.batch_session.proofs.feeding.Intake.answer.Goals as goal
+use Rattle.batch_session.proofs.intake.Intake.answer.Goals as goal
 
 pub returns-in-Some-clause-answers : goal.returns-in-Some-clause-answers
 returns-in-Some-clause-answers g c = λ line start.
     let e = c.args.engine.now in
     let self = c.args.self.now in
-    let v : Service = service_of e (g.R.CommitRule.choice c.args.rule.now) c.args.settings.now.batch c.args.settings.now.parts in
+    let shown : Line = cut c.ended.result c.line.result.now in
+    let is : shown ≡ cut self.reader.ended self.reader.line = ap (λ ended. cut ended c.line.result.now) c.ended.ensures ∙ ap (cut self.reader.ended) c.line.ensures in
+    let v : Service = service_of e (g.R.CommitRule.choice c.args.terms.now.rule.now) c.args.terms.now.settings.now.batch c.args.terms.now.settings.now.parts in
     let old : Point = point_of e self.lines self.tally (g.K.Sink.held c.args.out.now) (g.E.Sink.held c.args.err.now) (g.C.Chooser.choices c.args.chooser.now) (g.W.Watch.told c.args.watch.now) in
     let ran = c.answer_line.new in
     let new : Point = point_of ran.engine (self.lines + 1) c.end_batch.new.tally (g.K.Sink.held ran.out) (g.E.Sink.held c.end_batch.new.err) (g.C.Chooser.choices ran.chooser) (g.W.Watch.told ran.watch) in
     let said = c.end_batch.ensures in
-    Line-ended v c.args.settings.now.trace c.in-Some.counts c.end_batch.result (cut c.args.ended line) old new refl
-    (start_answered v (Ok c.in-Ok.ran) (Ok (Some c.in-Some.counts)) (before (core_of e) (self.lines + 1)) c.args.ended c.as_slice.result.now self.line line (moment old) (moment new) (ap Ok c.in-Some.is) c.as_slice.ensures start c.in-Ok.ensures.answers)
+    Line-ended v c.args.terms.now.settings.now.trace c.in-Some.counts c.end_batch.result (cut self.reader.ended line) old new refl
+    (start_answered v (Ok c.in-Ok.ran) (Ok (Some c.in-Some.counts)) (before (core_of e) (self.lines + 1)) shown self.reader.ended self.reader.line line (moment old) (moment new) (ap Ok c.in-Some.is) is start c.in-Ok.ensures.answers)
     (record { tally = said.counted; traced = said.traced; placed = said.placed })
 
 pub returns-in-None-clause-answers : goal.returns-in-None-clause-answers
 returns-in-None-clause-answers g c = λ line start.
     let e = c.args.engine.now in
     let self = c.args.self.now in
-    let v : Service = service_of e (g.R.CommitRule.choice c.args.rule.now) c.args.settings.now.batch c.args.settings.now.parts in
+    let shown : Line = cut c.ended.result c.line.result.now in
+    let is : shown ≡ cut self.reader.ended self.reader.line = ap (λ ended. cut ended c.line.result.now) c.ended.ensures ∙ ap (cut self.reader.ended) c.line.ensures in
+    let v : Service = service_of e (g.R.CommitRule.choice c.args.terms.now.rule.now) c.args.terms.now.settings.now.batch c.args.terms.now.settings.now.parts in
     let held = g.E.Sink.held c.args.err.now in
     let old : Point = point_of e self.lines self.tally (g.K.Sink.held c.args.out.now) held (g.C.Chooser.choices c.args.chooser.now) (g.W.Watch.told c.args.watch.now) in
     let ran = c.answer_line.new in
     let new : Point = point_of ran.engine (self.lines + 1) self.tally (g.K.Sink.held ran.out) held (g.C.Chooser.choices ran.chooser) (g.W.Watch.told ran.watch) in
-    Does-line v c.args.settings.now.trace None (cut c.args.ended line) old new refl
-    (start_answered v (Ok c.in-Ok.ran) (Ok None) (before (core_of e) (self.lines + 1)) c.args.ended c.as_slice.result.now self.line line (moment old) (moment new) (ap Ok c.in-None.is) c.as_slice.ensures start c.in-Ok.ensures.answers)
+    Does-line v c.args.terms.now.settings.now.trace None (cut self.reader.ended line) old new refl
+    (start_answered v (Ok c.in-Ok.ran) (Ok None) (before (core_of e) (self.lines + 1)) shown self.reader.ended self.reader.line line (moment old) (moment new) (ap Ok c.in-None.is) is start c.in-Ok.ensures.answers)
     (record { tally = refl; traced = refl })
 
 pub returns-in-Err-clause-answers : goal.returns-in-Err-clause-answers
 returns-in-Err-clause-answers g c = λ line start.
     let e = c.args.engine.now in
     let self = c.args.self.now in
-    let v : Service = service_of e (g.R.CommitRule.choice c.args.rule.now) c.args.settings.now.batch c.args.settings.now.parts in
-    let traces = c.args.settings.now.trace in
+    let shown : Line = cut c.ended.result c.line.result.now in
+    let is : shown ≡ cut self.reader.ended self.reader.line = ap (λ ended. cut ended c.line.result.now) c.ended.ensures ∙ ap (cut self.reader.ended) c.line.ensures in
+    let v : Service = service_of e (g.R.CommitRule.choice c.args.terms.now.rule.now) c.args.terms.now.settings.now.batch c.args.terms.now.settings.now.parts in
+    let traces = c.args.terms.now.settings.now.trace in
     let held = g.E.Sink.held c.args.err.now in
     let old : Point = point_of e self.lines self.tally (g.K.Sink.held c.args.out.now) held (g.C.Chooser.choices c.args.chooser.now) (g.W.Watch.told c.args.watch.now) in
     let ran = c.answer_line.new in
     let new : Point = point_of ran.engine self.lines self.tally (g.K.Sink.held ran.out) held (g.C.Chooser.choices ran.chooser) (g.W.Watch.told ran.watch) in
     let stop = c.in-Err.stop in
-    Comes-one v traces {T = Unit {0}} (Err stop) stop (Answer (cut c.args.ended line)) old new refl
-    (Stops-line v traces stop (cut c.args.ended line) old new
-    (start_answered v (Err stop) (Err stop) (before (core_of e) (self.lines + 1)) c.args.ended c.as_slice.result.now self.line line (moment old) (moment new) refl c.as_slice.ensures start c.in-Err.ensures.answers)
+    Comes-one v traces {T = Unit {0}} (Err stop) stop (Answer (cut self.reader.ended line)) old new refl
+    (Stops-line v traces stop (cut self.reader.ended line) old new
+    (start_answered v (Err stop) (Err stop) (before (core_of e) (self.lines + 1)) shown self.reader.ended self.reader.line line (moment old) (moment new) refl is start c.in-Err.ensures.answers)
     (record { tally = refl; traced = refl }))
 
 pub returns-in-Some-clause-logs : goal.returns-in-Some-clause-logs
@@ -63,36 +70,41 @@ returns-in-Some-clause-logs g c = λ line start.
     let e = c.args.engine.now in
     let now = c.answer_line.new.engine in
     let self = c.args.self.now in
-    let rule = g.R.CommitRule.choice c.args.rule.now in
-    let v : Service = service_of e rule c.args.settings.now.batch c.args.settings.now.parts in
+    let shown : Line = cut c.ended.result c.line.result.now in
+    let is : shown ≡ cut self.reader.ended self.reader.line = ap (λ ended. cut ended c.line.result.now) c.ended.ensures ∙ ap (cut self.reader.ended) c.line.ensures in
+    let rule = g.R.CommitRule.choice c.args.terms.now.rule.now in
+    let v : Service = service_of e rule c.args.terms.now.settings.now.batch c.args.terms.now.settings.now.parts in
     let settings = settings_of c.args.store.now in
-    let bytes = c.as_slice.result.now in
     let old = g.D.Disk.facts c.args.disk.now in
     let between = g.D.Disk.facts c.answer_line.new.disk in
     let new = g.D.Disk.facts c.end_batch.new.disk in
-    start_logged v settings (core_of e) self.lines c.args.ended bytes self.line line (logged_of e) (logged_of now) old new c.as_slice.ensures start
-    (Logs-end (source_of e) rule settings (ran_by v (move_at v (before (core_of e) (self.lines + 1)) (cut c.args.ended bytes))) (logged_of e) (logged_of now) old between new c.answer_line.ensures.logs
+    start_logged v settings (core_of e) self.lines shown self.reader.ended self.reader.line line (logged_of e) (logged_of now) old new is start
+    (Logs-end (source_of e) rule settings (ran_by v (move_at v (before (core_of e) (self.lines + 1)) shown)) (logged_of e) (logged_of now) old between new c.answer_line.ensures.logs
     (ended_logs e now c.answer_line.ensures.runs rule settings _ (logged_of now) between new (settings_kept _ _ c.answer_line.ensures.cycle) (c.end_batch.ensures.logs rule)))
 
 pub returns-in-None-clause-logs : goal.returns-in-None-clause-logs
 returns-in-None-clause-logs g c = λ line start.
     let e = c.args.engine.now in
     let self = c.args.self.now in
-    let v : Service = service_of e (g.R.CommitRule.choice c.args.rule.now) c.args.settings.now.batch c.args.settings.now.parts in
-    start_logged v (settings_of c.args.store.now) (core_of e) self.lines c.args.ended c.as_slice.result.now self.line line (logged_of e) (logged_of c.answer_line.new.engine)
-    (g.D.Disk.facts c.args.disk.now) (g.D.Disk.facts c.answer_line.new.disk) c.as_slice.ensures start c.answer_line.ensures.logs
+    let shown : Line = cut c.ended.result c.line.result.now in
+    let is : shown ≡ cut self.reader.ended self.reader.line = ap (λ ended. cut ended c.line.result.now) c.ended.ensures ∙ ap (cut self.reader.ended) c.line.ensures in
+    let v : Service = service_of e (g.R.CommitRule.choice c.args.terms.now.rule.now) c.args.terms.now.settings.now.batch c.args.terms.now.settings.now.parts in
+    start_logged v (settings_of c.args.store.now) (core_of e) self.lines shown self.reader.ended self.reader.line line (logged_of e) (logged_of c.answer_line.new.engine)
+    (g.D.Disk.facts c.args.disk.now) (g.D.Disk.facts c.answer_line.new.disk) is start c.answer_line.ensures.logs
 
 pub returns-in-Err-clause-logs : goal.returns-in-Err-clause-logs
 returns-in-Err-clause-logs g c = λ line start.
     let e = c.args.engine.now in
     let self = c.args.self.now in
-    let v : Service = service_of e (g.R.CommitRule.choice c.args.rule.now) c.args.settings.now.batch c.args.settings.now.parts in
-    start_logged v (settings_of c.args.store.now) (core_of e) self.lines c.args.ended c.as_slice.result.now self.line line (logged_of e) (logged_of c.answer_line.new.engine)
-    (g.D.Disk.facts c.args.disk.now) (g.D.Disk.facts c.answer_line.new.disk) c.as_slice.ensures start c.answer_line.ensures.logs
+    let shown : Line = cut c.ended.result c.line.result.now in
+    let is : shown ≡ cut self.reader.ended self.reader.line = ap (λ ended. cut ended c.line.result.now) c.ended.ensures ∙ ap (cut self.reader.ended) c.line.ensures in
+    let v : Service = service_of e (g.R.CommitRule.choice c.args.terms.now.rule.now) c.args.terms.now.settings.now.batch c.args.terms.now.settings.now.parts in
+    start_logged v (settings_of c.args.store.now) (core_of e) self.lines shown self.reader.ended self.reader.line line (logged_of e) (logged_of c.answer_line.new.engine)
+    (g.D.Disk.facts c.args.disk.now) (g.D.Disk.facts c.answer_line.new.disk) is start c.answer_line.ensures.logs
 
 pub returns-in-Some-clause-goes_on : goal.returns-in-Some-clause-goes_on
 returns-in-Some-clause-goes_on g c =
-    let rule = g.R.CommitRule.choice c.args.rule.now in
+    let rule = g.R.CommitRule.choice c.args.terms.now.rule.now in
     let old : SessionState = state_of c.args.engine.now c.args.store.now (g.D.Disk.facts c.args.disk.now) (g.D.Disk.faults c.args.disk.now) (g.D.Disk.mounts c.args.disk.now) in
     let mid : SessionState = state_of c.answer_line.new.engine c.answer_line.new.store (g.D.Disk.facts c.answer_line.new.disk) (g.D.Disk.faults c.answer_line.new.disk) (g.D.Disk.mounts c.answer_line.new.disk) in
     let e = c.in-Ok.ensures in
@@ -102,7 +114,7 @@ returns-in-Some-clause-goes_on g c =
 
 pub returns-in-Some-clause-ready : goal.returns-in-Some-clause-ready
 returns-in-Some-clause-ready g c =
-    let rule = g.R.CommitRule.choice c.args.rule.now in
+    let rule = g.R.CommitRule.choice c.args.terms.now.rule.now in
     let old : SessionState = state_of c.args.engine.now c.args.store.now (g.D.Disk.facts c.args.disk.now) (g.D.Disk.faults c.args.disk.now) (g.D.Disk.mounts c.args.disk.now) in
     let mid : SessionState = state_of c.answer_line.new.engine c.answer_line.new.store (g.D.Disk.facts c.answer_line.new.disk) (g.D.Disk.faults c.answer_line.new.disk) (g.D.Disk.mounts c.answer_line.new.disk) in
     let e = c.in-Ok.ensures in
@@ -119,7 +131,7 @@ returns-in-Some-clause-writes g c = record {
 
 pub returns-in-None-clause-goes_on : goal.returns-in-None-clause-goes_on
 returns-in-None-clause-goes_on g c =
-    let rule = g.R.CommitRule.choice c.args.rule.now in
+    let rule = g.R.CommitRule.choice c.args.terms.now.rule.now in
     let old : SessionState = state_of c.args.engine.now c.args.store.now (g.D.Disk.facts c.args.disk.now) (g.D.Disk.faults c.args.disk.now) (g.D.Disk.mounts c.args.disk.now) in
     let mid : SessionState = state_of c.answer_line.new.engine c.answer_line.new.store (g.D.Disk.facts c.answer_line.new.disk) (g.D.Disk.faults c.answer_line.new.disk) (g.D.Disk.mounts c.answer_line.new.disk) in
     let e = c.in-Ok.ensures in
@@ -128,7 +140,7 @@ returns-in-None-clause-goes_on g c =
 
 pub returns-in-None-clause-ready : goal.returns-in-None-clause-ready
 returns-in-None-clause-ready g c =
-    let rule = g.R.CommitRule.choice c.args.rule.now in
+    let rule = g.R.CommitRule.choice c.args.terms.now.rule.now in
     let old : SessionState = state_of c.args.engine.now c.args.store.now (g.D.Disk.facts c.args.disk.now) (g.D.Disk.faults c.args.disk.now) (g.D.Disk.mounts c.args.disk.now) in
     let mid : SessionState = state_of c.answer_line.new.engine c.answer_line.new.store (g.D.Disk.facts c.answer_line.new.disk) (g.D.Disk.faults c.answer_line.new.disk) (g.D.Disk.mounts c.answer_line.new.disk) in
     let e = c.in-Ok.ensures in
@@ -141,7 +153,7 @@ returns-in-None-clause-writes g c = record { later = c.answer_line.ensures.later
 
 pub returns-in-Err-clause-goes_on : goal.returns-in-Err-clause-goes_on
 returns-in-Err-clause-goes_on g c =
-    let rule = g.R.CommitRule.choice c.args.rule.now in
+    let rule = g.R.CommitRule.choice c.args.terms.now.rule.now in
     let old : SessionState = state_of c.args.engine.now c.args.store.now (g.D.Disk.facts c.args.disk.now) (g.D.Disk.faults c.args.disk.now) (g.D.Disk.mounts c.args.disk.now) in
     let mid : SessionState = state_of c.answer_line.new.engine c.answer_line.new.store (g.D.Disk.facts c.answer_line.new.disk) (g.D.Disk.faults c.answer_line.new.disk) (g.D.Disk.mounts c.answer_line.new.disk) in
     let e = c.in-Err.ensures in
