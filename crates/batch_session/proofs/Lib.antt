@@ -4,8 +4,9 @@ pub mod StateLaws
 pub mod LineLaws
 pub mod RunLaws
 pub mod ReportLaws
-pub mod FeedLaws
-pub mod TakeLaws
+pub mod LastLaws
+pub mod Reaching
+pub mod GoingLaws
 pub mod FlushLaws
 pub mod ServeLaws
 pub mod Vocabulary

@@ -1,7 +1,6 @@
 pub mod Points
 pub mod SessionStates
-pub mod Feeds
-pub mod Takes
+pub mod Answering
 pub mod Faults
 pub mod Served
 pub mod Vocabulary

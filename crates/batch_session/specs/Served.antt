@@ -105,3 +105,9 @@ pub record LogsServed (v : Service) (settings : Option StoreSettings) (limit : �
   pub steps : List Step
   pub of_taken : (steps ≡ whole_steps (take limit taken)) ⊎ ((length taken ≤ limit) × IsAtEnd left' × (steps ≡ all_steps v core taken))
   pub logs : LogsSteps v settings core 0 steps first last old new
+
+-- both, before the output is flushed at the end
+pub record ServedInput (v : Service) (traces : Bool) (settings : Option StoreSettings) (limit : ℕ) (result : Result Tally SessionFault) (old new : View)
+    (first last : Core) (facts facts' : DiskFacts) : Type 0 where
+  pub served : Served v traces limit result old new
+  pub logs : LogsServed v settings limit old.core old.left new.left first last facts facts'

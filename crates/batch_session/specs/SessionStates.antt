@@ -14,6 +14,7 @@ use Rattle.session_store.specs.Vocabulary.{logged_of, IsStorable}
 use Rattle.session_store.specs.Cycles.{IsInCycle}
 use Rattle.session_store.specs.Endings.{KeepsWhere, next_core}
 use Rattle.session_store.specs.Stores.{settings_of, Keeps, EndsPast}
+use Rattle.session_steps.specs.Vocabulary.{Service, service_of}
 use Rattle.batch_session.specs.declared.settings.Settings.{Settings}
 
 -- its engine, its store, and of its disk the files, the faults so far and the mounts so far
@@ -26,6 +27,10 @@ pub record SessionState : Type 1 where
 
 abbrev pub state_of : Engine → Option Store → DiskFacts → ℕ → Mounts → SessionState
 state_of engine store facts faults mounts = record { engine = engine; store = store; facts = facts; faults = faults; mounts = mounts }
+
+-- what an engine serves by these settings
+abbrev pub service_by : Engine → (List Access → Chosen) → Settings → Service
+service_by engine rule s = service_of engine rule s.batch s.parts
 
 -- a batch has at most 256 requests, and there are 1 to 64 partitions
 pub record IsInRange (s : Settings) : Type 0 where

@@ -3,7 +3,7 @@
 #![tactic(auto)]
 
 mod ending;
-mod feeding;
+mod intake;
 mod reporting;
 mod serving;
 mod settings;

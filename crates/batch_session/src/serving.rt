@@ -11,14 +11,14 @@ ghost use Rattle.session_store.specs.Cycles.{IsInCycle};
 ghost use Rattle.session_store.specs.Endings.{KeepsWhere, next_core};
 ghost use Rattle.session_store.specs.Stores.{settings_of, Keeps, EndsPast};
 ghost use Rattle.session_steps.specs.Vocabulary.{service_of};
-ghost use Rattle.session_steps.specs.Traces.{no_batch};
-ghost use Rattle.batch_session.specs.Served.{view_of, Served, LogsServed};
-ghost use Rattle.batch_session.specs.SessionStates.{state_of, IsInRange, IsReady, GoesOn, WritesOn};
+ghost use Rattle.batch_session.specs.Served.{view_of, Served, LogsServed, ServedInput};
+ghost use Rattle.batch_session.specs.SessionStates.{state_of, service_by, IsInRange, IsReady, GoesOn, WritesOn};
 ghost use Rattle.batch_session.specs.Faults.{fault_of, finished, disk_failed, write_failed, unflushed, IsFlushed};
 
-use crate::feeding::{InputEnd, Intake};
-use crate::settings::Settings;
+use crate::intake::Intake;
+use crate::settings::{Settings, Terms};
 use engine::Engine;
+use input_lines::Next;
 use operator_graph::Watch;
 use reservations::CommitRule;
 use session_steps::{LineStop, Tally};
@@ -96,70 +96,60 @@ pub fn serve<R: CommitRule, S: Source, K: Sink, E: Sink, D: Disk, C: Chooser, W:
         ⊎ EndsPast (R.choice rule.now) store.new (source_of engine.new) (core_of engine.new) (fresh_of engine.new) (D.facts disk.new) }
     ensures mounts { D.mounts disk.new ≡ D.mounts disk.old }
 {
-    let mut intake = Intake::new(alloc);
-    let served = answer_all(
-        &mut intake,
+    let terms = Terms {
         alloc,
-        engine,
-        store,
         settings,
-        input,
-        out,
-        err,
-        disk,
         rule,
-        chooser,
-        watch,
-    );
+    };
+    let served = answer_all(&terms, engine, store, input, out, err, disk, chooser, watch);
     flushed(out, served)
 }
 
 /// Serves the input and then what waits, and doesn't flush at the end.
 fn answer_all<R: CommitRule, S: Source, K: Sink, E: Sink, D: Disk, C: Chooser, W: Watch>(
-    intake: &mut Intake,
-    alloc: Global,
+    terms: &Terms<'_, R>,
     engine: &mut Engine,
     store: &mut Option<Store>,
-    settings: &Settings,
     input: &mut S,
     out: &mut K,
     err: &mut E,
     disk: &mut D,
-    rule: &R,
     chooser: &mut C,
     watch: &mut W,
 ) -> Result<Tally, SessionFault>
-    requires range { IsInRange settings.now }
+    requires range { IsInRange terms.now.settings.now }
     requires ready { IsReady (state_of engine.old store.old (D.facts disk.old) (D.faults disk.old) (D.mounts disk.old)) 0 }
-    requires fresh { intake.old.line ≡ [] }
-    requires lines { intake.old.lines ≡ 0 }
-    requires tally { intake.old.tally ≡ no_batch }
-    requires limit { settings.now.limit ≤ 2 ^ 62 }
-    ensures served { Served (service_of engine.old (R.choice rule.now) settings.now.batch settings.now.parts) settings.now.trace settings.now.limit result
+    requires limit { terms.now.settings.now.limit ≤ 2 ^ 62 }
+    ensures serves { ServedInput (service_by engine.old (R.choice terms.now.rule.now) terms.now.settings.now) terms.now.settings.now.trace
+        (settings_of store.old) terms.now.settings.now.limit result
         (view_of engine.old (S.left input.old) (K.held out.old) (E.held err.old) (C.choices chooser.old) (W.told watch.old))
-        (view_of engine.new (S.left input.new) (K.held out.new) (E.held err.new) (C.choices chooser.new) (W.told watch.new)) }
+        (view_of engine.new (S.left input.new) (K.held out.new) (E.held err.new) (C.choices chooser.new) (W.told watch.new))
+        (logged_of engine.old) (logged_of engine.new) (D.facts disk.old) (D.facts disk.new) }
     ensures read { S.faults input.old ≤ S.faults input.new }
     ensures read_cause { result ≡ Err SessionFault.ReadFault → Rose (S.faults input.old) (S.faults input.new) }
-    ensures logs { LogsServed (service_of engine.old (R.choice rule.now) settings.now.batch settings.now.parts) (settings_of store.old) settings.now.limit
-        (core_of engine.old) (S.left input.old) (S.left input.new)
-        (logged_of engine.old) (logged_of engine.new) (D.facts disk.old) (D.facts disk.new) }
     ensures in_cycle { IfOk result (λ tally. IsInCycle store.new tally.batches) }
-    ensures goes_on { GoesOn (R.choice rule.now) (disk_failed result) (state_of engine.old store.old (D.facts disk.old) (D.faults disk.old) (D.mounts disk.old))
+    ensures goes_on { GoesOn (R.choice terms.now.rule.now) (disk_failed result)
+        (state_of engine.old store.old (D.facts disk.old) (D.faults disk.old) (D.mounts disk.old))
         (state_of engine.new store.new (D.facts disk.new) (D.faults disk.new) (D.mounts disk.new)) }
     ensures writes { WritesOn (write_failed result) (K.faults out.old) (K.faults out.new) (E.faults err.old) (E.faults err.new) }
 {
-    match intake.take_input(
-        alloc, engine, store, settings, input, out, err, disk, rule, chooser, watch,
-    ) {
-        Ok(InputEnd::End) => {
-            let ended = intake.finish(
-                alloc, engine, store, settings, out, err, disk, rule, chooser, watch,
-            );
-            finished(ended, intake.tally)
+    let mut intake = Intake::new(terms.alloc, terms.settings.limit);
+    'lines: loop {
+        match intake.reader.next(input) {
+            Ok(Next::Line) => {
+                match intake.answer(terms, engine, store, out, err, disk, chooser, watch) {
+                    Ok(()) => {}
+                    Err(stop) => return Err(fault_of(stop)),
+                }
+            }
+            Ok(Next::End) => {
+                let ended = intake.finish(terms, engine, store, out, err, disk, chooser, watch);
+                return finished(ended, intake.tally);
+            }
+            Ok(Next::ReadFault) => return Err(SessionFault::ReadFault),
+            Ok(Next::TooLong) => return Err(SessionFault::InputTooLong),
+            Err(_) => return Err(SessionFault::NoMemory),
         }
-        Ok(InputEnd::ReadFault) => Err(SessionFault::ReadFault),
-        Ok(InputEnd::TooLong) => Err(SessionFault::InputTooLong),
-        Err(stop) => Err(fault_of(stop)),
     }
 }
 

@@ -1,5 +1,7 @@
 //! How a session serves.
 
+use std::alloc::Global;
+
 #[derive(Clone, Copy, PartialEq, Eq, Debug)]
 pub struct Settings {
     /// How many requests make a batch, 1 to 256.
@@ -10,4 +12,13 @@ pub struct Settings {
     pub limit: u64,
     /// Whether each batch writes a line to the trace.
     pub trace: bool,
+}
+
+/// What stays the same through a session: how it serves, by which rule it commits, and where it takes
+/// memory.
+#[derive(Drop)]
+pub(crate) struct Terms<'a, R> {
+    pub(crate) alloc: Global,
+    pub(crate) settings: &'a Settings,
+    pub(crate) rule: &'a R,
 }

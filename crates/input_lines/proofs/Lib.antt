@@ -1,2 +1,5 @@
 pub mod CutLaws
 pub mod KeptBytes
+pub mod StartLaws
+pub mod ReadLaws
+pub mod GivenLaws

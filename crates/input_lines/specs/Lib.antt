@@ -1,2 +1,3 @@
-pub mod Cuts
 pub mod CutLaws
+pub mod Reads
+pub mod Given

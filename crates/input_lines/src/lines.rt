@@ -1,105 +1,128 @@
-//! The line that comes next, as far as it has come.
+//! An input, line by line.
 
-ghost use Rattle.std.specs.Prelude.{◌≡◌, ◌==◌, ℕ, List, [], ◌++◌, length, IfOk, OnOk, OnErr};
-ghost use Rattle.request_json.specs.Actions.{without_cr};
-ghost use Rattle.input_lines.specs.Cuts.{IsStart, Cuts, IsWithin};
+ghost use Rattle.std.specs.Prelude.{◌≡◌, ◌≤◌, ℕ, List, false, Ok};
+ghost use Rattle.std.specs.declared.option.Option.{Option};
+ghost use Rattle.sf_outside.specs.Causes.{Rose};
+ghost use Rattle.input_lines.specs.Reads.{IsNew, Joins, Takes, Gives};
 
+use crate::pieces::{Piece, goes_on};
+use crate::start::LineStart;
 use memchr::memchr;
+use sf_outside::Source;
 use std::alloc::{AllocError, Global};
-use std::marker::Model;
 
-/// A line has at most this many bytes, its line end not counted.
-pub const LONGEST: usize = 1_048_576;
+/// What comes next of an input.
+#[derive(Clone, Copy, PartialEq, Eq, Debug)]
+pub enum Next {
+    /// A line that an LF ended.
+    Line,
+    /// The input's end.
+    End,
+    /// Nothing that can be read.
+    ReadFault,
+    /// More bytes than may be taken.
+    TooLong,
+}
 
-/// The start of the line that isn't whole yet, or the line: its first bytes, up to one more than a
-/// line may have. So a line that is too long is told from the longest one, and takes bounded room.
+/// A reader of an input, between two calls.
 #[derive(Drop)]
-pub struct LineBuffer {
-    kept: Vec<u8>,
+pub struct Lines {
+    /// The line that was given last, or as much as came of the next one.
+    line: LineStart,
+    /// Whether an LF ended it.
+    ended: bool,
+    /// What was read and stands behind it.
+    piece: Piece,
+    /// How many bytes may still be read.
+    room: u64,
+    /// How many bytes a line may have.
+    longest: u32,
 }
 
-impl Model for LineBuffer {
-    ghost use Rattle.std.specs.Prelude.{List, ℕ};
-    ghost use Rattle.std.specs.Coded.{coded_list, coded_ℕ};
-
-    ghost Value = { List ℕ };
-
-    ghost coded = { coded_list coded_ℕ };
-
-    ghost view = { λ line. line.kept.items };
-}
-
-impl LineBuffer {
-    /// The start of a line of which no byte came. It takes no memory.
-    pub fn new(alloc: Global) -> LineBuffer
-        ensures { result ≡ [] }
+impl Lines {
+    /// Of the input at most `limit` bytes will be taken, and of a line one more kept than `longest`.
+    pub fn new(alloc: Global, limit: u64, longest: u32) -> Lines
+        ensures { IsNew limit longest result }
     {
-        LineBuffer {
-            kept: Vec::new(alloc),
+        Lines {
+            line: LineStart::new(alloc),
+            ended: false,
+            piece: Piece::new(),
+            room: limit,
+            longest,
         }
     }
 
-    /// Whether no byte of the line came.
-    pub fn is_empty(&self) -> bool
-        ensures { result ≡ (length self.now == 0) }
+    /// The start of the line that was given last, without its LF. Where the input ended or couldn't be
+    /// read, it is that of what stands behind the last LF.
+    pub fn line(&self) -> &[u8]
+        ensures { result.now ≡ self.now.line }
     {
-        self.kept.is_empty()
+        self.line.as_slice()
     }
 
-    /// The bytes that are kept.
-    pub fn as_slice(&self) -> &[u8]
-        ensures { result.now ≡ self.now }
+    /// Whether that line ended with LF.
+    pub fn ended(&self) -> bool
+        ensures { result ≡ self.now.ended }
     {
-        self.kept.as_slice()
+        self.ended
     }
 
-    /// Begins the next line. The room that the last one took stays for it.
-    pub fn clear(&mut self)
-        ensures { self.new ≡ [] }
+    /// Goes on with a line that no LF ended, and begins one behind a line that was given.
+    fn begin(&mut self)
+        ensures { (left : Option (List ℕ)) → Joins self.old self.new left left }
     {
-        self.kept.clear();
+        if self.ended {
+            self.line.clear();
+            self.ended = false;
+        }
     }
 
-    /// Keeps bytes of the line, as many as there is room for.
-    fn keep(&mut self, bytes: &[u8]) -> Result<(), AllocError>
-        ensures kept { OnOk result ((part : List ℕ) → IsStart self.old part → IsStart self.new (part ++ bytes.now)) }
-        ensures unchanged { OnErr result (self.new ≡ self.old) }
+    /// Uses what stands up to its first LF, and answers whether it has one.
+    fn take(&mut self) -> Result<bool, AllocError>
+        requires { self.old.ended ≡ false }
+        ensures { (left : Option (List ℕ)) → Takes self.old self.new left result }
     {
-        let room = (LONGEST + 1).saturating_sub(self.kept.len());
-        let count = room.min(bytes.len());
-        self.kept.extend_from_slice(&bytes[..count])?;
-        Ok(())
-    }
-
-    /// Keeps the bytes of a piece up to its first line end, an LF, which isn't kept, or all of them
-    /// where it has none. Where a line has become whole so, it answers how many bytes of the piece were
-    /// taken, the LF among them; else the whole piece was. Once the line was used, [`LineBuffer::clear`]
-    /// begins the next one, whose bytes are those of the piece that weren't taken.
-    pub fn take_line(&mut self, piece: &[u8]) -> Result<Option<usize>, AllocError>
-        ensures cut { IfOk result (λ taken. Cuts self.old self.new piece.now taken) }
-        ensures within { IfOk result (λ taken. IsWithin piece.now taken) }
-        ensures unchanged { OnErr result (self.new ≡ self.old) }
-    {
+        let piece = self.piece.as_slice();
         match memchr(b'\n', piece) {
             Some(end) => {
-                self.keep(&piece[..end])?;
-                Ok(Some(end + 1))
+                self.line.keep(self.longest, &piece[..end])?;
+                self.piece.skip(end + 1);
+                self.ended = true;
+                Ok(true)
             }
             None => {
-                self.keep(piece)?;
-                Ok(None)
+                self.line.keep(self.longest, piece)?;
+                self.piece.clear();
+                Ok(false)
             }
         }
     }
-}
 
-/// A line without a CR at its end.
-pub fn trimmed(line: &[u8]) -> &[u8]
-    ensures { result.now ≡ without_cr line.now }
-{
-    if !line.is_empty() && line[line.len() - 1] == b'\r' {
-        &line[..line.len() - 1]
-    } else {
-        line
+    /// Gives the next line. It reads more only where no line ends in what stands; and once so many bytes
+    /// were taken as may be, it asks for one more, which tells the end from an input that is too long.
+    pub fn next<S: Source>(&mut self, input: &mut S) -> Result<Next, AllocError>
+        ensures gives { Gives self.old self.new (S.left input.old) (S.left input.new) result }
+        ensures later { S.faults input.old ≤ S.faults input.new }
+        ensures cause { result ≡ Ok Next.ReadFault → Rose (S.faults input.old) (S.faults input.new) }
+    {
+        self.begin();
+        'pieces: loop {
+            if self.take()? {
+                return Ok(Next::Line);
+            }
+            if self.room == 0 {
+                return match goes_on(input) {
+                    Ok(true) => Ok(Next::TooLong),
+                    Ok(false) => Ok(Next::End),
+                    Err(_) => Ok(Next::ReadFault),
+                };
+            }
+            match self.piece.fill(input, self.room) {
+                Ok(0) => return Ok(Next::End),
+                Ok(count) => self.room -= count as u64,
+                Err(_) => return Ok(Next::ReadFault),
+            }
+        }
     }
 }

@@ -1,5 +1,5 @@
 -- Lines that are answered, one after another.
-use Rattle.std.proofs.Common.{◌≡◌, ℕ, Bool, true, List, [], ◌∷◌, ◌++◌, Option, Some, None, Ok, Err, IsErr, sym, ap, ◌∙◌, subst}
+use Rattle.std.proofs.Common.{◌≡◌, ℕ, Bool, true, false, List, [], ◌∷◌, ◌++◌, Option, Some, None, Ok, Err, IsErr, refl, sym, ap, ◌∙◌, subst}
 use Rattle.std.specs.Prelude.{OnOk}
 use Rattle.std.specs.List.{cons_option}
 use Rattle.std.specs.declared.result.Result.{Result}
@@ -9,16 +9,18 @@ use Rattle.sf_outside.specs.Bytes.{AppendsPrefix}
 use Rattle.sf_outside.specs.Gains.{joined}
 use Rattle.sf_outside.proofs.GainLaws.{joined-nil, joined_one}
 use Rattle.program_meaning.specs.ClassTables.{Source}
-use Rattle.request_json.specs.Actions.{Line}
+use Rattle.request_json.specs.RequestLines.{longest}
+use Rattle.request_json.specs.Actions.{Line, last_line}
+use Rattle.input_lines.specs.Reads.{IsStart}
+use Rattle.input_lines.proofs.StartLaws.{some_start, no_start}
 use Rattle.session.specs.declared.answering.Standing.{Standing as Held}
-use Rattle.session.specs.declared.feeding.Session.{Session}
 use Rattle.session.specs.declared.stopping.SessionStop.{SessionStop}
 use Rattle.session.specs.declared.stopping.SessionStop.TheVariants.{HistoryFull, NoMemory, WriteFault}
 use Rattle.session.specs.OutputText.{Standing, replies, after, reply, step}
 use Rattle.session.specs.Standings.{standing_of, standing_behind, line_of}
 use Rattle.session.specs.Stops.{Wrote, FindsFull}
-use Rattle.session.specs.Feeds.{Answers, AnswersKept}
-use Rattle.session.proofs.LineLaws.{replies-append, after-append, replies-one, after-one, replies-nil, after-nil, replies-full, after-full}
+use Rattle.session.specs.Answering.{Answers}
+use Rattle.session.proofs.LineLaws.{replies-append, after-append, replies-one, after-one, replies-nil, after-nil, replies-full, after-full, replies-start, after-start}
 use Rattle.session.proofs.StopLaws.{Wrote-none, Wrote-no_memory, Wrote-after, Wrote-more, Wrote-passed, FindsFull-passed, FindsFull-no_memory, FindsFull-write_fault}
 
 -- what holds after an Ok is carried along an equation
@@ -43,36 +45,32 @@ still_full (Err WriteFault) first last stopped full same = tt
 
 module _ (src : Source) (most : ℕ) where
   -- no line came
-  pub Answers-none : {U : Type 0} (u : U) (s s' : Session) (held : Option (List ℕ)) → s'.standing ≡ s.standing → Answers src most (Ok u) s s' held held []
-  Answers-none u s s' held same =
-      let st = standing_of s.standing in
-      record {
-        wrote = subst (Wrote (Ok u) held held) (sym (replies-nil src most st)) (Wrote-none u held);
-        full = ap (λ (t : Standing). t.is_full) (after-nil src most st);
-        standing = ap standing_of same ∙ sym (after-nil src most st);
-      }
+  pub Answers-none : {U : Type 0} (u : U) (st : Standing) (s : Held) (held : Option (List ℕ)) → standing_of s ≡ st → Answers src most (Ok u) st s held held []
+  Answers-none u st s held same = record {
+    wrote = subst (Wrote (Ok u) held held) (sym (replies-nil src most st)) (Wrote-none u held);
+    full = ap (λ (t : Standing). t.is_full) (after-nil src most st ∙ sym same);
+    standing = same ∙ sym (after-nil src most st);
+  }
 
   -- these lines, and then those
-  pub Answers-then : {T U : Type 0} (u : U) (r : Result T SessionStop) (s₀ s₁ s₂ : Session) (h₀ h₁ h₂ : Option (List ℕ)) (xs ys : List Line)
-      → Answers src most (Ok u) s₀ s₁ h₀ h₁ xs → Answers src most r s₁ s₂ h₁ h₂ ys → Answers src most r s₀ s₂ h₀ h₂ (xs ++ ys)
-  Answers-then u r s₀ s₁ s₂ h₀ h₁ h₂ xs ys f k =
-      let st = standing_of s₀.standing in
-      let now : standing_of s₁.standing ≡ after src most st xs = f.standing in
-      let stands : after src most (standing_of s₁.standing) ys ≡ after src most st (xs ++ ys) =
+  pub Answers-then : {T U : Type 0} {u : U} {r : Result T SessionStop} {st : Standing} {s₁ s₂ : Held} {h₀ h₁ h₂ : Option (List ℕ)} {xs ys : List Line}
+      → Answers src most (Ok u) st s₁ h₀ h₁ xs → Answers src most r (standing_of s₁) s₂ h₁ h₂ ys → Answers src most r st s₂ h₀ h₂ (xs ++ ys)
+  Answers-then {r = r} {st} {s₁} {s₂} {h₀} {h₁} {h₂} {xs} {ys} f k =
+      let now : standing_of s₁ ≡ after src most st xs = f.standing in
+      let stands : after src most (standing_of s₁) ys ≡ after src most st (xs ++ ys) =
       ap (λ t. after src most t ys) now ∙ sym (after-append src most xs ys st) in
-      let texts : replies src most st xs ++ replies src most (standing_of s₁.standing) ys ≡ replies src most st (xs ++ ys) =
+      let texts : replies src most st xs ++ replies src most (standing_of s₁) ys ≡ replies src most st (xs ++ ys) =
       ap (λ t. replies src most st xs ++ replies src most t ys) now ∙ sym (replies-append src most xs ys st) in
       record {
-        wrote = subst (Wrote r h₀ h₂) texts (Wrote-after r h₀ h₁ h₂ (replies src most st xs) (replies src most (standing_of s₁.standing) ys) f.wrote k.wrote);
+        wrote = subst (Wrote r h₀ h₂) texts (Wrote-after r h₀ h₁ h₂ (replies src most st xs) (replies src most (standing_of s₁) ys) f.wrote k.wrote);
         full = subst (λ (t : Standing). FindsFull r t.is_full) stands k.full;
         standing = carried _ _ _ r k.standing stands;
       }
 
   -- a stop at these lines is a stop at them and those
-  pub Answers-cut : {T : Type 0} (r : Result T SessionStop) (s₀ s₁ : Session) (h₀ h₁ : Option (List ℕ)) (xs ys : List Line) → IsErr r
-      → Answers src most r s₀ s₁ h₀ h₁ xs → Answers src most r s₀ s₁ h₀ h₁ (xs ++ ys)
-  Answers-cut r s₀ s₁ h₀ h₁ xs ys stopped f =
-      let st = standing_of s₀.standing in
+  pub Answers-cut : {T : Type 0} {r : Result T SessionStop} {st : Standing} {s : Held} {h₀ h₁ : Option (List ℕ)} {xs : List Line} (ys : List Line) → IsErr r
+      → Answers src most r st s h₀ h₁ xs → Answers src most r st s h₀ h₁ (xs ++ ys)
+  Answers-cut {r = r} {st} {s} {h₀} {h₁} {xs} ys stopped f =
       let behind = after src most st xs in
       record {
         wrote = subst (Wrote r h₀ h₁) (sym (replies-append src most xs ys st))
@@ -83,81 +81,82 @@ module _ (src : Source) (most : ℕ) where
       }
 
   -- the exit of a `?` passes the same stop on
-  pub Answers-passed : (V : Type 0) {T : Type 0} (stop : SessionStop) (r : Result T SessionStop)
-      (s₀ s₁ : Session) (h₀ h₁ : Option (List ℕ)) (lines : List Line) → r ≡ Err stop
-      → Answers src most {T = V} (Err stop) s₀ s₁ h₀ h₁ lines → Answers src most r s₀ s₁ h₀ h₁ lines
-  Answers-passed V stop r s₀ s₁ h₀ h₁ lines is f = record {
+  pub Answers-passed : (V : Type 0) {T : Type 0} (stop : SessionStop) (r : Result T SessionStop) {st : Standing} {s : Held} {h₀ h₁ : Option (List ℕ)}
+      {lines : List Line} → r ≡ Err stop → Answers src most {T = V} (Err stop) st s h₀ h₁ lines → Answers src most r st s h₀ h₁ lines
+  Answers-passed V stop r {h₀ = h₀} {h₁ = h₁} is f = record {
     wrote = Wrote-passed V stop r h₀ h₁ _ is f.wrote;
     full = FindsFull-passed V stop r _ is f.full;
     standing = unasked _ stop r is;
   }
 
   -- memory was wanted before anything was written
-  pub Answers-no_memory : {T : Type 0} (r : Result T SessionStop) (s₀ s₁ : Session) (held : Option (List ℕ)) (lines : List Line) → r ≡ Err NoMemory
-      → Answers src most r s₀ s₁ held held lines
-  Answers-no_memory r s₀ s₁ held lines is = record {
+  pub Answers-no_memory : {T : Type 0} (r : Result T SessionStop) (st : Standing) (s : Held) (held : Option (List ℕ)) (lines : List Line) → r ≡ Err NoMemory
+      → Answers src most r st s held held lines
+  Answers-no_memory r st s held lines is = record {
     wrote = Wrote-no_memory r held _ is;
     full = FindsFull-no_memory r _ is;
     standing = unasked _ NoMemory r is;
   }
 
-  -- The line that is kept
+  -- One line
 
-  -- its answer, and the standing behind it, are those of the definition; nothing is written yet
-  pub record IsMade (old : Session) (ended : Bool) (s : Held) (made : Option (List ℕ)) : Type 0 where
-    pub text : cons_option made [] ≡ replies src most (standing_of old.standing) (line_of ended old.line ∷ [])
-    pub stands : standing_behind s made ≡ after src most (standing_of old.standing) (line_of ended old.line ∷ [])
-
-  pub is_made : (old : Session) (ended : Bool) (s : Held) (shown : List ℕ) (made answer : Option (List ℕ)) → shown ≡ old.line → made ≡ answer
-      → cons_option made [] ≡ reply src most (standing_of old.standing) (line_of ended shown)
-      → standing_behind s made ≡ step src most (standing_of old.standing) (line_of ended shown) → IsMade old ended s answer
-  is_made old ended s shown made answer same is text stands =
-      let st = standing_of old.standing in
+  -- where the start of a line was answered, the line was
+  pub Answers-start : {T : Type 0} {r : Result T SessionStop} {st : Standing} {s : Held} {h₀ h₁ : Option (List ℕ)} (ended : Bool) (kept line : List ℕ)
+      → IsStart longest kept line → Answers src most r st s h₀ h₁ (line_of ended kept ∷ []) → Answers src most r st s h₀ h₁ (line_of ended line ∷ [])
+  Answers-start {r = r} {st} {h₀ = h₀} {h₁} ended kept line start a =
+      let stands = after-start src most st ended kept line start in
       record {
-        text = ap (λ o. cons_option o []) (sym is) ∙ text ∙ ap (λ l. reply src most st (line_of ended l)) same
-            ∙ sym (replies-one src most st (line_of ended old.line));
-        stands = ap (standing_behind s) (sym is) ∙ stands ∙ ap (λ l. step src most st (line_of ended l)) same
-            ∙ sym (after-one src most st (line_of ended old.line));
+        wrote = subst (Wrote r h₀ h₁) (replies-start src most st ended kept line start) a.wrote;
+        full = subst (λ (t : Standing). FindsFull r t.is_full) stands a.full;
+        standing = carried _ _ _ r a.standing stands;
       }
 
-  pub Kept-no_memory : {T : Type 0} (r : Result T SessionStop) (old new : Session) (held : Option (List ℕ)) (ended : Bool) → r ≡ Err NoMemory
-      → AnswersKept src most r old new held held ended
-  Kept-no_memory r old new held ended is = record {
-    answers = Answers-no_memory r old new held (line_of ended old.line ∷ []) is;
-    kept = unasked _ NoMemory r is;
+  -- and where that of the last line was, it was
+  pub Answers-left : {T : Type 0} {r : Result T SessionStop} {st : Standing} {s : Held} {h₀ h₁ : Option (List ℕ)} (kept line : List ℕ)
+      → IsStart longest kept line → Answers src most r st s h₀ h₁ (last_line kept) → Answers src most r st s h₀ h₁ (last_line line)
+  Answers-left [] [] start a = a
+  Answers-left [] (b ∷ bs) start a = absurd (some_start longest b bs start)
+  Answers-left (k ∷ ks) [] start a = absurd (no_start longest k ks start)
+  Answers-left (k ∷ ks) (b ∷ bs) start a = Answers-start false (k ∷ ks) (b ∷ bs) start a
+
+  -- a line that has a byte, and no LF ended, is the last line
+  pub Answers-last : {T : Type 0} {r : Result T SessionStop} {st : Standing} {s : Held} {h₀ h₁ : Option (List ℕ)} (ended : Bool) (line : List ℕ)
+      → ended ≡ false → (line ≡ [] → ⊥) → Answers src most r st s h₀ h₁ (line_of ended line ∷ []) → Answers src most r st s h₀ h₁ (last_line line)
+  Answers-last ended [] left some a = absurd (some refl)
+  Answers-last {r = r} {st} {s} {h₀} {h₁} ended (b ∷ bs) left some a = subst (λ e. Answers src most r st s h₀ h₁ (line_of e (b ∷ bs) ∷ [])) left a
+
+  -- its answer, and the standing behind it, are those of the definition; nothing is written yet
+  pub record IsMade (old : Standing) (line : Line) (s : Held) (made : Option (List ℕ)) : Type 0 where
+    pub text : cons_option made [] ≡ replies src most old (line ∷ [])
+    pub stands : standing_behind s made ≡ after src most old (line ∷ [])
+
+  pub is_made : (old : Standing) (shown line : Line) (s : Held) (made answer : Option (List ℕ)) → shown ≡ line → made ≡ answer
+      → cons_option made [] ≡ reply src most old shown → standing_behind s made ≡ step src most old shown → IsMade old line s answer
+  is_made old shown line s made answer same is text stands = record {
+    text = ap (λ o. cons_option o []) (sym is) ∙ text ∙ ap (reply src most old) same ∙ sym (replies-one src most old line);
+    stands = ap (standing_behind s) (sym is) ∙ stands ∙ ap (step src most old) same ∙ sym (after-one src most old line);
   }
 
-  pub Kept-full : (old new : Session) (held : Option (List ℕ)) (ended : Bool) (s : Held) → IsMade old ended s None
-      → AnswersKept src most {T = Unit {0}} (Err HistoryFull) old new held held ended
-  Kept-full old new held ended s m = record {
-    answers = record {
+  module _ {old : Standing} {new : Held} {line : Line} where
+    pub Told-full : (held : Option (List ℕ)) → IsMade old line new None → Answers src most {T = Unit {0}} (Err HistoryFull) old new held held (line ∷ [])
+    Told-full held m = record {
       wrote = subst (λ ls. Appends held held (joined ls)) m.text (subst (Appends held held) (sym joined-nil) (Appends-nil held));
       full = ap (λ (t : Standing). t.is_full) (sym m.stands);
       standing = tt;
-    };
-    kept = tt;
-  }
+    }
 
-  pub Kept-part : {T : Type 0} (r : Result T SessionStop) (old new : Session) (held held' : Option (List ℕ)) (ended : Bool) (s : Held) (text : List ℕ)
-      → r ≡ Err WriteFault → IsMade old ended s (Some text)
-      → AppendsPrefix held held' text → AnswersKept src most r old new held held' ended
-  Kept-part r old new held held' ended s text is m part = record {
-    answers = record {
+    pub Told-part : {T : Type 0} (r : Result T SessionStop) (held held' : Option (List ℕ)) (text : List ℕ) → r ≡ Err WriteFault
+        → IsMade old line new (Some text) → AppendsPrefix held held' text → Answers src most r old new held held' (line ∷ [])
+    Told-part r held held' text is m part = record {
       wrote = rw is (subst (λ ls. AppendsPrefix held held' (joined ls)) m.text (subst (AppendsPrefix held held') (sym (joined_one text)) part));
       full = FindsFull-write_fault r _ is;
       standing = unasked _ WriteFault r is;
-    };
-    kept = unasked _ WriteFault r is;
-  }
+    }
 
-  pub Kept-whole : (old new : Session) (held held' : Option (List ℕ)) (ended : Bool) (s : Held) (text : List ℕ) → new.standing ≡ s → new.line ≡ []
-      → IsMade old ended s (Some text)
-      → Appends held held' text → AnswersKept src most {T = Unit {0}} (Ok (tt {0})) old new held held' ended
-  Kept-whole old new held held' ended s text same clear m whole = record {
-    answers = record {
+    pub Told-whole : (held held' : Option (List ℕ)) (text : List ℕ) → IsMade old line new (Some text)
+        → Appends held held' text → Answers src most {T = Unit {0}} (Ok (tt {0})) old new held held' (line ∷ [])
+    Told-whole held held' text m whole = record {
       wrote = subst (λ ls. Appends held held' (joined ls)) m.text (subst (Appends held held') (sym (joined_one text)) whole);
       full = ap (λ (t : Standing). t.is_full) (sym m.stands);
-      standing = ap standing_of same ∙ m.stands;
-    };
-    kept = clear;
-  }
+      standing = m.stands;
+    }

@@ -1,35 +1,18 @@
 -- Laws of lines, and of a session over lines one after the other.
-use Rattle.std.proofs.Common.{◌≡◌, ◌≤◌, ◌<◌, ℕ, ◌+◌, Bool, true, false, cond, nat_le, if◌then◌else◌, List, [], ◌∷◌, ◌++◌, length, take, refl, sym, ap, ◌∙◌, append_assoc, append-nil, arith}
-use Rattle.std.proofs.lemmas.List.{take_all, length-take}
-use Rattle.std.proofs.lemmas.Bool.Decides.{nat_tests}
+use Rattle.std.proofs.Common.{◌≡◌, ℕ, ◌+◌, Bool, true, false, if◌then◌else◌, List, [], ◌∷◌, ◌++◌, take, refl, sym, ap, ◌∙◌, append_assoc, append-nil}
 use Rattle.program_meaning.specs.ClassTables.{Source}
 use Rattle.request_json.specs.RequestLines.{longest}
-use Rattle.request_json.specs.Actions.{Line, Ended, Left, Action, Refuse, LineTooLong, action_of, used, content_of}
+use Rattle.request_json.specs.Actions.{Line, Ended, Left, Refuse, LineTooLong, action_of, used, content_of}
+use Rattle.input_lines.specs.Reads.{IsStart}
+use Rattle.input_lines.proofs.StartLaws.{start_tells}
 use Rattle.session.specs.OutputText.{Standing, reply_to, behind, replies, after, reply, step}
 use Rattle.session.specs.Standings.{line_of}
 
--- whether a list has at most m elements, and then the whole list, is told by its first m + 1
-enough : (m : ℕ) (part : List ℕ) (f : List ℕ → Action) (over : Action)
-    → cond (nat_le (length (take (m + 1) part)) m) (f (take (m + 1) part)) over ≡ cond (nat_le (length part) m) (f part) over
-enough m part f over = by (nat_le (length part) m) refl
-  where
-    by : (b : Bool) → nat_le (length part) m ≡ b
-        → cond (nat_le (length (take (m + 1) part)) m) (f (take (m + 1) part)) over ≡ cond (nat_le (length part) m) (f part) over
-    by true h =
-        let short : length part ≤ m = grind (arith, nat_tests) in
-        ap (λ l. cond (nat_le (length l) m) (f l) over) (take_all (m + 1) part (omega arith))
-    by false h =
-        let long : m < length part = grind (arith, nat_tests) in
-        let cut : length (take (m + 1) part) ≡ m + 1 = omega (arith, length-take (m + 1) part) in
-        let past : nat_le (length (take (m + 1) part)) m ≡ false = grind (arith, nat_tests) in
-        ap (λ b. cond b (f (take (m + 1) part)) over) past ∙ sym (ap (λ b. cond b (f part) over) h)
-
--- the start of a line is enough
-
-pub action-start : (src : Source) (ended : Bool) (part : List ℕ) → action_of src (line_of ended (take (longest + 1) part)) ≡ action_of src (line_of ended part)
+-- the start of a line asks what the line asks
+action-start : (src : Source) (ended : Bool) (line : List ℕ) → action_of src (line_of ended (take (longest + 1) line)) ≡ action_of src (line_of ended line)
 unfolding action_of
-action-start src true part = enough longest part (λ l. used src (content_of (Ended l))) (Refuse LineTooLong)
-action-start src false part = enough longest part (λ l. used src (content_of (Left l))) (Refuse LineTooLong)
+action-start src true line = start_tells longest line (λ l. used src (content_of (Ended l))) (Refuse LineTooLong)
+action-start src false line = start_tells longest line (λ l. used src (content_of (Left l))) (Refuse LineTooLong)
 
 module _ (src : Source) (most : ℕ) where
   -- Two lists of lines
@@ -85,18 +68,18 @@ module _ (src : Source) (most : ℕ) where
 
   -- The start of a line is answered as the line
 
-  pub replies-start : (s : Standing) (ended : Bool) (kept part : List ℕ) → kept ≡ take (longest + 1) part
-      → replies src most s (line_of ended kept ∷ []) ≡ replies src most s (line_of ended part ∷ [])
-  replies-start s ended kept part h =
+  pub replies-start : (s : Standing) (ended : Bool) (kept line : List ℕ) → IsStart longest kept line
+      → replies src most s (line_of ended kept ∷ []) ≡ replies src most s (line_of ended line ∷ [])
+  replies-start s ended kept line start =
       replies-one s (line_of ended kept)
-      ∙ ap (λ l. reply src most s (line_of ended l)) h
-      ∙ ap (λ a. if s.is_full then [] else reply_to src most s.core (s.lines + 1) a) (action-start src ended part)
-      ∙ sym (replies-one s (line_of ended part))
+      ∙ ap (λ l. reply src most s (line_of ended l)) start
+      ∙ ap (λ a. if s.is_full then [] else reply_to src most s.core (s.lines + 1) a) (action-start src ended line)
+      ∙ sym (replies-one s (line_of ended line))
 
-  pub after-start : (s : Standing) (ended : Bool) (kept part : List ℕ) → kept ≡ take (longest + 1) part
-      → after src most s (line_of ended kept ∷ []) ≡ after src most s (line_of ended part ∷ [])
-  after-start s ended kept part h =
+  pub after-start : (s : Standing) (ended : Bool) (kept line : List ℕ) → IsStart longest kept line
+      → after src most s (line_of ended kept ∷ []) ≡ after src most s (line_of ended line ∷ [])
+  after-start s ended kept line start =
       after-one s (line_of ended kept)
-      ∙ ap (λ l. step src most s (line_of ended l)) h
-      ∙ ap (λ a. if s.is_full then s else behind src most s a) (action-start src ended part)
-      ∙ sym (after-one s (line_of ended part))
+      ∙ ap (λ l. step src most s (line_of ended l)) start
+      ∙ ap (λ a. if s.is_full then s else behind src most s a) (action-start src ended line)
+      ∙ sym (after-one s (line_of ended line))

@@ -1,8 +1,7 @@
 pub mod OutputText
 pub mod Standings
 pub mod Stops
-pub mod Feeds
-pub mod Takes
+pub mod Answering
 pub mod Served
 pub mod SerialOutput
 pub mod AnswersFit

@@ -6,7 +6,7 @@ ghost use Rattle.program_meaning.specs.Sources.{source_of};
 ghost use Rattle.request_json.specs.Actions.{Ask, used};
 ghost use Rattle.request_history.specs.Repeats.{kept_of};
 ghost use Rattle.request_history.specs.HistoryView.{kept_at};
-ghost use Rattle.session.specs.OutputText.{answer_again, new_line, new_lines, after_new, has_no_place, after_action, stops, reply_to, reply, step, commit};
+ghost use Rattle.session.specs.OutputText.{start, answer_again, new_line, new_lines, after_new, has_no_place, after_action, stops, reply_to, reply, step, commit};
 ghost use Rattle.session.specs.Standings.{core_of, standing_of, standing_behind, line_of};
 
 use input_lines::{LONGEST, trimmed};
@@ -38,6 +38,17 @@ fn repeat(alloc: Global, found: Found<'_>, asked: &Act, number: u64) -> Result<B
 }
 
 impl Standing {
+    /// Before the first line.
+    pub(crate) fn new(alloc: Global) -> Standing
+        ensures { standing_of result ≡ start }
+    {
+        Standing {
+            local: Local::new(alloc),
+            history: History::new(alloc),
+            lines: 0,
+        }
+    }
+
     /// Runs a new request, and commits it.
     fn commit(
         &mut self,

@@ -9,7 +9,7 @@ mod serving;
 mod stopping;
 
 pub use answering::Standing;
-pub use feeding::{InputEnd, Session};
+pub use feeding::InputEnd;
 pub use laws::{answers_fit, answers_what_was_taken, replies_are_serial, serves_serially};
 pub use serving::serve;
 pub use stopping::SessionStop;

@@ -7,13 +7,15 @@ ghost use Rattle.program_meaning.specs.Sources.{source_of};
 ghost use Rattle.session.specs.Stops.{Counts};
 ghost use Rattle.session.specs.Served.{Served};
 
-use crate::feeding::{InputEnd, Session};
+use crate::answering::Standing;
+use crate::feeding::InputEnd;
 use crate::stopping::SessionStop;
+use input_lines::{LONGEST, Lines, Next};
 use py_tree::Checked;
 use sf_outside::{Sink, Source};
 use std::alloc::Global;
 
-/// Answers the lines of the input, and doesn't flush at the end.
+/// Answers the lines of the input, one after another, and doesn't flush at the end.
 fn answer_all<S: Source, K: Sink>(
     alloc: Global,
     limit: u64,
@@ -28,14 +30,18 @@ fn answer_all<S: Source, K: Sink>(
     ensures cause { result ≡ Ok InputEnd.ReadFault → Rose (S.faults input.old) (S.faults input.new) }
     ensures served { Served (source_of program.now) limit history (S.left input.old) (S.left input.new) (K.held out.old) (K.held out.new) result }
 {
-    let mut session = Session::new(alloc);
-    match session.take_input(alloc, limit, program, input, out, history)? {
-        InputEnd::End => {
-            session.take_end(alloc, program, out, history)?;
-            Ok(InputEnd::End)
+    let mut reader = Lines::new(alloc, limit, LONGEST as u32);
+    let mut standing = Standing::new(alloc);
+    'lines: loop {
+        match reader.next(input)? {
+            Next::Line => standing.tell(alloc, program, &reader, out, history)?,
+            Next::End => {
+                standing.tell_last(alloc, program, &reader, out, history)?;
+                return Ok(InputEnd::End);
+            }
+            Next::ReadFault => return Ok(InputEnd::ReadFault),
+            Next::TooLong => return Ok(InputEnd::TooLong),
         }
-        InputEnd::ReadFault => Ok(InputEnd::ReadFault),
-        InputEnd::TooLong => Ok(InputEnd::TooLong),
     }
 }
 

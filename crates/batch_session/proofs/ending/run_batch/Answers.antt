@@ -21,13 +21,13 @@ use Rattle.batch_session.proofs.ending.run_batch.Goals as goal
 pub returns-in-Ok-clause-runs_one : goal.returns-in-Ok-clause-runs_one
 returns-in-Ok-clause-runs_one g c = λ lines.
     let e = c.args.engine.now in
-    let size = c.args.settings.now.batch in
-    let v : Service = service_of e (g.R.CommitRule.choice c.args.rule.now) size c.args.settings.now.parts in
+    let size = c.args.terms.now.settings.now.batch in
+    let v : Service = service_of e (g.R.CommitRule.choice c.args.terms.now.rule.now) size c.args.terms.now.settings.now.parts in
     let old : Point = point_of e lines c.args.tally.now (g.K.Sink.held c.args.out.now) (g.E.Sink.held c.args.err.now) (g.C.Chooser.choices c.args.chooser.now) (g.W.Watch.told c.args.watch.now) in
     let ran = c.answer_batch.new in
     let new : Point = point_of ran.engine lines c.end_batch.new.tally (g.K.Sink.held ran.out) (g.E.Sink.held c.end_batch.new.err) (g.C.Chooser.choices ran.chooser) (g.W.Watch.told ran.watch) in
     let said = c.end_batch.ensures in
-    Batch-ended v c.args.settings.now.trace c.in-Ok.counts c.end_batch.result old new refl c.requires.some (c.in-Ok.ensures.answers size) c.in-Ok.ensures.told
+    Batch-ended v c.args.terms.now.settings.now.trace c.in-Ok.counts c.end_batch.result old new refl c.requires.some (c.in-Ok.ensures.answers size) c.in-Ok.ensures.told
     (record { tally = said.counted; traced = said.traced; placed = said.placed })
 
 pub returns-in-Ok-clause-fewer : goal.returns-in-Ok-clause-fewer
@@ -36,9 +36,9 @@ returns-in-Ok-clause-fewer g c = on_ok c.end_batch.result _ c.in-Ok.ensures.fewe
 pub returns-in-Err-clause-runs_one : goal.returns-in-Err-clause-runs_one
 returns-in-Err-clause-runs_one g c = λ lines.
     let e = c.args.engine.now in
-    let size = c.args.settings.now.batch in
-    let v : Service = service_of e (g.R.CommitRule.choice c.args.rule.now) size c.args.settings.now.parts in
-    let traces = c.args.settings.now.trace in
+    let size = c.args.terms.now.settings.now.batch in
+    let v : Service = service_of e (g.R.CommitRule.choice c.args.terms.now.rule.now) size c.args.terms.now.settings.now.parts in
+    let traces = c.args.terms.now.settings.now.trace in
     let stop = c.in-Err.stop in
     let held = g.E.Sink.held c.args.err.now in
     let old : Point = point_of e lines c.args.tally.now (g.K.Sink.held c.args.out.now) held (g.C.Chooser.choices c.args.chooser.now) (g.W.Watch.told c.args.watch.now) in
@@ -51,26 +51,26 @@ pub returns-in-Ok-clause-logs : goal.returns-in-Ok-clause-logs
 returns-in-Ok-clause-logs g c = λ lines.
     let e = c.args.engine.now in
     let now = c.answer_batch.new.engine in
-    let rule = g.R.CommitRule.choice c.args.rule.now in
-    let size = c.args.settings.now.batch in
+    let rule = g.R.CommitRule.choice c.args.terms.now.rule.now in
+    let size = c.args.terms.now.settings.now.batch in
     let settings = settings_of c.args.store.now in
     let old = g.D.Disk.facts c.args.disk.now in
     let between = g.D.Disk.facts c.answer_batch.new.disk in
     let new = g.D.Disk.facts c.end_batch.new.disk in
-    Logged-batch (service_of e rule size c.args.settings.now.parts) settings (core_of e) lines (logged_of e) (logged_of now) old new c.requires.some
+    Logged-batch (service_of e rule size c.args.terms.now.settings.now.parts) settings (core_of e) lines (logged_of e) (logged_of now) old new c.requires.some
     (Logs-end (source_of e) rule settings (runs_on (source_of e) rule (record { batch = size; history = limit_of e }) (core_of e)) (logged_of e) (logged_of now) old between new (c.answer_batch.ensures.logs size)
     (ended_logs e now c.answer_batch.ensures.runs rule settings _ (logged_of now) between new (settings_kept _ _ c.answer_batch.ensures.cycle) (c.end_batch.ensures.logs rule)))
 
 pub returns-in-Err-clause-logs : goal.returns-in-Err-clause-logs
 returns-in-Err-clause-logs g c = λ lines.
     let e = c.args.engine.now in
-    let size = c.args.settings.now.batch in
-    Logged-batch (service_of e (g.R.CommitRule.choice c.args.rule.now) size c.args.settings.now.parts) (settings_of c.args.store.now) (core_of e) lines (logged_of e) (logged_of c.answer_batch.new.engine)
+    let size = c.args.terms.now.settings.now.batch in
+    Logged-batch (service_of e (g.R.CommitRule.choice c.args.terms.now.rule.now) size c.args.terms.now.settings.now.parts) (settings_of c.args.store.now) (core_of e) lines (logged_of e) (logged_of c.answer_batch.new.engine)
     (g.D.Disk.facts c.args.disk.now) (g.D.Disk.facts c.answer_batch.new.disk) c.requires.some (c.answer_batch.ensures.logs size)
 
 pub returns-in-Ok-clause-goes_on : goal.returns-in-Ok-clause-goes_on
 returns-in-Ok-clause-goes_on g c =
-    let rule = g.R.CommitRule.choice c.args.rule.now in
+    let rule = g.R.CommitRule.choice c.args.terms.now.rule.now in
     let old : SessionState = state_of c.args.engine.now c.args.store.now (g.D.Disk.facts c.args.disk.now) (g.D.Disk.faults c.args.disk.now) (g.D.Disk.mounts c.args.disk.now) in
     let mid : SessionState = state_of c.answer_batch.new.engine c.answer_batch.new.store (g.D.Disk.facts c.answer_batch.new.disk) (g.D.Disk.faults c.answer_batch.new.disk) (g.D.Disk.mounts c.answer_batch.new.disk) in
     let e = c.in-Ok.ensures in
@@ -80,7 +80,7 @@ returns-in-Ok-clause-goes_on g c =
 
 pub returns-in-Ok-clause-ready : goal.returns-in-Ok-clause-ready
 returns-in-Ok-clause-ready g c =
-    let rule = g.R.CommitRule.choice c.args.rule.now in
+    let rule = g.R.CommitRule.choice c.args.terms.now.rule.now in
     let old : SessionState = state_of c.args.engine.now c.args.store.now (g.D.Disk.facts c.args.disk.now) (g.D.Disk.faults c.args.disk.now) (g.D.Disk.mounts c.args.disk.now) in
     let mid : SessionState = state_of c.answer_batch.new.engine c.answer_batch.new.store (g.D.Disk.facts c.answer_batch.new.disk) (g.D.Disk.faults c.answer_batch.new.disk) (g.D.Disk.mounts c.answer_batch.new.disk) in
     let e = c.in-Ok.ensures in
@@ -97,7 +97,7 @@ returns-in-Ok-clause-writes g c = record {
 
 pub returns-in-Err-clause-goes_on : goal.returns-in-Err-clause-goes_on
 returns-in-Err-clause-goes_on g c =
-    let rule = g.R.CommitRule.choice c.args.rule.now in
+    let rule = g.R.CommitRule.choice c.args.terms.now.rule.now in
     let old : SessionState = state_of c.args.engine.now c.args.store.now (g.D.Disk.facts c.args.disk.now) (g.D.Disk.faults c.args.disk.now) (g.D.Disk.mounts c.args.disk.now) in
     let mid : SessionState = state_of c.answer_batch.new.engine c.answer_batch.new.store (g.D.Disk.facts c.answer_batch.new.disk) (g.D.Disk.faults c.answer_batch.new.disk) (g.D.Disk.mounts c.answer_batch.new.disk) in
     let e = c.in-Err.ensures in

@@ -12,7 +12,7 @@ returns-clause-served g c =
     let made = c.answer_all-served.new in
     let mid = view_of made.engine (g.S.Source.left made.input) (g.K.Sink.held made.out) (g.E.Sink.held made.err) (g.C.Chooser.choices made.chooser) (g.W.Watch.told made.watch) in
     Served-flushed v c.args.settings.now.trace c.args.settings.now.limit c.answer_all-served.result c.flushed.result old mid (g.K.Sink.held c.flushed.new.out)
-    c.flushed.ensures.flushed c.flushed.ensures.kept c.answer_all-served.ensures.served
+    c.flushed.ensures.flushed c.flushed.ensures.kept c.answer_all-served.ensures.serves.served
 
 pub answer_all-served-requires-clause-range : goal.answer_all-served-requires-clause-range
 answer_all-served-requires-clause-range g c = record { batch = c.requires.batch; least = c.requires.least; most = c.requires.most }
@@ -63,3 +63,6 @@ returns-clause-kept g c = (fails_alike (g.R.CommitRule.choice c.args.rule.now) _
 
 pub returns-clause-disk_cause : goal.returns-clause-disk_cause
 returns-clause-disk_cause g c = (fails_alike (g.R.CommitRule.choice c.args.rule.now) _ _ _ _ (sym c.flushed.ensures.disk) c.answer_all-served.ensures.goes_on).cause
+
+pub returns-clause-logs : goal.returns-clause-logs
+returns-clause-logs g c = c.answer_all-served.ensures.serves.logs

@@ -1,30 +1,66 @@
-use Rattle.std.proofs.Common.{◌∙◌, ap, Err}
+use Rattle.std.proofs.Common.{◌∙◌, ap, Err, length, arith}
 use Rattle.std.proofs.lemmas.Result.{err_from_is_err_and}
 use Rattle.program_meaning.specs.Sources.{source_of}
-use Rattle.session.proofs.ServeLaws.{Served-stopped, Served-end, Served-unended, Served-over}
+use Rattle.input_lines.proofs.GivenLaws.{line_shortens}
+use Rattle.session.specs.OutputText.{Standing}
+use Rattle.session.proofs.GoingLaws.{Going-new, Going-line, Served-stopped, Served-end, Served-unended, Served-no_memory, Served-fault, Served-over}
 use Rattle.session.proofs.serving.answer_all.Goals as goal
 
-pub returns-in_err-take_input-clause-served : goal.returns-in_err-take_input-clause-served
-returns-in_err-take_input-clause-served g c =
-    let p = err_from_is_err_and c.from_residual.result c.from_residual.ensures.1 in
-    Served-stopped (source_of c.args.program.now) c.args.limit c.args.history _ _ _ _ _ _ _ _ c.new-session.ensures.standing
-    (p.1 ∙ ap Err p.2) c.in_err-take_input.ensures.takes
+pub lines-init : goal.lines-init
+lines-init g c =
+    let stands = c.new-standing.ensures in
+    let reader = c.new-reader.ensures in
+    record {
+      going = Going-new (source_of c.args.program.now) c.args.limit c.args.history _ _ reader stands;
+      lines = omega (arith, ap (λ (s : Standing). s.lines) stands, reader.room, ap length reader.piece);
+      few = omega (arith, ap (λ (s : Standing). length s.core.history) stands);
+      read = omega arith;
+      later = omega arith;
+    }
 
-pub returns-in_err-take_end-in-End-clause-served : goal.returns-in_err-take_end-in-End-clause-served
-returns-in_err-take_end-in-End-clause-served g c =
-    let p = err_from_is_err_and c.from_residual-in_err-take_end-in-End.result c.from_residual-in_err-take_end-in-End.ensures.1 in
-    let t = rw c.in-End.is at c.in_ok-take_input.ensures.takes in
-    Served-unended (source_of c.args.program.now) c.args.limit c.args.history
-    (Unit {0}) _ _ _ _ _ _ _ _ _ c.take_end.new.self c.new-session.ensures.standing (p.1 ∙ ap Err p.2) t.0 t.1
-    (c.in_err-take_end-in-End.ensures.answers _ t.0.fed.kept)
+pub lines-smaller : goal.lines-smaller
+lines-smaller g c = omega (arith, line_shortens (rw c.in-Line.is at c.in_ok-next.ensures.gives))
+
+pub lines-preserved : goal.lines-preserved
+lines-preserved g c =
+    let line = rw c.in-Line.is at c.in_ok-next.ensures.gives in
+    record {
+      going = Going-line (source_of c.args.program.now) c.args.limit c.args.history c.lines.invariant.going line c.in_ok-tell-in-Line.ensures.answers;
+      lines = omega (arith, c.lines.invariant.lines, line_shortens line, c.tell.ensures.lines);
+      few = c.tell.ensures.few;
+      read = omega (arith, c.lines.invariant.read, c.next.ensures.later);
+      later = omega (arith, c.lines.invariant.later, c.tell.ensures.counts.later);
+    }
+
+pub returns-in_err-next-clause-served : goal.returns-in_err-next-clause-served
+returns-in_err-next-clause-served g c =
+    let p = err_from_is_err_and c.from_residual.result c.from_residual.ensures.1 in
+    Served-no_memory (source_of c.args.program.now) c.args.limit c.args.history _ (p.1 ∙ ap Err p.2) c.lines.invariant.going c.in_err-next.ensures.gives
+
+pub returns-in_err-tell-in-Line-clause-served : goal.returns-in_err-tell-in-Line-clause-served
+returns-in_err-tell-in-Line-clause-served g c =
+    let p = err_from_is_err_and c.from_residual-in_err-tell-in-Line.result c.from_residual-in_err-tell-in-Line.ensures.1 in
+    Served-stopped (source_of c.args.program.now) c.args.limit c.args.history (Unit {0}) _ _ (p.1 ∙ ap Err p.2) c.lines.invariant.going
+    (rw c.in-Line.is at c.in_ok-next.ensures.gives) c.in_err-tell-in-Line.ensures.answers
+
+pub returns-in_err-tell_last-in-End-clause-served : goal.returns-in_err-tell_last-in-End-clause-served
+returns-in_err-tell_last-in-End-clause-served g c =
+    let p = err_from_is_err_and c.from_residual-in_err-tell_last-in-End.result c.from_residual-in_err-tell_last-in-End.ensures.1 in
+    Served-unended (source_of c.args.program.now) c.args.limit c.args.history (Unit {0}) _ _ (p.1 ∙ ap Err p.2) c.lines.invariant.going
+    (rw c.in-End.is at c.in_ok-next.ensures.gives) c.in_err-tell_last-in-End.ensures.answers
 
 pub returns-in-End-clause-served : goal.returns-in-End-clause-served
 returns-in-End-clause-served g c =
-    let t = rw c.in-End.is at c.in_ok-take_input.ensures.takes in
-    Served-end (source_of c.args.program.now) c.args.limit c.args.history _ _ _ _ _ _ _ _ c.take_end.new.self c.new-session.ensures.standing t.0 t.1
-    (c.in_ok-take_end-in-End.ensures.answers _ t.0.fed.kept)
+    Served-end (source_of c.args.program.now) c.args.limit c.args.history _ c.lines.invariant.going (rw c.in-End.is at c.in_ok-next.ensures.gives)
+    c.in_ok-tell_last-in-End.ensures.answers
 
-pub returns-clause-served : goal.returns-clause-served
-returns-clause-served g c =
-    let t = rw c.in-TooLong.is at c.in_ok-take_input.ensures.takes in
-    Served-over (source_of c.args.program.now) c.args.limit c.args.history _ _ _ _ _ _ c.new-session.ensures.standing t
+pub returns-in-ReadFault-clause-served : goal.returns-in-ReadFault-clause-served
+returns-in-ReadFault-clause-served g c =
+    Served-fault (source_of c.args.program.now) c.args.limit c.args.history c.lines.invariant.going (rw c.in-ReadFault.is at c.in_ok-next.ensures.gives)
+
+pub returns-in-TooLong-clause-served : goal.returns-in-TooLong-clause-served
+returns-in-TooLong-clause-served g c =
+    Served-over (source_of c.args.program.now) c.args.limit c.args.history c.lines.invariant.going (rw c.in-TooLong.is at c.in_ok-next.ensures.gives)
+
+pub tell_last-requires-clause-left : goal.tell_last-requires-clause-left
+tell_last-requires-clause-left g c = (rw c.in-End.is at c.in_ok-next.ensures.gives).0.joins.ended
