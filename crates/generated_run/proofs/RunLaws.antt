@@ -19,7 +19,6 @@ use Rattle.batch_run.proofs.EventLaws.{run_have_begun}
 use Rattle.batch_run.proofs.GrowthLaws.{each_batch}
 use Rattle.batch_run.proofs.OutcomeLaws.{commits_what_ended}
 use Rattle.generated_run.specs.declared.running.GenSettings.{GenSettings}
-use Rattle.generated_run.specs.declared.running.GenStop.TheVariants.{NoMemory}
 use Rattle.generated_run.specs.declared.summing.Summary.{Summary}
 use Rattle.generated_run.specs.Summaries.{IsSummary}
 use Rattle.generated_run.specs.Generated.{service_by, input_of, history_limit, batch_cores, ServesAll, ServesSome, EachCommitsWhatEnded, Starts, Comes, Gives}
@@ -71,8 +70,9 @@ module _ (s : GenSettings) (compiled made : Compiled) (same : made ≡ compiled)
       let v : Service = service_by s made in
       came_short (record { counts = all.counts; begun_on = run_have_begun v (batch_cores v input) all.counts started new all.ran }) error
 
--- so it is for the bank's program
-pub gives_up : (s : GenSettings) (compiled : Compiled) (old new : Outside) (error : AllocError) → IsCompiledOf work.program compiled
-    → Comes s compiled (Err error) old new → Gives s (Err NoMemory) old new
-gives_up s compiled old new error is (inl nothing) = inl nothing
-gives_up s compiled old new error is (inr some) = inr (compiled, is, some)
+-- what came of a compiled program came of the bank's, where that is the one
+pub of_bank : (s : GenSettings) (compiled : Compiled) (old new : Outside) → IsCompiledOf work.program compiled → (r : Result Summary AllocError)
+    → Comes s compiled r old new → Gives s r old new
+of_bank s compiled old new is (Ok summary) sums = (compiled, is, sums)
+of_bank s compiled old new is (Err error) (inl nothing) = inl nothing
+of_bank s compiled old new is (Err error) (inr some) = inr (compiled, is, some)

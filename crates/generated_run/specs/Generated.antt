@@ -5,9 +5,6 @@ use Rattle.std.specs.declared.result.Result.{Result}
 use Rattle.std.specs.declared.alloc.AllocError.{AllocError}
 use Rattle.sf_outside.specs.Choices.{Begins}
 use Rattle.work_gen.specs.Requests as work
-use Rattle.program_text.specs.declared.fault.ProgramError.{ProgramError}
-use Rattle.program_text.specs.declared.fault.ProgramError.TheVariants as program
-use Rattle.program_text.specs.Readings.{HasFault}
 use Rattle.entity_compiler.specs.Compiling.{IsCompiledOf}
 use Rattle.block_step.specs.declared.compiled.Compiled.{Compiled}
 use Rattle.block_step.specs.CompiledViews.{compiled_tables, compiled_blocks}
@@ -23,15 +20,8 @@ use Rattle.batch_session.specs.declared.serving.SessionFault.{SessionFault}
 use Rattle.batch_session.specs.declared.serving.SessionFault.TheVariants as session
 use Rattle.batch_run.specs.BatchOutcomes.{CommitsWhatEnded}
 use Rattle.generated_run.specs.declared.running.GenSettings.{GenSettings}
-use Rattle.generated_run.specs.declared.running.GenStop.{GenStop}
-use Rattle.generated_run.specs.declared.running.GenStop.TheVariants.{Refused, NoMemory}
 use Rattle.generated_run.specs.declared.summing.Summary.{Summary}
 use Rattle.generated_run.specs.Summaries.{IsSummary}
-
--- why a program isn't compiled, as the reason that nothing is run
-abbrev pub gen_stop : ProgramError → GenStop
-gen_stop (program.Fault fault) = Refused fault
-gen_stop program.NoMemory = NoMemory
 
 -- nothing but want of memory stops the session
 abbrev pub IsNoFault : Result Tally SessionFault → Type 0
@@ -122,8 +112,7 @@ module _ (s : GenSettings) (compiled : Compiled) where
   Comes (Err error) old new = (new ≡ old) ⊎ GivesUp old new
 
 module _ (s : GenSettings) where
-  -- it is so for the bank's program, compiled; only a text that isn't accepted would be refused
-  abbrev pub Gives : Result Summary GenStop → Outside → Outside → Type 0
+  -- it is so for the bank's program, compiled: that is accepted, so nothing else can stop it
+  abbrev pub Gives : Result Summary AllocError → Outside → Outside → Type 0
   Gives (Ok summary) old new = (compiled : Compiled) × IsCompiledOf work.program compiled × SumsUp s compiled summary old new
-  Gives (Err (Refused fault)) old new = HasFault work.program fault × (new ≡ old)
-  Gives (Err NoMemory) old new = (new ≡ old) ⊎ ((compiled : Compiled) × IsCompiledOf work.program compiled × GivesUp s compiled old new)
+  Gives (Err error) old new = (new ≡ old) ⊎ ((compiled : Compiled) × IsCompiledOf work.program compiled × GivesUp s compiled old new)

@@ -10,5 +10,5 @@ mod summing;
 
 pub use devices::DroppingSink;
 pub use printing::write_summary;
-pub use running::{GenSettings, GenStop, run_generated};
+pub use running::{GenSettings, run_generated};
 pub use summing::Summary;

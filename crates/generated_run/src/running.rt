@@ -1,8 +1,9 @@
 //! The run: the work is made, its program compiled, and its requests are served.
 
-ghost use Rattle.std.specs.Prelude.{◌≡◌, ◌≤◌, [], ◌∷◌};
+ghost use Rattle.std.specs.Prelude.{◌≡◌, ◌≤◌, [], ◌∷◌, IfOk};
 ghost use Rattle.sf_outside.specs.Choices.{Begins};
-ghost use Rattle.work_gen.specs.Requests.{requests};
+ghost use Rattle.work_gen.specs.Requests.{program, requests};
+ghost use Rattle.entity_compiler.specs.Compiling.{IsCompiledOf};
 ghost use Rattle.block_code.specs.GraphViews.{graph_tables, graph_blocks};
 ghost use Rattle.block_step.specs.CompiledViews.{IsWhole};
 ghost use Rattle.operator_graph.specs.Telling.{AlsoTold, GraphTold};
@@ -13,10 +14,11 @@ ghost use Rattle.generated_run.specs.Generated.{IsNoFault, tally_of, history_lim
 
 use crate::devices::{DroppingSink, GivenInput};
 use crate::summing::{Summary, summary_of};
+use bank_text::bank_is_accepted;
 use batch_session::{NoDisk, SessionFault, Settings, Tally, comes_begin, serve, steps_print};
 use block_code::Graph;
 use engine::Engine;
-use entity_compiler::{Compiled, ProgramError, ProgramFault, compile};
+use entity_compiler::{Compiled, ProgramError, compile};
 use operator_graph::Watch;
 use reservations::Rule1;
 use sf_outside::Chooser;
@@ -37,39 +39,6 @@ pub struct GenSettings {
     pub batch: u32,
     /// How many partitions there are, 1 to 64.
     pub parts: u32,
-}
-
-/// Why a run on generated work comes to nothing.
-#[derive(Clone, Copy, PartialEq, Eq, Debug)]
-pub enum GenStop {
-    /// The program isn't accepted. No proof says that it is; a test does.
-    Refused(ProgramFault),
-    NoMemory,
-}
-
-impl From<AllocError> for GenStop {
-    ghost use Rattle.std.specs.Prelude.{◌≡◌};
-    ghost use Rattle.generated_run.specs.declared.running.GenStop.TheVariants.{NoMemory};
-
-    ghost from_gives = { λ _ stop. stop ≡ NoMemory };
-
-    fn from(_error: AllocError) -> GenStop {
-        GenStop::NoMemory
-    }
-}
-
-impl From<ProgramError> for GenStop {
-    ghost use Rattle.std.specs.Prelude.{◌≡◌};
-    ghost use Rattle.generated_run.specs.Generated.{gen_stop};
-
-    ghost from_gives = { λ error stop. stop ≡ gen_stop error };
-
-    fn from(error: ProgramError) -> GenStop {
-        match error {
-            ProgramError::Fault(fault) => GenStop::Refused(fault),
-            ProgramError::NoMemory => GenStop::NoMemory,
-        }
-    }
 }
 
 /// Serves the requests of the work on an engine to which nothing has come yet, without a store. Its devices never
@@ -173,6 +142,19 @@ fn run_compiled<C: Chooser, W: Watch>(
     summary_of(alloc, &engine, settings.size, tally)
 }
 
+/// Compiles the text of the bank, which nothing but want of memory can prevent.
+fn compile_bank(alloc: Global, text: &[u8]) -> Result<Compiled, AllocError>
+    requires { text.now ≡ program }
+    ensures { IfOk result (λ compiled. IsCompiledOf program compiled) }
+{
+    bank_is_accepted();
+    match compile(alloc, text) {
+        Ok(compiled) => Ok(compiled),
+        Err(ProgramError::NoMemory) => Err(AllocError),
+        Err(ProgramError::Fault(_)) => unreachable!(),
+    }
+}
+
 /// Makes a bank's program and so many requests, starts the chooser with the same number, tells the watch the
 /// program's graph, serves all requests in batches, and sums up what that came to. Nothing is printed.
 pub fn run_generated<C: Chooser, W: Watch>(
@@ -180,7 +162,7 @@ pub fn run_generated<C: Chooser, W: Watch>(
     settings: &GenSettings,
     chooser: &mut C,
     watch: &mut W,
-) -> Result<Summary, GenStop>
+) -> Result<Summary, AllocError>
     requires size { settings.now.size ≤ 100000 }
     requires some { 1 ≤ settings.now.batch }
     requires batch { settings.now.batch ≤ 256 }
@@ -190,14 +172,13 @@ pub fn run_generated<C: Chooser, W: Watch>(
         (record { choices = C.choices chooser.old; told = W.told watch.old }) (record { choices = C.choices chooser.new; told = W.told watch.new }) }
 {
     let work = generate(alloc, settings.number, settings.size)?;
-    let compiled = compile(alloc, work.program.as_slice())?;
-    let summary = run_compiled(
+    let compiled = compile_bank(alloc, work.program.as_slice())?;
+    run_compiled(
         alloc,
         settings,
         compiled,
         work.input.as_slice(),
         chooser,
         watch,
-    )?;
-    Ok(summary)
+    )
 }

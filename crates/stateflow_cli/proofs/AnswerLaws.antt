@@ -10,7 +10,7 @@ use Rattle.stateflow_cli.proofs.ReportEndings.{still_idle, report_completes, rep
 use Rattle.stateflow_cli.proofs.LocalEndings.{local_unstored, local_completes, local_done, local_writes, local_refused, local_misused, local_unread, local_unwritten, local_long, local_full, local_prints, local_takes, local_err, local_untold, locals_whole}
 use Rattle.stateflow_cli.proofs.RunEndings.{SomeLines, run_completes, run_done, run_refused, run_misused, run_unread, run_whole_lines, run_unwritten, run_first_lines, run_long, run_some_lines, run_lines_before_fault, run_until_full, run_full, run_idle, run_prints, run_takes, run_later, run_tells, run_traces, runs_whole}
 use Rattle.stateflow_cli.proofs.StoreEndings.{untouched, run_fails, run_bad, run_other, run_leaves}
-use Rattle.stateflow_cli.proofs.GenEndings.{gen_completes, gen_refused, gen_unwritten, gen_status, gen_other, gen_done, gen_told, gen_prints, gen_silent, gen_unread, gen_tells, gen_whole}
+use Rattle.stateflow_cli.proofs.GenEndings.{gen_completes, gen_unwritten, gen_status, gen_other, gen_done, gen_prints, gen_silent, gen_unread, gen_tells, gen_whole}
 use Rattle.stateflow_cli.specs.Words.{Asked, Check, Compile, Local, Run, Gen, file_of}
 use Rattle.stateflow_cli.specs.Devices.{Devices, Output, with_err, IsIdle, IsStill}
 use Rattle.stateflow_cli.specs.CheckLine.{IsCheckLine}
@@ -76,7 +76,7 @@ module _ (limit : ℕ) (before after : Devices) (was now : DiskFacts) (behind : 
   is_refused (Some (Compile file)) e ends s = report_refused IsCompiledText before after behind file e ends s
   is_refused (Some (Local file)) e ends s = local_refused limit before after behind file e ends s
   is_refused (Some (Run file w)) e ends s = run_refused limit before after was now behind file w e ends s
-  is_refused (Some (Gen w)) e ends s = gen_refused w before after behind e ends s
+  is_refused (Some (Gen w)) e ends s = gen_other w before after behind 1 e ends s refl
 
   is_misused : (asked : Option Asked) (e : Ending) → Ends limit asked before mid was now e → status_of e ≡ 2 → (asked ≡ None) × IsIdle before after
   is_misused None e ends s = (refl, still_idle before after behind ends.1)
@@ -84,7 +84,7 @@ module _ (limit : ℕ) (before after : Devices) (was now : DiskFacts) (behind : 
   is_misused (Some (Compile file)) e ends s = report_misused IsCompiledText before after behind file e ends s
   is_misused (Some (Local file)) e ends s = local_misused limit before after behind file e ends s
   is_misused (Some (Run file w)) e ends s = run_misused limit before after was now behind file w e ends s
-  is_misused (Some (Gen w)) e ends s = gen_other w before after behind 2 e ends s (λ z. omega (arith, z)) (λ z. omega (arith, z)) (λ z. omega (arith, z)) (λ z. omega (arith, z))
+  is_misused (Some (Gen w)) e ends s = gen_other w before after behind 2 e ends s refl
 
   is_unread : (asked : Option Asked) (e : Ending) → Ends limit asked before mid was now e → status_of e ≡ 3 → ReadRose asked before after
   is_unread None e ends s = absurd (unasked e 3 ends.0 s (λ z. omega (arith, z)) (λ z. omega (arith, z)))
@@ -92,7 +92,7 @@ module _ (limit : ℕ) (before after : Devices) (was now : DiskFacts) (behind : 
   is_unread (Some (Compile file)) e ends s = report_unread IsCompiledText before after behind file e ends s
   is_unread (Some (Local file)) e ends s = local_unread limit before after behind file e ends s
   is_unread (Some (Run file w)) e ends s = run_unread limit before after was now behind file w e ends s
-  is_unread (Some (Gen w)) e ends s = gen_other w before after behind 3 e ends s (λ z. omega (arith, z)) (λ z. omega (arith, z)) (λ z. omega (arith, z)) (λ z. omega (arith, z))
+  is_unread (Some (Gen w)) e ends s = gen_other w before after behind 3 e ends s refl
 
   disk_failed_so : (asked : Option Asked) (e : Ending) → Ends limit asked before mid was now e → status_of e ≡ 5 → DiskFails limit asked before after now
   disk_failed_so None e ends s = absurd (unasked e 5 ends.0 s (λ z. omega (arith, z)) (λ z. omega (arith, z)))
@@ -100,7 +100,7 @@ module _ (limit : ℕ) (before after : Devices) (was now : DiskFacts) (behind : 
   disk_failed_so (Some (Compile file)) e ends s = report_bounded IsCompiledText before after behind file 5 e ends s (omega arith) (λ z. omega (arith, z))
   disk_failed_so (Some (Local file)) e ends s = local_unstored limit before after behind file 5 e ends s (omega arith) (omega arith)
   disk_failed_so (Some (Run file w)) e ends s = run_fails limit before after was now behind file w e ends s
-  disk_failed_so (Some (Gen w)) e ends s = gen_other w before after behind 5 e ends s (λ z. omega (arith, z)) (λ z. omega (arith, z)) (λ z. omega (arith, z)) (λ z. omega (arith, z))
+  disk_failed_so (Some (Gen w)) e ends s = gen_other w before after behind 5 e ends s refl
 
   store_bad : (asked : Option Asked) (e : Ending) → Ends limit asked before mid was now e → Appends behind.held after.err.held (line_of (file_in asked) e) → status_of e ≡ 6
       → HasBadStore asked before after
@@ -109,7 +109,7 @@ module _ (limit : ℕ) (before after : Devices) (was now : DiskFacts) (behind : 
   store_bad (Some (Compile file)) e ends wrote s = report_bounded IsCompiledText before after behind file 6 e ends s (omega arith) (λ z. omega (arith, z))
   store_bad (Some (Local file)) e ends wrote s = local_unstored limit before after behind file 6 e ends s (omega arith) (omega arith)
   store_bad (Some (Run file w)) e ends wrote s = run_bad limit before after was now behind file w e ends wrote s
-  store_bad (Some (Gen w)) e ends wrote s = gen_other w before after behind 6 e ends s (λ z. omega (arith, z)) (λ z. omega (arith, z)) (λ z. omega (arith, z)) (λ z. omega (arith, z))
+  store_bad (Some (Gen w)) e ends wrote s = gen_other w before after behind 6 e ends s refl
 
   store_other : (asked : Option Asked) (e : Ending) → Ends limit asked before mid was now e → status_of e ≡ 7 → HasOtherStore asked before × IsIdle before after
   store_other None e ends s = absurd (unasked e 7 ends.0 s (λ z. omega (arith, z)) (λ z. omega (arith, z)))
@@ -117,7 +117,7 @@ module _ (limit : ℕ) (before after : Devices) (was now : DiskFacts) (behind : 
   store_other (Some (Compile file)) e ends s = report_bounded IsCompiledText before after behind file 7 e ends s (omega arith) (λ z. omega (arith, z))
   store_other (Some (Local file)) e ends s = local_unstored limit before after behind file 7 e ends s (omega arith) (omega arith)
   store_other (Some (Run file w)) e ends s = run_other limit before after was now behind file w e ends s
-  store_other (Some (Gen w)) e ends s = gen_other w before after behind 7 e ends s (λ z. omega (arith, z)) (λ z. omega (arith, z)) (λ z. omega (arith, z)) (λ z. omega (arith, z))
+  store_other (Some (Gen w)) e ends s = gen_other w before after behind 7 e ends s refl
 
   out_rose : (asked : Option Asked) (e : Ending) → Ends limit asked before mid was now e → status_of e ≡ 4 → Rose before.out.faults after.out.faults ⊎ Rose before.err.faults behind.faults
   out_rose None e ends s = absurd (unasked e 4 ends.0 s (λ z. omega (arith, z)) (λ z. omega (arith, z)))
@@ -133,7 +133,7 @@ module _ (limit : ℕ) (before after : Devices) (was now : DiskFacts) (behind : 
   input_longer (Some (Compile file)) e ends s = report_bounded IsCompiledText before after behind file 9 e ends s (omega arith) (λ z. omega (arith, z))
   input_longer (Some (Local file)) e ends s = local_long limit before after behind file e ends s
   input_longer (Some (Run file w)) e ends s = run_long limit before after was now behind file w e ends s
-  input_longer (Some (Gen w)) e ends s = gen_other w before after behind 9 e ends s (λ z. omega (arith, z)) (λ z. omega (arith, z)) (λ z. omega (arith, z)) (λ z. omega (arith, z))
+  input_longer (Some (Gen w)) e ends s = gen_other w before after behind 9 e ends s refl
 
   history_full : (asked : Option Asked) (e : Ending) → Ends limit asked before mid was now e → status_of e ≡ 10 → IsFilled limit asked before
   history_full None e ends s = absurd (unasked e 10 ends.0 s (λ z. omega (arith, z)) (λ z. omega (arith, z)))
@@ -141,7 +141,7 @@ module _ (limit : ℕ) (before after : Devices) (was now : DiskFacts) (behind : 
   history_full (Some (Compile file)) e ends s = report_bounded IsCompiledText before after behind file 10 e ends s (omega arith) (λ z. omega (arith, z))
   history_full (Some (Local file)) e ends s = local_full limit before after behind file e ends s
   history_full (Some (Run file w)) e ends s = run_full limit before after was now behind file w e ends s
-  history_full (Some (Gen w)) e ends s = gen_other w before after behind 10 e ends s (λ z. omega (arith, z)) (λ z. omega (arith, z)) (λ z. omega (arith, z)) (λ z. omega (arith, z))
+  history_full (Some (Gen w)) e ends s = gen_other w before after behind 10 e ends s refl
 
   -- Whatever the status
 
@@ -373,9 +373,9 @@ module _ (limit : ℕ) (before after : Devices) (was now : DiskFacts) (status : 
 
   one_of : (w : words.GenSettings) (behind : Output) (e : Ending) → GenEnds w before (with_err behind after) e
       → Told (line_of (file_of (Gen w)) e) (status_of e) behind.held after.err.held behind.faults after.err.faults status
-      → (status ≡ 0) ⊎ ((status ≡ 1) ⊎ ((status ≡ 4) ⊎ (status ≡ 8)))
+      → (status ≡ 0) ⊎ ((status ≡ 4) ⊎ (status ≡ 8))
   one_of w behind e ends (Whole is wrote) = gen_status w before after behind e status ends is
-  one_of w behind e ends (Part is rose wrote) = inr (inr (inl is))
+  one_of w behind e ends (Part is rose wrote) = inr (inl is)
 
   module _ (w : words.GenSettings) (a : Answers limit (Some (Gen w)) before after was now status) where
     -- the line was written behind what the error stream held before
@@ -388,7 +388,6 @@ module _ (limit : ℕ) (before after : Devices) (was now : DiskFacts) (status : 
     sums_up = record {
       whole = λ s. gen_done w before after a.behind a.ending before.err.held after.err.held a.ends
           (line_of_work 0 s (λ z. omega (arith, z))) (own (Some (Gen w)) a 0 s (λ z. omega (arith, z)));
-      told = λ s. gen_told w before after a.behind a.ending a.ends (line_of_work 1 s (λ z. omega (arith, z))) (own (Some (Gen w)) a 1 s (λ z. omega (arith, z)));
       in_part = λ s. gen_prints w before after a.behind a.ending a.ends;
       nothing = λ p q. gen_silent w before after a.behind a.ending a.ends
           (λ s. p (own_or_unwritten (Some (Gen w)) a q ∙ s)) (λ s. q (own_or_unwritten (Some (Gen w)) a q ∙ s));

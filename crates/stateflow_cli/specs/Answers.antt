@@ -19,7 +19,6 @@ use Rattle.session.specs.Served.{AnsweredTaken}
 use Rattle.operator_graph.specs.Telling.{GraphTold, AlsoTold}
 use Rattle.entity_compiler.specs.Compiling.{IsGraphOf}
 use Rattle.batch_run.specs.RunTexts.{AnswersAll, AnswersInPart, PrintsOneRun, fills_history}
-use Rattle.work_gen.specs.Requests as work
 use Rattle.stateflow_cli.specs.Words.{Asked, Check, Compile, Local, Run, Gen, file_of}
 use Rattle.stateflow_cli.specs.CheckLine.{IsCheckLine}
 use Rattle.stateflow_cli.specs.CompiledText.{IsCompiledText}
@@ -194,14 +193,14 @@ TellsLines limit (Some (Gen s)) before after status = TellsStatus (file_of (Gen 
 
 -- Why
 
--- the text of the file that is asked for has a fault, or that of the generated program
+-- the text of the file that is asked for has a fault; the generated program has none
 abbrev pub IsRefused : Option Asked → Devices → Type 0
 IsRefused None before = ⊥
 IsRefused (Some (Check file)) before = (fault : ProgramFault) × Refuses (before.content file) fault
 IsRefused (Some (Compile file)) before = (fault : ProgramFault) × Refuses (before.content file) fault
 IsRefused (Some (Local file)) before = (fault : ProgramFault) × Refuses (before.content file) fault
 IsRefused (Some (Run file s)) before = (fault : ProgramFault) × Refuses (before.content file) fault
-IsRefused (Some (Gen s)) before = (fault : ProgramFault) × HasFault work.program fault
+IsRefused (Some (Gen s)) before = ⊥
 
 -- a fault of the file, or of the input where that is served, was counted
 abbrev pub FileRose : List ℕ → Devices → Devices → Type 0
@@ -313,4 +312,4 @@ IsComplete (Some (Compile file)) before after status = (text : List ℕ) → IsU
 IsComplete (Some (Local file)) before after status = (text : List ℕ) → IsUndisturbed file text before after → RunsWhole text status
 IsComplete (Some (Run file s)) before after status = (text : List ℕ) → IsUndisturbed file text before after → StoredWhole s.store text status
 IsComplete (Some (Gen s)) before after status =
-    (Rose before.out.faults after.out.faults → ⊥) → (Rose before.err.faults after.err.faults → ⊥) → ReportsWhole work.program status
+    (Rose before.out.faults after.out.faults → ⊥) → (Rose before.err.faults after.err.faults → ⊥) → (status ≡ 0) ⊎ (status ≡ 8)

@@ -1,5 +1,5 @@
 -- Why a call ends, and what it did to its devices by then.
-use Rattle.std.specs.Prelude.{ℕ, ◌≡◌, ◌≤◌, ◌⊎◌, List, None, Some, Ok, Err}
+use Rattle.std.specs.Prelude.{ℕ, ◌≡◌, ◌≤◌, ◌⊎◌, List, None, Some, Ok, Err, alloc_error}
 use Rattle.std.specs.declared.option.Option.{Option}
 use Rattle.std.specs.declared.result.Result.{Result}
 use Rattle.std.specs.Io.KnownBytes.{Appends, Keeps}
@@ -23,9 +23,7 @@ use Rattle.batch_run.specs.SessionFaultVariants as cause
 use Rattle.batch_run.specs.declared.running.RunSettings.{RunSettings}
 use Rattle.batch_run.specs.RunViews.{Shown}
 use Rattle.batch_run.specs.Runs.{Runs}
-use Rattle.work_gen.specs.Requests as work
 use Rattle.generated_run.specs.declared.running.GenSettings.{GenSettings}
-use Rattle.generated_run.specs.declared.running.GenStop.TheVariants as gen
 use Rattle.generated_run.specs.declared.summing.Summary.{Summary}
 use Rattle.generated_run.specs.Summaries.{summary_line}
 use Rattle.generated_run.specs.Generated.{Gives}
@@ -39,7 +37,6 @@ use Rattle.stateflow_cli.specs.StoredRuns.{KeepsIn, FailsToOpen, IsUntouched, Mo
 use Rattle.py_tree.specs.PlainProgram.{PlainProgram}
 use Rattle.operator_graph.specs.Turns.{Outside}
 use Rattle.program_text.specs.declared.fault.ProgramFault.{ProgramFault}
-use Rattle.program_text.specs.Readings.{HasFault}
 use Rattle.stateflow_cli.specs.declared.ending.Ending.{Ending}
 use Rattle.stateflow_cli.specs.declared.ending.Ending.TheVariants.{Misused, Refused, FileFault, NoMemory, Printed, Unprinted, Served, Stopped, Unopened}
 
@@ -123,7 +120,7 @@ pub record PrintsSummaryFront (s : words.GenSettings) (before after : Devices) :
 
 -- memory was wanted before anything was printed
 pub record IsGivenUp (s : words.GenSettings) (before after : Devices) : Type 0 where
-  pub gives : Gives (work_for s) (Err gen.NoMemory) before.outside after.outside
+  pub gives : Gives (work_for s) (Err alloc_error) before.outside after.outside
   pub out : after.out ≡ before.out
 
 -- the store in the folder that the words name wasn't opened for the file's program
@@ -185,10 +182,10 @@ RunEnds limit file s before after was now Served = (tally : Tally) × RunsFile l
 RunEnds limit file s before after was now (Stopped stop) = RunsFile limit file s before after now (Err stop)
 RunEnds limit file s before after was now (Unopened stop) = IsUnopened file s before after was now stop
 
--- what serves generated work prints the line that sums it up, or nothing
+-- what serves generated work prints the line that sums it up, or nothing; its program has no fault
 abbrev pub SumsUpBy : words.GenSettings → Devices → Devices → Ending → Type 0
 SumsUpBy s before after Misused = ⊥
-SumsUpBy s before after (Refused fault) = HasFault work.program fault × IsStill before after
+SumsUpBy s before after (Refused fault) = ⊥
 SumsUpBy s before after FileFault = ⊥
 SumsUpBy s before after NoMemory = IsGivenUp s before after
 SumsUpBy s before after Printed = PrintsSummary s before after

@@ -9,12 +9,8 @@ use Rattle.operator_graph.specs.Turns.{Outside}
 use Rattle.batch_run.specs.Vocabulary.{RunBatches, BeginBatches, BatchCounts}
 use Rattle.generated_run.specs.Generated.{Starts, service_by, input_of, batch_cores, EachCommitsWhatEnded}
 use Rattle.command_words.specs.Commands as words
-use Rattle.program_text.specs.Readings.{HasFault}
-use Rattle.program_text.specs.declared.fault.ProgramFault.{ProgramFault}
-use Rattle.stateflow_cli.specs.Words.{Gen, file_of}
 use Rattle.stateflow_cli.specs.Devices.{Devices, IsIdle}
 use Rattle.stateflow_cli.specs.Endings.{work_for, PrintsSummary, PrintsSummaryFront}
-use Rattle.stateflow_cli.specs.StatusLines.{fault_line}
 
 -- the batches of the generated requests were run, one after another; or some first ones, and perhaps a part of the next
 abbrev pub RunsWork : words.GenSettings → Compiled → List BatchCounts → Outside → Outside → Type 0
@@ -26,20 +22,14 @@ BeginsWork s compiled counts old new =
     BeginBatches (service_by (work_for s) compiled) (batch_cores (service_by (work_for s) compiled) (input_of (work_for s))) counts old new
 
 module _ (s : words.GenSettings) (before after : Devices) where
-  -- the generated program's text has a fault, which was told
-  pub record TellsWorkFault : Type 0 where
-    pub fault : ProgramFault
-    pub refused : HasFault work.program fault
-    pub line : Appends before.err.held after.err.held (fault_line (file_of (Gen s)) fault)
-
   -- The first status says that the line was printed which sums up what the work came to, and nothing else; that of a write fault that a part of it
-  -- was, or nothing; the others that nothing was. That of a refusal comes only where the generated program's text has the fault that is told.
+  -- was, or nothing; that of want of memory that nothing was. There is no other: the words are right, the program has no fault, and all of the
+  -- work is served.
   pub record SumsUpByStatus (status : ℕ) : Type 0 where
     pub whole : status ≡ 0 → PrintsSummary s before after × Appends before.err.held after.err.held []
-    pub told : status ≡ 1 → TellsWorkFault
     pub in_part : status ≡ 4 → Keeps before.out.held after.out.held ⊎ PrintsSummaryFront s before after
     pub nothing : (status ≡ 0 → ⊥) → (status ≡ 4 → ⊥) → Keeps before.out.held after.out.held
-    pub one_of : (status ≡ 0) ⊎ ((status ≡ 1) ⊎ ((status ≡ 4) ⊎ (status ≡ 8)))
+    pub one_of : (status ≡ 0) ⊎ ((status ≡ 4) ⊎ (status ≡ 8))
 
   -- The chooser was started once, with the number of the work, and the watch was told one graph, which is one of the generated program; then the
   -- batches of the generated requests were told, each along the picks made for it: with the first status all of them, with that of a write fault,

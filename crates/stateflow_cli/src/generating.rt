@@ -12,10 +12,10 @@ ghost use Rattle.stateflow_cli.specs.Words.{IsWorkInRange};
 
 use crate::ending::Ending;
 use command_words::GenWords;
-use generated_run::{GenSettings, GenStop, Summary, run_generated, write_summary};
+use generated_run::{GenSettings, Summary, run_generated, write_summary};
 use operator_graph::Watch;
 use sf_outside::{Chooser, Failed, Sink};
-use std::alloc::Global;
+use std::alloc::{AllocError, Global};
 
 /// The work that words give.
 fn work_of(words: GenWords) -> GenSettings
@@ -59,8 +59,7 @@ pub(crate) fn serve_generated<K: Sink, C: Chooser, W: Watch>(
 {
     let summary = match run_generated(alloc, &work_of(words), chooser, watch) {
         Ok(summary) => summary,
-        Err(GenStop::Refused(fault)) => return Ending::Refused(fault),
-        Err(GenStop::NoMemory) => return Ending::NoMemory,
+        Err(AllocError) => return Ending::NoMemory,
     };
     match print_summary(out, &summary) {
         Ok(()) => Ending::Printed,

@@ -2,7 +2,7 @@
 
 ghost use Rattle.std.specs.Prelude.{◌≤◌};
 
-use generated_run::{GenSettings, GenStop, Summary, run_generated, write_summary};
+use generated_run::{GenSettings, Summary, run_generated, write_summary};
 use operator_graph::NoWatch;
 use sf_outside::{ListChooser, MemSink};
 use std::alloc::Global;
@@ -36,8 +36,7 @@ fn line_of(alloc: Global, settings: &GenSettings, picks: &[u32]) -> Result<Strin
     drop(chooser);
     match came {
         Ok(summary) => summary_told(alloc, &summary),
-        Err(GenStop::Refused(_)) => Err(Fail::from("the program is refused")),
-        Err(GenStop::NoMemory) => Err(Fail::from("no memory for the run")),
+        Err(_) => Err(Fail::from("no memory for the run")),
     }
 }
 

@@ -1,8 +1,6 @@
-use Rattle.std.proofs.Common.{◌≤◌, Err, subst, sym}
+use Rattle.std.proofs.Common.{◌≤◌, subst, sym}
 use Rattle.command_words.specs.Commands.{work_by}
 use Rattle.generated_run.specs.declared.running.GenSettings.{GenSettings}
-use Rattle.generated_run.specs.declared.running.GenStop.{GenStop}
-use Rattle.generated_run.specs.Generated.{Gives}
 use Rattle.stateflow_cli.specs.Devices.{sink, outside}
 use Rattle.stateflow_cli.proofs.GenEndings.{work_given_up, work_printed, work_printed_in_part}
 use Rattle.stateflow_cli.proofs.generating.serve_generated.Goals as goal
@@ -18,13 +16,12 @@ run_generated-requires g c =
       most = subst (λ (x : GenSettings). x.parts ≤ 64) same c.requires.most;
     }
 
-pub returns-in-Err-NoMemory : goal.returns-in-Err-NoMemory
-returns-in-Err-NoMemory g c = λ content file_faults input err disk.
-    let old = outside (g.C.Chooser.choices c.args.chooser.now) (g.W.Watch.told c.args.watch.now) in
-    let new = outside (g.C.Chooser.choices c.run_generated.new.chooser) (g.W.Watch.told c.run_generated.new.watch) in
-    work_given_up (work_by c.args.words) c.work_of.result c.work_of.ensures content file_faults input err disk old new
-    (sink (g.K.Sink.held c.args.out.now) (g.K.Sink.faults c.args.out.now))
-    (subst (λ (stop : GenStop). Gives c.work_of.result (Err stop) old new) c.in-Err-NoMemory.field-0-is c.in-Err-NoMemory.ensures)
+pub returns-in-Err : goal.returns-in-Err
+returns-in-Err g c = λ content file_faults input err disk.
+    work_given_up (work_by c.args.words) c.work_of.result c.work_of.ensures content file_faults input err disk
+    (outside (g.C.Chooser.choices c.args.chooser.now) (g.W.Watch.told c.args.watch.now))
+    (outside (g.C.Chooser.choices c.run_generated.new.chooser) (g.W.Watch.told c.run_generated.new.watch))
+    (sink (g.K.Sink.held c.args.out.now) (g.K.Sink.faults c.args.out.now)) c.in-Err.ensures
 
 pub returns-in-Ok-print_summary : goal.returns-in-Ok-print_summary
 returns-in-Ok-print_summary g c = λ content file_faults input err disk.
@@ -34,10 +31,10 @@ returns-in-Ok-print_summary g c = λ content file_faults input err disk.
     (sink (g.K.Sink.held c.args.out.now) (g.K.Sink.faults c.args.out.now)) (sink (g.K.Sink.held c.print_summary.new.out) (g.K.Sink.faults c.print_summary.new.out))
     c.in-Ok.summary c.in-Ok.ensures c.in-Ok-print_summary.ensures.whole
 
-pub returns-in-Err : goal.returns-in-Err
-returns-in-Err g c = λ content file_faults input err disk.
+pub returns-in-Err-print_summary : goal.returns-in-Err-print_summary
+returns-in-Err-print_summary g c = λ content file_faults input err disk.
     work_printed_in_part (work_by c.args.words) c.work_of.result c.work_of.ensures content file_faults input err disk
     (outside (g.C.Chooser.choices c.args.chooser.now) (g.W.Watch.told c.args.watch.now))
     (outside (g.C.Chooser.choices c.run_generated.new.chooser) (g.W.Watch.told c.run_generated.new.watch))
     (sink (g.K.Sink.held c.args.out.now) (g.K.Sink.faults c.args.out.now)) (sink (g.K.Sink.held c.print_summary.new.out) (g.K.Sink.faults c.print_summary.new.out))
-    c.in-Ok.summary c.in-Ok.ensures c.in-Err.ensures.part c.in-Err.ensures.cause.failed
+    c.in-Ok.summary c.in-Ok.ensures c.in-Err-print_summary.ensures.part c.in-Err-print_summary.ensures.cause.failed
