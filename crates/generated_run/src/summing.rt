@@ -35,18 +35,15 @@ fn balance_of(held: &Held) -> i128
     }
 }
 
-/// The sum of the balances of these records. Where 128 bits can't hold it, it is given up, as it is where memory is wanted.
-fn added_up(records: &[Held]) -> Result<i128, AllocError>
-    ensures { IfOk result (λ total. total ≡ added_up records.now) }
+/// The sum of the balances of these records. It stays within 128 bits.
+fn added_up(records: &[Held]) -> i128
+    ensures { result ≡ added_up records.now }
 {
     let mut total: i128 = 0;
     for held in records {
-        match total.checked_add(balance_of(held)) {
-            Some(sum) => total = sum,
-            None => return Err(AllocError),
-        }
+        total = total.saturating_add(balance_of(held));
     }
-    Ok(total)
+    total
 }
 
 /// The sum of all balances in the state.
@@ -56,7 +53,7 @@ fn total_of(alloc: Global, engine: &Engine) -> Result<i128, AllocError>
     let records = engine.state().records(alloc)?;
     let total = added_up(records.as_slice());
     drop(records);
-    total
+    Ok(total)
 }
 
 /// What a run of so many requests came to, where its batches are counted.
