@@ -2,7 +2,7 @@
 
 ghost use Rattle.std.specs.Prelude.{◌≡◌, ◌≤◌, IfSome, OnOk, IsErrOf};
 ghost use Rattle.sf_outside.specs.Causes.{HasCause, Rose};
-ghost use Rattle.sf_outside.specs.DiskModel.{Stays, LeavesNoMore, IsClean};
+ghost use Rattle.sf_outside.specs.DiskModel.{Stays, IsClean};
 ghost use Rattle.sf_bytes.specs.Spelt.{IsReadSnapshot};
 ghost use Rattle.snapshot_store.specs.SlotFile.{IsEpoch, IsNewest};
 ghost use Rattle.recovery.specs.Answers.{Answers, IsPlaced, UnlessFailed};
@@ -19,8 +19,7 @@ pub fn reopen<D: Disk>(alloc: Global, disk: &mut D) -> Result<Opened, OpenFault>
     ensures answer { IfSome (D.facts disk.old).seen (λ now. Answers now result) }
     ensures placed { IsPlaced result }
     ensures clean { UnlessFailed result (IsClean (D.facts disk.new)) }
-    ensures stays { UnlessFailed result (Stays (D.facts disk.old) (D.facts disk.new)) }
-    ensures no_more { LeavesNoMore (D.facts disk.old) (D.facts disk.new) }
+    ensures stays { Stays (D.facts disk.old) (D.facts disk.new) }
     ensures later { D.faults disk.old ≤ D.faults disk.new }
     ensures cause { IsErrOf result OpenFault.Failed → Rose (D.faults disk.old) (D.faults disk.new) }
     ensures mounts { D.mounts disk.new ≡ D.mounts disk.old }
@@ -35,8 +34,7 @@ pub fn reopen<D: Disk>(alloc: Global, disk: &mut D) -> Result<Opened, OpenFault>
 /// Makes each file safe.
 fn sync_all<D: Disk>(disk: &mut D) -> Result<(), Failed>
     ensures clean { OnOk result (IsClean (D.facts disk.new)) }
-    ensures stays { OnOk result (Stays (D.facts disk.old) (D.facts disk.new)) }
-    ensures no_more { LeavesNoMore (D.facts disk.old) (D.facts disk.new) }
+    ensures stays { Stays (D.facts disk.old) (D.facts disk.new) }
     ensures cause { HasCause (D.faults disk.old) (D.faults disk.new) result }
     ensures mounts { D.mounts disk.new ≡ D.mounts disk.old }
 {

@@ -2,7 +2,7 @@
 
 ghost use Rattle.std.specs.Prelude.{◌≡◌, ◌≢◌, ◌⊎◌, ◌+◌, ◌^◌, ◌<◌, ◌≤◌, [], ◌∷◌, length, IfSome, OnOk, OnErr, IsErr};
 ghost use Rattle.sf_outside.specs.Causes.{HasCause, Rose};
-ghost use Rattle.sf_outside.specs.DiskModel.{Image, of_file, LeavesOnly, SeenWritten, IsDurable, Stays, LeavesNoMore};
+ghost use Rattle.sf_outside.specs.DiskModel.{Image, of_file, LeavesOnly, SeenWritten, IsDurable, Stays};
 ghost use Rattle.sf_outside.specs.ImageSteps.{ComesBy, OthersStayDurable};
 ghost use Rattle.sf_outside.specs.declared.store_disk.StoreFile.{StoreFile};
 ghost use Rattle.sf_value.specs.declared.Snapshot.{Snapshot};
@@ -53,10 +53,7 @@ pub fn close_slot<D: Disk>(disk: &mut D, epoch: u64) -> Result<(), Failed>
     ensures now { OnOk result ((image : Image) → (D.facts disk.new).may_leave image → ComesBy (slot_of epoch) Closes (D.facts disk.old) image) }
     ensures durable { OnOk result (IsDurable (slot_of epoch) (D.facts disk.new)) }
     // A slot that is shut isn't written. In any other the first byte becomes 0.
-    ensures unwritten { OnOk result (IfSome (D.facts disk.old).seen
-        (λ now. IsShutSlot (of_file (slot_of epoch) now) → Stays (D.facts disk.old) (D.facts disk.new))) }
-    ensures no_more { IfSome (D.facts disk.old).seen
-        (λ now. IsShutSlot (of_file (slot_of epoch) now) → LeavesNoMore (D.facts disk.old) (D.facts disk.new)) }
+    ensures unwritten { IfSome (D.facts disk.old).seen (λ now. IsShutSlot (of_file (slot_of epoch) now) → Stays (D.facts disk.old) (D.facts disk.new)) }
     ensures written { OnOk result (IfSome (D.facts disk.old).seen
         (λ now. (IsShutSlot (of_file (slot_of epoch) now) → ⊥) → SeenWritten (slot_of epoch) 0 (0 ∷ []) (D.facts disk.old) (D.facts disk.new))) }
     ensures moments { LeavesOnly (D.facts disk.old) (D.facts disk.new) (ComesBy (slot_of epoch) StaysOrCloses (D.facts disk.old)) }

@@ -2,8 +2,8 @@
 use Rattle.std.proofs.Common.{◌≡◌, ◌≤◌, length, inl, inr, Ok, Err, IfSome, refl, sym, ap, subst, arith}
 use Rattle.std.specs.declared.option.Option.{Option}
 use Rattle.byte_sizes.specs.Spelt.{IsShortText}
-use Rattle.sf_outside.specs.DiskModel.{Image, DiskFacts, LeavesOnly, LeavesNoMore, IsClean}
-use Rattle.sf_outside.proofs.DiskLaws.{LeavesOnly-start, LeavesOnly-weaker, LeavesOnly-no_more}
+use Rattle.sf_outside.specs.DiskModel.{Image, DiskFacts, LeavesOnly, Stays, IsClean}
+use Rattle.sf_outside.proofs.DiskLaws.{LeavesOnly-start, LeavesOnly-weaker, LeavesOnly-stays}
 use Rattle.sf_outside.proofs.ImageSteps.{if_one}
 use Rattle.snapshot_store.specs.SlotFile.{IsEpoch, IsNew}
 use Rattle.block_step.specs.declared.compiled.Compiled.{Compiled}
@@ -88,8 +88,8 @@ module _ (compiled : Compiled) (settings : OpenSettings) (made : OpenedStore) (g
 -- ---- where nothing is written
 
 -- calls that only read
-pub as_found : (old new : DiskFacts) → IsClean old → LeavesNoMore old new → LeavesOnly old new (IsAsFound old.seen)
-as_found old new clean fewer = LeavesOnly-weaker old new old.may_leave (IsAsFound old.seen) (LeavesOnly-no_more old new fewer) clean
+pub as_found : (old new : DiskFacts) → IsClean old → Stays old new → LeavesOnly old new (IsAsFound old.seen)
+as_found old new clean stays = LeavesOnly-weaker old new old.may_leave (IsAsFound old.seen) (LeavesOnly-stays old new stays) clean
 
 -- no call
 pub same_left : (p : Program) (facts : DiskFacts) → IsClean facts → LeavesOnly facts facts (LeavesFound p facts.seen)
