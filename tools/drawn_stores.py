@@ -198,7 +198,7 @@ WAYS = [step_number] * 4 + [add_batch] * 3 + [turn_bit] * 4 + [write_byte] * 4 +
 
 def damaged(chance, files, others):
     for _ in range(chance.choice(DAMAGES)):
-        chance.choice(WAYS)(chance, files, chance.choice(stores.FILES[:4]), others)
+        chance.choice(WAYS)(chance, files, chance.choice(stores.FILES), others)
 
 
 # What is looked at

@@ -166,11 +166,10 @@ class Reader:
     def held(self):
         return self.entity(), self.values(DEEPEST)
 
-    def snapshot(self):
-        program = self.text()
-        history = self.items(self.entry, self.number())
+    def head(self):
+        program, entries, length = self.text(), self.number(), self.long()
         records = self.items(self.held, self.long())
-        return program, history, records, self.items(self.request, self.number())
+        return program, entries, length, records, self.items(self.request, self.number())
 
     def batch(self):
         return self.items(self.request, self.number()), self.items(self.number, self.number())
@@ -202,7 +201,7 @@ class OtherProgram(Exception):
 
 
 def slot(files, parity):
-    """The epoch and the snapshot of an open slot, or nothing where it is closed."""
+    """The epoch and the head of an open slot, or nothing where it is closed."""
     name = f"snap{parity}"
     content = files[name]
     if len(content) <= 1 or content[0] != OPEN:
@@ -212,9 +211,23 @@ def slot(files, parity):
         epoch, length = reader.long(), reader.long()
         if not (1 <= epoch < 2**63 and epoch % 2 == parity):
             raise NoSpelling
-        return epoch, whole(reader.take(length), Reader.snapshot)
+        return epoch, whole(reader.take(length), Reader.head)
     except NoSpelling:
         raise Bad(name, 0, "a slot") from None
+
+
+def history(files, count, length):
+    """The entries that a head names: so many, in so many bytes."""
+    reader, found, at = Reader(files["hist"][:length]), [], 0
+    for _ in range(count):
+        try:
+            found.append(reader.entry())
+        except NoSpelling:
+            raise Bad("hist", at, "an entry") from None
+        at = reader.at
+    if at != length:
+        raise Bad("hist", at, "bytes behind the entries")
+    return found
 
 
 def batches(files, name):
@@ -363,12 +376,13 @@ def stands_for(files):
     slots = [found for found in (slot(files, parity) for parity in (0, 1)) if found]
     if not slots:
         return Core([], {}, [])
-    epoch, (program, history, records, pending) = max(slots, key=lambda found: found[0])
+    epoch, (program, count, length, records, pending) = max(slots, key=lambda found: found[0])
+    entries = history(files, count, length)
     logged = batches(files, f"log{epoch % 2}")
     if program != PROGRAM:
         raise OtherProgram
     try:
-        core, file, at = core_of(history, records, pending), f"log{epoch % 2}", 0
+        core, file, at = core_of(entries, records, pending), f"log{epoch % 2}", 0
     except Wrong:
         raise Bad(f"snap{epoch % 2}", 0, "a snapshot that doesn't fit") from None
     for at, (news, places) in logged:

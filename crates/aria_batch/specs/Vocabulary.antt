@@ -1,2 +1,2 @@
 -- The definitions of lower crates that the crates above this one name from here.
-pub use Rattle.batch_events.specs.Vocabulary.{acts_of, Outside}
+pub use Rattle.batch_events.specs.Vocabulary.{IsParts, Outside, acts_of}

@@ -1,11 +1,11 @@
 //! The events of a batch, to their end.
 
-ghost use Rattle.std.specs.Prelude.{◌≡◌, ◌≤◌, ◌<◌, ◌^◌, length, IfOk};
+ghost use Rattle.std.specs.Prelude.{◌≡◌, ◌<◌, ◌^◌, length, IfOk};
 ghost use Rattle.std.specs.List.{AllByRecursion};
 ghost use Rattle.program_meaning.specs.Fits.{StateFits, ActFits};
 ghost use Rattle.commit_order.specs.CommittedSerial.{AreWorksOf};
 ghost use Rattle.block_step.specs.CompiledViews.{compiled_tables, IsWhole};
-ghost use Rattle.batch_events.specs.Vocabulary.{acts_of, no_works, Outside};
+ghost use Rattle.batch_events.specs.Vocabulary.{acts_of, no_works, IsParts, Outside};
 ghost use Rattle.aria_batch.specs.BatchRun.{source_of, own_outcomes, batch_of, IsToldAlong};
 ghost use Rattle.aria_batch.specs.Counts.{counted_in_run};
 
@@ -36,8 +36,7 @@ pub(crate) fn run_events<C: Chooser, W: Watch>(
     watch: &mut W,
 ) -> Result<Ended, AllocError>
     requires whole { IsWhole compiled.now }
-    requires least { 1 ≤ parts }
-    requires most { parts ≤ 64 }
+    requires parts { IsParts parts }
     requires few { length requests.now < 2 ^ 32 }
     requires state { StateFits (compiled_tables compiled.now) state.now.contents }
     requires fit { AllByRecursion (ActFits (compiled_tables compiled.now)) (acts_of requests.now) }

@@ -5,6 +5,7 @@ pub use Rattle.operator_graph.specs.BufferedWorks.{EachBuffers}
 pub use Rattle.operator_graph.specs.FirstFlights.{acts_of}
 pub use Rattle.operator_graph.specs.Flights.{EachTransaction, no_works, turns_of}
 pub use Rattle.operator_graph.specs.Going.{all_come_to, come_to}
+pub use Rattle.operator_graph.specs.Partitions.{IsParts}
 pub use Rattle.operator_graph.specs.Telling.{AlsoTold, Told}
 pub use Rattle.operator_graph.specs.Turns.{Outside, PicksOne, Turns}
 pub use Rattle.operator_graph.specs.declared.flight.Flight.{Flight}

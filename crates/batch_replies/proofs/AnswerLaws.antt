@@ -16,8 +16,8 @@ use Rattle.operator_graph.specs.Turns.{Outside}
 use Rattle.batch_output.specs.Vocabulary.{Batch, IsToldAlong, Engine, Planned, Core, core_of, source_of, requests_at, batch_entries, after_batch, replies_from, IsPlanOf, accesses_on}
 use Rattle.batch_output.specs.BatchOutput.{Limits, committed, has_no_place, batch_lines, entry_lines}
 use Rattle.batch_replies.specs.declared.counting.BatchCounts.{BatchCounts}
-use Rattle.batch_replies.specs.declared.answering.BatchStop.{BatchStop}
-use Rattle.batch_replies.specs.declared.answering.BatchStop.TheVariants.{HistoryFull, NoMemory, DiskFault, WriteFault}
+use Rattle.batch_replies.specs.declared.stops.Stop.{Stop}
+use Rattle.batch_replies.specs.declared.stops.Stop.TheVariants.{HistoryFull, NoMemory, DiskFault, WriteFault}
 use Rattle.batch_replies.specs.LinesInOrder.{reply_lines}
 use Rattle.batch_replies.specs.BatchAnswers.{failure_count, AreCounts, Answers, TellsBatch}
 use Rattle.batch_replies.proofs.ReplyLaws.{entry_lines_are, reply_outcomes}
@@ -48,7 +48,7 @@ module _ (src : Source) (rule : List Access → Chosen) (limits : Limits) (core 
     }
 
     -- the batch is committed, and its lines are written, or a part of them
-    pub answered : (result : Result BatchCounts BatchStop) (new : Core) (held held' : Option (List ℕ)) (lines : List (List ℕ)) (counts : BatchCounts)
+    pub answered : (result : Result BatchCounts Stop) (new : Core) (held held' : Option (List ℕ)) (lines : List (List ℕ)) (counts : BatchCounts)
         → lines ≡ reply_lines (requests_at core.pending places) replies → new ≡ after_batch src core places
         → counts.pending ≡ length core.pending → counts.committed ≡ length places → counts.failed ≡ failure_count (over (λ (reply : Reply). reply.outcome) replies)
         → IfOk result (λ answer. answer ≡ counts) → IfErr result (λ stop. stop ≡ WriteFault) → OnOk result (Appends held held' (joined lines)) → OnErr result (AppendsPrefix held held' (joined lines))
@@ -73,7 +73,7 @@ pub plan_replies : (e : Engine) (p : Planned) → IsPlanOf e p → p.replies ≡
 plan_replies e p plan = plan.told.replies ∙ ap (replies_from (length (core_of e).history + 1)) plan.made.entries
 
 -- what a plan told is what the batch told
-pub tells_planned : (batch : Batch) (parts events : ℕ) (result : Result BatchCounts BatchStop) (old new : Outside) → result ≢ Err HistoryFull → IfOk result (λ counts. counts.events ≡ events)
+pub tells_planned : (batch : Batch) (parts events : ℕ) (result : Result BatchCounts Stop) (old new : Outside) → result ≢ Err HistoryFull → IfOk result (λ counts. counts.events ≡ events)
     → IsToldAlong batch parts (Some events) old new → TellsBatch batch parts result old new
 tells_planned batch parts events (Ok counts) old new placed same told = subst (λ n. IsToldAlong batch parts (Some n) old new) (sym same) told
 tells_planned batch parts events (Err HistoryFull) old new placed same told = absurd (placed refl)

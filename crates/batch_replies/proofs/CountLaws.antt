@@ -42,6 +42,6 @@ fewer_left e p plan some =
 
 pub few_replies : (e : Engine) (p : Planned) → IsPlanOf e p → length p.replies ≤ length (core_of e).pending
 few_replies e p plan =
-    let told = ap length plan.told.replies ∙ length-replies_from (length (core_of e).history + 1) p.entries in
+    let told = ap length plan.told.replies ∙ length-replies_from (length (core_of e).history + 1) p.moves.entries in
     let count = places_count e p plan in
     omega arith

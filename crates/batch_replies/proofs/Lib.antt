@@ -1,3 +1,5 @@
+pub mod SameProgram
+pub mod GoingLaws
 pub mod ReplyLaws
 pub mod CountLaws
 pub mod WriteLaws

@@ -7,7 +7,7 @@ use Rattle.program_meaning.specs.ClassTables.{Source}
 use Rattle.serial_order.specs.ConflictFree.{Access}
 use Rattle.reservations.specs.CommitRules.{Chosen}
 use Rattle.std.specs.declared.result.Result.{Result}
-use Rattle.batch_output.specs.Vocabulary.{Engine, Core, core_of, source_of, compiled_of, limit_of, fresh_of, RunsProgram, accesses_on, after_batch, settled}
+use Rattle.batch_output.specs.Vocabulary.{Engine, Core, core_of, source_of, compiled_of, limit_of, fresh_of, RunsProgram, accesses_on, after_batch}
 use Rattle.batch_output.specs.BatchOutput.{Limits, has_no_place}
 use Rattle.session_store.specs.declared.store.Store.{Store}
 use Rattle.session_store.specs.declared.store.StoreSettings.{StoreSettings}
@@ -16,10 +16,11 @@ use Rattle.session_store.specs.Stores.{program_with, settings_of, Keeps, StandsS
 use Rattle.session_store.specs.Vocabulary.{logged_of}
 use Rattle.session_store.proofs.StoreLaws.{same_source}
 use Rattle.batch_replies.specs.declared.counting.BatchCounts.{BatchCounts}
-use Rattle.batch_replies.specs.declared.answering.BatchStop.{BatchStop}
-use Rattle.batch_replies.specs.declared.answering.BatchStop.TheVariants.{HistoryFull, NoMemory, DiskFault, WriteFault}
+use Rattle.batch_replies.specs.declared.stops.Stop.{Stop}
+use Rattle.batch_replies.specs.declared.stops.Stop.TheVariants.{HistoryFull, NoMemory, DiskFault, WriteFault}
 use Rattle.batch_replies.specs.BatchAnswers.{HasPlace, Answers, AnswersBatch, IsChosenBy, runs_on}
 use Rattle.batch_replies.specs.Moments.{IsBehindOne, IsLogged, StandsLogged, LeavesLogged, Logs}
+use Rattle.batch_replies.proofs.GoingLaws.{same_logged}
 
 module _ (src : Source) (rule : List Access → Chosen) where
   -- ---- which core
@@ -155,7 +156,7 @@ logs_chosen e now rule places store old new chosen moments is =
     Logs-batch (source_of e) rule store (core_of e) (logged_of e) (logged_of now) old new (subst (λ c. LeavesMeanwhile store (source_of e) (logged_of e) c old new) same moments)
     (elim is [ inl stays ↦ inl stays | inr after ↦ inr (after ∙ same) ])
 
-answers_place : (src : Source) (rule : List Access → Chosen) (limits : Limits) (result : Result BatchCounts BatchStop) (old new : Core) (held held' : Option (List ℕ)) → result ≢ Err HistoryFull
+answers_place : (src : Source) (rule : List Access → Chosen) (limits : Limits) (result : Result BatchCounts Stop) (old new : Core) (held held' : Option (List ℕ)) → result ≢ Err HistoryFull
     → Answers src rule limits result old new held held' → HasPlace src rule limits old
 answers_place src rule limits (Ok counts) old new held held' placed a = a.0
 answers_place src rule limits (Err HistoryFull) old new held held' placed a = absurd (placed refl)
@@ -168,15 +169,12 @@ module _ (e now : Engine) (runs : RunsProgram now (compiled_of e) (limit_of e)) 
   pub chosen_now : (places : List ℕ) → IsChosenBy rule e places → IsChosenBy rule now places
   chosen_now places chosen = chosen ∙ (λ i. (rule (accesses_on (same_source e now runs i) (sym core i))).committed)
 
-  same_logged : logged_of now ≡ logged_of e
-  same_logged = λ i. settled (core i) (fresh i)
-
   -- where it comes to no plan
   pub logs_unplanned : (store : Option Store) (ran : List Core) (facts : DiskFacts) → Keeps store (source_of e) (logged_of e) facts
       → Logs (source_of e) rule (settings_of store) ran (logged_of e) (logged_of now) facts facts
-  logs_unplanned store ran facts kept = Logs-still (source_of e) rule store ran (logged_of e) (logged_of now) facts same_logged kept
+  logs_unplanned store ran facts kept = Logs-still (source_of e) rule store ran (logged_of e) (logged_of now) facts (same_logged e now core fresh) kept
 
-  pub logs_planned : (size : ℕ) (settings : Option StoreSettings) (last : Core) (old new : DiskFacts) (result : Result BatchCounts BatchStop) (after : Engine) (held held' : Option (List ℕ))
+  pub logs_planned : (size : ℕ) (settings : Option StoreSettings) (last : Core) (old new : DiskFacts) (result : Result BatchCounts Stop) (after : Engine) (held held' : Option (List ℕ))
       → result ≢ Err HistoryFull → AnswersBatch rule size result now after held held' → Logs (source_of now) rule settings (core_of now ∷ []) (logged_of now) last old new
       → Logs (source_of e) rule settings (runs_on (source_of e) rule (record { batch = size; history = limit_of e }) (core_of e)) (logged_of e) last old new
   logs_planned size settings last old new result after held held' placed a l =
@@ -185,4 +183,4 @@ module _ (e now : Engine) (runs : RunsProgram now (compiled_of e) (limit_of e)) 
       let place : has_no_place (source_of e) rule limits (core_of e) ≡ false = (λ i. has_no_place (same_source e now runs i) rule (record { batch = size; history = sym runs.limit_is i }) (sym core i)) ∙ place_now in
       let runs_here : runs_on (source_of e) rule limits (core_of e) ≡ core_of e ∷ [] = ap (λ b. if b then [] else core_of e ∷ []) place in
       Logs-same (source_of now) (source_of e) rule settings (core_of now ∷ []) (runs_on (source_of e) rule limits (core_of e)) (logged_of now) (logged_of e) last old new
-      (sym (same_source e now runs)) (ap (λ (c : Core). c ∷ []) core ∙ sym runs_here) same_logged l
+      (sym (same_source e now runs)) (ap (λ (c : Core). c ∷ []) core ∙ sym runs_here) (same_logged e now core fresh) l

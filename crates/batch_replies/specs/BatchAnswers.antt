@@ -1,6 +1,6 @@
 -- What a batch that is due comes to where it is run, logged, committed and answered: the core behind it, what the output gained, what is counted,
 -- and what is told.
-use Rattle.std.specs.Prelude.{◌≡◌, ℕ, ◌+◌, Bool, false, true, List, [], ◌∷◌, length, Some, None, Ok, Err, if◌then◌else◌}
+use Rattle.std.specs.Prelude.{◌≡◌, ℕ, ◌+◌, false, true, List, [], ◌∷◌, length, Some, None, Ok, Err, if◌then◌else◌}
 use Rattle.std.specs.declared.option.Option.{Option}
 use Rattle.std.specs.declared.result.Result.{Result}
 use Rattle.std.specs.Io.KnownBytes.{Appends}
@@ -16,8 +16,8 @@ use Rattle.operator_graph.specs.Turns.{Outside}
 use Rattle.batch_output.specs.Vocabulary.{Batch, IsToldAlong, Engine, Core, core_of, source_of, limit_of, batch_entries, after_batch, accesses_on}
 use Rattle.batch_output.specs.BatchOutput.{Limits, committed, has_no_place, batch_lines}
 use Rattle.batch_replies.specs.declared.counting.BatchCounts.{BatchCounts}
-use Rattle.batch_replies.specs.declared.answering.BatchStop.{BatchStop}
-use Rattle.batch_replies.specs.declared.answering.BatchStop.TheVariants.{HistoryFull, NoMemory, DiskFault, WriteFault}
+use Rattle.batch_replies.specs.declared.stops.Stop.{Stop}
+use Rattle.batch_replies.specs.declared.stops.Stop.TheVariants.{HistoryFull, NoMemory, DiskFault, WriteFault}
 
 abbrev pub failure_count : List Outcome → ℕ
 failure_count [] = 0
@@ -51,7 +51,7 @@ module _ (src : Source) (rule : List Access → Chosen) (limits : Limits) where
 
   -- The batch is committed, and all its reply lines are written. Or nothing changes and nothing is written, since the history has no place for it,
   -- for want of memory, or since the disk failed before the commit. Or it is committed, and its reply lines are written in part.
-  abbrev pub Answers : Result BatchCounts BatchStop → Core → Core → Option (List ℕ) → Option (List ℕ) → Type 0
+  abbrev pub Answers : Result BatchCounts Stop → Core → Core → Option (List ℕ) → Option (List ℕ) → Type 0
   Answers (Ok counts) old new held held' = HasPlace old × AreCounts old counts × (new ≡ core_behind old) × Appends held held' (reply_text old)
   Answers (Err HistoryFull) old new held held' = IsFull old × (new ≡ old) × (held' ≡ held)
   Answers (Err NoMemory) old new held held' = HasPlace old × (new ≡ old) × (held' ≡ held)
@@ -59,7 +59,7 @@ module _ (src : Source) (rule : List Access → Chosen) (limits : Limits) where
   Answers (Err WriteFault) old new held held' = HasPlace old × (new ≡ core_behind old) × AppendsPrefix held held' (reply_text old)
 
 -- so it is for a batch of an engine; how many requests make a batch is of no account here
-abbrev pub AnswersBatch : (List Access → Chosen) → ℕ → Result BatchCounts BatchStop → Engine → Engine → Option (List ℕ) → Option (List ℕ) → Type 0
+abbrev pub AnswersBatch : (List Access → Chosen) → ℕ → Result BatchCounts Stop → Engine → Engine → Option (List ℕ) → Option (List ℕ) → Type 0
 AnswersBatch rule size result old new held held' =
     Answers (source_of old) rule (record { batch = size; history = limit_of old }) result (core_of old) (core_of new) held held'
 
@@ -67,28 +67,9 @@ AnswersBatch rule size result old new held held' =
 abbrev pub IsChosenBy : (List Access → Chosen) → Engine → List ℕ → Type 0
 IsChosenBy rule e places = places ≡ (rule (accesses_on (source_of e) (core_of e))).committed
 
--- how many requests came since the last batch
-abbrev pub fresh_behind : Result BatchCounts BatchStop → ℕ → ℕ
-fresh_behind (Ok counts) fresh = 0
-fresh_behind (Err HistoryFull) fresh = fresh
-fresh_behind (Err NoMemory) fresh = fresh
-fresh_behind (Err DiskFault) fresh = fresh
-fresh_behind (Err WriteFault) fresh = 0
-
--- the disk failed, so the batch isn't committed
-abbrev pub is_disk_fault : BatchStop → Bool
-is_disk_fault HistoryFull = false
-is_disk_fault NoMemory = false
-is_disk_fault DiskFault = true
-is_disk_fault WriteFault = false
-
-abbrev pub disk_failed : {T : Type 0} → Result T BatchStop → Bool
-disk_failed (Ok value) = false
-disk_failed (Err stop) = is_disk_fault stop
-
 -- the chooser was asked, and the watch told, of the events along some picks: of all of them, as many as are counted, where the batch is
 -- logged or the disk failed then; and of none where the history has no place for it
-abbrev pub TellsBatch : Batch → ℕ → Result BatchCounts BatchStop → Outside → Outside → Type 0
+abbrev pub TellsBatch : Batch → ℕ → Result BatchCounts Stop → Outside → Outside → Type 0
 TellsBatch batch parts (Ok counts) old new = IsToldAlong batch parts (Some counts.events) old new
 TellsBatch batch parts (Err HistoryFull) old new = new ≡ old
 TellsBatch batch parts (Err NoMemory) old new = IsToldAlong batch parts None old new

@@ -1,3 +1,5 @@
+pub mod Stops
+pub mod GoingOn
 pub mod BatchAnswers
 pub mod LinesInOrder
 pub mod Vocabulary

@@ -5,8 +5,10 @@ mod answering;
 mod counting;
 mod drafts;
 mod lines;
+mod stops;
 mod writing;
 
-pub use answering::{BatchStop, answer_batch};
+pub use answering::answer_batch;
 pub use counting::BatchCounts;
 pub use session_store::Store;
+pub use stops::Stop;

@@ -1,19 +1,18 @@
 -- When a session comes to a full history, told by its input.
 use Rattle.std.proofs.Common.{◌≡◌, ℕ, ◌+◌, ◌-◌, ◌≤◌, ◌<◌, Bool, true, false, nat_le, ◌⊎◌, inl, inr, List, [], ◌∷◌, ◌++◌, length, take, Some, None, refl, ap, ◌∙◌, append-nil, append_assoc, arith}
 use Rattle.std.specs.Prelude.{IfSome, if◌then◌else◌}
-use Rattle.std.proofs.lemmas.List.{take_at, length-append}
+use Rattle.std.proofs.lemmas.List.{take_at, take-append-le, length-append}
 use Rattle.std.proofs.lemmas.Bool.Decides.{nat_tests}
 use Rattle.std.specs.declared.option.Option.{Option}
 use Rattle.std.specs.Io.KnownBytes.{Consumes, IsAtEnd}
 use Rattle.sf_outside.proofs.Fronts.{take_into}
 use Rattle.program_meaning.specs.ClassTables.{Source}
-use Rattle.reservations.specs.BatchRule.{batch_rule}
 use Rattle.request_json.specs.Actions.{Line, whole_lines, whole_from, rest_from, last_line}
 use Rattle.input_lines.proofs.CutLaws.{whole-append}
 use Rattle.engine.specs.Cores.{Core}
 use Rattle.batch_output.specs.BatchOutput.{begun, Standing, after, step}
 use Rattle.batch_output.proofs.SessionLaws.{stopped, stopped_at_end}
-use Rattle.batch_run.specs.RunViews.{run_limits}
+use Rattle.batch_run.specs.RunViews.{run_limits, rule_of}
 use Rattle.batch_run.specs.RunTexts.{stands_behind, stands_at_end, fills_history, AnswersAll, AnswersFirst, FillsAtLine, FillsAtEnd}
 use Rattle.batch_run.specs.declared.running.RunSettings.{RunSettings}
 
@@ -68,6 +67,15 @@ module _ (limit : ℕ) (behind at_end : List ℕ → Bool) (later : (taken more 
       let long : limit < length all = omega (arith, ap length is, length-append taken ((next ∷ []) ++ r.0), length-append (next ∷ []) r.0, w) in
       (long, fills_long all long ∙ ap behind (ap (take limit) is ∙ take_at taken ((next ∷ []) ++ r.0) limit w) ∙ goes)
 
+  -- where exactly one byte more was taken
+  pub exceeds_by : (left left' : Option (List ℕ)) (taken : List ℕ) → Consumes left left' taken → length taken ≡ limit + 1 → behind (take limit taken) ≡ false
+      → IfSome left (λ all. (limit < length all) × (fills all ≡ false))
+  exceeds_by None left' taken c w goes = tt
+  exceeds_by (Some all) left' taken c w goes =
+      let r = some_taken all left' taken c in
+      let long : limit < length all = omega (arith, ap length r.1, length-append taken r.0, w) in
+      (long, fills_long all long ∙ ap behind (ap (take limit) r.1 ∙ take-append-le limit taken r.0 (omega (arith, w))) ∙ goes)
+
   pub full_at_line : (left left' : Option (List ℕ)) (taken : List ℕ) → Consumes left left' taken → length taken ≤ limit → behind taken ≡ true → IfSome left (λ all. fills all ≡ true)
   full_at_line None left' taken c w full = tt
   full_at_line (Some all) left' taken c w full =
@@ -85,12 +93,12 @@ module _ (limit : ℕ) (behind at_end : List ℕ → Bool) (later : (taken more 
 
 module _ (src : Source) (s : RunSettings) (start : Core) where
   abbrev lines_behind : Standing → List Line → Standing
-  lines_behind t lines = after src batch_rule (run_limits s) t lines
+  lines_behind t lines = after src (rule_of s) (run_limits s) t lines
 
   behind_both : (xs ys : List Line) (t : Standing) → lines_behind t (xs ++ ys) ≡ lines_behind (lines_behind t xs) ys
   unfolding after
   behind_both [] ys t = refl
-  behind_both (x ∷ xs) ys t = behind_both xs ys (step src batch_rule (run_limits s) t x)
+  behind_both (x ∷ xs) ys t = behind_both xs ys (step src (rule_of s) (run_limits s) t x)
 
   abbrev run_behind : List ℕ → Bool
   run_behind bytes = (stands_behind src s start bytes).is_full
@@ -102,20 +110,22 @@ module _ (src : Source) (s : RunSettings) (start : Core) where
   run_later taken more full =
       ap (λ lines. (lines_behind (begun start) lines).is_full) (whole-append taken more [])
       ∙ ap (λ (t : Standing). t.is_full) (behind_both (whole_lines taken) (whole_from (rest_from [] taken) more) (begun start))
-      ∙ stopped src batch_rule (run_limits s) (whole_from (rest_from [] taken) more) (stands_behind src s start taken) full
+      ∙ stopped src (rule_of s) (run_limits s) (whole_from (rest_from [] taken) more) (stands_behind src s start taken) full
 
   run_to_end : (all : List ℕ) → run_behind all ≡ true → run_at_end all ≡ true
   run_to_end all full =
-      stopped_at_end src batch_rule (run_limits s) _ _
+      stopped_at_end src (rule_of s) (run_limits s) _ _
       (ap (λ (t : Standing). t.is_full) (behind_both (whole_lines all) (last_line (rest_from [] all)) (begun start))
-      ∙ stopped src batch_rule (run_limits s) (last_line (rest_from [] all)) (stands_behind src s start all) full)
+      ∙ stopped src (rule_of s) (run_limits s) (last_line (rest_from [] all)) (stands_behind src s start all) full)
 
-  pub run_fits : (left left' held held' : Option (List ℕ)) (last : Core) → AnswersAll src s start left left' held held' last → IfSome left (λ all. (length all ≤ s.limit) × (fills_history src s start all ≡ false))
-  run_fits left left' held held' last a = fits_whole s.limit run_behind run_at_end run_later run_to_end left left' a.taken a.consumed a.within a.ended a.goes_on
+  module _ (left left' held held' : Option (List ℕ)) (taken : List ℕ) (last : Core) (consumed : Consumes left left' taken) where
+    pub run_fits : AnswersAll src s start left' held held' taken last → IfSome left (λ all. (length all ≤ s.limit) × (fills_history src s start all ≡ false))
+    run_fits a = fits_whole s.limit run_behind run_at_end run_later run_to_end left left' taken consumed a.within a.ended a.goes_on
 
-  pub run_exceeds : (left left' held held' : Option (List ℕ)) (last : Core) → AnswersFirst src s start left left' held held' last → IfSome left (λ all. (s.limit < length all) × (fills_history src s start all ≡ false))
-  run_exceeds left left' held held' last a = exceeds s.limit run_behind run_at_end run_later run_to_end left left' a.taken a.next a.consumed a.full a.goes_on
+    pub run_exceeds : AnswersFirst src s start left' held held' taken last → IfSome left (λ all. (s.limit < length all) × (fills_history src s start all ≡ false))
+    run_exceeds a = exceeds_by s.limit run_behind run_at_end run_later run_to_end left left' taken consumed a.full a.goes_on
 
-  pub run_fills : (left left' held held' : Option (List ℕ)) (last : Core) → FillsAtLine src s start left left' held held' last ⊎ FillsAtEnd src s start left left' held held' last → IfSome left (λ all. fills_history src s start all ≡ true)
-  run_fills left left' held held' last (inl a) = full_at_line s.limit run_behind run_at_end run_later run_to_end left left' a.taken a.consumed a.within a.full
-  run_fills left left' held held' last (inr a) = full_at_end s.limit run_behind run_at_end run_later run_to_end left left' a.taken a.consumed a.within a.ended a.full
+    pub run_fills : FillsAtLine src s start left' held held' taken last ⊎ FillsAtEnd src s start left' held held' taken last
+        → IfSome left (λ all. fills_history src s start all ≡ true)
+    run_fills (inl a) = full_at_line s.limit run_behind run_at_end run_later run_to_end left left' taken consumed a.within a.full
+    run_fills (inr a) = full_at_end s.limit run_behind run_at_end run_later run_to_end left left' taken consumed a.within a.ended a.full

@@ -11,8 +11,8 @@ use Rattle.engine.specs.declared.arrival.Arrival.TheVariants as arrival
 use Rattle.engine.specs.Cores.{Core}
 use Rattle.engine.specs.Arrivals as engine
 use Rattle.batch_output.specs.BatchOutput.{Standing, taken}
-use Rattle.batch_session.specs.Vocabulary.{Step, Answer, RunWaiting, move_of, behind, standing_after, Point, going, moment, Does, StopsAt, StopsWithin, StopsBetween, Comes, LineStop, Service, program_of, IsUntaken, IsUnplanned, IsUnanswered, IsUnreplied, whole_text, HasPlace, core_behind}
-use Rattle.batch_session.specs.LineStopVariants as stop
+use Rattle.batch_session.specs.Vocabulary.{Step, Answer, RunWaiting, move_of, behind, standing_after, Point, going, moment, Does, StopsAt, StopsWithin, StopsBetween, Comes, Stop, Service, program_of, IsUntaken, IsUnplanned, IsUnanswered, IsUnreplied, whole_text, HasPlace, core_behind}
+use Rattle.batch_session.specs.StopVariants as stop
 use Rattle.batch_session.proofs.Vocabulary.{prefix_whole, prefix_none, behind_placed, behind_full, standing_over, standing-append}
 
 nothing_written : (a b : Option (List ℕ)) (xs : List ℕ) → b ≡ a → AppendsPrefix a b xs
@@ -55,7 +55,7 @@ module _ (v : Service) (traces : Bool) where
     pub part : AppendsPrefix p.held q.held (whole_text v (move_of v (going p) step))
 
   -- the last of these where something couldn't be written
-  abbrev pub EndsAt : Result (Unit {0}) LineStop → Step → Point → Point → Type 0
+  abbrev pub EndsAt : Result (Unit {0}) Stop → Step → Point → Point → Type 0
   EndsAt r step p q = IsStill p q ⊎ HasMoved step p q ⊎ ((r ≡ Err stop.WriteFault) × HasRun step p q)
 
   -- behind some first steps, or at the next one
@@ -65,7 +65,7 @@ module _ (v : Service) (traces : Bool) where
     pub split : steps ≡ first ++ rest
     pub did : Does v traces first p q
 
-  pub record EndsWithin (r : Result (Unit {0}) LineStop) (steps : List Step) (p q : Point) : Type 0 where
+  pub record EndsWithin (r : Result (Unit {0}) Stop) (steps : List Step) (p q : Point) : Type 0 where
     pub first : List Step
     pub step : Step
     pub rest : List Step
@@ -74,23 +74,23 @@ module _ (v : Service) (traces : Bool) where
     pub did : Does v traces first p between
     pub at : EndsAt r step between q
 
-  abbrev pub Ends : Result (Unit {0}) LineStop → List Step → Point → Point → Type 0
+  abbrev pub Ends : Result (Unit {0}) Stop → List Step → Point → Point → Type 0
   Ends r steps p q = EndsBehind steps p q ⊎ EndsWithin r steps p q
 
   -- at a step
 
-  untaken : (r : Result (Unit {0}) LineStop) (step : Step) (p q : Point) → IsUntaken (going p) (move_of v (going p) step) (moment p) (moment q) → EndsAt r step p q
+  untaken : (r : Result (Unit {0}) Stop) (step : Step) (p q : Point) → IsUntaken (going p) (move_of v (going p) step) (moment p) (moment q) → EndsAt r step p q
   untaken r step p q u = by u.core
     where
       by : (q.core ≡ p.core) ⊎ (q.core ≡ (move_of v (going p) step).core) → EndsAt r step p q
       by (inl core) = inl (record { core = core; held = u.unwritten })
       by (inr core) = inr (inl (record { core = core; part = nothing_written p.held q.held (joined (move_of v (going p) step).answer) u.unwritten }))
 
-  moved : (r : Result (Unit {0}) LineStop) (step : Step) (p q : Point) → q.core ≡ (move_of v (going p) step).core → AppendsPrefix p.held q.held (joined (move_of v (going p) step).answer)
+  moved : (r : Result (Unit {0}) Stop) (step : Step) (p q : Point) → q.core ≡ (move_of v (going p) step).core → AppendsPrefix p.held q.held (joined (move_of v (going p) step).answer)
       → EndsAt r step p q
   moved r step p q core part = inr (inl (record { core = core; part = part }))
 
-  stops : (why : LineStop) (step : Step) (p q : Point) → StopsAt v traces why step p q → EndsAt (Err why) step p q
+  stops : (why : Stop) (step : Step) (p q : Point) → StopsAt v traces why step p q → EndsAt (Err why) step p q
   stops stop.HistoryFull step p q s = moved (Err stop.HistoryFull) step p q s.0.core (prefix_whole p.held q.held (joined (move_of v (going p) step).answer) s.0.wrote)
   stops stop.NoMemory step p q s = by s.0
     where
@@ -107,7 +107,7 @@ module _ (v : Service) (traces : Bool) where
       let c = s.committed in
       inr (inr (refl, record { due = c.due; place = c.place; core = c.core; part = prefix_whole p.held q.held (whole_text v (move_of v (going p) step)) c.wrote }))
 
-  within : (why : LineStop) (steps : List Step) (p q : Point) → StopsWithin v traces why steps p q → Ends (Err why) steps p q
+  within : (why : Stop) (steps : List Step) (p q : Point) → StopsWithin v traces why steps p q → Ends (Err why) steps p q
   within why steps p q s = inr (record {
     first = s.first;
     step = s.step;
@@ -118,10 +118,10 @@ module _ (v : Service) (traces : Bool) where
     at = stops why s.step s.between q s.stopped;
   })
 
-  between_steps : (r : Result (Unit {0}) LineStop) (steps : List Step) (p q : Point) → StopsBetween v traces steps p q → Ends r steps p q
+  between_steps : (r : Result (Unit {0}) Stop) (steps : List Step) (p q : Point) → StopsBetween v traces steps p q → Ends r steps p q
   between_steps r steps p q s = inl (record { first = s.first; rest = s.rest; split = s.split; did = s.did })
 
-  pub ends : (r : Result (Unit {0}) LineStop) (steps : List Step) (p q : Point) → Comes v traces r steps p q → Ends r steps p q
+  pub ends : (r : Result (Unit {0}) Stop) (steps : List Step) (p q : Point) → Comes v traces r steps p q → Ends r steps p q
   ends (Ok value) steps p q d = inl (record { first = steps; rest = []; split = sym (append-nil steps); did = d })
   ends (Err stop.HistoryFull) steps p q s = within stop.HistoryFull steps p q s
   ends (Err stop.NoMemory) steps p q (inl s) = within stop.NoMemory steps p q s

@@ -1,8 +1,9 @@
-pub mod SessionTakes
 pub mod TextLaws
 pub mod LastCores
 pub mod SerialLaws
 pub mod GrowthLaws
+pub mod CommittedLaws
+pub mod StandingLaws
 pub mod OutcomeLaws
 pub mod EventLaws
 pub mod FullLaws

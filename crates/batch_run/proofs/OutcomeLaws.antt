@@ -1,4 +1,4 @@
--- What a batch on a sound core commits has the outcomes that its events end with.
+-- What a batch on a core that fits commits has the outcomes that its events end with.
 use Rattle.std.proofs.Common.{◌≡◌, ℕ, List, [], ◌∷◌, map as over, None, Some, refl, sym, ap, ◌∙◌, subst}
 use Rattle.std.specs.Prelude.{option_map, filter_map}
 use Rattle.std.specs.List.{slice_get, AllByRecursion, cons_option}
@@ -23,7 +23,7 @@ use Rattle.operator_graph.specs.FirstFlights.{acts_of}
 use Rattle.batch_events.specs.BatchRuns.{come_to, ComesToRuns}
 use Rattle.batch_events.proofs.OwnRuns.{batches_come_to_their_runs}
 use Rattle.aria_batch.specs.BatchRun.{source_of, batch_of, running_along}
-use Rattle.engine.specs.Cores.{Core, IsSoundCore}
+use Rattle.engine.specs.Cores.{Core, CoreFits, IsSoundCore}
 use Rattle.engine.specs.Batches.{entry_on}
 use Rattle.batch_run.specs.BatchOutcomes.{ended_with, CommitsWhatEnded}
 
@@ -66,33 +66,40 @@ module _ (src : Source) (s : State) where
       one_more None outcomes more same = same
       one_more (Some r) outcomes more same = ap (λ l. own r ∷ l) same
 
--- On a sound core
+-- On a core whose state and requests that wait fit
 
-module _ (compiled : Compiled) (whole : IsWhole compiled) (core : Core) (sound : IsSoundCore (source_of compiled) core) where
+module _ (compiled : Compiled) (whole : IsWhole compiled) (core : Core) where
   abbrev tables : List PlainTable
   tables = tables_of (compiled_names compiled) (compiled_program compiled)
 
-  state_fits : StateFits tables core.state
-  state_fits =
-      subst (StateFits tables) (sym sound.committed.run.state)
-      (histories_fit (compiled_names compiled) (compiled_program compiled) (checked_are_known compiled.program) (serial.acts_of core.history)
-      (committed_fit tables core.history sound.committed.requests))
+  module _ (state : StateFits tables core.state) (requests : AllByRecursion (RequestFits tables) core.pending) where
+    comes : ComesToRuns (source_of compiled) (compiled_tables compiled) (compiled_blocks compiled) core.state (acts_of core.pending)
+    comes =
+        subst (λ ts. ComesToRuns (source_of compiled) ts (compiled_blocks compiled) core.state (acts_of core.pending)) (sym whole.has_tables)
+        (batches_come_to_their_runs (compiled_names compiled) (compiled_program compiled) (checked_are_known compiled.program) (compiled_blocks compiled) whole.fits whole.means
+        core.state state (acts_of core.pending) (waiting_fit tables core.pending requests))
 
-  comes : ComesToRuns (source_of compiled) (compiled_tables compiled) (compiled_blocks compiled) core.state (acts_of core.pending)
-  comes =
-      subst (λ ts. ComesToRuns (source_of compiled) ts (compiled_blocks compiled) core.state (acts_of core.pending)) (sym whole.has_tables)
-      (batches_come_to_their_runs (compiled_names compiled) (compiled_program compiled) (checked_are_known compiled.program) (compiled_blocks compiled) whole.fits whole.means
-      core.state state_fits (acts_of core.pending) (waiting_fit tables core.pending sound.pending.requests))
+    commits : (parts : ℕ) → CommitsWhatEnded compiled parts core
+    commits parts = record {
+      each = λ picks committed over_all.
+          ap (λ l. filter_map (slice_get l) committed) (ended picks over_all) ∙ at_places (source_of compiled) core.state core.pending committed;
+    }
+      where
+        ended : (picks : List ℕ) → running_along (batch_of compiled core.state core.pending) parts picks ≡ 0
+            → ended_with compiled parts core picks ≡ over (own (source_of compiled) core.state) core.pending
+        ended picks over_all =
+            over_twice (come_to core.state) (batch_after (source_of compiled) (compiled_tables compiled) (compiled_blocks compiled) core.state (acts_of core.pending) parts picks)
+            ∙ ap (over (option_map outcome_of)) (comes.are parts picks over_all)
+            ∙ own_outcomes (source_of compiled) core.state core.pending
 
-  pub commits_what_ended : (parts : ℕ) → CommitsWhatEnded compiled parts core
-  commits_what_ended parts = record {
-    each = λ picks committed over_all.
-        ap (λ l. filter_map (slice_get l) committed) (ended picks over_all) ∙ at_places (source_of compiled) core.state core.pending committed;
-  }
+  pub fitting_commits : CoreFits tables core → (parts : ℕ) → CommitsWhatEnded compiled parts core
+  fitting_commits fits parts = commits fits.state fits.pending.requests parts
+
+  pub commits_what_ended : IsSoundCore (source_of compiled) core → (parts : ℕ) → CommitsWhatEnded compiled parts core
+  commits_what_ended sound parts = commits state_fits sound.pending.requests parts
     where
-      ended : (picks : List ℕ) → running_along (batch_of compiled core.state core.pending) parts picks ≡ 0
-          → ended_with compiled parts core picks ≡ over (own (source_of compiled) core.state) core.pending
-      ended picks over_all =
-          over_twice (come_to core.state) (batch_after (source_of compiled) (compiled_tables compiled) (compiled_blocks compiled) core.state (acts_of core.pending) parts picks)
-          ∙ ap (over (option_map outcome_of)) (comes.are parts picks over_all)
-          ∙ own_outcomes (source_of compiled) core.state core.pending
+      state_fits : StateFits tables core.state
+      state_fits =
+          subst (StateFits tables) (sym sound.committed.run.state)
+          (histories_fit (compiled_names compiled) (compiled_program compiled) (checked_are_known compiled.program) (serial.acts_of core.history)
+          (committed_fit tables core.history sound.committed.requests))

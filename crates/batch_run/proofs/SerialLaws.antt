@@ -10,7 +10,6 @@ use Rattle.sf_outside.proofs.GainLaws.{joined-nil, joined-append}
 use Rattle.py_tree.specs.ClassRules.{tables_of}
 use Rattle.sf_value.specs.declared.Request.{Request}
 use Rattle.program_meaning.specs.ClassTables.{Source}
-use Rattle.reservations.specs.BatchRule.{batch_rule}
 use Rattle.reservations.specs.BatchRuleLaws.{batch_rule_is_lawful}
 use Rattle.request_json.specs.Actions.{action_of}
 use Rattle.block_step.specs.declared.compiled.Compiled.{Compiled}
@@ -22,10 +21,10 @@ use Rattle.batch_output.specs.SerialBatches.{IsLawfulRule, PrintsSerially}
 use Rattle.batch_output.proofs.LawfulBatches.{stays_sound}
 use Rattle.batch_output.proofs.ReportLaws.{Goes, Goes-none, Goes-then, Goes-batch}
 use Rattle.batch_output.proofs.SessionLaws.{Holds, Steps, answered, stepped, settled_holds}
-use Rattle.batch_session.specs.Vocabulary.{next_core, Step, Answer, RunWaiting, move_of, behind, printed_at, standing_after, printed, Point, going, Does, Comes, LineStop, ActionFits, Service}
-use Rattle.batch_session.specs.LineStopVariants as stop
+use Rattle.batch_session.specs.Vocabulary.{next_core, Step, Answer, RunWaiting, move_of, behind, printed_at, standing_after, printed, Point, going, Does, Comes, Stop, ActionFits, Service}
+use Rattle.batch_session.specs.StopVariants as stop
 use Rattle.batch_session.proofs.Vocabulary.{prefix_whole, prefix_after, printed_placed, line_fits}
-use Rattle.batch_run.specs.RunViews.{run_limits, run_service}
+use Rattle.batch_run.specs.RunViews.{run_limits, run_service, rule_of}
 use Rattle.batch_run.specs.RunTexts.{PrintsOneRun, RepliesAllButOne}
 use Rattle.batch_run.specs.declared.running.RunSettings.{RunSettings}
 use Rattle.batch_run.proofs.LastCores.{HasMoved, HasRun, EndsAt, Ends, ends, move_history, run_core}
@@ -37,48 +36,48 @@ module _ (compiled : Compiled) (s : RunSettings) (few : s.batch ≤ 256) where
   abbrev v : Service
   v = run_service compiled s
 
-  pub lawful : IsLawfulRule batch_rule
+  pub lawful : IsLawfulRule (rule_of s)
   lawful batch few = batch_rule_is_lawful batch
 
   abbrev pub Stands : Standing → Type 0
-  Stands t = Holds src batch_rule (run_limits s) lawful t
+  Stands t = Holds src (rule_of s) (run_limits s) lawful t
 
   -- What each step prints
 
   abbrev pub Prints : Standing → Standing → List (List ℕ) → Type 0
-  Prints t next texts = Steps src batch_rule (run_limits s) lawful t next texts
+  Prints t next texts = Steps src (rule_of s) (run_limits s) lawful t next texts
 
   -- the batch that runs where a request waits, or the end where the history is full
   abbrev settled_by : Bool → Standing → Standing
   settled_by full t =
       if full
       then record { core = t.core; lines = t.lines; is_full = true }
-      else record { core = after_batch src t.core (committed src batch_rule (run_limits s) t.core); lines = t.lines; is_full = false }
+      else record { core = after_batch src t.core (committed src (rule_of s) (run_limits s) t.core); lines = t.lines; is_full = false }
 
   abbrev lines_by : Bool → Core → List (List ℕ)
   lines_by full core =
-      if full then [] else entry_lines (length core.history + 1) (batch_entries src core (committed src batch_rule (run_limits s) core))
+      if full then [] else entry_lines (length core.history + 1) (batch_entries src core (committed src (rule_of s) (run_limits s) core))
 
   settles : (full : Bool) (t : Standing) → IsSoundCore src t.core → length t.core.pending < 2 ^ 32
       → Goes src t.core (settled_by full t).core t.lines (settled_by full t).lines (lines_by full t.core)
   settles true t sound few = Goes-none src t.core t.lines t.lines (omega arith) sound
   settles false t sound few =
-      let places : List ℕ = committed src batch_rule (run_limits s) t.core in
+      let places : List ℕ = committed src (rule_of s) (run_limits s) t.core in
       Goes-batch src t.core (after_batch src t.core places) (batch_entries src t.core places) t.lines t.lines (omega arith)
-      (stays_sound src batch_rule (run_limits s) lawful t.core few sound) refl
+      (stays_sound src (rule_of s) (run_limits s) lawful t.core few sound) refl
 
   waited_by : (full some : Bool) (t : Standing) → t.is_full ≡ full → waits t.core ≡ some → Stands t
-      → Prints t (if full || not some then t else settled src batch_rule (run_limits s) t)
-      (if full || not some then [] else batch_lines src batch_rule (run_limits s) t.core)
+      → Prints t (if full || not some then t else settled src (rule_of s) (run_limits s) t)
+      (if full || not some then [] else batch_lines src (rule_of s) (run_limits s) t.core)
   waited_by true some t is waiting h = record { goes = Goes-none src t.core t.lines t.lines (omega arith) h.sound; few = h.few }
   waited_by false false t is waiting h = record { goes = Goes-none src t.core t.lines t.lines (omega arith) h.sound; few = h.few }
   waited_by false true t is waiting h = record {
-    goes = settles (has_no_place src batch_rule (run_limits s) t.core) t h.sound (omega (arith, h.few is));
-    few = (settled_holds src batch_rule (run_limits s) lawful few t h is waiting).few;
+    goes = settles (has_no_place src (rule_of s) (run_limits s) t.core) t h.sound (omega (arith, h.few is));
+    few = (settled_holds src (rule_of s) (run_limits s) lawful few t h is waiting).few;
   }
 
   pub one : (step : Step) (t : Standing) → Stands t → Prints t (behind v t step) (printed_at v t step)
-  one (Answer line) t h = stepped src batch_rule (run_limits s) lawful few t line h
+  one (Answer line) t h = stepped src (rule_of s) (run_limits s) lawful few t line h
   one RunWaiting t h = waited_by t.is_full (waits t.core) t refl refl h
 
   pub next_stands : (t next : Standing) (texts : List (List ℕ)) → Prints t next texts → Stands next
@@ -161,8 +160,8 @@ module _ (compiled : Compiled) (s : RunSettings) (few : s.batch ≤ 256) where
 
     -- what the first steps print was written, and then these bytes
     but_one : (unwritten : Type 0) (first : List Step) (between : Point) → Does v s.trace first p between → (before : Core) → Goes src between.core before between.lines between.lines []
-        → (more : List ℕ) → Appends between.held q.held more → (q.core ≡ before) ⊎ (unwritten × (q.core ≡ next_core batch_rule src before))
-        → RepliesAllButOne src p.core q.core p.held q.held unwritten
+        → (more : List ℕ) → Appends between.held q.held more → (q.core ≡ before) ⊎ (unwritten × (q.core ≡ next_core (rule_of s) src before))
+        → RepliesAllButOne src p.core q.core p.held q.held s unwritten
     but_one unwritten first between d before goes more wrote last_is = record {
       before = before;
       lines = between.lines;
@@ -189,7 +188,7 @@ module _ (compiled : Compiled) (s : RunSettings) (few : s.batch ≤ 256) where
     no_part a b same = subst (AppendsPrefix a b) (sym joined-nil) (prefix_whole a b [] (none_gained a b same))
 
     abbrev RunsSerially : Type 0 → Type 0
-    RunsSerially unwritten = PrintsOneRun src p.core q.core p.held q.held × RepliesAllButOne src p.core q.core p.held q.held unwritten
+    RunsSerially unwritten = PrintsOneRun src p.core q.core p.held q.held × RepliesAllButOne src p.core q.core p.held q.held s unwritten
 
     still : (unwritten : Type 0) (first : List Step) (between : Point) → Does v s.trace first p between → q.core ≡ between.core → q.held ≡ between.held → RunsSerially unwritten
     still unwritten first between d core held = (
@@ -213,15 +212,15 @@ module _ (compiled : Compiled) (s : RunSettings) (few : s.batch ≤ 256) where
         let there = between_stands first between d in
         let next : Standing = behind v (going between) step in
         let texts : List (List ℕ) = printed_at v (going between) step in
-        let is : texts ≡ m.answer ++ batch_lines src batch_rule (run_limits s) m.core = printed_placed v between.core between.lines step h.due in (
+        let is : texts ≡ m.answer ++ batch_lines src (rule_of s) (run_limits s) m.core = printed_placed v between.core between.lines step h.due in (
           one_run first between d next.lines texts
               (subst (λ c. Goes src between.core c between.lines next.lines texts) (sym (run_core v s.trace step between q h)) (one step (going between) there).goes)
               (subst (λ l. AppendsPrefix between.held q.held (joined l)) (sym is) h.part),
           but_one unwritten first between d m.core (begins_quietly step (going between) there)
-              (take h.part.0 (joined (m.answer ++ batch_lines src batch_rule (run_limits s) m.core))) h.part.1 (inr (fault, h.core)),
+              (take h.part.0 (joined (m.answer ++ batch_lines src (rule_of s) (run_limits s) m.core))) h.part.1 (inr (fault, h.core)),
         )
 
-    runs_serially : (r : Result (Unit {0}) LineStop) (steps : List Step) → Ends v s.trace r steps p q → RunsSerially (r ≡ Err stop.WriteFault)
+    runs_serially : (r : Result (Unit {0}) Stop) (steps : List Step) → Ends v s.trace r steps p q → RunsSerially (r ≡ Err stop.WriteFault)
     runs_serially r steps (inl e) = still (r ≡ Err stop.WriteFault) e.first q e.did refl refl
     runs_serially r steps (inr e) = by e.at
       where
@@ -231,15 +230,15 @@ module _ (compiled : Compiled) (s : RunSettings) (few : s.batch ≤ 256) where
         by (inr (inr h)) = ran (r ≡ Err stop.WriteFault) h.0 e.first e.step e.between e.did h.1
 
   -- a session that began with a sound core, of which fewer than 256 requests wait
-  pub serial_session : (r : Result (Unit {0}) LineStop) (steps : List Step) (p q : Point) → Comes v s.trace r steps p q → p.lines ≡ 0 → IsSoundCore src p.core
-      → length p.core.pending < 256 → PrintsOneRun src p.core q.core p.held q.held × RepliesAllButOne src p.core q.core p.held q.held (r ≡ Err stop.WriteFault)
+  pub serial_session : (r : Result (Unit {0}) Stop) (steps : List Step) (p q : Point) → Comes v s.trace r steps p q → p.lines ≡ 0 → IsSoundCore src p.core
+      → length p.core.pending < 256 → PrintsOneRun src p.core q.core p.held q.held × RepliesAllButOne src p.core q.core p.held q.held s (r ≡ Err stop.WriteFault)
   serial_session r steps p q came none sound few =
       runs_serially p q none (record { sound = sound; few = λ goes. few }) r steps (ends v s.trace r steps p q came)
 
 -- where that can be seen from outside
-pub replies_by : (src : Source) (start last : Core) (held held' : Option (List ℕ)) (unwritten shown : Type 0) → (unwritten → shown)
-    → RepliesAllButOne src start last held held' unwritten → RepliesAllButOne src start last held held' shown
-replies_by src start last held held' unwritten shown follows r = record {
+pub replies_by : (src : Source) (s : RunSettings) (start last : Core) (held held' : Option (List ℕ)) (unwritten shown : Type 0) → (unwritten → shown)
+    → RepliesAllButOne src start last held held' s unwritten → RepliesAllButOne src start last held held' s shown
+replies_by src s start last held held' unwritten shown follows r = record {
   before = r.before;
   lines = r.lines;
   texts = r.texts;
@@ -248,19 +247,3 @@ replies_by src start last held held' unwritten shown follows r = record {
   wrote = r.wrote;
   last_is = elim r.last_is [ inl same ↦ inl same | inr next ↦ inr (follows next.0, next.1) ];
 }
-
--- nothing was printed
-pub serial_none : (src : Source) (start : Core) → IsSoundCore src start → (held : Option (List ℕ)) (unwritten : Type 0)
-    → PrintsOneRun src start start held held × RepliesAllButOne src start start held held unwritten
-serial_none src start sound held unwritten =
-    let serial : PrintsSerially src start start 0 [] = record {
-      sound = sound;
-      added = [];
-      printed = [];
-      report = record { history = sym (append-nil start.history); counted = refl; repeats = tt; numbered = tt };
-      texts_are = refl;
-    } in
-    let none : Appends held held (joined [] ++ []) = subst (λ text. Appends held held (text ++ [])) (sym joined-nil) (Appends-nil held) in (
-      record { lines = 0; texts = []; serial = serial; front = (0, Appends-nil held) },
-      record { before = start; lines = 0; texts = []; serial = serial; more = []; wrote = none; last_is = inl refl },
-    )

@@ -1,19 +1,18 @@
 -- What a run chooses and tells: its start, and then its batches, one after another; what it traces of them; and the core that it ends with.
-use Rattle.std.specs.Prelude.{◌≡◌, ℕ, ◌+◌, ◌≤◌, ◌⊎◌, List, [], ◌∷◌, length, take, ⊤, Ok, Err}
+use Rattle.std.specs.Prelude.{◌≡◌, ℕ, ◌+◌, ◌⊎◌, List, [], ◌∷◌, length, ⊤, Ok, Err}
 use Rattle.std.specs.List.{AllByRecursion}
 use Rattle.std.specs.declared.option.Option.{Option}
 use Rattle.std.specs.declared.result.Result.{Result}
-use Rattle.std.specs.Io.KnownBytes.{Appends, Consumes, IsAtEnd}
+use Rattle.std.specs.Io.KnownBytes.{Appends}
 use Rattle.sf_outside.specs.Bytes.{AppendsPrefix}
 use Rattle.sf_outside.specs.Choices.{Begins}
 use Rattle.block_step.specs.declared.compiled.Compiled.{Compiled}
 use Rattle.block_step.specs.CompiledViews.{compiled_tables, compiled_blocks}
 use Rattle.operator_graph.specs.Telling.{GraphTold, AlsoTold}
 use Rattle.operator_graph.specs.Turns.{Outside}
-use Rattle.aria_batch.specs.BatchRun.{source_of}
-use Rattle.engine.specs.Cores.{Core, IsSoundCore}
+use Rattle.engine.specs.Cores.{Core}
 use Rattle.batch_output.specs.BatchOutput.{begun}
-use Rattle.batch_session.specs.Vocabulary.{Tally, Step, EndsAmong, whole_steps, all_steps, ran_on, no_batch, tally_after, trace_text, RunBatches, BeginBatches, BatchCounts}
+use Rattle.batch_session.specs.Vocabulary.{Tally, Step, EndsAmong, ran_on, no_batch, tally_after, trace_text, RunBatches, BeginBatches, BatchCounts}
 use Rattle.batch_session.specs.declared.serving.SessionFault.{SessionFault}
 use Rattle.batch_session.specs.declared.serving.SessionFault.TheVariants.{ReadFault, WriteFault, DiskFault, InputTooLong, HistoryFull, NoMemory}
 use Rattle.batch_run.specs.RunViews.{Shown, run_service}
@@ -36,18 +35,9 @@ module _ (compiled : Compiled) (s : RunSettings) where
     pub begins : Begins old.choices s.schedule new.choices
     pub told : AlsoTold old.told new.told (GraphTold (compiled_tables compiled) (compiled_blocks compiled) ∷ [])
 
-  -- From the core that a run begins with
-
-  module _ (start : Core) where
-    -- the steps of what was taken: of the whole lines of the first bytes, as many as may come; or of all of it where the input had ended
-    abbrev pub AreStepsOf : List ℕ → Option (List ℕ) → List Step → Type 0
-    AreStepsOf taken left steps =
-        (steps ≡ whole_steps (take s.limit taken))
-        ⊎ ((length taken ≤ s.limit) × IsAtEnd left × (steps ≡ all_steps (run_service compiled s) start taken))
-
-    -- the cores that the batches of steps run on
-    abbrev pub batches_of : List Step → List Core
-    batches_of steps = ran_on (run_service compiled s) (begun start) steps
+  -- the cores that the batches of steps run on, from the core that a run begins with
+  abbrev pub batches_of : Core → List Step → List Core
+  batches_of start steps = ran_on (run_service compiled s) (begun start) steps
 
   -- these batches were run and told; where it stopped in their midst, the first of them, and perhaps some events of the next
   abbrev pub TellsBatches : Result Tally SessionFault → List Core → List BatchCounts → Outside → Outside → Type 0
@@ -69,18 +59,14 @@ module _ (compiled : Compiled) (s : RunSettings) where
   CountsBatches (Ok tally) counts = tally ≡ tally_after no_batch counts
   CountsBatches (Err fault) counts = ⊤
 
-  -- it started, and then its batches were told, along the picks made, traced and counted, each of which commits what its events ended with; and it
-  -- ended behind the steps of those that were told
-  pub record TellsRun (start last : Core) (result : Result Tally SessionFault) (old new : Shown) : Type 0 where
+  -- It started, and then the batches of these steps were told, along the picks made, traced and counted, each of which commits what its events ended with;
+  -- and it ended behind the first of the steps, of which the batches were told.
+  pub record TellsRun (start last : Core) (steps : List Step) (result : Result Tally SessionFault) (old new : Shown) : Type 0 where
     pub started : Outside
     pub starts : Starts old.outside started
-    pub taken : List ℕ
-    pub consumed : Consumes old.left new.left taken
-    pub steps : List Step
-    pub of_taken : AreStepsOf start taken new.left steps
     pub counts : List BatchCounts
     pub told : TellsBatches result (batches_of start steps) counts started new.outside
     pub traced : TracesBatches result counts old.said new.said
     pub counted : CountsBatches result counts
     pub ended : EndsAmong (run_service compiled s) steps (begun start) last (AreTold result (length counts))
-    pub outcomes : IsSoundCore (source_of compiled) start → AllByRecursion (CommitsWhatEnded compiled s.partitions) (batches_of start steps)
+    pub outcomes : AllByRecursion (CommitsWhatEnded compiled s.partitions) (batches_of start steps)

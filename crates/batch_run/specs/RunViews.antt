@@ -3,12 +3,14 @@ use Rattle.std.specs.Prelude.{ℕ, ◌≤◌, ◌^◌, List}
 use Rattle.std.specs.declared.option.Option.{Option}
 use Rattle.sf_outside.specs.Choices.{Choices}
 use Rattle.reservations.specs.BatchRule.{batch_rule}
+use Rattle.reservations.specs.CommitRules.{Chosen}
+use Rattle.serial_order.specs.ConflictFree.{Access}
 use Rattle.block_step.specs.declared.compiled.Compiled.{Compiled}
+use Rattle.operator_graph.specs.Partitions.{IsParts}
 use Rattle.operator_graph.specs.Telling.{Told}
 use Rattle.operator_graph.specs.Turns.{Outside}
 use Rattle.batch_output.specs.BatchOutput.{Limits}
-use Rattle.batch_session.specs.Vocabulary.{Service, limits_of}
-use Rattle.batch_session.specs.declared.settings.Settings.{Settings}
+use Rattle.batch_session.specs.Vocabulary.{Service, Settings, limits_of}
 use Rattle.batch_run.specs.declared.running.RunSettings.{RunSettings}
 
 -- what its input has left, what its output and its error stream hold, and what was chosen and told
@@ -25,8 +27,7 @@ shown left held said choices told = record { left = left; held = held; said = sa
 pub record CanServe (s : RunSettings) : Type 0 where
   pub some : 1 ≤ s.batch
   pub few : s.batch ≤ 256
-  pub least : 1 ≤ s.partitions
-  pub most : s.partitions ≤ 64
+  pub partitions : IsParts s.partitions
   pub limit : s.limit ≤ 2 ^ 62
 
 abbrev pub session_settings : RunSettings → Settings
@@ -35,6 +36,13 @@ session_settings s = record { batch = s.batch; parts = s.partitions; limit = s.l
 abbrev pub run_limits : RunSettings → Limits
 run_limits s = limits_of s.batch s.history
 
--- the batch rule says what each batch commits
+-- what says which requests of a batch are committed, by what each of them read and wrote
+abbrev pub Rule : Type 0
+Rule = List Access → Chosen
+
+-- the rule of a run with these settings
+abbrev pub rule_of : RunSettings → Rule
+rule_of s = batch_rule
+
 abbrev pub run_service : Compiled → RunSettings → Service
-run_service compiled s = record { compiled = compiled; parts = s.partitions; rule = batch_rule; limits = run_limits s }
+run_service compiled s = record { compiled = compiled; parts = s.partitions; rule = rule_of s; limits = run_limits s }

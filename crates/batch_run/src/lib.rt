@@ -5,4 +5,4 @@
 mod running;
 
 pub use batch_session::{SessionFault, Tally, write_pieces};
-pub use running::{RunSettings, run_opened, run_program};
+pub use running::{RunSettings, StoredEngine, run_opened, run_program};

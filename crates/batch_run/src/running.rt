@@ -2,15 +2,13 @@
 
 ghost use Rattle.std.specs.Prelude.{◌≡◌, ◌≤◌, ◌<◌, ◌⊎◌, true, false, length, IfOk, Err};
 ghost use Rattle.sf_outside.specs.Causes.{Rose};
-ghost use Rattle.reservations.specs.BatchRule.{batch_rule};
 ghost use Rattle.block_step.specs.CompiledViews.{IsWhole};
 ghost use Rattle.engine.specs.Cores.{Core, CoreFits, IsSoundCore, empty_core};
 ghost use Rattle.engine.specs.EngineViews.{core_of, source_of, tables_of, compiled_of, limit_of, fresh_of, RunsProgram};
 ghost use Rattle.batch_session.specs.Vocabulary.{logged_of, IsStorable, IsInCycle, KeepsWhere, next_core, settings_of, Keeps, EndsPast};
 ghost use Rattle.batch_session.specs.Faults.{disk_failed};
-ghost use Rattle.batch_session.specs.Served.{LogsServed};
-ghost use Rattle.batch_run.specs.RunViews.{run_service, shown, CanServe};
-ghost use Rattle.batch_run.specs.Runs.{Runs};
+ghost use Rattle.batch_run.specs.RunViews.{rule_of, shown, CanServe};
+ghost use Rattle.batch_run.specs.Runs.{RanLogged, Runs};
 
 use batch_session::{NoDisk, SessionFault, Settings, Store, Tally, serve};
 use block_step::Compiled;
@@ -54,6 +52,13 @@ impl RunSettings {
     }
 }
 
+/// An engine, and the store that keeps what it commits, where it has one.
+#[derive(Drop)]
+pub struct StoredEngine {
+    pub engine: Engine,
+    pub store: Option<Store>,
+}
+
 /// Runs a program on an input, from nothing committed on and without a store. The chooser is started once, the
 /// watch is told the graph once, and then the batches run on it. Where memory is wanted before that, nothing is
 /// done.
@@ -77,15 +82,17 @@ pub fn run_program<S: Source, K: Sink, E: Sink, C: Chooser, W: Watch>(
     ensures write_cause { result ≡ Err SessionFault.WriteFault → Rose (K.faults out.old) (K.faults out.new) ⊎ Rose (E.faults err.old) (E.faults err.new) }
     ensures no_disk { disk_failed result ≡ false }
 {
-    let Ok(mut engine) = Engine::new(alloc, compiled, settings.history) else {
+    let Ok(engine) = Engine::new(alloc, compiled, settings.history) else {
         return Err(SessionFault::NoMemory);
     };
-    let mut store = None;
+    let mut stored = StoredEngine {
+        engine,
+        store: None,
+    };
     let mut disk = NoDisk;
     let ended = run_opened(
         alloc,
-        &mut engine,
-        &mut store,
+        &mut stored,
         settings,
         input,
         out,
@@ -94,18 +101,16 @@ pub fn run_program<S: Source, K: Sink, E: Sink, C: Chooser, W: Watch>(
         chooser,
         watch,
     );
-    drop(store);
-    drop(engine);
+    drop(stored);
     ended
 }
 
-/// Runs the program of an engine on an input, from the engine's core on. Where there is a store it knows that core
+/// Runs the program of an engine on an input, from the engine's core on. Where the engine has a store it knows that core
 /// but for the requests that came since the last batch. The chooser is started once, the watch is told the graph
 /// once, and then the batches run on it.
 pub fn run_opened<S: Source, K: Sink, E: Sink, D: Disk, C: Chooser, W: Watch>(
     alloc: Global,
-    engine: &mut Engine,
-    store: &mut Option<Store>,
+    stored: &mut StoredEngine,
     settings: &RunSettings,
     input: &mut S,
     out: &mut K,
@@ -114,42 +119,40 @@ pub fn run_opened<S: Source, K: Sink, E: Sink, D: Disk, C: Chooser, W: Watch>(
     chooser: &mut C,
     watch: &mut W,
 ) -> Result<Tally, SessionFault>
-    requires whole { IsWhole (compiled_of engine.old) }
+    requires whole { IsWhole (compiled_of stored.old.engine) }
     requires serves { CanServe settings.now }
-    requires history { limit_of engine.old ≡ settings.now.history }
-    requires few { length (core_of engine.old).pending < 256 }
-    requires fits { CoreFits (tables_of engine.old) (core_of engine.old) }
-    requires storable { IsStorable (core_of engine.old) (fresh_of engine.old) }
-    requires kept { Keeps store.old (source_of engine.old) (logged_of engine.old) (D.facts disk.old) }
-    requires in_cycle { IsInCycle store.old 0 }
-    ensures runs { Runs (compiled_of engine.old) settings.now (core_of engine.old) (core_of engine.new) result
+    requires history { limit_of stored.old.engine ≡ settings.now.history }
+    requires few { length (core_of stored.old.engine).pending < 256 }
+    requires fits { CoreFits (tables_of stored.old.engine) (core_of stored.old.engine) }
+    requires storable { IsStorable (core_of stored.old.engine) (fresh_of stored.old.engine) }
+    requires kept { Keeps stored.old.store (source_of stored.old.engine) (logged_of stored.old.engine) (D.facts disk.old) }
+    requires in_cycle { IsInCycle stored.old.store 0 }
+    ensures runs { RanLogged (compiled_of stored.old.engine) settings.now (settings_of stored.old.store) (core_of stored.old.engine) (core_of stored.new.engine) result
         (shown (S.left input.old) (K.held out.old) (E.held err.old) (C.choices chooser.old) (W.told watch.old))
-        (shown (S.left input.new) (K.held out.new) (E.held err.new) (C.choices chooser.new) (W.told watch.new)) }
+        (shown (S.left input.new) (K.held out.new) (E.held err.new) (C.choices chooser.new) (W.told watch.new))
+        (logged_of stored.old.engine) (logged_of stored.new.engine) (D.facts disk.old) (D.facts disk.new) }
     ensures later_err { E.faults err.old ≤ E.faults err.new }
     ensures read_cause { result ≡ Err SessionFault.ReadFault → Rose (S.faults input.old) (S.faults input.new) }
     ensures write_cause { result ≡ Err SessionFault.WriteFault → Rose (K.faults out.old) (K.faults out.new) ⊎ Rose (E.faults err.old) (E.faults err.new) }
-    ensures program { RunsProgram engine.new (compiled_of engine.old) (limit_of engine.old) }
-    ensures core_fits { CoreFits (tables_of engine.old) (core_of engine.new) }
-    ensures sound { IsSoundCore (source_of engine.old) (core_of engine.old) → IsSoundCore (source_of engine.old) (core_of engine.new) }
-    ensures storable { IsStorable (core_of engine.new) (fresh_of engine.new) }
-    ensures kept { KeepsWhere (disk_failed result) store.new (source_of engine.new) (logged_of engine.new)
-        (next_core batch_rule (source_of engine.new) (core_of engine.new)) (D.facts disk.new) }
-    ensures logs { LogsServed (run_service (compiled_of engine.old) settings.now) (settings_of store.old) settings.now.limit
-        (core_of engine.old) (S.left input.old) (S.left input.new)
-        (logged_of engine.old) (logged_of engine.new) (D.facts disk.old) (D.facts disk.new) }
-    ensures in_cycle { IfOk result (λ tally. IsInCycle store.new tally.batches) }
-    ensures settings { settings_of store.new ≡ settings_of store.old }
+    ensures program { RunsProgram stored.new.engine (compiled_of stored.old.engine) (limit_of stored.old.engine) }
+    ensures core_fits { CoreFits (tables_of stored.old.engine) (core_of stored.new.engine) }
+    ensures sound { IsSoundCore (source_of stored.old.engine) (core_of stored.old.engine) → IsSoundCore (source_of stored.old.engine) (core_of stored.new.engine) }
+    ensures storable { IsStorable (core_of stored.new.engine) (fresh_of stored.new.engine) }
+    ensures kept { KeepsWhere (disk_failed result) stored.new.store (source_of stored.new.engine) (logged_of stored.new.engine)
+        (next_core (rule_of settings.now) (source_of stored.new.engine) (core_of stored.new.engine)) (D.facts disk.new) }
+    ensures in_cycle { IfOk result (λ tally. IsInCycle stored.new.store tally.batches) }
+    ensures settings { settings_of stored.new.store ≡ settings_of stored.old.store }
     ensures later_disk { D.faults disk.old ≤ D.faults disk.new }
     ensures disk_cause { disk_failed result ≡ true → Rose (D.faults disk.old) (D.faults disk.new)
-        ⊎ EndsPast batch_rule store.new (source_of engine.new) (core_of engine.new) (fresh_of engine.new) (D.facts disk.new) }
+        ⊎ EndsPast (rule_of settings.now) stored.new.store (source_of stored.new.engine) (core_of stored.new.engine) (fresh_of stored.new.engine) (D.facts disk.new) }
     ensures mounts { D.mounts disk.new ≡ D.mounts disk.old }
 {
     chooser.start(settings.schedule);
-    watch.graph(engine.compiled().graph());
+    watch.graph(stored.engine.compiled().graph());
     serve(
         alloc,
-        engine,
-        store,
+        &mut stored.engine,
+        &mut stored.store,
         &settings.session(),
         input,
         out,

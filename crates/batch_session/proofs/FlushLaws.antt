@@ -5,8 +5,8 @@ use Rattle.std.specs.Io.KnownBytes.{Keeps}
 use Rattle.std.proofs.KnownBytes.{Appends-kept}
 use Rattle.sf_outside.specs.Bytes.{AppendsPrefix}
 use Rattle.sf_outside.specs.Gains.{joined}
-use Rattle.session_steps.specs.Vocabulary.{BatchCounts, LineStop, Service, Moment, Move, whole_text, IsUntaken, IsCommitted, FindsFull, IsUnplanned, IsUnlogged, IsUnanswered, IsUnreplied}
-use Rattle.session_steps.specs.LineStopVariants.{HistoryFull, NoMemory, DiskFault, WriteFault}
+use Rattle.session_steps.specs.Vocabulary.{BatchCounts, Stop, Service, Moment, Move, whole_text, IsUntaken, IsCommitted, FindsFull, IsUnplanned, IsUnlogged, IsUnanswered, IsUnreplied}
+use Rattle.session_steps.specs.StopVariants.{HistoryFull, NoMemory, DiskFault, WriteFault}
 use Rattle.session_steps.specs.Steps.{Step, move_of}
 use Rattle.session_steps.specs.Doings.{Point, going, moment, Does, IsUncounted, StopsAt, StopsWithin, StopsBetween, Comes}
 
@@ -165,7 +165,7 @@ module _ (v : Service) (traces : Bool) (held : Option (List ℕ)) where
   between_kept steps p q kept s = record { first = s.first; rest = s.rest; split = s.split; did = does_kept s.first p q kept s.did }
 
   -- what it came to
-  pub Comes-flushed : {T : Type 0} (r : Result T LineStop) (steps : List Step) (p q : Point) → Keeps q.held held → Comes v traces r steps p q → Comes v traces r steps p (point_with q held)
+  pub Comes-flushed : {T : Type 0} (r : Result T Stop) (steps : List Step) (p q : Point) → Keeps q.held held → Comes v traces r steps p q → Comes v traces r steps p (point_with q held)
   Comes-flushed (Ok value) steps p q kept d = does_kept steps p q kept d
   Comes-flushed (Err HistoryFull) steps p q kept s = at_full steps s.first s.rest s.step s.split p s.between q s.did kept s.stopped
   Comes-flushed (Err NoMemory) steps p q kept (inl s) = inl (at_memory steps s.first s.rest s.step s.split p s.between q s.did kept s.stopped.0 s.stopped.1)

@@ -1,6 +1,8 @@
 -- From the lines that a reader gave to what is served.
-use Rattle.std.proofs.Common.{◌≡◌, ℕ, ◌≤◌, inl, inr, Bool, List, [], ◌∷◌, ◌++◌, length, Option, Ok, Err, refl, sym, ap, ◌∙◌, subst, arith}
-use Rattle.std.specs.Prelude.{OnOk}
+use Rattle.std.proofs.Common.{◌≡◌, ℕ, ◌+◌, ◌≤◌, inl, inr, Bool, List, [], ◌∷◌, ◌++◌, length, Option, Ok, Err, refl, sym, ap, ◌∙◌, subst, arith}
+use Rattle.std.specs.Prelude.{OnOk, IfOk}
+use Rattle.std.proofs.lemmas.List.{take_at, length-append}
+use Rattle.std.proofs.KnownBytes.{Consumes-trans}
 use Rattle.std.specs.declared.result.Result.{Result}
 use Rattle.std.specs.Io.KnownBytes.{Consumes, IsAtEnd}
 use Rattle.sf_outside.specs.DiskModel.{DiskFacts}
@@ -11,10 +13,10 @@ use Rattle.input_lines.specs.Reads.{IsStart, IsNew, Joins, EndsLine, JoinsAll, G
 use Rattle.input_lines.specs.Given.{Given}
 use Rattle.input_lines.proofs.GivenLaws.{Given-new, Given-line, Given-none, Given-stop, Given-all}
 use Rattle.engine.specs.Cores.{Core}
-use Rattle.session_steps.specs.Vocabulary.{LineStop, cut, Service, StoreSettings}
-use Rattle.session_steps.specs.LineStopVariants as line
+use Rattle.session_steps.specs.Vocabulary.{Stop, cut, Service, StoreSettings}
+use Rattle.session_steps.specs.StopVariants as stops
 use Rattle.session_steps.specs.declared.tally.Tally.{Tally}
-use Rattle.session_steps.specs.Steps.{Answer, answers, last_steps, whole_steps}
+use Rattle.session_steps.specs.Steps.{Step, Answer, answers, last_steps, whole_steps, all_steps}
 use Rattle.session_steps.specs.Doings.{Point, going, Comes, LogsSteps}
 use Rattle.session_steps.proofs.Composing.{Does-none}
 use Rattle.session_steps.proofs.Endings.{Comes-all, answers-append}
@@ -22,8 +24,7 @@ use Rattle.session_steps.proofs.LoggedSteps.{Logged-all}
 use Rattle.batch_session.specs.declared.serving.SessionFault.{SessionFault}
 use Rattle.batch_session.specs.declared.serving.SessionFault.TheVariants as fault
 use Rattle.batch_session.specs.Faults.{fault_of, finished}
-use Rattle.batch_session.specs.Served.{View, point_at, first_point, ServedWhole, ServedAll, Served, ServedInput}
-use Rattle.batch_session.proofs.LoggedLaws.{served_whole, served_all, served_over}
+use Rattle.batch_session.specs.Served.{View, point_at, first_point, AreWhole, AreAll, AreStepsBy, CameTo, EndsWith, Served}
 use Rattle.batch_session.proofs.Reaching.{Reaches, Reaches-of, Reaches-then, Reaches-cut, Reaches-wanted}
 
 -- all lines that the reader gave were answered, and it goes on
@@ -45,7 +46,7 @@ module _ (v : Service) (traces : Bool) (settings : Option StoreSettings) (limit 
   module _ {left l₁ l₂ : Option (List ℕ)} {old new : Lines} {p q : Point} {a b : Core} {f g : DiskFacts}
       (w : Going v traces settings limit left l₁ old p q a b f g) where
     -- the next line was answered, or as far as it went
-    next_reached : {T : Type 0} (r : Result T LineStop) (e : EndsLine old new l₁ l₂) (z : Point) (c : Core) (h : DiskFacts)
+    next_reached : {T : Type 0} (r : Result T Stop) (e : EndsLine old new l₁ l₂) (z : Point) (c : Core) (h : DiskFacts)
         → ((whole : List ℕ) → IsStart longest new.line whole → Reaches v traces settings r (Answer (cut new.ended whole) ∷ []) q z b c g h)
         → Reaches v traces settings r (answers (w.given ++ Ended (Given-line w.read e).line ∷ [])) p z a c f h
     next_reached r e z c h answered =
@@ -69,7 +70,7 @@ module _ (v : Service) (traces : Bool) (settings : Option StoreSettings) (limit 
         }
 
     -- it stopped at the next line
-    line_stopped : (stop : LineStop) (e : EndsLine old new l₁ l₂) (z : Point) (c : Core) (h : DiskFacts)
+    line_stopped : (stop : Stop) (e : EndsLine old new l₁ l₂) (z : Point) (c : Core) (h : DiskFacts)
         → ((whole : List ℕ) → IsStart longest new.line whole → Reaches v traces settings {T = Unit {0}} (Err stop) (Answer (cut new.ended whole) ∷ []) q z b c g h)
         → Reaches v traces settings {T = Unit {0}} (Err stop) (whole_steps (Given-stop (Given-line w.read e).now).taken) p z a c f h
     line_stopped stop e z c h answered =
@@ -80,10 +81,10 @@ module _ (v : Service) (traces : Bool) (settings : Option StoreSettings) (limit 
         (Reaches-cut v traces settings {T = Unit {0}} (Err stop) (answers given) (answers taken.more) refl (next_reached {T = Unit {0}} (Err stop) e z c h answered))
 
     -- the reader wanted memory for it
-    line_wanted : (j : Joins old new l₁ l₂) → Reaches v traces settings {T = Unit {0}} (Err line.NoMemory) (whole_steps (Given-stop (Given-none w.read j)).taken) p q a b f g
+    line_wanted : (j : Joins old new l₁ l₂) → Reaches v traces settings {T = Unit {0}} (Err stops.NoMemory) (whole_steps (Given-stop (Given-none w.read j)).taken) p q a b f g
     line_wanted j =
         let taken = Given-stop (Given-none w.read j) in
-        Reaches-of v traces settings {T = Unit {0}} (Err line.NoMemory) (answers w.given ++ answers taken.more) (whole_steps taken.taken)
+        Reaches-of v traces settings {T = Unit {0}} (Err stops.NoMemory) (answers w.given ++ answers taken.more) (whole_steps taken.taken)
         (sym (answers-append w.given taken.more) ∙ ap answers (sym taken.whole))
         (Reaches-wanted v traces settings (answers w.given) (answers taken.more) w.did)
 
@@ -95,111 +96,180 @@ module _ (v : Service) (traces : Bool) (settings : Option StoreSettings) (limit 
 
   -- ---- the exits
 
-  module _ (old new : View) where
-    -- the steps of the whole lines were done, or as far as it went
-    as_whole : {T : Type 0} (r : Result T LineStop) (count : ℕ) (tally : Tally) (first last : Core) (f g : DiskFacts) (taken : List ℕ)
-        → Consumes old.left new.left taken → length taken ≤ limit
-        → Reaches v traces settings r (whole_steps taken) (first_point old) (point_at new count tally) first last f g → ServedWhole v traces limit r old new
-    as_whole r count tally first last f g taken consumed within m =
-        record { taken = taken; consumed = consumed; within = within; lines = count; tally = tally; came = m.came }
+  -- it stopped among the whole lines, or among all and the batches at the end
+  whole_stopped : (stop : Stop) (core : Core) (taken : List ℕ) (left : Option (List ℕ)) (steps : List Step) → AreWhole v limit taken steps
+      → AreStepsBy v limit (Err (fault_of stop)) core taken left steps
+  whole_stopped stops.HistoryFull core taken left steps w = inl w
+  whole_stopped stops.NoMemory core taken left steps w = inl w
+  whole_stopped stops.DiskFault core taken left steps w = inl w
+  whole_stopped stops.WriteFault core taken left steps w = inl w
 
-    as_stopped : (stop : LineStop) → ServedWhole v traces limit {T = Unit {0}} (Err stop) old new → Served v traces limit (Err (fault_of stop)) old new
-    as_stopped line.HistoryFull s = inl s
-    as_stopped line.NoMemory s = inl s
-    as_stopped line.DiskFault s = inl s
-    as_stopped line.WriteFault s = (Err fault.WriteFault, inl s)
+  all_stopped : (stop : Stop) (core : Core) (taken : List ℕ) (left : Option (List ℕ)) (steps : List Step) → AreAll v limit core taken left steps
+      → AreStepsBy v limit (Err (fault_of stop)) core taken left steps
+  all_stopped stops.HistoryFull core taken left steps a = inr a
+  all_stopped stops.NoMemory core taken left steps a = inr a
+  all_stopped stops.DiskFault core taken left steps a = inr a
+  all_stopped stops.WriteFault core taken left steps a = inr a
 
-    -- of all lines and of the end
-    as_finished : (r : Result (Unit {0}) LineStop) (tally : Tally) → OnOk r (new.core.pending ≡ []) → (s : ServedAll v traces limit r old new) → s.tally ≡ tally
-        → Served v traces limit (finished r tally) old new
-    as_finished (Ok value) tally none s counted = (record { all = s; none = none }, counted)
-    as_finished (Err line.HistoryFull) tally none s counted = inr s
-    as_finished (Err line.NoMemory) tally none s counted = inr s
-    as_finished (Err line.DiskFault) tally none s counted = inr s
-    as_finished (Err line.WriteFault) tally none s counted = (Err fault.WriteFault, inr s)
+  came_stopped : (stop : Stop) → CameTo (Err (fault_of stop)) (Err stop)
+  came_stopped stops.HistoryFull = refl
+  came_stopped stops.NoMemory = refl
+  came_stopped stops.DiskFault = refl
+  came_stopped stops.WriteFault = refl
+
+  ends_stopped : (stop : Stop) → EndsWith (Err (fault_of stop)) (Err (fault_of stop))
+  ends_stopped stops.HistoryFull = refl
+  ends_stopped stops.NoMemory = refl
+  ends_stopped stops.DiskFault = refl
+  ends_stopped stops.WriteFault = tt
+
+  -- what it came to at the end of the input
+  abbrev ended_by : Result (Unit {0}) Stop → Result (Unit {0}) SessionFault
+  ended_by (Ok value) = Ok (tt {0})
+  ended_by (Err stop) = Err (fault_of stop)
+
+  all_ended : (r : Result (Unit {0}) Stop) (core : Core) (taken : List ℕ) (left : Option (List ℕ)) (steps : List Step) → AreAll v limit core taken left steps
+      → AreStepsBy v limit (ended_by r) core taken left steps
+  all_ended (Ok value) core taken left steps a = a
+  all_ended (Err stop) core taken left steps a = all_stopped stop core taken left steps a
+
+  came_ended : (r : Result (Unit {0}) Stop) → CameTo (ended_by r) r
+  came_ended (Ok value) = refl
+  came_ended (Err stop) = came_stopped stop
+
+  ends_ended : (r : Result (Unit {0}) Stop) (tally : Tally) → EndsWith (finished r tally) (ended_by r)
+  ends_ended (Ok value) tally = refl
+  ends_ended (Err stop) tally = ends_stopped stop
+
+  counted_ended : (r : Result (Unit {0}) Stop) (tally : Tally) → IfOk (finished r tally) (λ (count : Tally). tally ≡ count)
+  counted_ended (Ok value) tally = refl
+  counted_ended (Err stop) tally = tt
+
+  none_ended : (r : Result (Unit {0}) Stop) (core : Core) → OnOk r (core.pending ≡ []) → IfOk (ended_by r) (λ (value : Unit {0}). core.pending ≡ [])
+  none_ended (Ok value) core none = none
+  none_ended (Err stop) core none = tt
 
   module _ (old new : View) {l₁ : Option (List ℕ)} {reader next : Lines} {q : Point} {a b c : Core} {f g h : DiskFacts}
       (w : Going v traces settings limit old.left l₁ reader (first_point old) q a b f g) (count : ℕ) (tally : Tally) where
     -- it stopped at a line
-    pub At-a-line : (e : EndsLine reader next l₁ new.left) (stop : LineStop) (result : Result Tally SessionFault) → result ≡ Err (fault_of stop)
+    pub At-a-line : (e : EndsLine reader next l₁ new.left) (stop : Stop) (result : Result Tally SessionFault) → result ≡ Err (fault_of stop)
         → ((whole : List ℕ) → IsStart longest next.line whole
         → Reaches v traces settings {T = Unit {0}} (Err stop) (Answer (cut next.ended whole) ∷ []) q (point_at new count tally) b c g h)
-        → ServedInput v traces settings limit result old new a c f h
+        → Served v traces settings limit result old new a c f h
     At-a-line e stop result same answered =
         let taken = Given-stop (Given-line w.read e).now in
         let m = line_stopped w stop e (point_at new count tally) c h answered in
-        record {
-          served = subst (λ x. Served v traces limit x old new) (sym same)
-              (as_stopped old new stop (as_whole old new {T = Unit {0}} (Err stop) count tally a c f h taken.taken taken.consumed taken.within m));
-          logs = served_whole v settings limit old.core old.left new.left a c f h taken.taken taken.consumed taken.within m.logs;
-        }
+        let s : Served v traces settings limit (Err (fault_of stop)) old new a c f h = record {
+          taken = taken.taken;
+          consumed = taken.consumed;
+          ended = Err (fault_of stop);
+          ends = ends_stopped stop;
+          steps = whole_steps taken.taken;
+          of_taken = whole_stopped stop old.core taken.taken new.left (whole_steps taken.taken) (taken.within, refl);
+          stop = Err stop;
+          is_stop = came_stopped stop;
+          lines = count;
+          tally = tally;
+          came = m.came;
+          counted = tt;
+          none_waits = tt;
+          logs = m.logs;
+        } in
+        subst (λ x. Served v traces settings limit x old new a c f h) (sym same) s
 
     -- the input ended: a last line was answered, and then batches ran
-    pub At-the-end : (j : JoinsAll reader next l₁ new.left × IsAtEnd new.left) (r : Result (Unit {0}) LineStop) (result : Result Tally SessionFault) → result ≡ finished r tally
+    pub At-the-end : (j : JoinsAll reader next l₁ new.left × IsAtEnd new.left) (r : Result (Unit {0}) Stop) (result : Result Tally SessionFault) → result ≡ finished r tally
         → OnOk r (new.core.pending ≡ [])
         → ((whole : List ℕ) → IsStart longest next.line whole → Reaches v traces settings r (last_steps v (going q) (last_line whole)) q (point_at new count tally) b c g h)
-        → ServedInput v traces settings limit result old new a c f h
+        → Served v traces settings limit result old new a c f h
     At-the-end j r result same none ended =
         let all = Given-all w.read j.0 in
         let whole = no_more w j.0 in
         let end = ended (rest_from [] all.taken) all.start in
         let within : length all.taken ≤ limit = omega (arith, all.counted) in
-        let s : ServedAll v traces limit r old new = record {
+        let s : Served v traces settings limit (finished r tally) old new a c f h = record {
           taken = all.taken;
           consumed = all.consumed;
-          within = within;
-          ended = j.1;
+          ended = ended_by r;
+          ends = ends_ended r tally;
+          steps = all_steps v old.core all.taken;
+          of_taken = all_ended r old.core all.taken new.left (all_steps v old.core all.taken) (within, j.1, refl);
+          stop = r;
+          is_stop = came_ended r;
           lines = count;
           tally = tally;
           came = Comes-all v traces r all.taken (first_point old) q (point_at new count tally) refl whole.came end.came;
+          counted = counted_ended r tally;
+          none_waits = none_ended r new.core none;
+          logs = Logged-all v settings traces all.taken (first_point old) q a b c f g h refl whole.came whole.logs end.logs;
         } in
-        record {
-          served = subst (λ x. Served v traces limit x old new) (sym same) (as_finished old new r tally none s refl);
-          logs = served_all v settings limit old.core old.left new.left a c f h all.taken all.consumed within j.1
-              (Logged-all v settings traces all.taken (first_point old) q a b c f g h refl whole.came whole.logs end.logs);
-        }
+        subst (λ x. Served v traces settings limit x old new a c f h) (sym same) s
 
   module _ (old new : View) {l₁ : Option (List ℕ)} {reader next : Lines} (count : ℕ) (tally : Tally) {a b : Core} {f g : DiskFacts}
       (w : Going v traces settings limit old.left l₁ reader (first_point old) (point_at new count tally) a b f g) where
     -- memory was wanted for a line
-    pub At-no-memory : Joins reader next l₁ new.left → ServedInput v traces settings limit (Err fault.NoMemory) old new a b f g
+    pub At-no-memory : Joins reader next l₁ new.left → Served v traces settings limit (Err fault.NoMemory) old new a b f g
     At-no-memory j =
         let taken = Given-stop (Given-none w.read j) in
         let m = line_wanted w j in
         record {
-          served = inl (as_whole old new {T = Unit {0}} (Err line.NoMemory) count tally a b f g taken.taken taken.consumed taken.within m);
-          logs = served_whole v settings limit old.core old.left new.left a b f g taken.taken taken.consumed taken.within m.logs;
+          taken = taken.taken;
+          consumed = taken.consumed;
+          ended = Err fault.NoMemory;
+          ends = refl;
+          steps = whole_steps taken.taken;
+          of_taken = inl (taken.within, refl);
+          stop = Err stops.NoMemory;
+          is_stop = refl;
+          lines = count;
+          tally = tally;
+          came = m.came;
+          counted = tt;
+          none_waits = tt;
+          logs = m.logs;
         }
 
     -- the input couldn't be read
-    pub At-a-fault : JoinsAll reader next l₁ new.left → ServedInput v traces settings limit (Err fault.ReadFault) old new a b f g
+    pub At-a-fault : JoinsAll reader next l₁ new.left → Served v traces settings limit (Err fault.ReadFault) old new a b f g
     At-a-fault j =
         let all = Given-all w.read j in
         let within : length all.taken ≤ limit = omega (arith, all.counted) in
         record {
-          served = as_whole old new {T = Unit {0}} (Ok (tt {0})) count tally a b f g all.taken all.consumed within (no_more w j);
-          logs = served_whole v settings limit old.core old.left new.left a b f g all.taken all.consumed within (no_more w j).logs;
+          taken = all.taken;
+          consumed = all.consumed;
+          ended = Err fault.ReadFault;
+          ends = refl;
+          steps = whole_steps all.taken;
+          of_taken = (within, refl);
+          stop = Ok (tt {0});
+          is_stop = refl;
+          lines = count;
+          tally = tally;
+          came = (no_more w j).came;
+          counted = tt;
+          none_waits = tt;
+          logs = (no_more w j).logs;
         }
 
     -- it was too long
-    pub At-the-limit : GoesPast reader next l₁ new.left → ServedInput v traces settings limit (Err fault.InputTooLong) old new a b f g
+    pub At-the-limit : GoesPast reader next l₁ new.left → Served v traces settings limit (Err fault.InputTooLong) old new a b f g
     At-the-limit past =
         let all = Given-all w.read past.all in
         let full : length all.taken ≡ limit = omega (arith, all.counted, past.full) in
+        let one_more : length (all.taken ++ past.next ∷ []) ≡ limit + 1 = omega (arith, full, length-append all.taken (past.next ∷ [])) in
         record {
-          served = record {
-            before = past.before;
-            served = record {
-              taken = all.taken;
-              consumed = all.consumed;
-              within = omega (arith, full);
-              lines = count;
-              tally = tally;
-              came = (no_more w past.all).came;
-            };
-            full = full;
-            next = past.next;
-            beyond = past.beyond;
-          };
-          logs = served_over v settings limit old.core old.left new.left a b f g all.taken past.before past.next all.consumed past.beyond full (no_more w past.all).logs;
+          taken = all.taken ++ past.next ∷ [];
+          consumed = Consumes-trans old.left past.before new.left all.taken (past.next ∷ []) all.consumed past.beyond;
+          ended = Err fault.InputTooLong;
+          ends = refl;
+          steps = whole_steps all.taken;
+          of_taken = (one_more, ap whole_steps (sym (take_at all.taken (past.next ∷ []) limit full)));
+          stop = Ok (tt {0});
+          is_stop = refl;
+          lines = count;
+          tally = tally;
+          came = (no_more w past.all).came;
+          counted = tt;
+          none_waits = tt;
+          logs = (no_more w past.all).logs;
         }

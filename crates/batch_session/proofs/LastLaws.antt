@@ -8,7 +8,7 @@ use Rattle.request_json.specs.Actions.{last_line}
 use Rattle.input_lines.specs.Reads.{IsStart}
 use Rattle.input_lines.proofs.StartLaws.{some_start}
 use Rattle.engine.specs.Cores.{Core}
-use Rattle.session_steps.specs.Vocabulary.{LineStop, cut, Service, StoreSettings}
+use Rattle.session_steps.specs.Vocabulary.{Stop, cut, Service, StoreSettings}
 use Rattle.session_steps.specs.Steps.{Answer, answers}
 use Rattle.session_steps.specs.Doings.{Point, Comes, LogsSteps}
 use Rattle.session_steps.proofs.Composing.{Does-none}
@@ -21,7 +21,7 @@ module _ (v : Service) (traces : Bool) where
   last-none u kept (b ∷ bs) p start none = absurd (some_start longest b bs (sym none ∙ start))
 
   -- else it is the line that no LF ended
-  pub last-line : {T : Type 0} (r : Result T LineStop) (ended : Bool) (kept line : List ℕ) (p q : Point) → ended ≡ false → IsStart longest kept line → (kept ≡ [] → ⊥)
+  pub last-line : {T : Type 0} (r : Result T Stop) (ended : Bool) (kept line : List ℕ) (p q : Point) → ended ≡ false → IsStart longest kept line → (kept ≡ [] → ⊥)
       → AnswersKept v traces r ended kept p q → Comes v traces r (answers (last_line line)) p q
   last-line r ended kept [] p q left start some a = absurd (some start)
   last-line r ended kept (b ∷ bs) p q left start some a = subst (λ e. Comes v traces r (Answer (cut e (b ∷ bs)) ∷ []) p q) left (a (b ∷ bs) start)

@@ -1,4 +1,3 @@
-pub mod SameProgram
 pub mod KeepLaws
 pub mod StateLaws
 pub mod LineLaws

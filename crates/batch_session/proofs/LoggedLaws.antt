@@ -1,9 +1,6 @@
 -- What lines and batches leave in the store of a session, one call after another.
-use Rattle.std.proofs.Common.{◌≡◌, ℕ, ◌+◌, ◌≤◌, ◌<◌, inl, inr, Bool, List, [], ◌∷◌, ◌++◌, length, refl, sym, ap, subst, arith}
-use Rattle.std.proofs.lemmas.List.{take_all, take_at}
+use Rattle.std.proofs.Common.{◌≡◌, ℕ, ◌+◌, ◌≤◌, ◌<◌, Bool, List, [], ◌∷◌, length, refl, sym, subst, arith}
 use Rattle.std.specs.declared.option.Option.{Option}
-use Rattle.std.specs.Io.KnownBytes.{Consumes, IsAtEnd}
-use Rattle.std.proofs.KnownBytes.{Consumes-trans}
 use Rattle.sf_outside.specs.DiskModel.{DiskFacts}
 use Rattle.serial_order.specs.ConflictFree.{Access}
 use Rattle.reservations.specs.CommitRules.{Chosen}
@@ -15,13 +12,12 @@ use Rattle.engine.specs.Cores.{Core}
 use Rattle.engine.specs.EngineViews.{source_of, compiled_of, limit_of, RunsProgram}
 use Rattle.session_store.proofs.StoreLaws.{same_source}
 use Rattle.session_steps.specs.Vocabulary.{cut, Service, program_of, before, move_at, ran_by, Logs, StoreSettings}
-use Rattle.session_steps.specs.Steps.{Step, Answer, RunWaiting, endings, whole_steps, all_steps}
+use Rattle.session_steps.specs.Steps.{Step, Answer, RunWaiting, endings}
 use Rattle.session_steps.specs.Doings.{Point, going, LogsSteps}
 use Rattle.session_steps.proofs.Vocabulary.{Logs-same}
 use Rattle.session_steps.proofs.Leaves.{move_as}
 use Rattle.session_steps.proofs.Endings.{Ending, runs}
 use Rattle.session_steps.proofs.LoggedSteps.{Logged-line, Logged-run, Logged-endings}
-use Rattle.batch_session.specs.Served.{LogsServed}
 use Rattle.batch_session.proofs.LineLaws.{asks_the_same}
 
 -- an engine of the same program, and a store of the same settings
@@ -62,30 +58,3 @@ module _ (v : Service) (settings : Option StoreSettings) where
     Logged-stop last new some m =
         let fewer : length q.core.pending + e.count ≤ length p.core.pending = e.fewer in
         Logged-endings v settings (e.count + 1) p first last old new (omega arith) (Logged-run v settings traces e.count p q first mid last old between new e.did l m)
-
-  -- ---- what was served
-
-  module _ (limit : ℕ) (core : Core) (left left' : Option (List ℕ)) (first last : Core) (old new : DiskFacts) (taken : List ℕ) where
-    pub served_whole : Consumes left left' taken → length taken ≤ limit → LogsSteps v settings core 0 (whole_steps taken) first last old new
-        → LogsServed v settings limit core left left' first last old new
-    served_whole consumed within l = record {
-      taken = taken;
-      consumed = consumed;
-      steps = whole_steps taken;
-      of_taken = inl (ap whole_steps (sym (take_all limit taken within)));
-      logs = l;
-    }
-
-    pub served_all : Consumes left left' taken → length taken ≤ limit → IsAtEnd left' → LogsSteps v settings core 0 (all_steps v core taken) first last old new
-        → LogsServed v settings limit core left left' first last old new
-    served_all consumed within ended l = record { taken = taken; consumed = consumed; steps = all_steps v core taken; of_taken = inr (within, ended, refl); logs = l }
-
-    pub served_over : (between : Option (List ℕ)) (next : ℕ) → Consumes left between taken → Consumes between left' (next ∷ []) → length taken ≡ limit
-        → LogsSteps v settings core 0 (whole_steps taken) first last old new → LogsServed v settings limit core left left' first last old new
-    served_over between next consumed beyond full l = record {
-      taken = taken ++ next ∷ [];
-      consumed = Consumes-trans left between left' taken (next ∷ []) consumed beyond;
-      steps = whole_steps taken;
-      of_taken = inl (ap whole_steps (sym (take_at taken (next ∷ []) limit full)));
-      logs = l;
-    }

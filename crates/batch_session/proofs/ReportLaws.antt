@@ -3,8 +3,8 @@ use Rattle.std.proofs.Common.{◌≡◌, ◌≢◌, ◌+◌, ◌<◌, inr, Bool,
 use Rattle.std.specs.declared.result.Result.{Result}
 use Rattle.sf_outside.specs.Bytes.{AppendsPrefix}
 use Rattle.request_json.specs.Actions.{Line}
-use Rattle.session_steps.specs.Vocabulary.{BatchCounts, Answers, TellsBatch, LineStop, Service, program_of, before, AnswersLine, batch_on}
-use Rattle.session_steps.specs.LineStopVariants.{HistoryFull, NoMemory, DiskFault, WriteFault}
+use Rattle.session_steps.specs.Vocabulary.{BatchCounts, Answers, TellsBatch, Stop, Service, program_of, before, AnswersLine, batch_on}
+use Rattle.session_steps.specs.StopVariants.{HistoryFull, NoMemory, DiskFault, WriteFault}
 use Rattle.session_steps.specs.Steps.{Step, Answer, RunWaiting}
 use Rattle.session_steps.specs.StepLaws.{TracedAs}
 use Rattle.session_steps.specs.Traces.{with_batch, trace_text}
@@ -14,7 +14,7 @@ use Rattle.session_steps.proofs.Leaves.{IsCounted, Does-line, Untraced-line, Doe
 
 module _ (v : Service) (traces : Bool) (counts : BatchCounts) where
   -- a batch was counted, its line was written or not, and perhaps no checkpoint was made where one was due
-  pub record Ends (r : Result (Unit {0}) LineStop) (old new : Point) : Type 0 where
+  pub record Ends (r : Result (Unit {0}) Stop) (old new : Point) : Type 0 where
     pub tally : new.tally ≡ with_batch old.tally counts
     pub traced : TracedAs r old.traced new.traced (trace_text traces old.tally (counts ∷ []))
     pub placed : r ≢ Err HistoryFull
@@ -22,7 +22,7 @@ module _ (v : Service) (traces : Bool) (counts : BatchCounts) where
   -- a step whose batch is over is done in full, but for its line of the trace
   module _ (step : Step) (old new : Point) (did : IsCounted traces counts old new → Does v traces (step ∷ []) old new)
       (untraced : new.tally ≡ with_batch old.tally counts → AppendsPrefix old.traced new.traced (trace_text traces old.tally (counts ∷ [])) → StopsAt v traces WriteFault step old new) where
-    step_ended : (r : Result (Unit {0}) LineStop) → new.tally ≡ with_batch old.tally counts → TracedAs r old.traced new.traced (trace_text traces old.tally (counts ∷ []))
+    step_ended : (r : Result (Unit {0}) Stop) → new.tally ≡ with_batch old.tally counts → TracedAs r old.traced new.traced (trace_text traces old.tally (counts ∷ []))
         → r ≢ Err HistoryFull → Comes v traces r (step ∷ []) old new
     step_ended (Ok value) tally traced placed = did (record { tally = tally; traced = traced })
     step_ended (Err HistoryFull) tally traced placed = absurd (placed refl)
@@ -31,13 +31,13 @@ module _ (v : Service) (traces : Bool) (counts : BatchCounts) where
     step_ended (Err WriteFault) tally traced placed = Comes-one v traces {T = Unit {0}} (Err WriteFault) WriteFault step old new refl (untraced tally traced)
 
   -- behind a line
-  pub Line-ended : (r : Result (Unit {0}) LineStop) (line : Line) (old new : Point) → new.lines ≡ old.lines + 1 → AnswersLine v (Ok (Some counts)) (before old.core (old.lines + 1)) line (moment old) (moment new)
+  pub Line-ended : (r : Result (Unit {0}) Stop) (line : Line) (old new : Point) → new.lines ≡ old.lines + 1 → AnswersLine v (Ok (Some counts)) (before old.core (old.lines + 1)) line (moment old) (moment new)
       → Ends r old new → Comes v traces r (Answer line ∷ []) old new
   Line-ended r line old new lines a end = step_ended (Answer line) old new (Does-line v traces (Some counts) line old new lines a) (Untraced-line v traces counts line old new a)
       r end.tally end.traced end.placed
 
   -- behind a batch of what waits
-  pub Batch-ended : (r : Result (Unit {0}) LineStop) (old new : Point) → new.lines ≡ old.lines → 0 < length old.core.pending → Answers (program_of v) v.rule v.limits (Ok counts) old.core new.core old.held new.held
+  pub Batch-ended : (r : Result (Unit {0}) Stop) (old new : Point) → new.lines ≡ old.lines → 0 < length old.core.pending → Answers (program_of v) v.rule v.limits (Ok counts) old.core new.core old.held new.held
       → TellsBatch (batch_on v.compiled old.core) v.parts (Ok counts) old.outside new.outside → Ends r old new → Comes v traces r (RunWaiting ∷ []) old new
   Batch-ended r old new lines some a told end = step_ended RunWaiting old new (Does-batch v traces counts old new lines some a told) (Untraced-batch v traces counts old new some a told)
       r end.tally end.traced end.placed

@@ -2,22 +2,11 @@
 use Rattle.std.proofs.Common.{◌≡◌, ◌<◌, ◌↔◌, Bool, true, false, true≢false, List, [], ◌∷◌, length, Ok, Err, refl, sym, ◌∙◌, subst, arith}
 use Rattle.std.specs.Prelude.{OnOk}
 use Rattle.std.specs.declared.result.Result.{Result}
-use Rattle.session_steps.specs.Vocabulary.{BatchStop}
-use Rattle.session_steps.specs.BatchStopVariants as batch
-use Rattle.session_steps.proofs.Leaves as leaves
-use Rattle.batch_session.specs.Points.{stop_of}
 
 -- where a list isn't empty it has an element
 pub some_wait : {T : Type 0} (empty : Bool) (xs ys : List T) → ((empty ≡ true) ↔ (xs ≡ [])) → empty ≡ false → xs ≡ ys → 0 < length ys
 some_wait empty [] ys told is same = absurd (true≢false (sym (told.1 refl) ∙ is))
 some_wait empty (x ∷ xs) ys told is same = subst (λ zs. 0 < length zs) same (omega arith)
-
--- why a session stops where a batch did
-pub same_stop : (stop : BatchStop) → stop_of stop ≡ leaves.stop_of stop
-same_stop batch.HistoryFull = refl
-same_stop batch.NoMemory = refl
-same_stop batch.DiskFault = refl
-same_stop batch.WriteFault = refl
 
 -- what holds, holds after an Ok
 pub on_ok : {T E : Type 0} (r : Result T E) (P : Type 0) → P → OnOk r P

@@ -1,95 +1,112 @@
--- What the last flush leaves of what is served.
-use Rattle.std.proofs.Common.{◌≡◌, inl, inr, ℕ, Bool, List, Option, Ok, Err, refl, sym, ◌∙◌, subst}
+-- What the last flush leaves of what is served, and what is known of a session by what it came to.
+use Rattle.std.proofs.Common.{◌≡◌, ◌⊎◌, inl, inr, ℕ, Bool, List, [], Option, Ok, Err, refl, sym, subst}
+use Rattle.std.specs.Prelude.{IfOk}
 use Rattle.std.specs.declared.result.Result.{Result}
 use Rattle.std.specs.Io.KnownBytes.{Keeps}
-use Rattle.session_steps.specs.Vocabulary.{LineStop, Service}
-use Rattle.session_steps.specs.LineStopVariants as line
+use Rattle.sf_outside.specs.DiskModel.{DiskFacts}
+use Rattle.engine.specs.Cores.{Core}
+use Rattle.session_steps.specs.Vocabulary.{Service, Stop, StoreSettings}
+use Rattle.session_steps.specs.StopVariants as stops
+use Rattle.session_steps.specs.Steps.{Step}
 use Rattle.session_steps.specs.declared.tally.Tally.{Tally}
-use Rattle.session_steps.specs.Steps.{whole_steps, all_steps}
 use Rattle.batch_session.specs.declared.serving.SessionFault.{SessionFault}
 use Rattle.batch_session.specs.declared.serving.SessionFault.TheVariants as fault
 use Rattle.batch_session.specs.Faults.{IsFlushed}
-use Rattle.batch_session.specs.Served.{View, point_at, first_point, ServedWhole, ServedAll, ServedOver, ServedEnd, Serves, Served}
+use Rattle.batch_session.specs.Served.{View, point_at, first_point, AreWhole, AreAll, AreFirst, AreStepsBy, CameTo, EndsWith, Served}
 use Rattle.batch_session.proofs.FlushLaws.{Comes-flushed}
 
-module _ (v : Service) (traces : Bool) (limit : ℕ) where
+module _ (v : Service) (traces : Bool) (settings : Option StoreSettings) (limit : ℕ) where
   abbrev view_with : View → Option (List ℕ) → View
   view_with view held = record { core = view.core; left = view.left; held = held; traced = view.traced; outside = view.outside }
 
-  whole_kept : {T : Type 0} (r : Result T LineStop) (old mid : View) (held : Option (List ℕ)) → Keeps mid.held held → ServedWhole v traces limit r old mid → ServedWhole v traces limit r old (view_with mid held)
-  whole_kept r old mid held kept w = record {
-    taken = w.taken;
-    consumed = w.consumed;
-    within = w.within;
-    lines = w.lines;
-    tally = w.tally;
-    came = Comes-flushed v traces held r (whole_steps w.taken) (first_point old) (point_at mid w.lines w.tally) kept w.came;
-  }
+  module _ (old mid : View) (held : Option (List ℕ)) (first last : Core) (f g : DiskFacts) where
+    abbrev Serves : Result Tally SessionFault → View → Type 0
+    Serves result new = Served v traces settings limit result old new first last f g
 
-  abbrev all_kept : {T : Type 0} (r : Result T LineStop) (old mid : View) (held : Option (List ℕ)) → Keeps mid.held held → ServedAll v traces limit r old mid → ServedAll v traces limit r old (view_with mid held)
-  all_kept r old mid held kept w = record {
-    taken = w.taken;
-    consumed = w.consumed;
-    within = w.within;
-    ended = w.ended;
-    lines = w.lines;
-    tally = w.tally;
-    came = Comes-flushed v traces held r (all_steps v old.core w.taken) (first_point old) (point_at mid w.lines w.tally) kept w.came;
-  }
+    -- nothing more is written
+    same_flushed : (served : Result Tally SessionFault) → Keeps mid.held held → Serves served mid → Serves served (view_with mid held)
+    same_flushed served kept s = record {
+      taken = s.taken;
+      consumed = s.consumed;
+      ended = s.ended;
+      ends = s.ends;
+      steps = s.steps;
+      of_taken = s.of_taken;
+      stop = s.stop;
+      is_stop = s.is_stop;
+      lines = s.lines;
+      tally = s.tally;
+      came = Comes-flushed v traces held s.stop s.steps (first_point old) (point_at mid s.lines s.tally) kept s.came;
+      counted = s.counted;
+      none_waits = s.none_waits;
+      logs = s.logs;
+    }
 
-  over_kept : (old mid : View) (held : Option (List ℕ)) → Keeps mid.held held → ServedOver v traces limit old mid → ServedOver v traces limit old (view_with mid held)
-  over_kept old mid held kept w = record {
-    before = w.before;
-    served = record {
-      taken = w.served.taken;
-      consumed = w.served.consumed;
-      within = w.served.within;
-      lines = w.served.lines;
-      tally = w.served.tally;
-      came = Comes-flushed v traces held {T = Unit {0}} (Ok tt) (whole_steps w.served.taken) (first_point old) (point_at mid w.served.lines w.served.tally) kept w.served.came;
-    };
-    full = w.full;
-    next = w.next;
-    beyond = w.beyond;
-  }
+    -- whatever was served before the flush failed
+    served_unflushed : (served : Result Tally SessionFault) (new : View) → Serves served new → Serves (Err fault.WriteFault) new
+    served_unflushed served new s = record {
+      taken = s.taken;
+      consumed = s.consumed;
+      ended = s.ended;
+      ends = tt;
+      steps = s.steps;
+      of_taken = s.of_taken;
+      stop = s.stop;
+      is_stop = s.is_stop;
+      lines = s.lines;
+      tally = s.tally;
+      came = s.came;
+      counted = tt;
+      none_waits = s.none_waits;
+      logs = s.logs;
+    }
 
-  end_kept : (old mid : View) (held : Option (List ℕ)) → Keeps mid.held held → (s : ServedEnd v traces limit old mid) → (s' : ServedEnd v traces limit old (view_with mid held)) × (s'.all.tally ≡ s.all.tally)
-  end_kept old mid held kept s = (record { all = all_kept {T = Unit {0}} (Ok tt) old mid held kept s.all; none = s.none }, refl)
+    pub Served-flushed : (served result : Result Tally SessionFault) → IsFlushed served result → Keeps mid.held held → Serves served mid → Serves result (view_with mid held)
+    Served-flushed served result (inl is) kept s = subst (λ x. Serves x (view_with mid held)) (sym is) (same_flushed served kept s)
+    Served-flushed served result (inr is) kept s =
+        subst (λ x. Serves x (view_with mid held)) (sym is) (served_unflushed served (view_with mid held) (same_flushed served kept s))
 
-  serves_kept : (served : Result (Unit {0}) SessionFault) (old mid : View) (held : Option (List ℕ)) → Keeps mid.held held → Serves v traces limit served old mid → Serves v traces limit served old (view_with mid held)
-  serves_kept (Ok value) old mid held kept s = (end_kept old mid held kept s).0
-  serves_kept (Err fault.ReadFault) old mid held kept s = whole_kept {T = Unit {0}} (Ok tt) old mid held kept s
-  serves_kept (Err fault.InputTooLong) old mid held kept s = over_kept old mid held kept s
-  serves_kept (Err fault.HistoryFull) old mid held kept (inl s) = inl (whole_kept {T = Unit {0}} (Err line.HistoryFull) old mid held kept s)
-  serves_kept (Err fault.HistoryFull) old mid held kept (inr s) = inr (all_kept {T = Unit {0}} (Err line.HistoryFull) old mid held kept s)
-  serves_kept (Err fault.NoMemory) old mid held kept (inl s) = inl (whole_kept {T = Unit {0}} (Err line.NoMemory) old mid held kept s)
-  serves_kept (Err fault.NoMemory) old mid held kept (inr s) = inr (all_kept {T = Unit {0}} (Err line.NoMemory) old mid held kept s)
-  serves_kept (Err fault.DiskFault) old mid held kept (inl s) = inl (whole_kept {T = Unit {0}} (Err line.DiskFault) old mid held kept s)
-  serves_kept (Err fault.DiskFault) old mid held kept (inr s) = inr (all_kept {T = Unit {0}} (Err line.DiskFault) old mid held kept s)
-  serves_kept (Err fault.WriteFault) old mid held kept (inl s) = inl (whole_kept {T = Unit {0}} (Err line.WriteFault) old mid held kept s)
-  serves_kept (Err fault.WriteFault) old mid held kept (inr s) = inr (all_kept {T = Unit {0}} (Err line.WriteFault) old mid held kept s)
+  -- what is known of a session by what it came to before the last flush
+  module _ (result : Result Tally SessionFault) (old new : View) (first last : Core) (f g : DiskFacts) (s : Served v traces settings limit result old new first last f g) where
+    pub record EndedAt (e : Result (Unit {0}) SessionFault) : Type 0 where
+      pub of_taken : AreStepsBy v limit e old.core s.taken new.left s.steps
+      pub is_stop : CameTo e s.stop
+      pub none_waits : IfOk e (λ (value : Unit {0}). new.core.pending ≡ [])
 
-  same_flushed : (served : Result Tally SessionFault) (old mid : View) (held : Option (List ℕ)) → Keeps mid.held held → Served v traces limit served old mid → Served v traces limit served old (view_with mid held)
-  same_flushed (Ok tally) old mid held kept s = let e = end_kept old mid held kept s.0 in (e.0, e.1 ∙ s.1)
-  same_flushed (Err fault.ReadFault) old mid held kept s = serves_kept (Err fault.ReadFault) old mid held kept s
-  same_flushed (Err fault.InputTooLong) old mid held kept s = serves_kept (Err fault.InputTooLong) old mid held kept s
-  same_flushed (Err fault.HistoryFull) old mid held kept s = serves_kept (Err fault.HistoryFull) old mid held kept s
-  same_flushed (Err fault.NoMemory) old mid held kept s = serves_kept (Err fault.NoMemory) old mid held kept s
-  same_flushed (Err fault.DiskFault) old mid held kept s = serves_kept (Err fault.DiskFault) old mid held kept s
-  same_flushed (Err fault.WriteFault) old mid held kept s = (s.0, serves_kept s.0 old mid held kept s.1)
+    pub ended_at : (e : Result (Unit {0}) SessionFault) → s.ended ≡ e → EndedAt e
+    ended_at e same = subst (λ x. EndedAt x) same (record { of_taken = s.of_taken; is_stop = s.is_stop; none_waits = s.none_waits })
 
-  -- whatever was served before the flush failed
-  served_unflushed : (served : Result Tally SessionFault) (old new : View) → Served v traces limit served old new → Served v traces limit (Err fault.WriteFault) old new
-  served_unflushed (Ok tally) old new s = (Ok tt, s.0)
-  served_unflushed (Err fault.ReadFault) old new s = (Err fault.ReadFault, s)
-  served_unflushed (Err fault.InputTooLong) old new s = (Err fault.InputTooLong, s)
-  served_unflushed (Err fault.HistoryFull) old new s = (Err fault.HistoryFull, s)
-  served_unflushed (Err fault.NoMemory) old new s = (Err fault.NoMemory, s)
-  served_unflushed (Err fault.DiskFault) old new s = (Err fault.DiskFault, s)
-  served_unflushed (Err fault.WriteFault) old new s = s
+-- whatever it came to, the steps are one of these three
+pub some_steps : (v : Service) (limit : ℕ) (ended : Result (Unit {0}) SessionFault) (core : Core) (taken : List ℕ) (left : Option (List ℕ)) (steps : List Step)
+    → AreStepsBy v limit ended core taken left steps → AreFirst v limit taken steps ⊎ (AreWhole v limit taken steps ⊎ AreAll v limit core taken left steps)
+some_steps v limit (Ok value) core taken left steps all = inr (inr all)
+some_steps v limit (Err fault.ReadFault) core taken left steps whole = inr (inl whole)
+some_steps v limit (Err fault.InputTooLong) core taken left steps first = inl first
+some_steps v limit (Err fault.HistoryFull) core taken left steps either = inr either
+some_steps v limit (Err fault.NoMemory) core taken left steps either = inr either
+some_steps v limit (Err fault.DiskFault) core taken left steps either = inr either
+some_steps v limit (Err fault.WriteFault) core taken left steps either = inr either
 
-  pub Served-flushed : (served result : Result Tally SessionFault) (old mid : View) (held : Option (List ℕ)) → IsFlushed served result → Keeps mid.held held
-      → Served v traces limit served old mid → Served v traces limit result old (view_with mid held)
-  Served-flushed served result old mid held (inl is) kept s = subst (λ x. Served v traces limit x old (view_with mid held)) (sym is) (same_flushed served old mid held kept s)
-  Served-flushed served result old mid held (inr is) kept s =
-      subst (λ x. Served v traces limit x old (view_with mid held)) (sym is) (served_unflushed served old (view_with mid held) (same_flushed served old mid held kept s))
+-- where it stopped since something couldn't be written the result says so
+
+no_stop : (x : Result (Unit {0}) Stop) → x ≡ Ok (tt {0}) → x ≡ Err stops.WriteFault → ⊥
+no_stop x is other = cc
+
+not_full : (x : Result (Unit {0}) Stop) → x ≡ Err stops.HistoryFull → x ≡ Err stops.WriteFault → ⊥
+not_full x is other = cc
+
+not_wanting : (x : Result (Unit {0}) Stop) → x ≡ Err stops.NoMemory → x ≡ Err stops.WriteFault → ⊥
+not_wanting x is other = cc
+
+not_unlogged : (x : Result (Unit {0}) Stop) → x ≡ Err stops.DiskFault → x ≡ Err stops.WriteFault → ⊥
+not_unlogged x is other = cc
+
+pub unwritten_told : (result : Result Tally SessionFault) (ended : Result (Unit {0}) SessionFault) (stop : Result (Unit {0}) Stop) → EndsWith result ended → CameTo ended stop
+    → stop ≡ Err stops.WriteFault → result ≡ Err fault.WriteFault
+unwritten_told (Ok tally) ended stop e came is = absurd (no_stop stop (subst (λ x. CameTo x stop) e came) is)
+unwritten_told (Err fault.ReadFault) ended stop e came is = absurd (no_stop stop (subst (λ x. CameTo x stop) e came) is)
+unwritten_told (Err fault.InputTooLong) ended stop e came is = absurd (no_stop stop (subst (λ x. CameTo x stop) e came) is)
+unwritten_told (Err fault.HistoryFull) ended stop e came is = absurd (not_full stop (subst (λ x. CameTo x stop) e came) is)
+unwritten_told (Err fault.NoMemory) ended stop e came is = absurd (not_wanting stop (subst (λ x. CameTo x stop) e came) is)
+unwritten_told (Err fault.DiskFault) ended stop e came is = absurd (not_unlogged stop (subst (λ x. CameTo x stop) e came) is)
+unwritten_told (Err fault.WriteFault) ended stop e came is = refl

@@ -1,17 +1,17 @@
 -- Why a session doesn't serve its whole input, from where it stopped.
 use Rattle.std.specs.Prelude.{◌≡◌, ◌⊎◌, Bool, true, false, Ok, Err}
 use Rattle.std.specs.declared.result.Result.{Result}
-use Rattle.session_steps.specs.Vocabulary.{LineStop}
-use Rattle.session_steps.specs.LineStopVariants as line
+use Rattle.session_steps.specs.Vocabulary.{Stop}
+use Rattle.session_steps.specs.StopVariants as stops
 use Rattle.session_steps.specs.declared.tally.Tally.{Tally}
 use Rattle.batch_session.specs.declared.serving.SessionFault.{SessionFault}
 use Rattle.batch_session.specs.declared.serving.SessionFault.TheVariants.{ReadFault, WriteFault, DiskFault, InputTooLong, HistoryFull, NoMemory}
 
-abbrev pub fault_of : LineStop → SessionFault
-fault_of line.HistoryFull = HistoryFull
-fault_of line.NoMemory = NoMemory
-fault_of line.DiskFault = DiskFault
-fault_of line.WriteFault = WriteFault
+abbrev pub fault_of : Stop → SessionFault
+fault_of stops.HistoryFull = HistoryFull
+fault_of stops.NoMemory = NoMemory
+fault_of stops.DiskFault = DiskFault
+fault_of stops.WriteFault = WriteFault
 
 abbrev pub is_disk_fault : SessionFault → Bool
 is_disk_fault ReadFault = false
@@ -27,12 +27,12 @@ disk_failed (Ok value) = false
 disk_failed (Err fault) = is_disk_fault fault
 
 -- something couldn't be written: at a line, or in the session
-abbrev pub line_unwritten : {T : Type 0} → Result T LineStop → Bool
+abbrev pub line_unwritten : {T : Type 0} → Result T Stop → Bool
 line_unwritten (Ok value) = false
-line_unwritten (Err line.HistoryFull) = false
-line_unwritten (Err line.NoMemory) = false
-line_unwritten (Err line.DiskFault) = false
-line_unwritten (Err line.WriteFault) = true
+line_unwritten (Err stops.HistoryFull) = false
+line_unwritten (Err stops.NoMemory) = false
+line_unwritten (Err stops.DiskFault) = false
+line_unwritten (Err stops.WriteFault) = true
 
 abbrev pub write_failed : {T : Type 0} → Result T SessionFault → Bool
 write_failed (Ok value) = false
@@ -44,7 +44,7 @@ write_failed (Err HistoryFull) = false
 write_failed (Err NoMemory) = false
 
 -- where the end of the input was served, or the session stopped at it
-abbrev pub finished : Result (Unit {0}) LineStop → Tally → Result Tally SessionFault
+abbrev pub finished : Result (Unit {0}) Stop → Tally → Result Tally SessionFault
 finished (Ok value) tally = Ok tally
 finished (Err stop) tally = Err (fault_of stop)
 

@@ -4,4 +4,4 @@ pub mod Answering
 pub mod Faults
 pub mod Served
 pub mod Vocabulary
-pub mod LineStopVariants
+pub mod StopVariants

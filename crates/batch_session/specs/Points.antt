@@ -5,9 +5,6 @@ use Rattle.sf_outside.specs.Choices.{Choices}
 use Rattle.operator_graph.specs.Telling.{Told}
 use Rattle.engine.specs.declared.engine.Engine.{Engine}
 use Rattle.engine.specs.EngineViews.{core_of}
-use Rattle.session_steps.specs.BatchStopVariants as batch
-use Rattle.session_steps.specs.Vocabulary.{BatchStop, LineStop}
-use Rattle.session_steps.specs.LineStopVariants.{HistoryFull, NoMemory, DiskFault, WriteFault}
 use Rattle.session_steps.specs.declared.tally.Tally.{Tally}
 use Rattle.session_steps.specs.Doings.{Point}
 
@@ -20,10 +17,3 @@ point_of engine lines tally held traced choices told = record {
   outside = record { choices = choices; told = told };
   tally = tally;
 }
-
--- why a session stops where a batch did
-abbrev pub stop_of : BatchStop → LineStop
-stop_of batch.HistoryFull = HistoryFull
-stop_of batch.NoMemory = NoMemory
-stop_of batch.DiskFault = DiskFault
-stop_of batch.WriteFault = WriteFault

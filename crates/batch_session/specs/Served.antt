@@ -1,5 +1,5 @@
 -- What a session in batches has done for the input that it took.
-use Rattle.std.specs.Prelude.{◌≡◌, ℕ, ◌≤◌, ◌⊎◌, Bool, List, [], ◌∷◌, length, take, Ok, Err}
+use Rattle.std.specs.Prelude.{◌≡◌, ℕ, ◌+◌, ◌≤◌, ◌⊎◌, ⊤, Bool, List, [], length, take, Ok, Err, IfOk}
 use Rattle.std.specs.declared.option.Option.{Option}
 use Rattle.std.specs.declared.result.Result.{Result}
 use Rattle.std.specs.Io.KnownBytes.{Consumes, IsAtEnd}
@@ -10,8 +10,8 @@ use Rattle.operator_graph.specs.Turns.{Outside}
 use Rattle.engine.specs.declared.engine.Engine.{Engine}
 use Rattle.engine.specs.Cores.{Core}
 use Rattle.engine.specs.EngineViews.{core_of}
-use Rattle.session_steps.specs.Vocabulary.{LineStop, Service, StoreSettings}
-use Rattle.session_steps.specs.LineStopVariants as line
+use Rattle.session_steps.specs.Vocabulary.{Stop, Service, StoreSettings}
+use Rattle.session_steps.specs.StopVariants as stops
 use Rattle.session_steps.specs.declared.tally.Tally.{Tally}
 use Rattle.session_steps.specs.Steps.{Step, whole_steps, all_steps}
 use Rattle.session_steps.specs.Traces.{no_batch}
@@ -39,75 +39,66 @@ point_at view lines tally =
 abbrev pub first_point : View → Point
 first_point view = point_at view 0 no_batch
 
-module _ (v : Service) (traces : Bool) (limit : ℕ) where
-  -- these bytes were taken, at most so many, and the steps of their whole lines were done, or as far as it went
-  pub record ServedWhole {T : Type 0} (result : Result T LineStop) (old new : View) : Type 0 where
-    pub taken : List ℕ
-    pub consumed : Consumes old.left new.left taken
-    pub within : length taken ≤ limit
-    pub lines : ℕ
-    pub tally : Tally
-    pub came : Comes v traces result (whole_steps taken) (first_point old) (point_at new lines tally)
+-- What was taken of an input, and the steps of that
 
-  -- these are all bytes of the input: the steps of all of them and of its end were done, or as far as it went
-  pub record ServedAll {T : Type 0} (result : Result T LineStop) (old new : View) : Type 0 where
-    pub taken : List ℕ
-    pub consumed : Consumes old.left new.left taken
-    pub within : length taken ≤ limit
-    pub ended : IsAtEnd new.left
-    pub lines : ℕ
-    pub tally : Tally
-    pub came : Comes v traces result (all_steps v old.core taken) (first_point old) (point_at new lines tally)
+module _ (v : Service) (limit : ℕ) where
+  -- no more bytes than the limit were taken: the steps of their whole lines
+  abbrev pub AreWhole : List ℕ → List Step → Type 0
+  AreWhole taken steps = (length taken ≤ limit) × (steps ≡ whole_steps taken)
 
-  -- more bytes than the limit came: the steps of the whole lines of so many were done, and exactly one byte more was taken
-  pub record ServedOver (old new : View) : Type 0 where
-    pub before : Option (List ℕ)
-    pub served : ServedWhole {T = Unit {0}} (Ok tt) old (record { core = new.core; left = before; held = new.held; traced = new.traced; outside = new.outside })
-    pub full : length served.taken ≡ limit
-    pub next : ℕ
-    pub beyond : Consumes before new.left (next ∷ [])
+  -- and these are all bytes of the input: the steps of all their lines and of the end
+  abbrev pub AreAll : Core → List ℕ → Option (List ℕ) → List Step → Type 0
+  AreAll core taken left steps = (length taken ≤ limit) × IsAtEnd left × (steps ≡ all_steps v core taken)
 
-  -- the whole input is served and nothing waits any more
-  pub record ServedEnd (old new : View) : Type 0 where
-    pub all : ServedAll {T = Unit {0}} (Ok tt) old new
-    pub none : new.core.pending ≡ []
+  -- exactly one byte more was taken: the steps of the whole lines of those before it
+  abbrev pub AreFirst : List ℕ → List Step → Type 0
+  AreFirst taken steps = (length taken ≡ limit + 1) × (steps ≡ whole_steps (take limit taken))
 
-  -- it stopped among the whole lines; or the input had ended, and it stopped among all lines and the batches at the end
-  abbrev pub StopsServing : LineStop → View → View → Type 0
-  StopsServing stop old new = ServedWhole {T = Unit {0}} (Err stop) old new ⊎ ServedAll {T = Unit {0}} (Err stop) old new
+  -- by what a session came to, before its output is flushed at the end
+  abbrev pub AreStepsBy : Result (Unit {0}) SessionFault → Core → List ℕ → Option (List ℕ) → List Step → Type 0
+  AreStepsBy (Ok value) core taken left steps = AreAll core taken left steps
+  AreStepsBy (Err ReadFault) core taken left steps = AreWhole taken steps
+  AreStepsBy (Err InputTooLong) core taken left steps = AreFirst taken steps
+  AreStepsBy (Err HistoryFull) core taken left steps = AreWhole taken steps ⊎ AreAll core taken left steps
+  AreStepsBy (Err NoMemory) core taken left steps = AreWhole taken steps ⊎ AreAll core taken left steps
+  AreStepsBy (Err DiskFault) core taken left steps = AreWhole taken steps ⊎ AreAll core taken left steps
+  AreStepsBy (Err WriteFault) core taken left steps = AreWhole taken steps ⊎ AreAll core taken left steps
 
-  -- Before the output is flushed. At a read fault, and past the limit, what waits waits on.
-  abbrev pub Serves : Result (Unit {0}) SessionFault → View → View → Type 0
-  Serves (Ok value) old new = ServedEnd old new
-  Serves (Err ReadFault) old new = ServedWhole {T = Unit {0}} (Ok tt) old new
-  Serves (Err InputTooLong) old new = ServedOver old new
-  Serves (Err HistoryFull) old new = StopsServing line.HistoryFull old new
-  Serves (Err NoMemory) old new = StopsServing line.NoMemory old new
-  Serves (Err DiskFault) old new = StopsServing line.DiskFault old new
-  Serves (Err WriteFault) old new = StopsServing line.WriteFault old new
+-- What those steps came to then. At a read fault, and past the limit, what waits waits on.
+abbrev pub CameTo : Result (Unit {0}) SessionFault → Result (Unit {0}) Stop → Type 0
+CameTo (Ok value) came = came ≡ Ok (tt {0})
+CameTo (Err ReadFault) came = came ≡ Ok (tt {0})
+CameTo (Err InputTooLong) came = came ≡ Ok (tt {0})
+CameTo (Err HistoryFull) came = came ≡ Err stops.HistoryFull
+CameTo (Err NoMemory) came = came ≡ Err stops.NoMemory
+CameTo (Err DiskFault) came = came ≡ Err stops.DiskFault
+CameTo (Err WriteFault) came = came ≡ Err stops.WriteFault
 
-  -- And behind it: the tally counts the batches. An output that fails has failed within the session, or as it was flushed.
-  abbrev pub Served : Result Tally SessionFault → View → View → Type 0
-  Served (Ok tally) old new = (s : ServedEnd old new) × (s.all.tally ≡ tally)
-  Served (Err ReadFault) old new = Serves (Err ReadFault) old new
-  Served (Err InputTooLong) old new = Serves (Err InputTooLong) old new
-  Served (Err HistoryFull) old new = Serves (Err HistoryFull) old new
-  Served (Err NoMemory) old new = Serves (Err NoMemory) old new
-  Served (Err DiskFault) old new = Serves (Err DiskFault) old new
-  Served (Err WriteFault) old new = (before : Result (Unit {0}) SessionFault) × Serves before old new
+-- The result is the same, with the tally where all was served. An output that fails has failed within the session, or as it was flushed.
+abbrev pub EndsWith : Result Tally SessionFault → Result (Unit {0}) SessionFault → Type 0
+EndsWith (Ok tally) ended = ended ≡ Ok (tt {0})
+EndsWith (Err ReadFault) ended = ended ≡ Err ReadFault
+EndsWith (Err InputTooLong) ended = ended ≡ Err InputTooLong
+EndsWith (Err HistoryFull) ended = ended ≡ Err HistoryFull
+EndsWith (Err NoMemory) ended = ended ≡ Err NoMemory
+EndsWith (Err DiskFault) ended = ended ≡ Err DiskFault
+EndsWith (Err WriteFault) ended = ⊤
 
--- These bytes were taken, and these are their steps: those of the whole lines of the first, as many as may come; or of all of them where the input
--- had ended. What is logged behind them, and what each moment since may leave in the store.
-pub record LogsServed (v : Service) (settings : Option StoreSettings) (limit : ℕ) (core : Core) (left left' : Option (List ℕ)) (first last : Core)
-    (old new : DiskFacts) : Type 0 where
-  pub taken : List ℕ
-  pub consumed : Consumes left left' taken
-  pub steps : List Step
-  pub of_taken : (steps ≡ whole_steps (take limit taken)) ⊎ ((length taken ≤ limit) × IsAtEnd left' × (steps ≡ all_steps v core taken))
-  pub logs : LogsSteps v settings core 0 steps first last old new
-
--- both, before the output is flushed at the end
-pub record ServedInput (v : Service) (traces : Bool) (settings : Option StoreSettings) (limit : ℕ) (result : Result Tally SessionFault) (old new : View)
+-- These bytes were taken, and these are their steps, which were done, or as far as it went; where all is served nothing waits any more, and the tally counts the
+-- batches; and so much is logged behind them, and may be left in the store by each moment since.
+pub record Served (v : Service) (traces : Bool) (settings : Option StoreSettings) (limit : ℕ) (result : Result Tally SessionFault) (old new : View)
     (first last : Core) (facts facts' : DiskFacts) : Type 0 where
-  pub served : Served v traces limit result old new
-  pub logs : LogsServed v settings limit old.core old.left new.left first last facts facts'
+  pub taken : List ℕ
+  pub consumed : Consumes old.left new.left taken
+  pub ended : Result (Unit {0}) SessionFault
+  pub ends : EndsWith result ended
+  pub steps : List Step
+  pub of_taken : AreStepsBy v limit ended old.core taken new.left steps
+  pub stop : Result (Unit {0}) Stop
+  pub is_stop : CameTo ended stop
+  pub lines : ℕ
+  pub tally : Tally
+  pub came : Comes v traces stop steps (first_point old) (point_at new lines tally)
+  pub counted : IfOk result (λ count. tally ≡ count)
+  pub none_waits : IfOk ended (λ value. new.core.pending ≡ [])
+  pub logs : LogsSteps v settings old.core 0 steps first last facts facts'

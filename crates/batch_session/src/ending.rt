@@ -1,23 +1,22 @@
 //! Batches at the end of the input, until nothing waits.
 
-ghost use Rattle.std.specs.Prelude.{◌≡◌, ◌<◌, ℕ, [], ◌∷◌, length, OnOk, Err};
+ghost use Rattle.std.specs.Prelude.{◌≡◌, ◌<◌, ℕ, [], ◌∷◌, length, OnOk};
 ghost use Rattle.engine.specs.EngineViews.{core_of};
 ghost use Rattle.session_store.specs.Vocabulary.{logged_of};
 ghost use Rattle.session_store.specs.Stores.{settings_of};
-ghost use Rattle.session_steps.specs.Vocabulary.{disk_failed};
+ghost use Rattle.session_steps.specs.Vocabulary.{state_of, service_by, disk_failed, IsInRange, GoesOn};
 ghost use Rattle.session_steps.specs.Steps.{RunWaiting, endings, open_at};
 ghost use Rattle.session_steps.specs.Doings.{LogsSteps};
-ghost use Rattle.batch_session.specs.Points.{point_of, stop_of};
+ghost use Rattle.batch_session.specs.Points.{point_of};
 ghost use Rattle.batch_session.specs.Answering.{RunsOne, RunsWaiting};
-ghost use Rattle.batch_session.specs.SessionStates.{state_of, service_by, IsInRange, IsReady, GoesOn, WritesOn};
+ghost use Rattle.batch_session.specs.SessionStates.{IsReady, WritesOn};
 ghost use Rattle.batch_session.specs.Faults.{line_unwritten};
 
 use crate::reporting::end_batch;
-use crate::settings::Terms;
 use engine::Engine;
 use operator_graph::Watch;
 use reservations::CommitRule;
-use session_steps::{BatchStop, LineStop, Tally, answer_batch};
+use session_steps::{Stop, Tally, Terms, answer_batch};
 use session_store::Store;
 use sf_list::Sequence;
 use sf_outside::{Chooser, Disk, Sink};
@@ -33,7 +32,7 @@ pub(crate) fn run_waiting<R: CommitRule, K: Sink, E: Sink, D: Disk, C: Chooser, 
     chooser: &mut C,
     watch: &mut W,
     tally: &mut Tally,
-) -> Result<(), LineStop>
+) -> Result<(), Stop>
     requires range { IsInRange terms.now.settings.now }
     requires ready { IsReady (state_of engine.old store.old (D.facts disk.old) (D.faults disk.old) (D.mounts disk.old)) tally.old.batches }
     ensures runs_waiting { (lines : ℕ)
@@ -67,7 +66,7 @@ fn run_batch<R: CommitRule, K: Sink, E: Sink, D: Disk, C: Chooser, W: Watch>(
     chooser: &mut C,
     watch: &mut W,
     tally: &mut Tally,
-) -> Result<(), LineStop>
+) -> Result<(), Stop>
     requires range { IsInRange terms.now.settings.now }
     requires ready { IsReady (state_of engine.old store.old (D.facts disk.old) (D.faults disk.old) (D.mounts disk.old)) tally.old.batches }
     requires some { 0 < length (core_of engine.old).pending }
@@ -106,18 +105,6 @@ fn run_batch<R: CommitRule, K: Sink, E: Sink, D: Disk, C: Chooser, W: Watch>(
             tally,
             counts,
         ),
-        Err(stop) => Err(stop_of(stop)),
-    }
-}
-
-/// Why a session stops where a batch did.
-fn stop_of(stop: BatchStop) -> LineStop
-    ensures { result ≡ stop_of stop }
-{
-    match stop {
-        BatchStop::HistoryFull => LineStop::HistoryFull,
-        BatchStop::NoMemory => LineStop::NoMemory,
-        BatchStop::DiskFault => LineStop::DiskFault,
-        BatchStop::WriteFault => LineStop::WriteFault,
+        Err(stop) => Err(stop),
     }
 }

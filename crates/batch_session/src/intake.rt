@@ -7,23 +7,22 @@ ghost use Rattle.session_store.specs.Stores.{settings_of};
 ghost use Rattle.request_json.specs.RequestLines.{longest};
 ghost use Rattle.request_json.specs.Actions.{last_line};
 ghost use Rattle.input_lines.specs.Reads.{IsStart, IsNew};
-ghost use Rattle.session_steps.specs.Vocabulary.{cut, disk_failed};
+ghost use Rattle.session_steps.specs.Vocabulary.{cut, state_of, service_by, disk_failed, IsInRange, GoesOn};
 ghost use Rattle.session_steps.specs.Steps.{Answer, answers, last_steps, open_at};
 ghost use Rattle.session_steps.specs.Doings.{LogsSteps};
 ghost use Rattle.session_steps.specs.Traces.{no_batch};
 ghost use Rattle.batch_session.specs.Points.{point_of};
 ghost use Rattle.batch_session.specs.Answering.{AnswersKept, AnswersLast, Finishes};
-ghost use Rattle.batch_session.specs.SessionStates.{state_of, service_by, IsInRange, IsReady, GoesOn, WritesOn};
+ghost use Rattle.batch_session.specs.SessionStates.{IsReady, WritesOn};
 ghost use Rattle.batch_session.specs.Faults.{line_unwritten};
 
 use crate::ending::run_waiting;
 use crate::reporting::end_batch;
-use crate::settings::Terms;
 use engine::Engine;
 use input_lines::{LONGEST, Lines};
 use operator_graph::Watch;
 use reservations::CommitRule;
-use session_steps::{Batching, InputLine, LineStop, Tally, answer_line};
+use session_steps::{InputLine, Stop, Tally, Terms, answer_line};
 use session_store::Store;
 use sf_outside::{Chooser, Disk, Sink};
 use std::alloc::Global;
@@ -62,7 +61,7 @@ impl Intake {
         disk: &mut D,
         chooser: &mut C,
         watch: &mut W,
-    ) -> Result<(), LineStop>
+    ) -> Result<(), Stop>
         requires range { IsInRange terms.now.settings.now }
         requires ready { IsReady (state_of engine.old store.old (D.facts disk.old) (D.faults disk.old) (D.mounts disk.old)) self.old.tally.batches }
         requires lines { self.old.lines + 1 < 2 ^ 64 }
@@ -83,27 +82,12 @@ impl Intake {
             (state_of engine.new store.new (D.facts disk.new) (D.faults disk.new) (D.mounts disk.new)) }
         ensures writes { WritesOn (line_unwritten result) (K.faults out.old) (K.faults out.new) (E.faults err.old) (E.faults err.new) }
     {
-        let batching = Batching {
-            batch: terms.settings.batch,
-            parts: terms.settings.parts,
-        };
         let line = InputLine {
             bytes: self.reader.line(),
             ended: self.reader.ended(),
             number: self.lines + 1,
         };
-        match answer_line(
-            terms.alloc,
-            engine,
-            store,
-            &batching,
-            line,
-            out,
-            disk,
-            terms.rule,
-            chooser,
-            watch,
-        ) {
+        match answer_line(terms, engine, store, line, out, disk, chooser, watch) {
             Ok(ran) => {
                 self.lines += 1;
                 match ran {
@@ -135,7 +119,7 @@ impl Intake {
         disk: &mut D,
         chooser: &mut C,
         watch: &mut W,
-    ) -> Result<(), LineStop>
+    ) -> Result<(), Stop>
         requires range { IsInRange terms.now.settings.now }
         requires ready { IsReady (state_of engine.old store.old (D.facts disk.old) (D.faults disk.old) (D.mounts disk.old)) self.old.tally.batches }
         requires lines { self.old.lines + 1 < 2 ^ 64 }
@@ -172,7 +156,7 @@ impl Intake {
         disk: &mut D,
         chooser: &mut C,
         watch: &mut W,
-    ) -> Result<(), LineStop>
+    ) -> Result<(), Stop>
         requires range { IsInRange terms.now.settings.now }
         requires ready { IsReady (state_of engine.old store.old (D.facts disk.old) (D.faults disk.old) (D.mounts disk.old)) self.old.tally.batches }
         requires lines { self.old.lines + 1 < 2 ^ 64 }

@@ -6,9 +6,7 @@ mod ending;
 mod intake;
 mod reporting;
 mod serving;
-mod settings;
 
 pub use serving::{SessionFault, serve};
-pub use session_steps::{Tally, comes_begin, steps_print, write_pieces};
+pub use session_steps::{Settings, Tally, comes_begin, steps_print, write_pieces};
 pub use session_store::{NoDisk, Store};
-pub use settings::Settings;

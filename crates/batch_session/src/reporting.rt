@@ -1,24 +1,21 @@
 //! What follows a batch once its replies are written: it is counted, traced where that is asked for, and a checkpoint is made where one is due.
 
-ghost use Rattle.std.specs.Prelude.{◌≡◌, ◌≢◌, ◌≤◌, ◌<◌, ◌⊎◌, true, List, [], ◌∷◌, length, OnOk, OnErr, Err};
+ghost use Rattle.std.specs.Prelude.{◌≡◌, ◌≢◌, ◌≤◌, List, [], ◌∷◌, OnOk, OnErr, Err};
 ghost use Rattle.std.specs.Io.KnownBytes.{Appends};
 ghost use Rattle.sf_outside.specs.Bytes.{AppendsPrefix};
 ghost use Rattle.sf_outside.specs.Causes.{HasCause, Rose};
 ghost use Rattle.serial_order.specs.ConflictFree.{Access};
 ghost use Rattle.reservations.specs.CommitRules.{Chosen};
-ghost use Rattle.engine.specs.Cores.{CoreFits};
-ghost use Rattle.engine.specs.EngineViews.{core_of, source_of, tables_of, fresh_of};
-ghost use Rattle.session_store.specs.Vocabulary.{logged_of, IsStorable};
-ghost use Rattle.session_store.specs.Cycles.{IsInCycle};
-ghost use Rattle.session_store.specs.Endings.{KeepsWhere, next_core};
-ghost use Rattle.session_store.specs.Stores.{settings_of, Keeps, EndsPast};
-ghost use Rattle.session_steps.specs.Vocabulary.{disk_failed, Logs};
+ghost use Rattle.engine.specs.EngineViews.{source_of, fresh_of};
+ghost use Rattle.session_store.specs.Vocabulary.{logged_of};
+ghost use Rattle.session_store.specs.Stores.{settings_of};
+ghost use Rattle.session_steps.specs.Vocabulary.{state_of, disk_failed, GoesOn, Logs};
 ghost use Rattle.session_steps.specs.StepLaws.{TracedAs};
 ghost use Rattle.session_steps.specs.Traces.{with_batch, trace_text};
+ghost use Rattle.batch_session.specs.SessionStates.{IsReady};
 
-use crate::settings::Settings;
 use engine::Engine;
-use session_steps::{BatchCounts, LineStop, Tally, write_trace};
+use session_steps::{BatchCounts, Settings, Stop, Tally, write_trace};
 use session_store::{KeepFault, Store, batch_ended};
 use sf_outside::{Disk, Failed, Sink};
 use std::alloc::Global;
@@ -34,36 +31,28 @@ pub(crate) fn end_batch<E: Sink, D: Disk>(
     disk: &mut D,
     tally: &mut Tally,
     counts: BatchCounts,
-) -> Result<(), LineStop>
-    requires few { length (core_of engine.now).pending < 256 }
-    requires fits { CoreFits (tables_of engine.now) (core_of engine.now) }
+) -> Result<(), Stop>
+    requires ready { IsReady (state_of engine.now store.old (D.facts disk.old) (D.faults disk.old) (D.mounts disk.old)) tally.old.batches }
     requires fresh { fresh_of engine.now ≡ 0 }
-    requires storable { IsStorable (core_of engine.now) (fresh_of engine.now) }
-    requires kept { Keeps store.old (source_of engine.now) (logged_of engine.now) (D.facts disk.old) }
-    requires in_cycle { IsInCycle store.old tally.old.batches }
     ensures counted { tally.new ≡ with_batch tally.old counts }
     ensures traced { TracedAs result (E.held err.old) (E.held err.new) (trace_text settings.now.trace tally.old (counts ∷ [])) }
-    ensures placed { result ≢ Err LineStop.HistoryFull }
+    ensures placed { result ≢ Err Stop.HistoryFull }
     ensures later_err { E.faults err.old ≤ E.faults err.new }
-    ensures cause { result ≡ Err LineStop.WriteFault → Rose (E.faults err.old) (E.faults err.new) }
-    ensures kept { (rule : List Access → Chosen) → KeepsWhere (disk_failed result) store.new (source_of engine.now) (logged_of engine.now)
-        (next_core rule (source_of engine.now) (core_of engine.now)) (D.facts disk.new) }
+    ensures cause { result ≡ Err Stop.WriteFault → Rose (E.faults err.old) (E.faults err.new) }
     ensures logs { (rule : List Access → Chosen) → Logs (source_of engine.now) rule (settings_of store.old) []
         (logged_of engine.now) (logged_of engine.now) (D.facts disk.old) (D.facts disk.new) }
-    ensures in_cycle { OnOk result (IsInCycle store.new tally.new.batches) }
-    ensures settings { settings_of store.new ≡ settings_of store.old }
-    ensures later_disk { D.faults disk.old ≤ D.faults disk.new }
-    ensures disk_cause { (rule : List Access → Chosen) → disk_failed result ≡ true → Rose (D.faults disk.old) (D.faults disk.new)
-        ⊎ EndsPast rule store.new (source_of engine.now) (core_of engine.now) (fresh_of engine.now) (D.facts disk.new) }
-    ensures mounts { D.mounts disk.new ≡ D.mounts disk.old }
+    ensures ready { OnOk result (IsReady (state_of engine.now store.new (D.facts disk.new) (D.faults disk.new) (D.mounts disk.new)) tally.new.batches) }
+    ensures goes_on { (rule : List Access → Chosen) → GoesOn rule (disk_failed result)
+        (state_of engine.now store.old (D.facts disk.old) (D.faults disk.old) (D.mounts disk.old))
+        (state_of engine.now store.new (D.facts disk.new) (D.faults disk.new) (D.mounts disk.new)) }
 {
     match report(err, settings.trace, tally, counts) {
         Ok(()) => match batch_ended(alloc, disk, store, engine) {
             Ok(()) => Ok(()),
-            Err(KeepFault::DiskFault) => Err(LineStop::DiskFault),
-            Err(KeepFault::NoMemory) => Err(LineStop::NoMemory),
+            Err(KeepFault::DiskFault) => Err(Stop::DiskFault),
+            Err(KeepFault::NoMemory) => Err(Stop::NoMemory),
         },
-        Err(_) => Err(LineStop::WriteFault),
+        Err(_) => Err(Stop::WriteFault),
     }
 }
 

@@ -4,24 +4,24 @@ ghost use Rattle.std.specs.Prelude.{◌≡◌, ◌≤◌, ◌<◌, ◌^◌, ◌�
 ghost use Rattle.std.specs.Io.KnownBytes.{Keeps as KeepsBytes};
 ghost use Rattle.sf_outside.specs.Causes.{Rose};
 ghost use Rattle.block_step.specs.CompiledViews.{IsWhole};
+ghost use Rattle.operator_graph.specs.Partitions.{IsParts};
 ghost use Rattle.engine.specs.Cores.{CoreFits, IsSoundCore};
 ghost use Rattle.engine.specs.EngineViews.{core_of, source_of, tables_of, compiled_of, limit_of, fresh_of, RunsProgram};
 ghost use Rattle.session_store.specs.Vocabulary.{logged_of, IsStorable};
 ghost use Rattle.session_store.specs.Cycles.{IsInCycle};
 ghost use Rattle.session_store.specs.Endings.{KeepsWhere, next_core};
 ghost use Rattle.session_store.specs.Stores.{settings_of, Keeps, EndsPast};
-ghost use Rattle.session_steps.specs.Vocabulary.{service_of};
-ghost use Rattle.batch_session.specs.Served.{view_of, Served, LogsServed, ServedInput};
-ghost use Rattle.batch_session.specs.SessionStates.{state_of, service_by, IsInRange, IsReady, GoesOn, WritesOn};
+ghost use Rattle.session_steps.specs.Vocabulary.{service_of, service_by, state_of, IsInRange, GoesOn};
+ghost use Rattle.batch_session.specs.Served.{view_of, Served};
+ghost use Rattle.batch_session.specs.SessionStates.{IsReady, WritesOn};
 ghost use Rattle.batch_session.specs.Faults.{fault_of, finished, disk_failed, write_failed, unflushed, IsFlushed};
 
 use crate::intake::Intake;
-use crate::settings::{Settings, Terms};
 use engine::Engine;
 use input_lines::Next;
 use operator_graph::Watch;
 use reservations::CommitRule;
-use session_steps::{LineStop, Tally};
+use session_steps::{Settings, Stop, Tally, Terms};
 use session_store::Store;
 use sf_outside::{Chooser, Disk, Sink, Source};
 use std::alloc::Global;
@@ -64,17 +64,18 @@ pub fn serve<R: CommitRule, S: Source, K: Sink, E: Sink, D: Disk, C: Chooser, W:
 ) -> Result<Tally, SessionFault>
     requires whole { IsWhole (compiled_of engine.old) }
     requires batch { settings.now.batch ≤ 256 }
-    requires least { 1 ≤ settings.now.parts }
-    requires most { settings.now.parts ≤ 64 }
+    requires parts { IsParts settings.now.parts }
     requires few { length (core_of engine.old).pending < 256 }
     requires fits { CoreFits (tables_of engine.old) (core_of engine.old) }
     requires storable { IsStorable (core_of engine.old) (fresh_of engine.old) }
     requires kept { Keeps store.old (source_of engine.old) (logged_of engine.old) (D.facts disk.old) }
     requires in_cycle { IsInCycle store.old 0 }
     requires limit { settings.now.limit ≤ 2 ^ 62 }
-    ensures served { Served (service_of engine.old (R.choice rule.now) settings.now.batch settings.now.parts) settings.now.trace settings.now.limit result
+    ensures served { Served (service_of engine.old (R.choice rule.now) settings.now.batch settings.now.parts) settings.now.trace
+        (settings_of store.old) settings.now.limit result
         (view_of engine.old (S.left input.old) (K.held out.old) (E.held err.old) (C.choices chooser.old) (W.told watch.old))
-        (view_of engine.new (S.left input.new) (K.held out.new) (E.held err.new) (C.choices chooser.new) (W.told watch.new)) }
+        (view_of engine.new (S.left input.new) (K.held out.new) (E.held err.new) (C.choices chooser.new) (W.told watch.new))
+        (logged_of engine.old) (logged_of engine.new) (D.facts disk.old) (D.facts disk.new) }
     ensures read { S.faults input.old ≤ S.faults input.new }
     ensures later { K.faults out.old ≤ K.faults out.new }
     ensures later_err { E.faults err.old ≤ E.faults err.new }
@@ -86,9 +87,6 @@ pub fn serve<R: CommitRule, S: Source, K: Sink, E: Sink, D: Disk, C: Chooser, W:
     ensures storable { IsStorable (core_of engine.new) (fresh_of engine.new) }
     ensures kept { KeepsWhere (disk_failed result) store.new (source_of engine.new) (logged_of engine.new)
         (next_core (R.choice rule.now) (source_of engine.new) (core_of engine.new)) (D.facts disk.new) }
-    ensures logs { LogsServed (service_of engine.old (R.choice rule.now) settings.now.batch settings.now.parts) (settings_of store.old) settings.now.limit
-        (core_of engine.old) (S.left input.old) (S.left input.new)
-        (logged_of engine.old) (logged_of engine.new) (D.facts disk.old) (D.facts disk.new) }
     ensures in_cycle { IfOk result (λ tally. IsInCycle store.new tally.batches) }
     ensures settings { settings_of store.new ≡ settings_of store.old }
     ensures later_disk { D.faults disk.old ≤ D.faults disk.new }
@@ -120,7 +118,7 @@ fn answer_all<R: CommitRule, S: Source, K: Sink, E: Sink, D: Disk, C: Chooser, W
     requires range { IsInRange terms.now.settings.now }
     requires ready { IsReady (state_of engine.old store.old (D.facts disk.old) (D.faults disk.old) (D.mounts disk.old)) 0 }
     requires limit { terms.now.settings.now.limit ≤ 2 ^ 62 }
-    ensures serves { ServedInput (service_by engine.old (R.choice terms.now.rule.now) terms.now.settings.now) terms.now.settings.now.trace
+    ensures serves { Served (service_by engine.old (R.choice terms.now.rule.now) terms.now.settings.now) terms.now.settings.now.trace
         (settings_of store.old) terms.now.settings.now.limit result
         (view_of engine.old (S.left input.old) (K.held out.old) (E.held err.old) (C.choices chooser.old) (W.told watch.old))
         (view_of engine.new (S.left input.new) (K.held out.new) (E.held err.new) (C.choices chooser.new) (W.told watch.new))
@@ -154,7 +152,7 @@ fn answer_all<R: CommitRule, S: Source, K: Sink, E: Sink, D: Disk, C: Chooser, W
 }
 
 /// The tally where the end of the input was served, or why the session stopped at it.
-fn finished(ended: Result<(), LineStop>, tally: Tally) -> Result<Tally, SessionFault>
+fn finished(ended: Result<(), Stop>, tally: Tally) -> Result<Tally, SessionFault>
     ensures { result ≡ finished ended tally }
 {
     match ended {
@@ -164,14 +162,14 @@ fn finished(ended: Result<(), LineStop>, tally: Tally) -> Result<Tally, SessionF
 }
 
 /// Why a session faults where it stopped.
-fn fault_of(stop: LineStop) -> SessionFault
+fn fault_of(stop: Stop) -> SessionFault
     ensures { result ≡ fault_of stop }
 {
     match stop {
-        LineStop::HistoryFull => SessionFault::HistoryFull,
-        LineStop::NoMemory => SessionFault::NoMemory,
-        LineStop::DiskFault => SessionFault::DiskFault,
-        LineStop::WriteFault => SessionFault::WriteFault,
+        Stop::HistoryFull => SessionFault::HistoryFull,
+        Stop::NoMemory => SessionFault::NoMemory,
+        Stop::DiskFault => SessionFault::DiskFault,
+        Stop::WriteFault => SessionFault::WriteFault,
     }
 }
 

@@ -7,6 +7,8 @@ mod broken_rules;
 #[cfg(test)]
 mod compiled_graphs;
 #[cfg(test)]
+mod greatest_texts;
+#[cfg(test)]
 mod kept_rules;
 #[cfg(test)]
 mod last;

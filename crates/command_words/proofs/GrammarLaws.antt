@@ -159,7 +159,16 @@ pub record HasNames (parts : Parts) : Type 0 where
   pub options : list_all is_name parts.options ≡ true
   pub flags : list_all (λ n. is_name n && not (is_among parts.options n)) parts.flags ≡ true
 
-not_true : (b : Bool) → not b ≡ true → b ≡ false
+-- as a test
+abbrev pub have_names : Parts → Bool
+have_names parts = list_all is_name parts.options && list_all (λ n. is_name n && not (is_among parts.options n)) parts.flags
+
+pub have_names-true : (parts : Parts) → have_names parts ≡ true → HasNames parts
+have_names-true parts e =
+    let two = both (list_all is_name parts.options) (list_all (λ n. is_name n && not (is_among parts.options n)) parts.flags) e in
+    record { options = two.0; flags = two.1 }
+
+pub not_true : (b : Bool) → not b ≡ true → b ≡ false
 not_true true e = absurd cc
 not_true false e = refl
 

@@ -1,5 +1,5 @@
 -- What the words of a call ask for.
-use Rattle.std.specs.Prelude.{◌≡◌, ℕ, Bool, false, true, ◌||◌, ◌==◌, length, is_some, List, [], ◌∷◌, Option, Some, None, option_map, codes, if◌then◌else◌}
+use Rattle.std.specs.Prelude.{◌≡◌, ◌⊎◌, ℕ, Bool, false, true, ◌||◌, ◌==◌, length, is_some, List, [], ◌∷◌, Option, Some, None, option_map, codes, if◌then◌else◌}
 use Rattle.std.specs.Str.{bytes_eq}
 use Rattle.command_words.specs.Parts.{Text, Parts, Given, are_apart, text_of}
 use Rattle.command_words.specs.Grammar.{Give}
@@ -118,28 +118,43 @@ gen_settings texts =
 abbrev pub file_in : Texts → Option Text
 file_in texts = texts (codes "FILE")
 
+unfoldable pub with_file : (Text → Asked) → Texts → Option Asked
+with_file command texts = option_map command (file_in texts)
+
 abbrev pub run_in : Texts → Option Asked
 run_in texts = file_in texts >>? (λ file. option_map (Run file) (run_settings texts))
 
 abbrev pub gen_in : Texts → Option Asked
 gen_in texts = option_map Gen (gen_settings texts)
 
+-- a command's name, what it can be given, and what it asks for by the texts that are given
+pub record Form : Type 0 where
+  pub name : Text
+  pub parts : Parts
+  pub read : Texts → Option Asked
+
+abbrev pub forms : List Form
+forms =
+    record { name = codes "check"; parts = file_parts; read = with_file Check }
+    ∷ record { name = codes "compile"; parts = file_parts; read = with_file Compile }
+    ∷ record { name = codes "local"; parts = file_parts; read = with_file Local }
+    ∷ record { name = codes "run"; parts = run_parts; read = run_in }
+    ∷ record { name = codes "gen"; parts = gen_parts; read = gen_in }
+    ∷ []
+
 -- words that give texts, each name once, of which something is made
 abbrev pub AskWith : {X : Type 0} → Parts → (Texts → Option X) → List Text → X → Type 0
 AskWith parts read words x = (gs : List Given) × Give parts words gs × (are_apart gs ≡ true) × (read (texts_in gs) ≡ Some x)
 
--- what the words behind a command's name ask for
-abbrev pub AskByName : Text → List Text → Asked → Type 0
-AskByName name words (Check file) = (name ≡ codes "check") × AskWith file_parts file_in words file
-AskByName name words (Compile file) = (name ≡ codes "compile") × AskWith file_parts file_in words file
-AskByName name words (Local file) = (name ≡ codes "local") × AskWith file_parts file_in words file
-AskByName name words (Run file settings) = (name ≡ codes "run") × AskWith run_parts run_in words (Run file settings)
-AskByName name words (Gen settings) = (name ≡ codes "gen") × AskWith gen_parts gen_in words (Gen settings)
+-- what the words behind the name of one of these commands ask for
+abbrev pub AskOneOf : List Form → Text → List Text → Asked → Type 0
+AskOneOf [] name words asked = ⊥
+AskOneOf (form ∷ more) name words asked = ((name ≡ form.name) × AskWith form.parts form.read words asked) ⊎ AskOneOf more name words asked
 
 -- what the words of a call ask for, the first of them being the command's name
 abbrev pub Ask : List Text → Asked → Type 0
 Ask [] asked = ⊥
-Ask (name ∷ words) asked = AskByName name words asked
+Ask (name ∷ words) asked = AskOneOf forms name words asked
 
 -- ---- a command as it was read from the words
 

@@ -1,7 +1,7 @@
 //! The command that words ask for.
 
-ghost use Rattle.std.specs.Prelude.{◌≡◌, map, option_map, string_bytes};
-ghost use Rattle.command_words.specs.Commands.{Ask, asked_by};
+ghost use Rattle.std.specs.Prelude.{map, string_bytes};
+ghost use Rattle.command_words.specs.Commands.{Ask, asked_by, file_parts, run_parts, gen_parts, file_in as file_given, run_in as run_given, gen_in as gen_given};
 ghost use Rattle.command_words.specs.CommandReading as spec;
 ghost use Rattle.command_words.specs.Readings.{Reads, ReadsOnly};
 
@@ -11,9 +11,9 @@ use crate::settings::{file_in, gen_in, run_in};
 use std::alloc::Global;
 
 /// The file that the words of a command name, where it takes nothing else.
-#[tactic(auto, unfolding(crate::specs::CommandReading::file_asked))]
+#[tactic(auto, using(crate::proofs::AskedLaws::told), unfolding(crate::specs::CommandReading::asked_with))]
 fn file_asked<'a>(alloc: Global, words: &'a [String]) -> Result<&'a str, WordsError>
-    ensures { Reads (λ t. t.now) (spec.file_asked (map string_bytes words.entry.now)) result }
+    ensures { Reads (λ t. t.now) (spec.asked_with file_parts file_given (map string_bytes words.entry.now)) result }
 {
     let found = file_words(alloc, words)?;
     let file = file_in(&found);
@@ -22,9 +22,9 @@ fn file_asked<'a>(alloc: Global, words: &'a [String]) -> Result<&'a str, WordsEr
 }
 
 /// What the words of `run` ask for.
-#[tactic(auto, using(crate::proofs::AskedLaws::told), unfolding(crate::specs::CommandReading::run_asked))]
+#[tactic(auto, using(crate::proofs::AskedLaws::told), unfolding(crate::specs::CommandReading::asked_with))]
 fn run_asked<'a>(alloc: Global, words: &'a [String]) -> Result<Command<'a>, WordsError>
-    ensures { Reads asked_by (spec.run_asked (map string_bytes words.entry.now)) result }
+    ensures { Reads asked_by (spec.asked_with run_parts run_given (map string_bytes words.entry.now)) result }
 {
     let found = run_words(alloc, words)?;
     let command = run_in(&found);
@@ -33,9 +33,9 @@ fn run_asked<'a>(alloc: Global, words: &'a [String]) -> Result<Command<'a>, Word
 }
 
 /// What the words of `gen` ask for.
-#[tactic(auto, using(crate::proofs::AskedLaws::told), unfolding(crate::specs::CommandReading::gen_asked))]
+#[tactic(auto, using(crate::proofs::AskedLaws::told), unfolding(crate::specs::CommandReading::asked_with))]
 fn gen_asked<'a>(alloc: Global, words: &'a [String]) -> Result<Command<'a>, WordsError>
-    ensures { Reads asked_by (spec.gen_asked (map string_bytes words.entry.now)) result }
+    ensures { Reads asked_by (spec.asked_with gen_parts gen_given (map string_bytes words.entry.now)) result }
 {
     let found = gen_words(alloc, words)?;
     let command = gen_in(&found);
@@ -44,7 +44,7 @@ fn gen_asked<'a>(alloc: Global, words: &'a [String]) -> Result<Command<'a>, Word
 }
 
 /// What the words behind a command's name ask for.
-#[tactic(auto, unfolding(crate::specs::CommandReading::asked_by_name))]
+#[tactic(auto, using(crate::proofs::AskedLaws::of_file), unfolding(crate::specs::CommandReading::asked_by_name))]
 fn asked_by_name<'a>(
     alloc: Global,
     name: &str,

@@ -228,6 +228,7 @@ const CUT_OR_NOT: &str = "
     one of a function     | def a(self, b: B) -> int:↵    return len(str(b.get()))                                                | cut a;
     behind a return       | def a(self, b: B) -> int:↵    return 1↵    return b.get()                                             | a;
     behind a loop         | def a(self, b: B) -> int:↵    while True:↵        pass↵    return b.get()                             | a;
+    a break unreached     | def a(self, c: bool) -> int:↵    if c:↵        return 1↵        break↵    return 2                    | a;
     behind a branch       | def a(self, b: B) -> int:↵    if True:↵        return 1↵    return b.get()                            | cut a;
     in a test             | def a(self, b: B) -> int:↵    if b.get() == 1:↵        return 1↵    return 2                          | cut a;
     behind a false part   | def a(self, b: B) -> bool:↵    return False and b.get() == 1                                          | cut a;
@@ -235,7 +236,7 @@ const CUT_OR_NOT: &str = "
 
 #[test]
 fn a_method_that_may_leave_its_entity_is_cut(rt: HostRuntime) -> Result<(), Fail> {
-    hold_table(rt.alloc(), CUT_OR_NOT, 14, kinds_of)
+    hold_table(rt.alloc(), CUT_OR_NOT, 15, kinds_of)
 }
 
 #[test]

@@ -78,7 +78,7 @@ module _ (names : List (List ℕ)) (program : PlainProgram) (marks : List (List 
         temporaries = types.temporaries;
         are_temporaries = types.are_temporaries;
         one_type = types.fits.once;
-        start = block flat.params (split_all (flat_stmts_of flat.body) outermost leave 1).got;
+        start = block outermost flat.params (split_all (flat_stmts_of flat.body) outermost leave 1).got;
         is_start = refl;
         start_params = refl;
         each = blocks_fit _ _ _ flat types.fits;

@@ -123,7 +123,7 @@ is_open_types = record {
   fits = record {
     outside = refl;
     once = refl;
-    types = record { way = begun []; flows = refl; assigns = refl; raises = (tt, tt); stays = refl; goes = λ e. absurd (true≢false (sym e)) };
+    types = (record { way = begun []; flows = refl; assigns = refl; raises = (tt, tt); stays = refl; goes = λ e. absurd (true≢false (sym e)) }, tt);
     reached = ((λ e. refl), tt, tt);
     params = refl;
     points = (tt, tt);
@@ -140,16 +140,20 @@ ask_types = record {
     outside = refl;
     once = refl;
     types = (
-      record {
-        table = table_of names door;
-        has_table = refl;
-        sig = is_open_sig;
-        has_method = refl;
-        on = record { wanted = None; typed = refl; stays = refl };
-        args_fit = record { count = refl; typed = refl; stay = refl };
-        takes = record { local = record { name = 25; ty = TBool; assigned = false; not_none = false }; is = refl; suits = refl; goes = refl };
-      },
-      record { ty = TBool; has = record { wanted = None; typed = refl; stays = refl }; suits = refl },
+      (
+        record {
+          table = table_of names door;
+          has_table = refl;
+          sig = is_open_sig;
+          has_method = refl;
+          on = record { wanted = None; typed = refl; stays = refl };
+          args_fit = record { count = refl; typed = refl; stay = refl };
+          takes = record { local = record { name = 25; ty = TBool; assigned = false; not_none = false }; is = refl; suits = refl; goes = refl };
+        },
+        (record { ty = TBool; has = record { wanted = None; typed = refl; stays = refl }; suits = refl }, tt),
+        tt,
+      ),
+      tt,
     );
     reached = (moves, tt, (moves, tt, ((λ e. refl), tt, tt)));
     params = refl;

@@ -1,11 +1,11 @@
 -- Where the blocks of each method stand in the compiled graph.
-use Rattle.std.proofs.Common.{◌≡◌, ℕ, zero, suc, ◌+◌, arith, Bool, Option, Some, None, List, [], ◌∷◌, ◌++◌, length, length-append, zero-add, refl, sym, ap, ◌∙◌, subst}
-use Rattle.std.specs.Prelude.{slice_get, slice_index_or, option_map, option_and_then}
-use Rattle.std.proofs.lemmas.Option.{none-some, same_Some, slice_get-map}
+use Rattle.std.proofs.Common.{◌≡◌, ℕ, zero, suc, ◌+◌, arith, Bool, Some, List, [], ◌∷◌, ◌++◌, length, length-append, zero-add, refl, sym, ap, ◌∙◌, subst}
+use Rattle.std.specs.Prelude.{slice_get, slice_index_or}
+use Rattle.std.proofs.lemmas.Option.{none-some, same_Some}
 use Rattle.std.proofs.lemmas.List.{length-map}
 use Rattle.py_tree.specs.PlainProgram.{PlainMethod, PlainClass, PlainProgram}
-use Rattle.py_tree.specs.ClassRules.{PlainTable, methods_of, sig_of, table_of, tables_of}
-use Rattle.py_tree.specs.Acceptance.{members_of, members_at}
+use Rattle.py_tree.specs.ClassRules.{methods_of, sig_of, table_of, tables_of}
+use Rattle.py_tree.specs.Acceptance.{members_at}
 use Rattle.block_code.specs.PlainBlocks.{PlainBlock}
 use Rattle.block_code.specs.Places.{firsts_from}
 use Rattle.block_code.specs.GraphFits.{method_count}

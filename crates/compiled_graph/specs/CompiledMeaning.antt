@@ -1,8 +1,9 @@
--- Where the blocks of a program stand, and that they fit it and mean it where it is accepted and its flat code keeps the rules.
-use Rattle.std.specs.Prelude.{◌≡◌, ℕ, Bool, List, length}
+-- Where the blocks of a program stand, which methods are one block, and that blocks fit their program and mean it where it is accepted and its flat code
+-- keeps the rules.
+use Rattle.std.specs.Prelude.{◌≡◌, ℕ, Bool, false, List, length}
 use Rattle.py_tree.specs.PlainProgram.{PlainMethod, PlainProgram}
 use Rattle.py_tree.specs.ClassRules.{tables_of}
-use Rattle.call_graph.specs.Marks.{IsGraph}
+use Rattle.call_graph.specs.Marks.{IsGraph, is_marked}
 use Rattle.program_meaning.specs.NothingGoesWrong.{IsKnownAccepted}
 use Rattle.block_code.specs.Places.{blocks_of}
 use Rattle.block_code.specs.GraphFits.{method_count, GraphFits}
@@ -22,6 +23,12 @@ module _ (names : List (List ℕ)) (program : PlainProgram) (marks : List (List 
 
 abbrev pub CompiledBlocksStand : Type 0
 CompiledBlocksStand = (names : List (List ℕ)) (program : PlainProgram) (marks : List (List Bool)) → BlocksStand names program marks
+
+-- where the marks are exact, a method that may not suspend is one block
+abbrev pub QuietIsOneBlock : Type 0
+QuietIsOneBlock =
+    (names : List (List ℕ)) (program : PlainProgram) (marks : List (List Bool)) → IsKnownAccepted names program → IsGraph names program marks
+    → OfEachMethod names program (λ class number m. is_marked marks class number ≡ false → length (method_blocks names program marks class number m) ≡ 1)
 
 -- the blocks of each method come to what its body does, whatever the marks
 abbrev pub CompiledMethodsMean : Type 0

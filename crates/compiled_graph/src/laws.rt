@@ -1,11 +1,16 @@
 //! What the compiled graph is, and what it means.
 
-ghost use Rattle.compiled_graph.specs.CompiledMeaning.{CompiledBlocksStand, CompiledFits, CompiledMeans, CompiledMethodsMean};
+ghost use Rattle.compiled_graph.specs.CompiledMeaning.{CompiledBlocksStand, CompiledFits, CompiledMeans, CompiledMethodsMean, QuietIsOneBlock};
 
 /// The compiled graph has the blocks of as many methods as the class tables tell, and those of each flat method stand where a
 /// graph has them.
 pub fn compiled_blocks_stand()
     ensures { CompiledBlocksStand }
+{}
+
+/// A method of an accepted program that may not suspend is one block, where the marks are exact.
+pub fn quiet_is_one_block()
+    ensures { QuietIsOneBlock }
 {}
 
 /// The blocks of each method come to what its body does, where the program is accepted and the flat code numbers callees and

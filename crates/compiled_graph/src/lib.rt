@@ -6,4 +6,6 @@
 
 mod laws;
 
-pub use laws::{compiled_blocks_stand, compiled_fits, compiled_means, compiled_methods_mean};
+pub use laws::{
+    compiled_blocks_stand, compiled_fits, compiled_means, compiled_methods_mean, quiet_is_one_block,
+};

@@ -25,7 +25,8 @@ use Rattle.engine.specs.Cores.{Core, PendingFits, CoreFits, IsSoundCore}
 use Rattle.engine.specs.Batches.{requests_at, other_places, IsSplit, entry_on, batch_entries}
 use Rattle.engine.specs.Copying.{entry_of, entries_at}
 use Rattle.engine.specs.declared.replaying.Replay.{Replay}
-use Rattle.engine.specs.RanReplays.{HasRunAgain, with_replay}
+use Rattle.engine.specs.Moves.{moved, CanMove}
+use Rattle.engine.specs.RanReplays.{HasRunAgain}
 use Rattle.engine.specs.Replays.{with_news, listed, serial_entries, replayed, ListFits, BatchFits}
 use Rattle.engine.proofs.PlaceLaws.{count_once, each_at}
 use Rattle.engine.proofs.BatchLaws.{entries_sound, batch_pending_fits}
@@ -190,24 +191,25 @@ listed_few waiting committed once =
 
 -- what a batch that ran again brings can join, and leaves the core that it is to leave
 pub record CanJoin (src : Source) (core : Core) (batch : BatchRecord) (r : Replay) : Type 0 where
-  pub ids : ids_differ (core.history ++ r.entries) ≡ true
-  pub placed : length core.history + length r.entries < 2 ^ 32
-  pub few : length r.carried ≤ 256
-  pub core_is : with_replay core r ≡ replayed src core batch
+  pub can : CanMove core r.moves r.places
+  pub core_is : moved core r.moves r.places ≡ replayed src core batch
 
-pub can_join : (tables : List PlainTable) (src : Source) (core : Core) (batch : BatchRecord) → CoreFits tables core → BatchFits tables core batch → (r : Replay) → HasRunAgain src core.state (core.pending ++ batch.news) batch.committed r → CanJoin src core batch r
+pub can_join : (tables : List PlainTable) (src : Source) (core : Core) (batch : BatchRecord) → CoreFits tables core → BatchFits tables core batch → (r : Replay) → HasRunAgain src core (core.pending ++ batch.news) batch.committed r → CanJoin src core batch r
 can_join tables src core batch fits good r ran =
     let counted = counts tables core batch fits.pending good in
-    let entries : length r.entries ≡ length (listed core batch) = ap length ran.entries ∙ entries_count src (listed core batch) core.state in
-    let carried = ap length ran.carried in
+    let entries : length r.moves.entries ≡ length (listed core batch) = ap length ran.entries ∙ entries_count src (listed core batch) core.state in
+    let carried = ap (λ (c : Core). length c.pending) ran.behind in
     let waiting = good.list.few in
     let places = good.list.places in
     let fewer = filter_map_few (slice_get (core.pending ++ batch.news)) batch.committed in
     record {
-      ids = ap (λ es. ids_differ (core.history ++ es)) ran.entries ∙ replayed_ids tables core batch fits.pending good src;
-      placed = omega (arith, entries, fewer, places);
-      few = omega (arith, carried, counted, waiting);
-      core_is = λ i. record { history = core.history ++ ran.entries i; state = ran.writes i; pending = ran.carried i };
+      can = record {
+        ids = ap (λ es. ids_differ (core.history ++ es)) ran.entries ∙ replayed_ids tables core batch fits.pending good src;
+        placed = omega (arith, entries, fewer, places);
+        few = omega (arith, carried, counted, waiting);
+        there = ran.there;
+      };
+      core_is = ran.behind;
     }
   where
     filter_map_few : (f : ℕ → Option Request) (places : List ℕ) → length (filter_map f places) ≤ length places
@@ -225,7 +227,7 @@ pub record CanReplay (tables : List PlainTable) (src : Source) (core : Core) (ba
 
 pub can_replay : (tables : List PlainTable) (src : Source) (core : Core) (batch : BatchRecord) → CoreFits tables core → AllByRecursion (RequestFits tables) batch.news → ListFits core batch
     → (waiting slice : List Request) → waiting ≡ core.pending ++ batch.news → slice ≡ waiting → IsDistinct bytes_eq (entry_ids core.history ++ request_ids slice)
-    → (r : Replay) → HasRunAgain src core.state waiting batch.committed r → CanReplay tables src core batch r
+    → (r : Replay) → HasRunAgain src core waiting batch.committed r → CanReplay tables src core batch r
 can_replay tables src core batch fits news list waiting slice is same ids r ran =
     let good : BatchFits tables core batch = record { requests = news; ids = subst (λ l. IsDistinct bytes_eq (entry_ids core.history ++ request_ids l)) (same ∙ is) ids; list = list } in
-    record { good = good; joins = can_join tables src core batch fits good r (subst (λ l. HasRunAgain src core.state l batch.committed r) is ran) }
+    record { good = good; joins = can_join tables src core batch fits good r (subst (λ l. HasRunAgain src core l batch.committed r) is ran) }

@@ -3,6 +3,7 @@ pub mod Arrivals
 pub mod Batches
 pub mod Copying
 pub mod EngineViews
+pub mod Moves
 pub mod Plans
 pub mod RanBatches
 pub mod Kept

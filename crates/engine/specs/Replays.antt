@@ -31,13 +31,17 @@ abbrev pub serial_entries : Source → State → List Request → List Entry
 serial_entries src s [] = []
 serial_entries src s (r ∷ rs) = entry_on src s r ∷ serial_entries src (run src s r.act).state rs
 
--- the listed ones join the history with what they come to, the state is the one after them, and the others wait on
-abbrev pub replayed : Source → Core → BatchRecord → Core
-replayed src core batch = record {
-  history = core.history ++ serial_entries src core.state (listed core batch);
-  state = serial_state src core.state (over (λ (r : Request). r.act) (listed core batch));
-  pending = requests_at (with_news core batch).pending (other_places (length (with_news core batch).pending) batch.committed);
+-- of requests that wait those at these places join the history with what they come to, the state is the one after them, and the others wait on
+abbrev pub ran_again : Source → Core → List Request → List ℕ → Core
+ran_again src core waiting places = record {
+  history = core.history ++ serial_entries src core.state (requests_at waiting places);
+  state = serial_state src core.state (over (λ (r : Request). r.act) (requests_at waiting places));
+  pending = requests_at waiting (other_places (length waiting) places);
 }
+
+-- so it is with the listed ones, once the news have joined those that wait
+abbrev pub replayed : Source → Core → BatchRecord → Core
+replayed src core batch = ran_again src core (with_news core batch).pending batch.committed
 
 -- a batch lists requests of a core: at most 256 wait then, and it lists some of these, each once, for which the history has places
 pub record ListFits (core : Core) (batch : BatchRecord) : Type 0 where

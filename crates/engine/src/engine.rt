@@ -94,14 +94,9 @@ impl Engine {
             batch,
             replies,
             events: _events,
-            entries,
-            carried,
-            works,
+            moves,
         } = planned;
-        self.history.commit_all(entries);
-        self.state.apply(works, &batch.committed);
-        self.pending = carried;
-        self.fresh = 0;
+        self.join(moves, &batch.committed);
         drop(batch);
         drop(replies);
     }

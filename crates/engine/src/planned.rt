@@ -1,7 +1,7 @@
 //! A batch that has run, with all that its commit moves.
 
-use keyed_state::Works;
-use sf_value::{BatchRecord, Entries, Replies, Requests};
+use crate::moves::Moves;
+use sf_value::{BatchRecord, Replies};
 use std::alloc::AllocError;
 
 /// A batch that has run and isn't committed yet.
@@ -14,10 +14,7 @@ pub struct Planned {
     pub replies: Replies,
     /// How many events were handled.
     pub events: u64,
-    pub(crate) entries: Entries,
-    /// The requests that wait on.
-    pub(crate) carried: Requests,
-    pub(crate) works: Works,
+    pub(crate) moves: Moves,
 }
 
 /// Why a batch isn't planned.

@@ -1,11 +1,10 @@
 //! How a batch is planned: it runs, and all that its commit moves is made with memory, so that the commit
 //! needs none.
 
-ghost use Rattle.std.specs.Prelude.{◌≡◌, ◌+◌, ◌≤◌, ◌<◌, ◌^◌, true, length, IfOk, IfErr, OnOk};
-ghost use Rattle.keyed_state.specs.Works.{written_count, are_places};
+ghost use Rattle.std.specs.Prelude.{◌≡◌, ◌+◌, ◌≤◌, ◌<◌, ◌^◌, length, IfOk, IfErr};
 ghost use Rattle.reservations.specs.CommitRules.{Chosen};
 ghost use Rattle.block_step.specs.CompiledViews.{IsWhole};
-ghost use Rattle.ordered_runs.specs.Vocabulary.{Outside, batch_of};
+ghost use Rattle.ordered_runs.specs.Vocabulary.{IsParts, Outside, batch_of};
 ghost use Rattle.engine.specs.Cores.{PendingFits, CoreFits};
 ghost use Rattle.engine.specs.EngineViews.{core_of, source_of, tables_of, compiled_of, limit_of, fresh_of, RunsProgram};
 ghost use Rattle.engine.specs.Plans.{IsSerialBatch, IsMade, IsTold, IsPlanOf, IsFault};
@@ -13,6 +12,7 @@ ghost use Rattle.engine.specs.RanBatches.{accesses_on, IsRun, TellsPlan};
 
 use crate::copying::{copies_of, entries_at, replies_to, requests_at};
 use crate::engine::Engine;
+use crate::moves::Moves;
 use crate::planned::{PlanFault, Planned};
 use ordered_runs::{BatchResult, Watch, run_batch};
 use reservations::CommitRule;
@@ -32,8 +32,7 @@ impl Engine {
         watch: &mut W,
     ) -> Result<Planned, PlanFault>
         requires whole { IsWhole (compiled_of self.old) }
-        requires least { 1 ≤ parts }
-        requires most { parts ≤ 64 }
+        requires parts { IsParts parts }
         requires fits { CoreFits (tables_of self.old) (core_of self.old) }
         ensures core { core_of self.new ≡ core_of self.old }
         ensures fresh { fresh_of self.new ≡ fresh_of self.old }
@@ -59,7 +58,7 @@ impl Engine {
             watch,
         )?;
         let planned = self.planned(alloc, ran)?;
-        self.make_room(alloc, &planned)?;
+        self.make_room(alloc, &planned.moves, &planned.batch.committed)?;
         Ok(planned)
     }
 
@@ -103,23 +102,11 @@ impl Engine {
             batch: BatchRecord { news, committed },
             replies,
             events,
-            entries,
-            carried,
-            works,
+            moves: Moves {
+                entries,
+                carried,
+                works,
+            },
         })
-    }
-
-    /// Makes room for what the commit moves.
-    fn make_room(&mut self, alloc: Global, planned: &Planned) -> Result<(), AllocError>
-        requires { are_places (length planned.now.works) planned.now.batch.committed ≡ true }
-        ensures core { core_of self.new ≡ core_of self.old }
-        ensures fresh { fresh_of self.new ≡ fresh_of self.old }
-        ensures runs { RunsProgram self.new (compiled_of self.old) (limit_of self.old) }
-        ensures history { OnOk result (length planned.now.entries ≤ self.new.history.spare) }
-        ensures state { OnOk result (written_count planned.now.works planned.now.batch.committed ≤ self.new.state.spare) }
-    {
-        self.history.reserve(planned.entries.len())?;
-        self.state
-            .prepare(alloc, &planned.works, &planned.batch.committed)
     }
 }

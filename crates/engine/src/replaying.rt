@@ -1,26 +1,25 @@
 //! A batch of a log run again on an engine.
 
-ghost use Rattle.std.specs.Prelude.{◌≡◌, ◌↔◌, ◌+◌, ◌≤◌, ◌<◌, ◌^◌, ◌++◌, true, IsTrue, length, IfOk, IfErr, OnOk, OnErr};
+ghost use Rattle.std.specs.Prelude.{◌≡◌, ◌↔◌, ◌≤◌, true, IsTrue, length, IfOk, IfErr, OnOk, OnErr};
 ghost use Rattle.std.specs.List.{AllByRecursion};
 ghost use Rattle.program_meaning.specs.Fits.{StateFits};
-ghost use Rattle.program_meaning.specs.Serial.{ids_differ};
 ghost use Rattle.request_history.specs.SoundHistory.{RequestFits};
-ghost use Rattle.keyed_state.specs.Works.{written_count, are_places};
+ghost use Rattle.keyed_state.specs.Works.{are_places};
 ghost use Rattle.block_step.specs.CompiledViews.{IsWhole};
 ghost use Rattle.engine.specs.Cores.{CoreFits, IsSoundCore};
 ghost use Rattle.engine.specs.EngineViews.{core_of, source_of, tables_of, compiled_of, limit_of, fresh_of, RunsProgram};
 ghost use Rattle.engine.specs.Replays.{replayed, ListFits, BatchFits};
 ghost use Rattle.engine.specs.Causes.{IsCause};
-ghost use Rattle.engine.specs.RanReplays.{HasRunAgain, with_replay};
+ghost use Rattle.engine.specs.RanReplays.{HasRunAgain};
 
 use crate::copying::{copies_of, entries_at, others_of, requests_at};
 use crate::engine::Engine;
+use crate::moves::Moves;
 use crate::restore_error::RestoreError;
 use crate::restoring::tables_in;
 use kept_parts::{are_places, ids_differ, requests_fit};
-use keyed_state::Works;
 use ordered_runs::{Ordered, run_in_order};
-use sf_value::{BatchRecord, Entries, Places, Requests};
+use sf_value::{BatchRecord, Places, Requests};
 use std::alloc::{AllocError, Global};
 
 /// At most so many requests wait at a time.
@@ -29,11 +28,7 @@ const MOST_WAITING: usize = 256;
 /// A batch of a log that has run, with all that it moves.
 #[derive(Drop)]
 pub(crate) struct Replay {
-    /// The requests that it commits, with what they came to.
-    entries: Entries,
-    /// The requests that wait on.
-    carried: Requests,
-    works: Works,
+    moves: Moves,
     /// The places of the works, in the order in which they are applied.
     places: Places,
 }
@@ -64,8 +59,10 @@ impl Engine {
             return Err(RestoreError::Wrong);
         }
         let replay = self.run_again(alloc, &waiting, &committed)?;
-        self.make_room_for(alloc, &replay)?;
-        self.join(replay);
+        self.make_room(alloc, &replay.moves, &replay.places)?;
+        let Replay { moves, places } = replay;
+        self.join(moves, &places);
+        drop(places);
         Ok(())
     }
 
@@ -102,7 +99,7 @@ impl Engine {
         requires fit { AllByRecursion (RequestFits (tables_of self.now)) waiting.now }
         requires few { length waiting.now ≤ 256 }
         requires once { are_places (length waiting.now) committed.now ≡ true }
-        ensures { IfOk result (HasRunAgain (source_of self.now) (core_of self.now).state waiting.now committed.now) }
+        ensures { IfOk result (HasRunAgain (source_of self.now) (core_of self.now) waiting.now committed.now) }
     {
         let listed = requests_at(alloc, waiting, committed.as_slice())?;
         let carried = others_of(alloc, waiting, committed.as_slice())?;
@@ -115,49 +112,12 @@ impl Engine {
         drop(listed);
         drop(outcomes);
         Ok(Replay {
-            entries,
-            carried,
-            works,
+            moves: Moves {
+                entries,
+                carried,
+                works,
+            },
             places,
         })
-    }
-
-    /// Makes room for what joins the core.
-    fn make_room_for(&mut self, alloc: Global, replay: &Replay) -> Result<(), AllocError>
-        requires { are_places (length replay.now.works) replay.now.places ≡ true }
-        ensures core { core_of self.new ≡ core_of self.old }
-        ensures fresh { fresh_of self.new ≡ fresh_of self.old }
-        ensures runs { RunsProgram self.new (compiled_of self.old) (limit_of self.old) }
-        ensures history { OnOk result (length replay.now.entries ≤ self.new.history.spare) }
-        ensures state { OnOk result (written_count replay.now.works replay.now.places ≤ self.new.state.spare) }
-    {
-        self.history.reserve(replay.entries.len())?;
-        self.state.prepare(alloc, &replay.works, &replay.places)
-    }
-
-    /// The entries join the history, the works make their writes, and the others wait on. It takes no
-    /// memory and can't fail.
-    fn join(&mut self, replay: Replay)
-        requires ids { ids_differ ((core_of self.old).history ++ replay.entries) ≡ true }
-        requires placed { length (core_of self.old).history + length replay.entries < 2 ^ 32 }
-        requires few { length replay.carried ≤ 256 }
-        requires places { are_places (length replay.works) replay.places ≡ true }
-        requires history { length replay.entries ≤ self.old.history.spare }
-        requires state { written_count replay.works replay.places ≤ self.old.state.spare }
-        ensures core { core_of self.new ≡ with_replay (core_of self.old) replay }
-        ensures fresh { fresh_of self.new ≡ 0 }
-        ensures runs { RunsProgram self.new (compiled_of self.old) (limit_of self.old) }
-    {
-        let Replay {
-            entries,
-            carried,
-            works,
-            places,
-        } = replay;
-        self.history.commit_all(entries);
-        self.state.apply(works, &places);
-        self.pending = carried;
-        self.fresh = 0;
-        drop(places);
     }
 }

@@ -1,7 +1,6 @@
-//! An engine made again of a snapshot, and the snapshot of an engine.
+//! An engine made again of a snapshot.
 
-ghost use Rattle.std.specs.Prelude.{◌≡◌, ◌↔◌, ◌≤◌, ◌<◌, ◌^◌, IsTrue, IsUtf8, length, IfOk, IfErr};
-ghost use Rattle.std.specs.Str.{chars};
+ghost use Rattle.std.specs.Prelude.{◌≡◌, ◌↔◌, ◌≤◌, ◌<◌, ◌^◌, IsTrue, length, IfOk, IfErr};
 ghost use Rattle.std.specs.List.{AllByRecursion};
 ghost use Rattle.entity_tables.specs.Views.{plain_tables};
 ghost use Rattle.request_history.specs.SoundHistory.{RequestFits, EntriesFit};
@@ -11,16 +10,13 @@ ghost use Rattle.engine.specs.EngineViews.{core_of, program_tables, tables_of, f
 ghost use Rattle.engine.specs.Kept.{core_of_snapshot, HeldFits, SnapshotFits};
 ghost use Rattle.engine.specs.Causes.{IsCause};
 
-use crate::copying::copies_of;
 use crate::engine::Engine;
 use crate::restore_error::RestoreError;
 use block_step::Compiled;
 use entity_tables::ClassTable;
-use kept_parts::{
-    entries_fit, entries_of, history_of, ids_differ, records_fit, requests_fit, state_of,
-};
-use sf_value::{Snapshot, Text};
-use std::alloc::{AllocError, Global};
+use kept_parts::{entries_fit, history_of, ids_differ, records_fit, requests_fit, state_of};
+use sf_value::Snapshot;
+use std::alloc::Global;
 
 /// One request more may come when an engine is restored.
 const MOST_PENDING: usize = 255;
@@ -84,22 +80,6 @@ impl Engine {
             state,
             pending: kept.pending,
             fresh: 0,
-        })
-    }
-
-    /// A snapshot of the core, with the text that the program was compiled from.
-    pub fn snapshot(&self, alloc: Global, program: &[u8]) -> Result<Snapshot, AllocError>
-        requires utf8 { IsUtf8 program.now }
-        ensures program { IfOk result (λ kept. kept.program ≡ chars program.now) }
-        ensures core { IfOk result (λ kept. core_of_snapshot kept ≡ core_of self.now) }
-        ensures fits { CoreFits (tables_of self.now) (core_of self.now) → length (core_of self.now).pending ≤ 255 →
-            IfOk result (SnapshotFits (tables_of self.now)) }
-    {
-        Ok(Snapshot {
-            program: Text::of(alloc, std::str::from_utf8(program).unwrap())?,
-            history: entries_of(alloc, &self.history)?,
-            records: self.state.records(alloc)?,
-            pending: copies_of(alloc, self.pending.as_slice())?,
         })
     }
 }

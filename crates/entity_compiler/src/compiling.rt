@@ -55,7 +55,8 @@ fn with_graph(alloc: Global, program: Checked, tables: Tables) -> Result<Compile
 /// The compiled program of a text that is accepted; else its first fault. Where a method has more blocks
 /// than there are numbers of 32 bits, it answers want of memory.
 pub fn compile(alloc: Global, text: &[u8]) -> Result<Compiled, ProgramError>
-    ensures { Compiles text.now result }
+    ensures compiles { Compiles text.now result }
+    ensures blocks { IfOk result (λ c. AreCompiled (compiled_names c) (compiled_program c) (compiled_blocks c)) }
 {
     let accepted = accept(alloc, text)?;
     let Accepted { program, tables } = accepted;

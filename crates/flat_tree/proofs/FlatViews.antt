@@ -12,13 +12,14 @@ use Rattle.block_code.specs.PlainVars.{plain_vars}
 use Rattle.flat_tree.specs.declared.tree.Callee.{Callee}
 use Rattle.flat_tree.specs.declared.tree.Created.{Created}
 use Rattle.flat_tree.specs.declared.tree.FlatArm.{FlatArm}
+use Rattle.flat_tree.specs.declared.tree.FlatClause.{FlatClause}
 use Rattle.flat_tree.specs.declared.tree.Operand.{Operand}
-use Rattle.flat_tree.specs.declared.tree.FlatStmt.{FlatStmt, Row_of-FlatStmt, end_of-FlatStmt, more_of-FlatStmt, Row_of-FlatArm, end_of-FlatArm, more_of-FlatArm, items-the_row-FlatStmt, items_hidden-the_row-FlatStmt-0, items_shown-the_row-FlatStmt-0, items-the_row-FlatArm, items_hidden-the_row-FlatArm-1}
+use Rattle.flat_tree.specs.declared.tree.FlatStmt.{FlatStmt, Row_of-FlatStmt, end_of-FlatStmt, more_of-FlatStmt, Row_of-FlatArm, end_of-FlatArm, more_of-FlatArm, Row_of-FlatClause, end_of-FlatClause, more_of-FlatClause, items-the_row-FlatStmt, items_hidden-the_row-FlatStmt-0, items_shown-the_row-FlatStmt-0, items-the_row-FlatArm, items_hidden-the_row-FlatArm-1, items-the_row-FlatClause, items_hidden-the_row-FlatClause-2}
 use Rattle.flat_tree.specs.declared.tree.FlatStmt as s
-use Rattle.flat_tree.specs.declared.tree.FlatStmt.TheBlock.{hidden-the_row-FlatStmt-0, shown-the_row-FlatStmt-0, hidden-the_row-FlatArm-1, hidden-the_row-Operand-2}
-use Rattle.flat_tree.specs.declared.tree.FlatTest.{FlatTest, Row_of-Operand, end_of-Operand, more_of-Operand, items-the_row-Operand, items_hidden-the_row-Operand-2}
+use Rattle.flat_tree.specs.declared.tree.FlatStmt.TheBlock.{hidden-the_row-FlatStmt-0, shown-the_row-FlatStmt-0, hidden-the_row-FlatArm-1, hidden-the_row-FlatClause-2, hidden-the_row-Operand-3}
+use Rattle.flat_tree.specs.declared.tree.FlatTest.{FlatTest, Row_of-Operand, end_of-Operand, more_of-Operand, items-the_row-Operand, items_hidden-the_row-Operand-3}
 use Rattle.flat_tree.specs.declared.tree.FlatTest as t
-use Rattle.flat_tree.specs.PlainFlat.{FMark, FSet, FPut, FGive, FFail, FCode, FBreak, FContinue, FCall, FMake, FIf, FWhile, FStmt, FArm, FMoreArms, FLeaf, FNot, FAnd, FOr, FOperand, FMoreOperands, flat_stmts_of, flat_arms_of, operands_of, plain_flat_stmt, plain_stmt_row, plain_arm_row, plain_flat_test, plain_operand_row, plain_flat_stmts, plain_flat_arms, plain_operands}
+use Rattle.flat_tree.specs.PlainFlat.{FMark, FSet, FPut, FGive, FFail, FCode, FBreak, FContinue, FCall, FMake, FIf, FWhile, FTry, FStmt, FArm, FMoreArms, FClause, FMoreClauses, FLeaf, FNot, FAnd, FOr, FOperand, FMoreOperands, flat_stmts_of, flat_arms_of, flat_clauses_of, operands_of, plain_flat_stmt, plain_stmt_row, plain_arm_row, plain_clause_row, plain_flat_test, plain_operand_row, plain_flat_stmts, plain_flat_arms, plain_flat_clauses, plain_operands}
 
 -- Rows of children are the lists of their plain trees
 
@@ -41,13 +42,21 @@ arm_row-items m (more_of-FlatArm test start n body rest row) = λ i. FMoreArms (
 arm_row-hidden : (xs : List FlatArm) → plain_arm_row (hidden-the_row-FlatArm-1 xs) ≡ flat_arms_of (plain_flat_arms xs)
 arm_row-hidden xs = arm_row-items _ (hidden-the_row-FlatArm-1 xs) ∙ ap (λ ys. flat_arms_of (plain_flat_arms ys)) (items_hidden-the_row-FlatArm-1 xs)
 
+clause_row-items : (m : _) (row : Row_of-FlatClause m) → plain_clause_row row ≡ flat_clauses_of (plain_flat_clauses (items-the_row-FlatClause m row))
+unfolding plain_flat_stmt
+clause_row-items m end_of-FlatClause = refl
+clause_row-items m (more_of-FlatClause kinds start n body row) = λ i. FMoreClauses (FClause kinds (plain_vars start) (stmt_row-shown n body i)) (clause_row-items _ row i)
+
+clause_row-hidden : (ks : List FlatClause) → plain_clause_row (hidden-the_row-FlatClause-2 ks) ≡ flat_clauses_of (plain_flat_clauses ks)
+clause_row-hidden ks = clause_row-items _ (hidden-the_row-FlatClause-2 ks) ∙ ap (λ rest. flat_clauses_of (plain_flat_clauses rest)) (items_hidden-the_row-FlatClause-2 ks)
+
 operand_row-items : (m : _) (row : Row_of-Operand m) → plain_operand_row row ≡ operands_of (plain_operands (items-the_row-Operand m row))
 unfolding plain_flat_stmt
 operand_row-items m end_of-Operand = refl
 operand_row-items m (more_of-Operand test rest row) = ap (FMoreOperands (FOperand (plain_flat_test test) (plain_vars rest))) (operand_row-items _ row)
 
-operand_row-hidden : (xs : List Operand) → plain_operand_row (hidden-the_row-Operand-2 xs) ≡ operands_of (plain_operands xs)
-operand_row-hidden xs = operand_row-items _ (hidden-the_row-Operand-2 xs) ∙ ap (λ ys. operands_of (plain_operands ys)) (items_hidden-the_row-Operand-2 xs)
+operand_row-hidden : (xs : List Operand) → plain_operand_row (hidden-the_row-Operand-3 xs) ≡ operands_of (plain_operands xs)
+operand_row-hidden xs = operand_row-items _ (hidden-the_row-Operand-3 xs) ∙ ap (λ ys. operands_of (plain_operands ys)) (items_hidden-the_row-Operand-3 xs)
 
 -- Statements
 
@@ -100,6 +109,11 @@ pub flat-While : (head : List VarType) (test : FlatTest) (start : List VarType) 
 unfolding plain_flat_stmt
 flat-While head test start body after = ap (λ xs. FWhile (plain_vars head) (plain_flat_test test) (plain_vars start) xs (plain_option plain_vars after)) (stmt_row-hidden body)
 
+pub flat-Try : (start : List VarType) (body : List FlatStmt) (clauses : List FlatClause) (after : Option (List VarType))
+    → plain_flat_stmt (s.Try start body clauses after) ≡ FTry (plain_vars start) (flat_stmts_of (plain_flat_stmts body)) (flat_clauses_of (plain_flat_clauses clauses)) (plain_option plain_vars after)
+unfolding plain_flat_stmt
+flat-Try start body clauses after = λ i. FTry (plain_vars start) (stmt_row-hidden body i) (clause_row-hidden clauses i) (plain_option plain_vars after)
+
 -- Tests
 
 pub test-Leaf : (before : List FlatStmt) (e : Expr) → plain_flat_test (t.Leaf before e) ≡ FLeaf (flat_stmts_of (plain_flat_stmts before)) (plain_expr e)
@@ -118,4 +132,4 @@ pub test-Or : (operands : List Operand) → plain_flat_test (t.Or operands) ≡ 
 unfolding plain_flat_stmt
 test-Or operands = ap FOr (operand_row-hidden operands)
 
-pub ruleset flat_views = (flat-Mark, flat-Set, flat-Put, flat-Give, flat-Fail, flat-Code, flat-Break, flat-Continue, flat-Call, flat-Make, flat-If, flat-While, test-Leaf, test-Not, test-And, test-Or)
+pub ruleset flat_views = (flat-Mark, flat-Set, flat-Put, flat-Give, flat-Fail, flat-Code, flat-Break, flat-Continue, flat-Call, flat-Make, flat-If, flat-While, flat-Try, test-Leaf, test-Not, test-And, test-Or)

@@ -4,3 +4,4 @@ pub mod NamesBelow
 pub mod SameNames
 pub mod RelatedEnds
 pub mod InTurn
+mod Examples

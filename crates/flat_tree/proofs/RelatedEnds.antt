@@ -1,5 +1,5 @@
 -- Code that ends alike from locals that are related: what two runs do whose locals agree on the names that the code mentions.
-use Rattle.std.proofs.Common.{◌≡◌, ◌<◌, ℕ, zero, suc, ℤ, pos, ◌+ℤ◌, Bool, true, false, Option, List, [], ◌∷◌, if◌then◌else◌, refl, sym, subst}
+use Rattle.std.proofs.Common.{◌≡◌, ◌<◌, ℕ, zero, suc, ℤ, pos, ◌+ℤ◌, Bool, true, false, Option, Some, None, List, [], ◌∷◌, if◌then◌else◌, refl, sym, subst, true≢false}
 use Rattle.std.specs.Prelude.{IfSome}
 use Rattle.std.specs.Ordering.{int_cmp, is_lt}
 use Rattle.py_tree.specs.declared.stmt.Target.{Target}
@@ -15,7 +15,9 @@ use Rattle.program_meaning.specs.World.{Gives, Got, Fell, told, Ends, Goes, Retu
 use Rattle.program_meaning.specs.Operations.{in_range, is_true}
 use Rattle.program_meaning.specs.Evaluation.{Site, eval}
 use Rattle.program_meaning.specs.Execution.{stepping, store, augmented, value_or_none, message, Turns, Items, Numbers, turns_of, turn, counting, over_items, over_numbers, over_turns, while_turns, checked, act, act_all, act_arms}
-use Rattle.flat_tree.specs.FlatMeaning.{Way}
+use Rattle.program_meaning.specs.Reached.{IsReached}
+use Rattle.flat_tree.specs.PlainFlat.{Point}
+use Rattle.flat_tree.specs.FlatMeaning.{Way, caught, closed}
 use Rattle.flat_tree.proofs.NamesBelow.{AgreeBelow}
 use Rattle.flat_tree.proofs.SameNames.{eval_same, augmented_same, message_same, value_same, turns_same}
 
@@ -52,6 +54,23 @@ module _ {W : Type 0} {R : List Var → List Var → Type 0} where
   turn_related _ _ f g (both_break r) later = both_go r
   turn_related _ _ f g (both_continue r) later = later _ _ _ _ r
   turn_related _ _ f g (both_fail r) later = both_fail r
+
+  -- a failure is taken up alike
+  pub caught_related : (a b : Ends W) (f g : Failure → Way W) → EndsRelated R a b → ((x : Failure) → WaysRelated R (f x) (g x)) → EndsRelated R (caught f a) (caught g b)
+  caught_related _ _ f g (both_fail {f = x} r) taken = taken x _ _ _ _ r
+  caught_related _ _ f g (both_go r) taken = both_go r
+  caught_related _ _ f g both_return taken = both_return
+  caught_related _ _ f g (both_break r) taken = both_break r
+  caught_related _ _ f g (both_continue r) taken = both_continue r
+
+  -- where the other run can't go on, neither does the one that is closed there
+  pub closed_related : (go leave : Bool) (after : Point) (a b : Ends W) → EndsRelated R a b → IsReached go leave b → EndsRelated R (closed (if go then Some after else None) a) b
+  closed_related true leave after a b r reached = r
+  closed_related false leave after _ _ (both_go r) reached = absurd (true≢false (sym reached))
+  closed_related false leave after _ _ both_return reached = both_return
+  closed_related false leave after _ _ (both_break r) reached = both_break r
+  closed_related false leave after _ _ (both_continue r) reached = both_continue r
+  closed_related false leave after _ _ (both_fail r) reached = both_fail r
 
   pub given_related : {A : Type 0} (us vs : List Var) (g h : Gives W A) (k l : A → W → ℕ → Ends W) → R us vs → g ≡ h → ((x : A) (w : W) (n : ℕ) → EndsRelated R (k x w n) (l x w n)) → EndsRelated R (with_given us g k) (with_given vs h l)
   given_related {A} us vs g h k l r same later = subst (λ g. EndsRelated R (with_given us g k) (with_given vs h l)) (sym same) (by h)

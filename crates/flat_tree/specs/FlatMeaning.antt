@@ -1,8 +1,12 @@
 -- What flat code does, where the source's code runs: over the same sites, calls and locals.
-use Rattle.std.specs.Prelude.{ℕ, zero, suc, Bool, true, false, if◌then◌else◌, List, []}
+use Rattle.std.specs.Prelude.{ℕ, zero, suc, nat_eq, Bool, true, false, if◌then◌else◌, Some, None, List, []}
+use Rattle.std.specs.List.{list_any}
+use Rattle.std.specs.declared.option.Option.{Option}
 use Rattle.py_tree.specs.PlainExpressions.{PlainExpr, PlainExprs}
 use Rattle.py_tree.specs.PlainProgram.{PlainParam}
+use Rattle.sf_value.specs.declared.Failure.{Failure}
 use Rattle.sf_value.specs.declared.value.Value.{Value}
+use Rattle.sf_value.specs.declared.value.Value.TheVariants as value
 use Rattle.program_meaning.specs.declared.vars.Var.{Var}
 use Rattle.program_meaning.specs.ClassTables.{fields_of}
 use Rattle.program_meaning.specs.World.{Gives, ◌>>=◌, Ends, Goes, Returns, Breaks, Continues, Fails, step_limit, with_given, next, next_turn, result_of, assigned, with_field}
@@ -10,7 +14,7 @@ use Rattle.program_meaning.specs.Operations.{is_true}
 use Rattle.program_meaning.specs.Evaluation.{Site, eval, eval_all, key_in, method_of, class_of}
 use Rattle.program_meaning.specs.Execution.{stepping, message, act}
 use Rattle.program_meaning.specs.Calls.{bound}
-use Rattle.flat_tree.specs.PlainFlat.{PlainFlatStmt, FMark, FSet, FPut, FGive, FFail, FCode, FBreak, FContinue, FCall, FMake, FIf, FWhile, PlainFlatStmts, FNoStmt, FStmt, FArm, PlainFlatArms, FNoArm, FMoreArms, PlainFlatTest, FLeaf, FNot, FAnd, FOr, FOperand, PlainOperands, FNoOperand, FMoreOperands, flat_stmts_of}
+use Rattle.flat_tree.specs.PlainFlat.{Point, PlainFlatStmt, FMark, FSet, FPut, FGive, FFail, FCode, FBreak, FContinue, FCall, FMake, FIf, FWhile, FTry, PlainFlatStmts, FNoStmt, FStmt, FArm, PlainFlatArms, FNoArm, FMoreArms, FClause, PlainFlatClauses, FNoClause, FMoreClauses, PlainFlatTest, FLeaf, FNot, FAnd, FOr, FOperand, PlainOperands, FNoOperand, FMoreOperands, flat_stmts_of}
 
 -- the way on from a point
 abbrev pub Way : Type 0 → Type 0
@@ -40,6 +44,23 @@ unfoldable pub loop_turns : {W : Type 0} → ℕ → (Way W → Way W → Way W)
 loop_turns zero test body vars w n = Fails step_limit vars w n
 loop_turns (suc most) test body vars w n = test (λ vars w n. next_turn (stepping vars w n (λ n. body vars w n)) (loop_turns most test body)) (λ vars w n. Goes vars w n) vars w n
 
+-- a failure goes on where somebody takes it up, with the locals, the world and the steps that were left when it came
+abbrev pub caught : {W : Type 0} → (Failure → Way W) → Ends W → Ends W
+caught take_up (Fails f vars w n) = take_up f vars w n
+caught take_up (Goes vars w n) = Goes vars w n
+caught take_up (Returns v w n) = Returns v w n
+caught take_up (Breaks vars w n) = Breaks vars w n
+caught take_up (Continues vars w n) = Continues vars w n
+
+-- the end of a loop or of a `try`: with no point behind it, what goes on there is at the end of the method
+abbrev pub closed : {W : Type 0} → Option Point → Ends W → Ends W
+closed (Some after) e = e
+closed None (Goes vars w n) = Returns value.Nil w n
+closed None (Returns v w n) = Returns v w n
+closed None (Breaks vars w n) = Breaks vars w n
+closed None (Continues vars w n) = Continues vars w n
+closed None (Fails f vars w n) = Fails f vars w n
+
 unfoldable mutual
   pub run_stmt : {W : Type 0} → Site W → PlainFlatStmt → Way W
   run_stmt s FMark vars w n = stepping vars w n (λ n. Goes vars w n)
@@ -53,7 +74,8 @@ unfoldable mutual
   run_stmt s (FCall on callee args into after) vars w n = into_local into vars (call_gives s on callee.name.0 args vars w n)
   run_stmt s (FMake class args into after) vars w n = into_local into vars (creation_gives s class.name.0 args vars w n)
   run_stmt s (FIf arms other after) vars w n = run_arms s arms (λ vars w n. run_stmts s other vars w n) vars w n
-  run_stmt s (FWhile head test start body after) vars w n = loop_turns (suc n) (decide s test) (λ vars w n. run_stmts s body vars w n) vars w n
+  run_stmt s (FWhile head test start body after) vars w n = closed after (loop_turns (suc n) (decide s test) (λ vars w n. run_stmts s body vars w n) vars w n)
+  run_stmt s (FTry start body clauses after) vars w n = closed after (caught (λ f vars w n. run_clauses s clauses f vars w n) (run_stmts s body vars w n))
 
   pub run_stmts : {W : Type 0} → Site W → PlainFlatStmts → Way W
   run_stmts s FNoStmt vars w n = Goes vars w n
@@ -63,6 +85,11 @@ unfoldable mutual
   pub run_arms : {W : Type 0} → Site W → PlainFlatArms → Way W → Way W
   run_arms s FNoArm other vars w n = other vars w n
   run_arms s (FMoreArms (FArm test start body rest) more) other vars w n = decide s test (λ vars w n. run_stmts s body vars w n) (λ vars w n. run_arms s more other vars w n) vars w n
+
+  -- what a failure comes to: the first clause that names its kind runs, or it stays a failure
+  pub run_clauses : {W : Type 0} → Site W → PlainFlatClauses → Failure → Way W
+  run_clauses s FNoClause f vars w n = Fails f vars w n
+  run_clauses s (FMoreClauses (FClause kinds start body) more) f vars w n = if list_any (nat_eq f.kind) kinds then run_stmts s body vars w n else run_clauses s more f vars w n
 
   -- a test, with the way on where it holds and the way on where it doesn't
   pub decide : {W : Type 0} → Site W → PlainFlatTest → Way W → Way W → Way W

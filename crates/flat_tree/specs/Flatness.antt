@@ -1,11 +1,12 @@
 -- Flat code is flat: nothing in it suspends but calls and creations that are statements of their own, over parts that don't suspend.
-use Rattle.std.specs.Prelude.{◌≡◌, Bool, true, false, ◌||◌, ⊤, IfSome}
+use Rattle.std.specs.Prelude.{◌≡◌, Bool, true, false, ◌||◌, ◌&&◌, ⊤, IfSome}
 use Rattle.py_tree.specs.PlainExpressions.{PlainExpr}
 use Rattle.py_tree.specs.PlainStatements.{PlainStmt, PPass, PBreak, PContinue, PDo, PReturn, PRaise, PAssert, PAssign, PAugment, PIf, PWhile, PFor, PlainStmts, PNoStmt, PStmt, PArm, PlainArms, PNoArm, PMoreArms}
+use Rattle.py_tree.specs.Reachability.{goes_on}
 use Rattle.call_graph.specs.SuspendingCode.{Leaving, expr_suspends, exprs_suspend, stmt_suspends}
-use Rattle.flat_tree.specs.PlainFlat.{PlainFlatStmt, FMark, FSet, FPut, FGive, FFail, FCode, FBreak, FContinue, FCall, FMake, FIf, FWhile, PlainFlatStmts, FNoStmt, FStmt, FArm, PlainFlatArms, FNoArm, FMoreArms, PlainFlatTest, FLeaf, FNot, FAnd, FOr, FOperand, PlainOperands, FNoOperand, FMoreOperands}
+use Rattle.flat_tree.specs.PlainFlat.{PlainFlatStmt, FMark, FSet, FPut, FGive, FFail, FCode, FBreak, FContinue, FCall, FMake, FIf, FWhile, FTry, PlainFlatStmts, FNoStmt, FStmt, FArm, PlainFlatArms, FNoArm, FMoreArms, FClause, PlainFlatClauses, FNoClause, FMoreClauses, PlainFlatTest, FLeaf, FNot, FAnd, FOr, FOperand, PlainOperands, FNoOperand, FMoreOperands}
 
--- a statement holds a `break` or a `continue` of a loop around it
+-- a statement holds a `break` or a `continue` of a loop around it that can be reached
 unfoldable mutual
   pub jumps : PlainStmt → Bool
   jumps (PPass at) = false
@@ -23,7 +24,7 @@ unfoldable mutual
 
   pub all_jump : PlainStmts → Bool
   all_jump PNoStmt = false
-  all_jump (PStmt x xs) = jumps x || all_jump xs
+  all_jump (PStmt x xs) = jumps x || (goes_on x && all_jump xs)
 
   pub arms_jump : PlainArms → Bool
   arms_jump PNoArm = false
@@ -48,6 +49,7 @@ module _ (leaves : Leaving) where
     IsFlat (FMake class args into after) = exprs_suspend leaves args ≡ false
     IsFlat (FIf arms other after) = AreFlatArms arms × AreFlat other
     IsFlat (FWhile head test start body after) = IsFlatTest test × AreFlat body
+    IsFlat (FTry start body clauses after) = AreFlat body × AreFlatClauses clauses
 
     pub AreFlat : PlainFlatStmts → Type 0
     AreFlat FNoStmt = ⊤
@@ -56,6 +58,10 @@ module _ (leaves : Leaving) where
     pub AreFlatArms : PlainFlatArms → Type 0
     AreFlatArms FNoArm = ⊤
     AreFlatArms (FMoreArms (FArm test start body rest) more) = IsFlatTest test × AreFlat body × AreFlatArms more
+
+    pub AreFlatClauses : PlainFlatClauses → Type 0
+    AreFlatClauses FNoClause = ⊤
+    AreFlatClauses (FMoreClauses (FClause kinds start body) more) = AreFlat body × AreFlatClauses more
 
     pub IsFlatTest : PlainFlatTest → Type 0
     IsFlatTest (FLeaf before e) = AreFlat before × StaysWithin e

@@ -4,13 +4,14 @@ ghost use Rattle.std.specs.Prelude.{◌≡◌, IfOk};
 ghost use Rattle.py_tree.specs.PlainExpressions.{plain_expr, plain_exprs, exprs_of};
 ghost use Rattle.py_tree.specs.PlainStatements.{plain_option};
 ghost use Rattle.block_code.specs.PlainVars.{plain_vars};
-ghost use Rattle.flat_tree.specs.PlainFlat.{FCall, FMake, plain_flat_stmt, plain_flat_stmts, plain_flat_arm, plain_flat_arms, plain_flat_test, plain_operand, plain_operands};
+ghost use Rattle.flat_tree.specs.PlainFlat.{FCall, FMake, plain_flat_stmt, plain_flat_stmts, plain_flat_arm, plain_flat_arms, plain_flat_clause, plain_flat_clauses, plain_flat_test, plain_operand, plain_operands};
 
 use crate::tree::{
-    Callee, Created, Flat, FlatArm, FlatArms, FlatStmt, FlatStmts, FlatTest, Operand, Operands,
+    Callee, Created, Flat, FlatArm, FlatArms, FlatClause, FlatClauses, FlatStmt, FlatStmts,
+    FlatTest, Operand, Operands,
 };
 use block_code::VarTypes;
-use py_tree::{Expr, Exprs, Name};
+use py_tree::{Expr, Exprs, Kinds, Name};
 use sf_list::{Sequence, TryClone};
 use std::alloc::{AllocError, Global};
 
@@ -44,6 +45,14 @@ fn copy_exprs(alloc: Global, exprs: &Exprs) -> Result<Exprs, AllocError>
     ensures { IfOk result (λ made. plain_exprs made ≡ plain_exprs exprs.now) }
 {
     exprs.try_clone(alloc)
+}
+
+fn copy_kinds(alloc: Global, kinds: &Kinds) -> Result<Kinds, AllocError>
+    ensures { IfOk result (λ made. made ≡ kinds.now) }
+{
+    let mut made = Sequence::new(alloc);
+    made.extend_from_slice(alloc, kinds.as_slice())?;
+    Ok(made)
 }
 
 #[tactic(auto, using(crate::proofs::FlatViews::flat_views))]
@@ -144,6 +153,23 @@ fn copy_stmt(alloc: Global, stmt: &FlatStmt) -> Result<FlatStmt, AllocError>
                 after,
             })
         }
+        FlatStmt::Try {
+            start,
+            body,
+            clauses,
+            after,
+        } => {
+            let begin = copy_vars(alloc, start)?;
+            let body = copy_stmts(alloc, body)?;
+            let clauses = copy_clauses(alloc, clauses)?;
+            let after = copy_maybe_vars(alloc, after)?;
+            Ok(FlatStmt::Try {
+                start: begin,
+                body,
+                clauses,
+                after,
+            })
+        }
     }
 }
 
@@ -181,6 +207,27 @@ fn copy_arms(alloc: Global, arms: &FlatArms) -> Result<FlatArms, AllocError>
     let mut made = Sequence::new(alloc);
     for arm in arms.as_slice() {
         made.push(alloc, copy_arm(alloc, arm)?)?;
+    }
+    Ok(made)
+}
+
+#[cycle(copy_flat)]
+fn copy_clause(alloc: Global, clause: &FlatClause) -> Result<FlatClause, AllocError>
+    ensures { IfOk result (λ made. plain_flat_clause made ≡ plain_flat_clause clause.now) }
+{
+    let kinds = copy_kinds(alloc, &clause.kinds)?;
+    let start = copy_vars(alloc, &clause.start)?;
+    let body = copy_stmts(alloc, &clause.body)?;
+    Ok(FlatClause { kinds, start, body })
+}
+
+#[cycle(copy_flat)]
+fn copy_clauses(alloc: Global, clauses: &FlatClauses) -> Result<FlatClauses, AllocError>
+    ensures { IfOk result (λ made. plain_flat_clauses made ≡ plain_flat_clauses clauses.now) }
+{
+    let mut made = Sequence::new(alloc);
+    for clause in clauses.as_slice() {
+        made.push(alloc, copy_clause(alloc, clause)?)?;
     }
     Ok(made)
 }

@@ -11,5 +11,6 @@ mod copy;
 mod tree;
 
 pub use tree::{
-    Callee, Created, Flat, FlatArm, FlatArms, FlatStmt, FlatStmts, FlatTest, Operand, Operands,
+    Callee, Created, Flat, FlatArm, FlatArms, FlatClause, FlatClauses, FlatStmt, FlatStmts,
+    FlatTest, Operand, Operands,
 };

@@ -1,7 +1,7 @@
 //! The trees of flat methods.
 
 use block_code::VarTypes;
-use py_tree::{Expr, Exprs, Name, Stmt};
+use py_tree::{Expr, Exprs, Kinds, Name, Stmt};
 use sf_list::Sequence;
 
 /// A method whose suspending calls and creations are statements of their own.
@@ -78,6 +78,15 @@ pub enum FlatStmt {
         /// What is assigned behind it, where a way leads there.
         after: Option<VarTypes>,
     },
+    /// A failure of its body goes on in the first clause that names the kind, if there is one.
+    Try {
+        /// What is assigned where the body begins.
+        start: VarTypes,
+        body: FlatStmts,
+        clauses: FlatClauses,
+        /// What is assigned behind it, where a way leads there.
+        after: Option<VarTypes>,
+    },
 }
 
 pub type FlatStmts = Sequence<FlatStmt>;
@@ -131,6 +140,17 @@ impl Drop for FlatStmt {
                 drop(body);
                 drop(after);
             }
+            FlatStmt::Try {
+                start,
+                body,
+                clauses,
+                after,
+            } => {
+                drop(start);
+                drop(body);
+                drop(clauses);
+                drop(after);
+            }
         }
     }
 }
@@ -148,6 +168,19 @@ pub struct FlatArm {
 }
 
 pub type FlatArms = Sequence<FlatArm>;
+
+/// What runs where the body of a `try` fails with one of some kinds.
+#[cycle(flat)]
+#[derive(Drop)]
+pub struct FlatClause {
+    /// Their numbers.
+    pub kinds: Kinds,
+    /// What is assigned where the body begins.
+    pub start: VarTypes,
+    pub body: FlatStmts,
+}
+
+pub type FlatClauses = Sequence<FlatClause>;
 
 /// A test. What it shows of None is what the same test of the source shows.
 #[cycle(flat)]

@@ -31,7 +31,7 @@ variables_typed locals (x ∷ xs) h = both_hold (is_typed locals x ∙ h.0) (var
 pub code_stays : (c : Context) (leaves : Leaving) (locals : List PlainLocal) (xs : PlainStmts) (goal : Asked) → (f : CodeFits c leaves locals xs goal) → shapes f.way.locals ≡ shapes locals
 code_stays c leaves locals xs goal f = (all_stay xs c (begun locals) f.way f.flows).same (typed_variables locals (assigned_in xs) f.assigns)
 
-left_unsaid : (w : Way) → w.breaks ≡ None → begun w.locals ≡ w
+pub left_unsaid : (w : Way) → w.breaks ≡ None → begun w.locals ≡ w
 left_unsaid w e = ap (λ (b : Option (List Known)). abbrev_way w.locals b) (sym e)
   where
     abbrev_way : List PlainLocal → Option (List Known) → Way

@@ -1,7 +1,8 @@
 -- Small flat methods that keep the rules, whose blocks so fit, and one that breaks them.
-use Rattle.std.proofs.Common.{◌≡◌, ℕ, pos, true, false, not, Some, None, List, [], ◌∷◌, refl, sym, ap, subst, true≢false}
+use Rattle.std.proofs.Common.{◌≡◌, ◌≤◌, ℕ, arith, pos, true, false, not, Some, None, List, [], ◌∷◌, refl, sym, ap, subst, true≢false}
 use Rattle.std.specs.List.{All}
 use Rattle.std.proofs.lemmas.Option.{same_Some}
+use Rattle.std.proofs.lemmas.List.Elements.{All-nil, All-cons}
 use Rattle.py_tree.specs.declared.names.Place.{Place}
 use Rattle.py_tree.specs.declared.expr.BinOp.TheVariants as op
 use Rattle.py_tree.specs.declared.stmt.Target.TheVariants as target
@@ -17,9 +18,9 @@ use Rattle.py_tree.specs.Flow.{Context, begun, in_method, result_at, with_local,
 use Rattle.call_graph.specs.SuspendingCode.{Leaving, expr_suspends, stmt_suspends}
 use Rattle.program_meaning.proofs.TypedParts.{same_ok}
 use Rattle.block_code.specs.PlainVars.{PlainVar}
-use Rattle.block_code.specs.GraphFits.{BlockFits, at_start}
+use Rattle.block_code.specs.GraphFits.{AtEachItem, BlockFits, at_start}
 use Rattle.flat_tree.specs.declared.tree.Callee.{Callee}
-use Rattle.flat_tree.specs.PlainFlat.{Point, FMark, FSet, FPut, FGive, FCode, FCall, FWhile, FNoStmt, FStmt, FLeaf, FAnd, FOperand, FNoOperand, FMoreOperands, PlainFlat}
+use Rattle.flat_tree.specs.PlainFlat.{Point, FMark, FSet, FPut, FGive, FCode, FCall, FWhile, FTry, FNoStmt, FStmt, FClause, FNoClause, FMoreClauses, FLeaf, FAnd, FOperand, FNoOperand, FMoreOperands, PlainFlat}
 use Rattle.method_splitter.specs.Callees.{Each}
 use Rattle.method_splitter.specs.Points.{PointsPass}
 use Rattle.method_splitter.specs.Split.{split_blocks}
@@ -97,28 +98,38 @@ go_fits = record {
   outside = refl;
   once = refl;
   types = (
-    TInt,
-    record { wanted = None; typed = refl; stays = refl },
-    record {
-      local = later 50 TInt;
-      is = refl;
-      suits = refl;
-      goes = (
+    (
+      (
+        TInt,
+        record { wanted = None; typed = refl; stays = refl },
         record {
-          table = b_table;
-          has_table = refl;
-          sig = poke;
-          has_method = refl;
-          on = record { wanted = None; typed = refl; stays = refl };
-          args_fit = record { count = refl; typed = refl; stay = refl };
-          takes = record { local = later 51 TInt; is = refl; suits = refl; goes = refl };
+          local = later 50 TInt;
+          is = refl;
+          suits = refl;
+          goes = (
+            record {
+              table = b_table;
+              has_table = refl;
+              sig = poke;
+              has_method = refl;
+              on = record { wanted = None; typed = refl; stays = refl };
+              args_fit = record { count = refl; typed = refl; stay = refl };
+              takes = record { local = later 51 TInt; is = refl; suits = refl; goes = refl };
+            },
+            (
+              (
+                record { ty = TInt; is = refl; fits = record { ty = TInt; has = record { wanted = None; typed = refl; stays = refl }; suits = refl } },
+                (record { way = begun (at_start go_vars go_vars); flows = refl; assigns = refl; raises = (tt, tt); stays = refl; goes = λ e. absurd (true≢false (sym e)) }, tt),
+              ),
+              tt,
+            ),
+            tt,
+          );
         },
-        (
-          record { ty = TInt; is = refl; fits = record { ty = TInt; has = record { wanted = None; typed = refl; stays = refl }; suits = refl } },
-          record { way = begun (at_start go_vars go_vars); flows = refl; assigns = refl; raises = (tt, tt); stays = refl; goes = λ e. absurd (true≢false (sym e)) },
-        ),
-      );
-    },
+      ),
+      tt,
+    ),
+    tt,
   );
   reached = (moves, tt, (moves, tt, (moves, tt, (moves, tt, ((λ e. refl), tt, tt)))));
   params = refl;
@@ -168,32 +179,37 @@ unfolding stmt_fits HasNoDead PointsPass Each EachOfStmts at_start type_of type_
 wait_fits = record {
   outside = refl;
   once = refl;
-  types = ((
-    refl,
+  types = (
     (
+      refl,
       (
-        (record { wanted = None; typed = refl; stays = refl }, refl, refl),
         (
+          ((record { wanted = None; typed = refl; stays = refl }, refl, refl), tt),
           (
-            record {
-              table = b_table;
-              has_table = refl;
-              sig = yes_sig;
-              has_method = refl;
-              on = record { wanted = None; typed = refl; stays = refl };
-              args_fit = record { count = refl; typed = refl; stay = refl };
-              takes = record { local = later 50 TBool; is = refl; suits = refl; goes = refl };
-            },
-            (record { wanted = None; typed = refl; stays = refl }, refl, refl),
+            (
+              record {
+                table = b_table;
+                has_table = refl;
+                sig = yes_sig;
+                has_method = refl;
+                on = record { wanted = None; typed = refl; stays = refl };
+                args_fit = record { count = refl; typed = refl; stay = refl };
+                takes = record { local = later 50 TBool; is = refl; suits = refl; goes = refl };
+              },
+              ((record { wanted = None; typed = refl; stays = refl }, refl, refl), tt),
+              tt,
+            ),
+            refl,
           ),
-          refl,
         ),
+        (record { way = begun (with_local 33 TInt TInt (at_start wait_vars within)); flows = refl; assigns = refl; raises = (tt, tt); stays = refl; goes = λ e. refl }, tt),
       ),
-      record { way = begun (with_local 33 TInt TInt (at_start wait_vars within)); flows = refl; assigns = refl; raises = (tt, tt); stays = refl; goes = λ e. refl },
+      (record { ty = TInt; has = record { wanted = None; typed = refl; stays = refl }; suits = refl }, tt),
+      tt,
+      tt,
     ),
-    record { ty = TInt; has = record { wanted = None; typed = refl; stays = refl }; suits = refl },
-  )
-      );
+    tt,
+  );
   reached = (moves, tt, (moves, ((λ e. refl), (tt, ((moves, tt, tt), tt)), ((λ e. refl), tt, tt)), ((λ e. refl), tt, tt)));
   params = refl;
   points = (tt, ((refl, ((tt, refl, ((refl, tt), refl, tt))), refl, (tt, tt), refl), (tt, tt)));
@@ -212,12 +228,64 @@ unfolding stmt_fits HasNoDead PointsPass Each at_start type_of field_of assignab
 endless_fits = record {
   outside = refl;
   once = refl;
-  types = (refl, (record { ty = TInt; is = refl; fits = record { ty = TInt; has = record { wanted = None; typed = refl; stays = refl }; suits = refl } }, refl), tt);
+  types = ((refl, ((record { ty = TInt; is = refl; fits = record { ty = TInt; has = record { wanted = None; typed = refl; stays = refl }; suits = refl } }, refl), tt), tt, tt, tt), tt);
   reached = (moves, tt, ((λ e. refl), (moves, tt, ((λ e. refl), tt, tt)), tt));
   params = refl;
   points = (tt, ((refl, tt, refl, (tt, tt), tt), tt));
   callees = (tt, ((tt, (tt, tt)), tt));
 }
+
+-- Clauses
+
+abbrev tried_vars : List PlainVar
+tried_vars = var 29 (TEntity 21) ∷ var 51 TInt ∷ []
+
+abbrev on_b : Point
+on_b = var 29 (TEntity 21) ∷ []
+
+-- try: b.poke(self), except NoEntity: return 0, and then `return 1`
+abbrev tried : PlainFlat
+tried = record {
+  params = on_b;
+  body =
+      FMark ∷ FTry on_b (FStmt (FCall (PVar at 29) (callee 27 1 0) (PExpr (PSelf at) PNoExpr) 51 tried_vars) FNoStmt) (FMoreClauses (FClause (9 ∷ []) on_b (FStmt (FGive (PInt at (pos 0))) FNoStmt)) FNoClause) (Some on_b)
+      ∷ FGive (PInt at (pos 1)) ∷ [];
+}
+
+tried_fits : FlatFits c leaves tried_vars tried
+unfolding stmt_fits HasNoDead PointsPass Each AtEachItem at_start type_of type_of_name self_ty table_named field_of local_of assignable with_local result_at expr_suspends
+tried_fits = record {
+  outside = refl;
+  once = refl;
+  types = (
+    (
+      refl,
+      (
+        record {
+          table = b_table;
+          has_table = refl;
+          sig = poke;
+          has_method = refl;
+          on = record { wanted = None; typed = refl; stays = refl };
+          args_fit = record { count = refl; typed = refl; stay = refl };
+          takes = record { local = later 51 TInt; is = refl; suits = refl; goes = refl };
+        },
+        refl,
+        (refl, tt),
+      ),
+      (All-cons (λ (kind : ℕ). (1 ≤ kind) × (kind ≤ 11)) 9 [] (omega arith, omega arith) (All-nil (λ (kind : ℕ). (1 ≤ kind) × (kind ≤ 11))), (record { ty = TInt; has = record { wanted = None; typed = refl; stays = refl }; suits = refl }, tt), tt, tt),
+      (record { ty = TInt; has = record { wanted = None; typed = refl; stays = refl }; suits = refl }, tt),
+    ),
+    tt,
+  );
+  reached = (moves, tt, (moves, (((λ e. refl), tt, tt), (((λ e. refl), tt, tt), tt)), ((λ e. refl), tt, tt)));
+  params = refl;
+  points = (tt, ((refl, (refl, tt), (refl, (tt, tt), tt), refl), (tt, tt)));
+  callees = (tt, (((refl, tt), ((tt, tt), tt)), (tt, tt)));
+}
+
+tried_blocks_fit : All (BlockFits c leaves tried_vars (split_blocks tried)) (split_blocks tried)
+tried_blocks_fit = blocks_fit c leaves tried_vars tried tried_fits
 
 -- What breaks the rules
 
@@ -228,7 +296,15 @@ wrong = record { params = []; body = FSet 50 (PStr at 40) ∷ [] }
 wrong_is_refused : FlatFits c leaves (var 50 TInt ∷ []) wrong → ⊥
 unfolding stmt_fits at_start type_of local_of assignable
 wrong_is_refused f =
-    let t = f.types in
+    let t = f.types.0 in
     let is_text : TStr ≡ t.0 = same_ok TStr t.0 t.1.typed in
     let is_int : TInt ≡ t.2.local.ty = ap (λ (l : PlainLocal). l.ty) (same_Some (later 50 TInt) t.2.local t.2.is) in
     true≢false (sym (subst (λ u. assignable u TInt ≡ true) (sym is_text) (subst (λ u. assignable t.0 u ≡ true) (sym is_int) t.2.suits)))
+
+-- a clause begins with a variable that has no value yet where the body may fail
+abbrev too_early : PlainFlat
+too_early = record { params = []; body = FTry [] (FStmt FMark FNoStmt) (FMoreClauses (FClause (1 ∷ []) (var 50 TInt ∷ []) FNoStmt) FNoClause) (Some []) ∷ [] }
+
+too_early_is_refused : FlatFits c leaves (var 50 TInt ∷ []) too_early → ⊥
+unfolding stmt_fits AtEachItem at_start local_of
+too_early_is_refused f = true≢false (sym f.types.1.1.0.0)

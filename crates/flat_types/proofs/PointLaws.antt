@@ -1,7 +1,7 @@
 -- What is known of the variables of a method at a point, and that a way to a point leads on from there.
 use Rattle.std.proofs.Common.{◌≡◌, ℕ, Bool, true, false, cond, Option, Some, None, List, [], ◌∷◌, map as over, ◌⊎◌, inl, inr, refl, sym, ap, ◌∙◌, subst, true≢false}
-use Rattle.std.specs.Prelude.{◌==◌, ◌||◌, find, position, slice_get, option_map}
-use Rattle.std.specs.List.{list_all}
+use Rattle.std.specs.Prelude.{◌==◌, ◌||◌, find, position, slice_get, option_map, is_some}
+use Rattle.std.specs.List.{All, list_all}
 use Rattle.std.specs.Cmp.Derive.{both_true as both_hold}
 use Rattle.std.proofs.lemmas.Bool.{eqb-true}
 use Rattle.std.proofs.lemmas.Option.{same_Some, none-some}
@@ -14,7 +14,7 @@ use Rattle.program_meaning.proofs.LocalShapes.{Shape, shape, shapes, type_in, ty
 use Rattle.program_meaning.proofs.Places.{found_at, found_passes}
 use Rattle.block_code.specs.PlainVars.{PlainVar}
 use Rattle.block_code.specs.GraphFits.{is_var, is_inside, local_at, at_start, is_supplied, supplied, each_once, is_param_of}
-use Rattle.block_runs.proofs.Variables.{each_passes, any_found}
+use Rattle.block_runs.proofs.Variables.{all_of_each, each_passes, any_found}
 use Rattle.flat_tree.specs.PlainFlat.{Point}
 use Rattle.flat_types.specs.FlatTypes.{is_point, Supplies}
 
@@ -180,3 +180,20 @@ module _ (variables : List PlainVar) (point : Point) where
 
     pub supplies_on : (locals : List PlainLocal) (next : Point) → AreVariables variables locals → Supplies point locals → is_point variables next ≡ true → Supplies next (at_start variables point) → Supplies next locals
     supplies_on locals next are enough there h = each_on locals next are enough (both_true (list_all (is_param_of variables) next) (each_once next) there).0 h
+
+    -- what the point supplies is among its own parameters
+    one_within : (q : PlainVar) → is_param_of variables q ≡ true → is_supplied (local_of (at_start variables point) q.name) q.ty ≡ true → is_some (find (is_var q.name) point) ≡ true
+    one_within q of_q h =
+        let one : HasTypeOf q.name q.ty = variable_of q of_q in
+        let named_q : (one.0).name ≡ q.name = eqb-true (one.0).name q.name (found_passes (is_var q.name) variables one.0 one.1) in
+        subst (λ x. is_some (find (is_var x) point) ≡ true) named_q (by one.0 (find (is_var (one.0).name) point) (subst (λ o. is_supplied o q.ty ≡ true) (start_local q.name one.0 one.1) h))
+      where
+        by : (v : PlainVar) (o : Option PlainVar) → is_supplied (Some (local_at v o)) q.ty ≡ true → is_some o ≡ true
+        by v (Some p) h = refl
+        by v None h = absurd (true≢false (sym h))
+
+    pub params_within : (next : Point) → is_point variables next ≡ true → Supplies next (at_start variables point) → All (λ (q : PlainVar). is_some (find (is_var q.name) point) ≡ true) next
+    params_within next there h =
+        all_of_each (λ (q : PlainVar). is_some (find (is_var q.name) point) ≡ true) next (λ k q is.
+        one_within q (each_passes (is_param_of variables) next k q (both_true (list_all (is_param_of variables) next) (each_once next) there).0 is)
+        (each_passes (λ (q : PlainVar). is_supplied (local_of (at_start variables point) q.name) q.ty) next k q h is))

@@ -2,7 +2,7 @@
 -- literal True has a point behind it.
 use Rattle.std.specs.Prelude.{◌≡◌, ⊤, Bool, true, false, is_some}
 use Rattle.py_tree.specs.Reachability.{goes_on}
-use Rattle.flat_tree.specs.PlainFlat.{PlainFlatStmt, FMark, FSet, FPut, FGive, FFail, FCode, FBreak, FContinue, FCall, FMake, FIf, FWhile, PlainFlatStmts, FNoStmt, FStmt, FArm, PlainFlatArms, FNoArm, FMoreArms, PlainFlatTest, FLeaf, FNot, FAnd, FOr, FOperand, PlainOperands, FNoOperand, FMoreOperands}
+use Rattle.flat_tree.specs.PlainFlat.{PlainFlatStmt, FMark, FSet, FPut, FGive, FFail, FCode, FBreak, FContinue, FCall, FMake, FIf, FWhile, FTry, PlainFlatStmts, FNoStmt, FStmt, FArm, PlainFlatArms, FNoArm, FMoreArms, FClause, PlainFlatClauses, FNoClause, FMoreClauses, PlainFlatTest, FLeaf, FNot, FAnd, FOr, FOperand, PlainOperands, FNoOperand, FMoreOperands}
 use Rattle.method_splitter.specs.Split.{always}
 
 -- a way leads on behind a statement
@@ -19,6 +19,7 @@ leads_on (FCall on callee args into after) = true
 leads_on (FMake class args into after) = true
 leads_on (FIf arms other after) = is_some after
 leads_on (FWhile head test start body after) = is_some after
+leads_on (FTry start body clauses after) = is_some after
 
 unfoldable mutual
   pub HasNoDead : PlainFlatStmt → Type 0
@@ -34,6 +35,7 @@ unfoldable mutual
   HasNoDead (FMake class args into after) = ⊤
   HasNoDead (FIf arms other after) = ArmsHaveNoDead arms × HaveNoDead other
   HasNoDead (FWhile head test start body after) = (always test ≡ false → is_some after ≡ true) × TestHasNoDead test × HaveNoDead body
+  HasNoDead (FTry start body clauses after) = HaveNoDead body × ClausesHaveNoDead clauses
 
   pub HaveNoDead : PlainFlatStmts → Type 0
   HaveNoDead FNoStmt = ⊤
@@ -42,6 +44,10 @@ unfoldable mutual
   pub ArmsHaveNoDead : PlainFlatArms → Type 0
   ArmsHaveNoDead FNoArm = ⊤
   ArmsHaveNoDead (FMoreArms (FArm test start body rest) more) = TestHasNoDead test × HaveNoDead body × ArmsHaveNoDead more
+
+  pub ClausesHaveNoDead : PlainFlatClauses → Type 0
+  ClausesHaveNoDead FNoClause = ⊤
+  ClausesHaveNoDead (FMoreClauses (FClause kinds start body) more) = HaveNoDead body × ClausesHaveNoDead more
 
   pub TestHasNoDead : PlainFlatTest → Type 0
   TestHasNoDead (FLeaf before e) = HaveNoDead before

@@ -1,5 +1,5 @@
 -- When a flat method keeps the rules, and that its blocks then fit as a graph that fits its program asks it of the blocks of a method.
-use Rattle.std.specs.Prelude.{◌≡◌, true, false, List}
+use Rattle.std.specs.Prelude.{◌≡◌, true, false, List, []}
 use Rattle.std.specs.List.{All}
 use Rattle.py_tree.specs.PlainTypes.{TNil}
 use Rattle.py_tree.specs.ExpressionTypes.{assignable}
@@ -22,7 +22,7 @@ EndsWithNone c locals = assignable TNil (result_at c) ≡ true
 pub record FlatFits (c : Context) (leaves : Leaving) (variables : List PlainVar) (flat : PlainFlat) : Type 0 where
   pub outside : c.in_loop ≡ false
   pub once : each_once variables ≡ true
-  pub types : Behind variables flat.params (stmts_fit c leaves variables Nowhere Nowhere (flat_stmts_of flat.body) (EndsWithNone c))
+  pub types : Behind variables flat.params (stmts_fit c leaves variables [] Nowhere Nowhere (flat_stmts_of flat.body) (EndsWithNone c))
   pub reached : HaveNoDead (flat_stmts_of flat.body)
   pub params : is_point variables flat.params ≡ true
   pub points : PointsPassInAll (is_point variables) (flat_stmts_of flat.body)

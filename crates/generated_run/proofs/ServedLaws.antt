@@ -9,16 +9,18 @@ use Rattle.std.proofs.lemmas.Option.{none-some}
 use Rattle.request_json.specs.Actions.{Line, whole_from, rest_from, last_line, whole_lines, all_lines}
 use Rattle.input_lines.proofs.CutLaws.{whole-append}
 use Rattle.operator_graph.specs.Turns.{Outside}
+use Rattle.sf_outside.specs.DiskModel.{DiskFacts}
 use Rattle.engine.specs.Cores.{Core, empty_core, IsSoundCore}
 use Rattle.batch_output.specs.BatchOutput.{Standing, begun}
 use Rattle.batch_output.specs.SerialBatches.{IsLawfulRule}
-use Rattle.batch_session.specs.Vocabulary.{Tally, Step, answers, endings, whole_steps, all_steps, standing_after, ran_on, move_of, Point, going, RunBatches, BeginBatches, StopsWithin, StepsPrint, ComesBegin, Service, program_of, BatchCounts}
-use Rattle.batch_session.specs.LineStopVariants as line
+use Rattle.batch_session.specs.Vocabulary.{Tally, Step, answers, endings, whole_steps, all_steps, standing_after, ran_on, move_of, Point, going, Does, Comes, RunBatches, BeginBatches, StopsWithin, StepsPrint, ComesBegin, Service, program_of, BatchCounts, Stop, StoreSettings}
+use Rattle.batch_session.specs.StopVariants as line
 use Rattle.batch_session.proofs.Vocabulary.{ran-append}
 use Rattle.batch_session.specs.declared.serving.SessionFault.{SessionFault}
 use Rattle.batch_session.specs.declared.serving.SessionFault.TheVariants as session
 use Rattle.batch_session.specs.Faults.{disk_failed}
-use Rattle.batch_session.specs.Served.{View, first_point, point_at, ServedWhole, ServedAll, ServedOver, ServedEnd, StopsServing, Served}
+use Rattle.batch_session.specs.Served.{View, first_point, point_at, AreWhole, AreAll, Served}
+use Rattle.batch_session.proofs.ServeLaws.{EndedAt, ended_at}
 use Rattle.generated_run.specs.Generated.{IsNoFault, tally_of, ServesAll, ServesSome, Serves}
 use Rattle.generated_run.proofs.WorkLaws.{line_ends}
 use Rattle.generated_run.proofs.LineCounts.{few_lines, few_whole_lines}
@@ -33,10 +35,6 @@ taken_of (Some x) (Some y) taken input rest p q c =
     let first : x ≡ input = cc in
     let second : y ≡ rest = cc in
     sym first ∙ c ∙ ap (λ l. taken ++ l) second
-
-none_left : (a : Option (List ℕ)) (taken input : List ℕ) → a ≡ Some input → Consumes a None taken → ⊥
-none_left None taken input p c = none-some input p
-none_left (Some x) taken input p c = c
 
 at_end : (b : Option (List ℕ)) (rest : List ℕ) → b ≡ Some rest → IsAtEnd b → rest ≡ []
 at_end None rest p end = absurd (none-some rest p)
@@ -80,127 +78,154 @@ module _ (v : Service) (input : List ℕ) (old new : View) (rest : List ℕ) (em
   whole_taken taken consumed ended =
       sym (taken_of old.left new.left taken input rest given left consumed ∙ ap (λ l. taken ++ l) (at_end new.left rest left ended) ∙ append-nil taken)
 
-  serves_all : StepsPrint → (tally : Tally) (s : ServedEnd v false (length input) old new) → s.all.tally ≡ tally → IsSoundCore (program_of v) new.core
-      → ServesAll v input new.core tally old.outside new.outside
-  serves_all prints tally s counted sound =
-      let all : s.all.taken ≡ input = whole_taken s.all.taken s.all.consumed s.all.ended in
-      let last : Standing = record { core = new.core; lines = s.all.lines; is_full = false } in
-      let Stands : Core → List ℕ → Type 0 = λ core bytes. standing_after v (begun core) (all_steps v core bytes) ≡ last in
-      let Ran : Core → List ℕ → Type 0 =
-      λ core bytes. RunBatches v (ran_on v (begun core) (all_steps v core bytes)) s.all.came.counts old.outside new.outside in
-      let stands : Stands empty_core input = subst (λ core. Stands core input) empty (subst (λ bytes. Stands old.core bytes) all s.all.came.stands) in
-      record {
-        lines = s.all.lines;
-        stands = sym ((prints v).1 empty_core input).stands ∙ stands;
-        none = s.none;
-        sound = sound;
-        counts = s.all.came.counts;
-        ran = subst (λ core. Ran core input) empty (subst (λ bytes. Ran old.core bytes) all s.all.came.ran);
-        tally_is = sym counted ∙ s.all.came.tally;
-      }
+  module _ (settings : Option StoreSettings) (first last : Core) (f g : DiskFacts) where
+    abbrev ServedBy : Result Tally SessionFault → Type 0
+    ServedBy r = Served v false settings (length input) r old new first last f g
 
-  -- a part of it was served
+    -- what is known of it by what it came to
+    abbrev So : (r : Result Tally SessionFault) → ServedBy r → Result (Unit {0}) SessionFault → Type 0
+    So r s e = EndedAt v false settings (length input) r old new first last f g s e
 
-  abbrev Begins : Core → List ℕ → Type 0
-  Begins core bytes = (counts : List BatchCounts) × BeginBatches v (ran_on v (begun core) (all_steps v core bytes)) counts old.outside new.outside
+    so : (r : Result Tally SessionFault) (s : ServedBy r) (e : Result (Unit {0}) SessionFault) → s.ended ≡ e → So r s e
+    so r s e same = ended_at v false settings (length input) r old new first last f g s e same
 
-  begins_all : ComesBegin → ServedAll v false (length input) {T = Unit {0}} (Err line.NoMemory) old new → Begins old.core input
-  begins_all law s =
-      let h = law v false (Err line.NoMemory) (all_steps v old.core s.taken) (first_point old) (point_at new s.lines s.tally) s.came in
-      subst (λ bytes. Begins old.core bytes) (whole_taken s.taken s.consumed s.ended) (h.counts, h.told)
+    serves_all : StepsPrint → (tally : Tally) → ServedBy (Ok tally) → IsSoundCore (program_of v) new.core → ServesAll v input new.core tally old.outside new.outside
+    serves_all prints tally s sound =
+        let known = so (Ok tally) s (Ok (tt {0})) s.ends in
+        let all : s.taken ≡ input = whole_taken s.taken s.consumed known.of_taken.1 in
+        let q : Point = point_at new s.lines s.tally in
+        let did : Does v false (all_steps v old.core s.taken) (first_point old) q =
+        subst (λ (steps : List Step). Does v false steps (first_point old) q) known.of_taken.2
+        (subst (λ (r : Result (Unit {0}) Stop). Comes v false r s.steps (first_point old) q) known.is_stop s.came) in
+        let end : Standing = record { core = new.core; lines = s.lines; is_full = false } in
+        let Stands : Core → List ℕ → Type 0 = λ core bytes. standing_after v (begun core) (all_steps v core bytes) ≡ end in
+        let Ran : Core → List ℕ → Type 0 = λ core bytes. RunBatches v (ran_on v (begun core) (all_steps v core bytes)) did.counts old.outside new.outside in
+        let stands : Stands empty_core input = subst (λ core. Stands core input) empty (subst (λ bytes. Stands old.core bytes) all did.stands) in
+        record {
+          lines = s.lines;
+          stands = sym ((prints v).1 empty_core input).stands ∙ stands;
+          none = known.none_waits;
+          sound = sound;
+          counts = did.counts;
+          ran = subst (λ core. Ran core input) empty (subst (λ bytes. Ran old.core bytes) all did.ran);
+          tally_is = sym s.counted ∙ did.tally;
+        }
 
-  begins_whole : ComesBegin → ServedWhole v false (length input) {T = Unit {0}} (Err line.NoMemory) old new → Begins old.core input
-  begins_whole law s =
-      let h = law v false (Err line.NoMemory) (whole_steps s.taken) (first_point old) (point_at new s.lines s.tally) s.came in
-      let later : List Step = later_steps v old.core s.taken rest in
-      let first : List Core = ran_on v (begun old.core) (whole_steps s.taken) in
-      let next : List Core = ran_on v (standing_after v (begun old.core) (whole_steps s.taken)) later in
-      let cores : ran_on v (begun old.core) (all_steps v old.core (s.taken ++ rest)) ≡ first ++ next =
-      ap (ran_on v (begun old.core)) (steps_split v old.core s.taken rest) ∙ ran-append v (whole_steps s.taken) later (begun old.core) in
-      let more = begun_more v first next h.counts old.outside new.outside h.told in
-      subst (λ bytes. Begins old.core bytes) (sym (taken_of old.left new.left s.taken input rest given left s.consumed))
-      (h.counts, subst (λ l. BeginBatches v l h.counts old.outside new.outside) (sym cores) more)
+    -- a part of it was served
 
-  serves_some : ComesBegin → StopsServing v false (length input) line.NoMemory old new → ServesSome v input old.outside new.outside
-  serves_some law s =
-      let begins : Begins old.core input = elim s as (λ x. Begins old.core input) [ inl w ↦ begins_whole law w | inr a ↦ begins_all law a ] in
-      let from_empty : Begins empty_core input = subst (λ core. Begins core input) empty begins in
-      record { counts = from_empty.0; begun_on = from_empty.1 }
+    abbrev Begins : Core → List ℕ → Type 0
+    Begins core bytes = (counts : List BatchCounts) × BeginBatches v (ran_on v (begun core) (all_steps v core bytes)) counts old.outside new.outside
 
-  -- either, by what it came to
+    module _ (law : ComesBegin) (s : ServedBy (Err session.NoMemory)) where
+      known : So (Err session.NoMemory) s (Err session.NoMemory)
+      known = so (Err session.NoMemory) s (Err session.NoMemory) s.ends
 
-  serves : StepsPrint → ComesBegin → (r : Result Tally SessionFault) → Served v false (length input) r old new → IsNoFault r
-      → IsSoundCore (program_of v) new.core → Serves v input (tally_of r) new.core old.outside new.outside
-  serves prints begins (Ok tally) s none sound = serves_all prints tally s.0 s.1 sound
-  serves prints begins (Err session.ReadFault) s none sound = absurd none
-  serves prints begins (Err session.WriteFault) s none sound = absurd none
-  serves prints begins (Err session.DiskFault) s none sound = absurd none
-  serves prints begins (Err session.InputTooLong) s none sound = absurd none
-  serves prints begins (Err session.HistoryFull) s none sound = absurd none
-  serves prints begins (Err session.NoMemory) s none sound = serves_some begins s
+      begun_of : (counts : List BatchCounts) × BeginBatches v (ran_on v (begun old.core) s.steps) counts old.outside new.outside
+      begun_of =
+          let q : Point = point_at new s.lines s.tally in
+          let h = law v false (Err line.NoMemory) s.steps (first_point old) q (subst (λ (r : Result (Unit {0}) Stop). Comes v false r s.steps (first_point old) q) known.is_stop s.came) in
+          (h.counts, h.told)
 
-  -- no input is too long for its own length
+      begins_all : AreAll v (length input) old.core s.taken new.left s.steps → Begins old.core input
+      begins_all a =
+          subst (λ bytes. Begins old.core bytes) (whole_taken s.taken s.consumed a.1)
+          (begun_of.0, subst (λ steps. BeginBatches v (ran_on v (begun old.core) steps) begun_of.0 old.outside new.outside) a.2 begun_of.1)
 
-  never_over : ServedOver v false (length input) old new → ⊥
-  never_over s = by s.before s.served.consumed s.beyond
-    where
-      by : (before : Option (List ℕ)) → Consumes old.left before s.served.taken → Consumes before new.left (s.next ∷ []) → ⊥
-      by None first second = none_left old.left s.served.taken input given first
-      by (Some more) first second =
-          let front = taken_of old.left (Some more) s.served.taken input more given refl first in
-          let back = taken_of (Some more) new.left (s.next ∷ []) more rest refl left second in
-          omega (arith, ap length front, ap length back, length-append s.served.taken more, s.full)
+      begins_whole : AreWhole v (length input) s.taken s.steps → Begins old.core input
+      begins_whole w =
+          let later : List Step = later_steps v old.core s.taken rest in
+          let front : List Core = ran_on v (begun old.core) (whole_steps s.taken) in
+          let next : List Core = ran_on v (standing_after v (begun old.core) (whole_steps s.taken)) later in
+          let cores : ran_on v (begun old.core) (all_steps v old.core (s.taken ++ rest)) ≡ front ++ next =
+          ap (ran_on v (begun old.core)) (steps_split v old.core s.taken rest) ∙ ran-append v (whole_steps s.taken) later (begun old.core) in
+          let more = begun_more v front next begun_of.0 old.outside new.outside
+          (subst (λ steps. BeginBatches v (ran_on v (begun old.core) steps) begun_of.0 old.outside new.outside) w.1 begun_of.1) in
+          subst (λ bytes. Begins old.core bytes) (sym (taken_of old.left new.left s.taken input rest given left s.consumed))
+          (begun_of.0, subst (λ l. BeginBatches v l begun_of.0 old.outside new.outside) (sym cores) more)
 
-  -- the history never is full
+      serves_some : ServesSome v input old.outside new.outside
+      serves_some =
+          let begins : Begins old.core input = elim known.of_taken as (λ x. Begins old.core input) [ inl w ↦ begins_whole w | inr a ↦ begins_all a ] in
+          let from_empty : Begins empty_core input = subst (λ core. Begins core input) empty begins in
+          record { counts = from_empty.0; begun_on = from_empty.1 }
 
-  module _ (lawful : IsLawfulRule v.rule) (room : v.limits.history ≡ 16777216) (few : line_ends input ≤ 100000) where
-    never_within : (steps : List Step) (p q : Point) → p.core ≡ empty_core → lines_in steps ≤ 100001 → StopsWithin v false line.HistoryFull steps p q → ⊥
-    never_within steps p q none some s =
-        let split = ap lines_in s.split ∙ lines_in-append s.first (s.step ∷ s.rest) in
-        let split_rest = lines_in-append (s.step ∷ []) s.rest in
-        let nothing : places_of p.core ≡ 0 = ap places_of none in
-        let behind = behind_all v lawful s.first (going p) (omega arith) in
-        let stands : places_of (standing_after v (going p) s.first).core ≡ places_of s.between.core = ap (λ (x : Standing). places_of x.core) s.did.stands in
-        let next = next_move v lawful s.step (going s.between) in
-        let full = ltb-true v.limits.history (places_of (move_of v (going s.between) s.step).core) s.stopped.0.full in
-        omega arith
+    -- either, by what it came to
 
-    never_full : StopsServing v false (length input) line.HistoryFull old new → ⊥
-    never_full (inl s) =
-        never_within (whole_steps s.taken) (first_point old) (point_at new s.lines s.tally) empty
-        (omega (
-          arith,
-          lines_in-answers (whole_lines s.taken),
-          few_whole_lines s.taken rest,
-          ap line_ends (taken_of old.left new.left s.taken input rest given left s.consumed),
-        ))
-        s.came
-    never_full (inr s) =
-        let lines : List Line = all_lines s.taken in
-        never_within (all_steps v old.core s.taken) (first_point old) (point_at new s.lines s.tally) empty
-        (omega (
-          arith,
-          lines_in-append (answers lines) (endings (standing_after v (begun old.core) (answers lines))),
-          lines_in-answers lines,
-          lines_in-endings (length (standing_after v (begun old.core) (answers lines)).core.pending),
-          few_lines s.taken,
-          ap line_ends (whole_taken s.taken s.consumed s.ended),
-        ))
-        s.came
-
-    -- so nothing but want of memory stops it
-
-    pub no_fault : (r : Result Tally SessionFault) → Served v false (length input) r old new → (r ≡ Err session.ReadFault → ⊥)
-        → (r ≡ Err session.WriteFault → ⊥) → disk_failed r ≡ false → IsNoFault r
-    no_fault (Ok tally) s unread unwritten undisked = tt
-    no_fault (Err session.ReadFault) s unread unwritten undisked = unread refl
-    no_fault (Err session.WriteFault) s unread unwritten undisked = unwritten refl
-    no_fault (Err session.DiskFault) s unread unwritten undisked = true≢false undisked
-    no_fault (Err session.InputTooLong) s unread unwritten undisked = never_over s
-    no_fault (Err session.HistoryFull) s unread unwritten undisked = never_full s
-    no_fault (Err session.NoMemory) s unread unwritten undisked = tt
-
-    pub serves_work : StepsPrint → ComesBegin → (r : Result Tally SessionFault) → Served v false (length input) r old new → (r ≡ Err session.ReadFault → ⊥)
-        → (r ≡ Err session.WriteFault → ⊥) → disk_failed r ≡ false → IsSoundCore (program_of v) new.core
+    serves : StepsPrint → ComesBegin → (r : Result Tally SessionFault) → ServedBy r → IsNoFault r → IsSoundCore (program_of v) new.core
         → Serves v input (tally_of r) new.core old.outside new.outside
-    serves_work prints begins r s unread unwritten undisked sound = serves prints begins r s (no_fault r s unread unwritten undisked) sound
+    serves prints begins (Ok tally) s none sound = serves_all prints tally s sound
+    serves prints begins (Err session.ReadFault) s none sound = absurd none
+    serves prints begins (Err session.WriteFault) s none sound = absurd none
+    serves prints begins (Err session.DiskFault) s none sound = absurd none
+    serves prints begins (Err session.InputTooLong) s none sound = absurd none
+    serves prints begins (Err session.HistoryFull) s none sound = absurd none
+    serves prints begins (Err session.NoMemory) s none sound = serves_some begins s
+
+    -- no input is too long for its own length
+
+    never_over : ServedBy (Err session.InputTooLong) → ⊥
+    never_over s =
+        let all = taken_of old.left new.left s.taken input rest given left s.consumed in
+        omega (arith, ap length all, length-append s.taken rest, (so (Err session.InputTooLong) s (Err session.InputTooLong) s.ends).of_taken.0)
+
+    -- the history never is full
+
+    module _ (lawful : IsLawfulRule v.rule) (room : v.limits.history ≡ 16777216) (few : line_ends input ≤ 100000) where
+      never_within : (steps : List Step) (p q : Point) → p.core ≡ empty_core → lines_in steps ≤ 100001 → StopsWithin v false line.HistoryFull steps p q → ⊥
+      never_within steps p q none some s =
+          let split = ap lines_in s.split ∙ lines_in-append s.first (s.step ∷ s.rest) in
+          let split_rest = lines_in-append (s.step ∷ []) s.rest in
+          let nothing : places_of p.core ≡ 0 = ap places_of none in
+          let behind = behind_all v lawful s.first (going p) (omega arith) in
+          let stands : places_of (standing_after v (going p) s.first).core ≡ places_of s.between.core = ap (λ (x : Standing). places_of x.core) s.did.stands in
+          let next = next_move v lawful s.step (going s.between) in
+          let full = ltb-true v.limits.history (places_of (move_of v (going s.between) s.step).core) s.stopped.0.full in
+          omega arith
+
+      few_of_whole : (taken : List ℕ) → Consumes old.left new.left taken → lines_in (whole_steps taken) ≤ 100001
+      few_of_whole taken consumed =
+          omega (
+            arith,
+            lines_in-answers (whole_lines taken),
+            few_whole_lines taken rest,
+            ap line_ends (taken_of old.left new.left taken input rest given left consumed),
+          )
+
+      few_of_all : (taken : List ℕ) → Consumes old.left new.left taken → IsAtEnd new.left → lines_in (all_steps v old.core taken) ≤ 100001
+      few_of_all taken consumed ended =
+          let lines : List Line = all_lines taken in
+          omega (
+            arith,
+            lines_in-append (answers lines) (endings (standing_after v (begun old.core) (answers lines))),
+            lines_in-answers lines,
+            lines_in-endings (length (standing_after v (begun old.core) (answers lines)).core.pending),
+            few_lines taken,
+            ap line_ends (whole_taken taken consumed ended),
+          )
+
+      never_full : ServedBy (Err session.HistoryFull) → ⊥
+      never_full s =
+          let q : Point = point_at new s.lines s.tally in
+          let known = so (Err session.HistoryFull) s (Err session.HistoryFull) s.ends in
+          let few_steps : lines_in s.steps ≤ 100001 = elim known.of_taken as (λ x. lines_in s.steps ≤ 100001) [
+            | inl w ↦ subst (λ steps. lines_in steps ≤ 100001) (sym w.1) (few_of_whole s.taken s.consumed)
+            | inr a ↦ subst (λ steps. lines_in steps ≤ 100001) (sym a.2) (few_of_all s.taken s.consumed a.1)
+          ] in
+          never_within s.steps (first_point old) q empty few_steps (subst (λ (r : Result (Unit {0}) Stop). Comes v false r s.steps (first_point old) q) known.is_stop s.came)
+
+      -- so nothing but want of memory stops it
+
+      pub no_fault : (r : Result Tally SessionFault) → ServedBy r → (r ≡ Err session.ReadFault → ⊥) → (r ≡ Err session.WriteFault → ⊥) → disk_failed r ≡ false
+          → IsNoFault r
+      no_fault (Ok tally) s unread unwritten undisked = tt
+      no_fault (Err session.ReadFault) s unread unwritten undisked = unread refl
+      no_fault (Err session.WriteFault) s unread unwritten undisked = unwritten refl
+      no_fault (Err session.DiskFault) s unread unwritten undisked = true≢false undisked
+      no_fault (Err session.InputTooLong) s unread unwritten undisked = never_over s
+      no_fault (Err session.HistoryFull) s unread unwritten undisked = never_full s
+      no_fault (Err session.NoMemory) s unread unwritten undisked = tt
+
+      pub serves_work : StepsPrint → ComesBegin → (r : Result Tally SessionFault) → ServedBy r → (r ≡ Err session.ReadFault → ⊥)
+          → (r ≡ Err session.WriteFault → ⊥) → disk_failed r ≡ false → IsSoundCore (program_of v) new.core
+          → Serves v input (tally_of r) new.core old.outside new.outside
+      serves_work prints begins r s unread unwritten undisked sound = serves prints begins r s (no_fault r s unread unwritten undisked) sound

@@ -6,6 +6,7 @@ ghost use Rattle.work_gen.specs.Requests.{program, requests};
 ghost use Rattle.entity_compiler.specs.Compiling.{IsCompiledOf};
 ghost use Rattle.block_code.specs.GraphViews.{graph_tables, graph_blocks};
 ghost use Rattle.block_step.specs.CompiledViews.{IsWhole};
+ghost use Rattle.operator_graph.specs.Partitions.{IsParts};
 ghost use Rattle.operator_graph.specs.Telling.{AlsoTold, GraphTold};
 ghost use Rattle.engine.specs.Cores.{CoreFits, IsSoundCore, empty_core};
 ghost use Rattle.engine.specs.EngineViews.{core_of, source_of, tables_of, compiled_of, limit_of, fresh_of};
@@ -54,8 +55,7 @@ fn serve_work<C: Chooser, W: Watch>(
     requires size { settings.now.size ≤ 100000 }
     requires some { 1 ≤ settings.now.batch }
     requires batch { settings.now.batch ≤ 256 }
-    requires least { 1 ≤ settings.now.parts }
-    requires most { settings.now.parts ≤ 64 }
+    requires parts { IsParts settings.now.parts }
     requires input { input.now ≡ requests settings.now.size 1 settings.now.number }
     requires history { limit_of engine.old ≡ history_limit }
     requires empty { core_of engine.old ≡ empty_core }
@@ -129,8 +129,7 @@ fn run_compiled<C: Chooser, W: Watch>(
     requires size { settings.now.size ≤ 100000 }
     requires some { 1 ≤ settings.now.batch }
     requires batch { settings.now.batch ≤ 256 }
-    requires least { 1 ≤ settings.now.parts }
-    requires most { settings.now.parts ≤ 64 }
+    requires parts { IsParts settings.now.parts }
     requires input { input.now ≡ requests settings.now.size 1 settings.now.number }
     requires whole { IsWhole compiled }
     ensures { Comes settings.now compiled result
@@ -166,8 +165,7 @@ pub fn run_generated<C: Chooser, W: Watch>(
     requires size { settings.now.size ≤ 100000 }
     requires some { 1 ≤ settings.now.batch }
     requires batch { settings.now.batch ≤ 256 }
-    requires least { 1 ≤ settings.now.parts }
-    requires most { settings.now.parts ≤ 64 }
+    requires parts { IsParts settings.now.parts }
     ensures { Gives settings.now result
         (record { choices = C.choices chooser.old; told = W.told watch.old }) (record { choices = C.choices chooser.new; told = W.told watch.new }) }
 {

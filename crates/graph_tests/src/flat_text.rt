@@ -1,7 +1,7 @@
 //! Flat code, told as a text. A temporary is told by its number behind those of the names.
 
 use block_code::VarTypes;
-use flat_tree::{FlatArm, FlatStmt, FlatTest, Operand};
+use flat_tree::{FlatArm, FlatClause, FlatStmt, FlatTest, Operand};
 use itoa::Buffer;
 use py_tree::{BinOp, Cmp, Expr, ExprKind, Link, Name, Names};
 use std::alloc::AllocError;
@@ -359,5 +359,40 @@ fn tell_stmt(told: &mut String, names: &Names, stmt: &FlatStmt) -> Result<(), Al
             tell_flat(told, names, body.as_slice())?;
             told.push(']')
         }
+        FlatStmt::Try {
+            start: _,
+            body,
+            clauses,
+            after: _,
+        } => {
+            told.push_str("try [")?;
+            tell_flat(told, names, body.as_slice())?;
+            told.push(']')?;
+            tell_clauses(told, names, clauses.as_slice())
+        }
     }
+}
+
+#[cycle(tell_flat)]
+fn tell_clauses(
+    told: &mut String,
+    names: &Names,
+    clauses: &[FlatClause],
+) -> Result<(), AllocError> {
+    for clause in clauses {
+        told.push_str(" except")?;
+        tell_kinds(told, clause.kinds.as_slice())?;
+        told.push_str(" [")?;
+        tell_flat(told, names, clause.body.as_slice())?;
+        told.push(']')?;
+    }
+    Ok(())
+}
+
+fn tell_kinds(told: &mut String, kinds: &[u8]) -> Result<(), AllocError> {
+    for kind in kinds {
+        told.push(' ')?;
+        tell_number(told, u32::from(*kind))?;
+    }
+    Ok(())
 }

@@ -1,7 +1,7 @@
 //! The blocks of small flat methods, told as texts.
 
-use block_code::{Block, Blocks, End, Item};
-use flat_tree::{Flat, FlatArm, FlatStmt, FlatStmts, FlatTest};
+use block_code::{Block, Blocks, Catch, End, Item};
+use flat_tree::{Flat, FlatArm, FlatClause, FlatStmt, FlatStmts, FlatTest};
 use itoa::Buffer;
 use method_splitter::{SplitError, split};
 use py_tree::nodes::{bool_of, int_of};
@@ -72,6 +72,28 @@ fn looping(alloc: Global) -> Result<FlatStmts, AllocError> {
     Ok(stmts)
 }
 
+/// A mark within a `try`, whose clause takes an AssertionError and returns 1.
+fn trying(alloc: Global) -> Result<FlatStmts, AllocError> {
+    let mut kinds = Sequence::new(alloc);
+    kinds.push(alloc, 3)?;
+    let body = returning(alloc)?;
+    let start = Sequence::new(alloc);
+    let mut clauses = Sequence::new(alloc);
+    clauses.push(alloc, FlatClause { kinds, start, body })?;
+    let body = marked(alloc)?;
+    let mut stmts = Sequence::new(alloc);
+    stmts.push(
+        alloc,
+        FlatStmt::Try {
+            start: Sequence::new(alloc),
+            body,
+            clauses,
+            after: Some(Sequence::new(alloc)),
+        },
+    )?;
+    Ok(stmts)
+}
+
 fn item_told(item: &Item) -> &'static str {
     match item {
         Item::Mark => "mark ",
@@ -98,7 +120,18 @@ fn end_told(told: &mut String, end: &End) -> Result<(), AllocError> {
     }
 }
 
-/// Its items, its end and its rank.
+fn catch_told(told: &mut String, catch: &Catch) -> Result<(), AllocError> {
+    let mut digits = Buffer::new();
+    told.push_str(", catch")?;
+    for kind in catch.kinds.as_slice() {
+        told.push(' ')?;
+        told.push_str(digits.format(*kind))?;
+    }
+    told.push_str(" at ")?;
+    told.push_str(digits.format(catch.to))
+}
+
+/// Its items, its end, its rank and its catches.
 fn block_told(told: &mut String, block: &Block) -> Result<(), AllocError> {
     for item in block.code.as_slice() {
         told.push_str(item_told(item))?;
@@ -107,6 +140,9 @@ fn block_told(told: &mut String, block: &Block) -> Result<(), AllocError> {
     let mut digits = Buffer::new();
     told.push_str(" /")?;
     told.push_str(digits.format(block.rank))?;
+    for catch in block.catches.as_slice() {
+        catch_told(told, catch)?;
+    }
     told.push_str("; ")
 }
 
@@ -161,5 +197,12 @@ fn a_branch_has_a_block_for_each_way_and_one_behind(rt: HostRuntime) -> Result<(
 fn a_loop_has_a_head_and_a_body_that_begins_with_a_step(rt: HostRuntime) -> Result<(), Fail> {
     let told = told(rt.alloc(), looping(rt.alloc()));
     let wanted = "jump 2 /2; leave /0; branch 3 1 /1; mark jump 2 /0; ";
+    hold_text(told, wanted)
+}
+
+#[test]
+fn a_body_of_a_try_has_a_block_with_its_catches(rt: HostRuntime) -> Result<(), Fail> {
+    let told = told(rt.alloc(), trying(rt.alloc()));
+    let wanted = "jump 3 /2; leave /0; mark give leave /0; mark jump 1 /1, catch 3 at 2; ";
     hold_text(told, wanted)
 }

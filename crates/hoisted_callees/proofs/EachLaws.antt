@@ -2,8 +2,8 @@
 use Rattle.std.proofs.Common.{◌≡◌, List, [], ◌∷◌, ◌++◌, refl}
 use Rattle.flat_tree.specs.declared.tree.Callee.{Callee}
 use Rattle.flat_tree.specs.declared.tree.Created.{Created}
-use Rattle.flat_tree.specs.PlainFlat.{PlainFlatStmt, FMark, FSet, FPut, FGive, FFail, FCode, FBreak, FContinue, FCall, FMake, FIf, FWhile, PlainFlatStmts, FNoStmt, FStmt, FArm, PlainFlatArms, FNoArm, FMoreArms, PlainFlatTest, FLeaf, FNot, FAnd, FOr, FOperand, PlainOperands, FNoOperand, FMoreOperands, flat_stmts_of}
-use Rattle.method_splitter.specs.Callees.{Each, EachInAll, EachInArms, EachInTest, EachInOperands}
+use Rattle.flat_tree.specs.PlainFlat.{PlainFlatStmt, FMark, FSet, FPut, FGive, FFail, FCode, FBreak, FContinue, FCall, FMake, FIf, FWhile, FTry, PlainFlatStmts, FNoStmt, FStmt, FArm, PlainFlatArms, FNoArm, FMoreArms, FClause, PlainFlatClauses, FNoClause, FMoreClauses, PlainFlatTest, FLeaf, FNot, FAnd, FOr, FOperand, PlainOperands, FNoOperand, FMoreOperands, flat_stmts_of}
+use Rattle.method_splitter.specs.Callees.{Each, EachInAll, EachInArms, EachInClauses, EachInTest, EachInOperands}
 
 -- there is one proof at most
 abbrev pub One : Type 0 → Type 0
@@ -53,6 +53,7 @@ module _ (P : Callee → Type 0) (Q : Created → Type 0) where
       stmt_once (FMake class args into after) = q class
       stmt_once (FIf arms other after) = both_one (arms_once arms) (all_once other)
       stmt_once (FWhile head test start body after) = both_one (test_once test) (all_once body)
+      stmt_once (FTry start body clauses after) = both_one (all_once body) (clauses_once clauses)
 
       pub all_once : (xs : PlainFlatStmts) → One (EachInAll P Q xs)
       all_once FNoStmt = unit_one
@@ -61,6 +62,10 @@ module _ (P : Callee → Type 0) (Q : Created → Type 0) where
       arms_once : (arms : PlainFlatArms) → One (EachInArms P Q arms)
       arms_once FNoArm = unit_one
       arms_once (FMoreArms (FArm test start body rest) more) = all_one (test_once test) (all_once body) (arms_once more)
+
+      clauses_once : (clauses : PlainFlatClauses) → One (EachInClauses P Q clauses)
+      clauses_once FNoClause = unit_one
+      clauses_once (FMoreClauses (FClause kinds start body) more) = both_one (all_once body) (clauses_once more)
 
       test_once : (t : PlainFlatTest) → One (EachInTest P Q t)
       test_once (FLeaf before e) = all_once before

@@ -1,5 +1,5 @@
 -- A loop that goes by the places in a list does what the loop over its items does.
-use Rattle.std.proofs.Common.{◌≡◌, ◌<◌, ◌≤◌, ◌+◌, ℕ, zero, suc, pos, arith, Bool, true, false, Option, Some, List, [], ◌∷◌, ◌++◌, length, if◌then◌else◌, refl, sym, ap, ◌∙◌, subst}
+use Rattle.std.proofs.Common.{◌≡◌, ◌<◌, ◌≤◌, ◌+◌, ℕ, zero, suc, pos, arith, Bool, true, false, Some, List, [], ◌∷◌, ◌++◌, length, if◌then◌else◌, refl, sym, ap, ◌∙◌, subst}
 use Rattle.std.specs.Prelude.{slice_get}
 use Rattle.std.specs.Ordering.{int_cmp, is_lt}
 use Rattle.py_tree.specs.declared.names.Place.{Place}
@@ -139,8 +139,8 @@ module _ {W : Type 0} (s : Site W) (at : Place) (t : ℕ) where
   abbrev begun : Value → List Var → List Var
   begun x us = assigned (assigned (assigned us (t + 2) (value.List [])) t (value.List (items_of x))) (t + 1) (value.Int (pos 0))
 
-  loop_begins : (name : ℕ) (head : Point) (after : Option Point) (code : List PlainFlatStmt) (us : List Var) (x : Value) (w : W) (n : ℕ) → IsLight x → ((later : List Var) (w : W) (n : ℕ) → AgreeBelow (t + 1) us later → eval s (PVar at t) later w n ≡ Got x w n)
-      → run s (list_loop at name t head after code) us w n ≡ loop_turns (suc n) (decide s (list_test at t)) (λ us w n. run s (list_turn at name t code) us w n) (begun x us) w n
+  loop_begins : (name : ℕ) (head after : Point) (code : List PlainFlatStmt) (us : List Var) (x : Value) (w : W) (n : ℕ) → IsLight x → ((later : List Var) (w : W) (n : ℕ) → AgreeBelow (t + 1) us later → eval s (PVar at t) later w n ≡ Got x w n)
+      → run s (list_loop at name t head (Some after) code) us w n ≡ loop_turns (suc n) (decide s (list_test at t)) (λ us w n. run s (list_turn at name t code) us w n) (begun x us) w n
   unfolding run_stmt
   loop_begins name head after code us x w n light reads =
       set_runs s (t + 2) (PList at PNoExpr) (FSet t (plus at (PVar at (t + 2)) (PVar at t)) ∷ FSet (t + 1) (PInt at (pos 0)) ∷ loop ∷ []) us (value.List []) w n (empty_gives s at us w n)
@@ -150,7 +150,7 @@ module _ {W : Type 0} (s : Site W) (at : Place) (t : ℕ) where
       ∙ run_alone s loop (begun x us) w n
     where
       loop : PlainFlatStmt
-      loop = FWhile head (list_test at t) head (flat_stmts_of (list_turn at name t code)) after
+      loop = FWhile head (list_test at t) head (flat_stmts_of (list_turn at name t code)) (Some after)
 
       with_empty : List Var
       with_empty = assigned us (t + 2) (value.List [])
@@ -164,11 +164,11 @@ module _ {W : Type 0} (s : Site W) (at : Place) (t : ℕ) where
     place = assigned_here (assigned (assigned us (t + 2) (value.List [])) t (value.List (items_of x))) (t + 1) (value.Int (pos 0));
   }
 
-  pub list_related : {limit least : ℕ} {R : List Var → List Var → Type 0} (carries : Carries limit least R) (low : limit ≤ least) (up : least ≤ t) (name : ℕ) → name < limit → (head : Point) (after : Option Point) (code : List PlainFlatStmt) (body : Way W)
+  pub list_related : {limit least : ℕ} {R : List Var → List Var → Type 0} (carries : Carries limit least R) (low : limit ≤ least) (up : least ≤ t) (name : ℕ) → name < limit → (head after : Point) (code : List PlainFlatStmt) (body : Way W)
       → ((xs : List Value) (light : IsLight (value.List xs)) (p : ℕ) (us vs : List Var) (w : W) (n : ℕ) → R us vs → AtPlace s at t xs light p us → EndsRelated (λ us vs. R us vs × AtPlace s at t xs light p us) (run s code us w n) (body vs w n))
       → ((vs : List Var) (w : W) (n : ℕ) → left_at (body vs w n) ≤ n)
       → {us vs : List Var} (g : Gives W Value) (e : Ends W) → R us vs → Holds least (t + 1) us (eval s (PVar at t)) g e
-      → EndsRelated R (next e (λ us w n. run s (list_loop at name t head after code) us w n)) (with_given vs (g >>= λ v w n. Got (Items (items_of v)) w n) (λ turns w n. over_turns name body turns vs w n))
+      → EndsRelated R (next e (λ us w n. run s (list_loop at name t head (Some after) code) us w n)) (with_given vs (g >>= λ v w n. Got (Items (items_of v)) w n) (λ turns w n. over_turns name body turns vs w n))
   list_related carries low up name below head after code body bodies takes _ _ r (loses agree) = both_fail (carries.change agree r)
   list_related {limit} {least} {R} carries low up name below head after code body bodies takes {us} {vs} _ _ r (holds {later = later} {x = x} {w = w} {n = n} agree light reads) =
       let all : IsLight (value.List (items_of x)) = items_list_light x light in

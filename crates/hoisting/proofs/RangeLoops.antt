@@ -1,5 +1,5 @@
 -- A loop that goes by the next number does what the loop over a range does.
-use Rattle.std.proofs.Common.{◌≡◌, ◌<◌, ◌≤◌, ◌+◌, ℕ, zero, suc, ℤ, pos, ◌+ℤ◌, arith, Bool, true, false, Option, Result, Ok, Err, List, ◌∷◌, if◌then◌else◌, refl, sym, ap, ◌∙◌, subst}
+use Rattle.std.proofs.Common.{◌≡◌, ◌<◌, ◌≤◌, ◌+◌, ℕ, zero, suc, ℤ, pos, ◌+ℤ◌, arith, Bool, true, false, Some, Result, Ok, Err, List, ◌∷◌, if◌then◌else◌, refl, sym, ap, ◌∙◌, subst}
 use Rattle.std.specs.Ordering.{int_cmp, is_lt}
 use Rattle.py_tree.specs.declared.names.Place.{Place}
 use Rattle.py_tree.specs.PlainExpressions.{PInt, PVar}
@@ -123,7 +123,7 @@ module _ {W : Type 0} (s : Site W) (at : Place) (t u : ℕ) (to : ℤ) where
           (either_related (is_lt (int_cmp from to)) _ _ _ _ (one_turn from us vs w n _ _ r c (λ us vs w n r c. turns_related most (from +ℤ pos 1) us vs w n r c)) (both_go r))
 
       -- the loop as a statement
-      pub range_related : (head : Point) (after : Option Point) (from : ℤ) (us vs : List Var) (w : W) (n : ℕ) → R us vs → Counts from us → EndsRelated R (run s (range_loop at name t u head after code) us w n) (over_numbers (suc n) name body from to vs w n)
+      pub range_related : (head after : Point) (from : ℤ) (us vs : List Var) (w : W) (n : ℕ) → R us vs → Counts from us → EndsRelated R (run s (range_loop at name t u head (Some after) code) us w n) (over_numbers (suc n) name body from to vs w n)
       unfolding run_stmt
       range_related head after from us vs w n r c =
-          subst (λ e. EndsRelated R e (over_numbers (suc n) name body from to vs w n)) (sym (run_alone s (FWhile head (range_test at t u) head (flat_stmts_of (range_turn at name t code)) after) us w n)) (turns_related (suc n) from us vs w n r c)
+          subst (λ e. EndsRelated R e (over_numbers (suc n) name body from to vs w n)) (sym (run_alone s (FWhile head (range_test at t u) head (flat_stmts_of (range_turn at name t code)) (Some after)) us w n)) (turns_related (suc n) from us vs w n r c)

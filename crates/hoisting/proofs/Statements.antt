@@ -32,7 +32,7 @@ use Rattle.flat_tree.specs.PlainFlat.{Point, PlainFlatStmt, FMark, FGive, FFail,
 use Rattle.flat_tree.specs.FlatMeaning.{Way, run_stmt, run_stmts, run_arms, decide, run}
 use Rattle.flat_tree.proofs.NamesBelow.{AgreeBelow, agree_with_itself, agree_on, agree_back, agree_within}
 use Rattle.flat_tree.proofs.SameNames.{behind_same}
-use Rattle.flat_tree.proofs.RelatedEnds.{Carries, EndsRelated, both_go, both_return, both_break, both_continue, both_fail, WaysRelated, next_related, store_related, act_related}
+use Rattle.flat_tree.proofs.RelatedEnds.{Carries, EndsRelated, both_go, both_return, both_break, both_continue, both_fail, WaysRelated, next_related, closed_related, store_related, act_related}
 use Rattle.flat_tree.proofs.InTurn.{gives_itself, run_in_turn, run_alone, run_last, Leads, leads, Holds, holds, loses, leads_through, holds_then, leads_related, decided_related, loop_related}
 use Rattle.hoisting.specs.Stages.{Stage, surely, where_shown, ty_at, item_ty, locals_behind, point_behind}
 use Rattle.hoisting.specs.HoistExpressions.{Hoisted, Tested, still, built, settled, settled_unless, lasts, forms}
@@ -152,13 +152,13 @@ module _ {W : Type 0} (s : Site W) (leaves : Leaving) (c : Context) (calls : Cal
   abbrev BodiesMean : (Stage → Flattened (List PlainFlatStmt)) → PlainStmts → Type 1
   BodiesMean code body = (g : Stage) → limit ≤ g.next → (R : List Var → List Var → Type 0) → Carries limit g.next R → WaysRelated R (run s (code g).code) (act_all s body)
 
-  items_related : {R : List Var → List Var → Type 0} (at : Place) (name : ℕ) (e : PlainExpr) (body : PlainStmts) (after : Option Point) (h : Stage) (code : Stage → Flattened (List PlainFlatStmt)) → Carries limit h.next R → name < limit → ExprNames limit e → limit ≤ h.next → BodiesMean code body
+  items_related : {R : List Var → List Var → Type 0} (at : Place) (name : ℕ) (e : PlainExpr) (body : PlainStmts) (after : Point) (h : Stage) (code : Stage → Flattened (List PlainFlatStmt)) → Carries limit h.next R → name < limit → ExprNames limit e → limit ≤ h.next → BodiesMean code body
       → (us vs : List Var) (w : W) (n : ℕ) → R us vs
-      → EndsRelated R (run s (for_code leaves c at name (PItems e) body after h code).code us w n) (stepping vs w n (λ n. with_given vs (turns_of s (PItems e) vs w n) (λ turns w n. over_turns name (λ vars w n. act_all s body vars w n) turns vs w n)))
+      → EndsRelated R (run s (for_code leaves c at name (PItems e) body (Some after) h code).code us w n) (stepping vs w n (λ n. with_given vs (turns_of s (PItems e) vs w n) (λ turns w n. over_turns name (λ vars w n. act_all s body vars w n) turns vs w n)))
   unfolding turns_of
   items_related {R} at name e body after h code carries below named le bodies us vs w n r =
       mark_related s carries _ _ us vs w n r (λ n.
-      subst (λ q. EndsRelated R q (with_given vs (eval s e vs w n >>= λ v w n. Got (Items (items_of v)) w n) (λ turns w n. over_turns name (λ vars w n. act_all s body vars w n) turns vs w n))) (sym (run_in_turn s kept.before (list_loop at name t head after inner.code) us w n))
+      subst (λ q. EndsRelated R q (with_given vs (eval s e vs w n >>= λ v w n. Got (Items (items_of v)) w n) (λ turns w n. over_turns name (λ vars w n. act_all s body vars w n) turns vs w n))) (sym (run_in_turn s kept.before (list_loop at name t head (Some after) inner.code) us w n))
       (list_related s at t carries le up name below head after inner.code (λ vars w n. act_all s body vars w n)
       (λ xs light p us vs w n r a. bodies start far (λ us vs. R us vs × AtPlace s at t xs light p us) (carries_further three (list_carries s at t xs light carries le up p)) us vs w n (r, a))
       (λ vs w n. acts_take s takes body vs w n) (eval s e vs w n) (run s kept.before us w n) r
@@ -216,9 +216,9 @@ module _ {W : Type 0} (s : Site W) (leaves : Leaving) (c : Context) (calls : Cal
       (settled_means s false at TInt (built (PPos at) ((forms leaves c e).value None h)) w n ((forms_rise leaves c e).value None h) (whole_light (eval s e vs w n))
       (record { stands = leads_through (λ us w n. eval s ((forms leaves c e).value None h).rest us w n) (λ v w n. Got (value.Int (int_of v)) w n) (eval s e vs w n) (run s ((forms leaves c e).value None h).before us w n) (there e named None h us vs w n le agree) })).stands
 
-  numbers_related : {R : List Var → List Var → Type 0} (at : Place) (name : ℕ) (start : Option PlainExpr) (end : PlainExpr) (body : PlainStmts) (after : Option Point) (h : Stage) (code : Stage → Flattened (List PlainFlatStmt)) → Carries limit h.next R → name < limit → OverNames limit (PRange start end) → limit ≤ h.next
+  numbers_related : {R : List Var → List Var → Type 0} (at : Place) (name : ℕ) (start : Option PlainExpr) (end : PlainExpr) (body : PlainStmts) (after : Point) (h : Stage) (code : Stage → Flattened (List PlainFlatStmt)) → Carries limit h.next R → name < limit → OverNames limit (PRange start end) → limit ≤ h.next
       → BodiesMean code body → (us vs : List Var) (w : W) (n : ℕ) → R us vs
-      → EndsRelated R (run s (for_code leaves c at name (PRange start end) body after h code).code us w n)
+      → EndsRelated R (run s (for_code leaves c at name (PRange start end) body (Some after) h code).code us w n)
       (stepping vs w n (λ n. with_given vs (turns_of s (PRange start end) vs w n) (λ turns w n. over_turns name (λ vars w n. act_all s body vars w n) turns vs w n)))
   unfolding turns_of
   numbers_related {R} at name start end body after h code carries below named le bodies us vs w n r =
@@ -243,7 +243,7 @@ module _ {W : Type 0} (s : Site W) (leaves : Leaving) (c : Context) (calls : Cal
       begin = body_stage name TInt body second.stage
 
       loop : List PlainFlatStmt
-      loop = range_loop at name t u (surely (head_locals name body second.stage.locals)) after (code begin).code
+      loop = range_loop at name t u (surely (head_locals name body second.stage.locals)) (Some after) (code begin).code
 
       up : h.next ≤ t
       up = (forms_rise leaves c (start_or_zero at start)).value None h
@@ -280,9 +280,9 @@ module _ {W : Type 0} (s : Site W) (leaves : Leaving) (c : Context) (calls : Cal
       from_start n (Got x w m) _ (holds {later = later} agree light reads) =
           counted x later (eval s end vs w m) (run s second.before later w m) (carries.change agree r) reads (end_holds at end named.1 first.stage later vs w m lim (carries.agree (carries.change agree r)))
 
-  for_related : {R : List Var → List Var → Type 0} (at : Place) (name : ℕ) (over : PlainOver) (body : PlainStmts) (after : Option Point) (h : Stage) (code : Stage → Flattened (List PlainFlatStmt)) → Carries limit h.next R → name < limit → OverNames limit over → limit ≤ h.next → BodiesMean code body
+  for_related : {R : List Var → List Var → Type 0} (at : Place) (name : ℕ) (over : PlainOver) (body : PlainStmts) (after : Point) (h : Stage) (code : Stage → Flattened (List PlainFlatStmt)) → Carries limit h.next R → name < limit → OverNames limit over → limit ≤ h.next → BodiesMean code body
       → (us vs : List Var) (w : W) (n : ℕ) → R us vs
-      → EndsRelated R (run s (for_code leaves c at name over body after h code).code us w n) (stepping vs w n (λ n. with_given vs (turns_of s over vs w n) (λ turns w n. over_turns name (λ vars w n. act_all s body vars w n) turns vs w n)))
+      → EndsRelated R (run s (for_code leaves c at name over body (Some after) h code).code us w n) (stepping vs w n (λ n. with_given vs (turns_of s over vs w n) (λ turns w n. over_turns name (λ vars w n. act_all s body vars w n) turns vs w n)))
   for_related at name (PItems e) body after h code carries below named le bodies us vs w n r = items_related at name e body after h code carries below named le bodies us vs w n r
   for_related at name (PRange start end) body after h code carries below named le bodies us vs w n r = numbers_related at name start end body after h code carries below named le bodies us vs w n r
 
@@ -304,7 +304,7 @@ module _ {W : Type 0} (s : Site W) (leaves : Leaving) (c : Context) (calls : Cal
       subst (λ q. EndsRelated R (run s f.code us w n) q) (sym (stops (breaks x) (act s x vs w n) (λ vars w n. act_all s xs vars w n) (subst (λ b. IsReached b (breaks x) (act s x vs w n)) is (act_reached s x vs w n)))) (first us vs w n r)
 
   mutual
-    unfolding opened act run_stmt StmtNames
+    unfolding opened act run_stmt StmtNames goes_on
 
     opened_means : (x : PlainStmt) → StmtNames limit x → (h : Stage) → limit ≤ h.next → (R : List Var → List Var → Type 0) → Carries limit h.next R → WaysRelated R (run s (opened leaves c x h).code) (act s x)
     opened_means (PPass at) named h le R carries us vs w n r = mark_related s carries [] _ us vs w n r (λ n. both_go r)
@@ -364,10 +364,12 @@ module _ {W : Type 0} (s : Site W) (leaves : Leaving) (c : Context) (calls : Cal
         let loop : PlainFlatStmt = FWhile (surely head.locals) t.test (surely start.locals) (flat_stmts_of f.code) (point_behind c (PWhile at test body) h.locals) in
         mark_related s carries (loop ∷ []) _ us vs w n r (λ n.
         subst (λ q. EndsRelated R q (while_turns (suc n) (λ vars w n. eval s test vars w n) (λ vars w n. act_all s body vars w n) vs w n)) (sym (run_alone s loop us w n))
+        (closed_related (goes_on (PWhile at test body)) (breaks (PWhile at test body)) (surely (locals_behind c (PWhile at test body) h.locals)) _ _
         (loop_related carries (decide s t.test) (λ vars w n. eval s test vars w n) (λ us w n. run s f.code us w n) (λ vars w n. act_all s body vars w n) (λ us vs w n on. (expression_means s leaves c calls own_light limit vs test named.0).test head us w n le (carries.agree on))
-        (all_mean body named.1 start (further le up) R (carries_further up carries)) (suc n) us vs w n r))
+        (all_mean body named.1 start (further le up) R (carries_further up carries)) (suc n) us vs w n r)
+        (act_reached s (PWhile at test body) vs w (suc n))))
     opened_means (PFor at name name_at over body) named h le R carries us vs w n r =
-        for_related at name over body (point_behind c (PFor at name name_at over body) h.locals) h (λ g. flat_all leaves c body g) carries named.0 named.1 le (λ g far R carries. all_mean body named.2 g far R carries) us vs w n r
+        for_related at name over body (surely (locals_behind c (PFor at name name_at over body) h.locals)) h (λ g. flat_all leaves c body g) carries named.0 named.1 le (λ g far R carries. all_mean body named.2 g far R carries) us vs w n r
 
     pub all_mean : (xs : PlainStmts) → StmtsNames limit xs → (h : Stage) → limit ≤ h.next → (R : List Var → List Var → Type 0) → Carries limit h.next R → WaysRelated R (run s (flat_all leaves c xs h).code) (act_all s xs)
     all_mean PNoStmt named h le R carries us vs w n r = nothing_related us vs w n r

@@ -10,6 +10,6 @@ mod places;
 
 pub use fitting::{entries_fit, records_fit, requests_fit};
 pub use ids::ids_differ;
-pub use listing::entries_of;
+pub use listing::entries_behind;
 pub use making::{history_of, state_of};
 pub use places::are_places;

@@ -1,6 +1,6 @@
-//! The entries of a history, listed.
+//! The last entries of a history, listed.
 
-ghost use Rattle.std.specs.Prelude.{◌≡◌, ◌<◌, ◌^◌, ◌++◌, [], length, IfOk, OnOk};
+ghost use Rattle.std.specs.Prelude.{◌≡◌, ◌<◌, ◌^◌, ◌++◌, [], length, drop, IfOk, OnOk};
 ghost use Rattle.std.specs.List.{cons_option};
 ghost use Rattle.std.specs.Option.{option_map};
 ghost use Rattle.request_history.specs.HistoryView.{kept_at};
@@ -10,13 +10,13 @@ use sf_list::{Sequence, TryClone};
 use sf_value::{Entries, Entry, Request};
 use std::alloc::{AllocError, Global};
 
-/// Copies of the entries of a history, in their order.
-pub fn entries_of(alloc: Global, history: &History) -> Result<Entries, AllocError>
+/// Copies of the entries of a history behind the first so many, in their order.
+pub fn entries_behind(alloc: Global, history: &History, kept: u32) -> Result<Entries, AllocError>
     requires { length history.now.entries < 2 ^ 32 }
-    ensures { IfOk result (λ entries. entries ≡ history.now.entries) }
+    ensures { IfOk result (λ entries. entries ≡ drop kept history.now.entries) }
 {
     let mut entries = Sequence::new(alloc);
-    for i in 0..history.len() {
+    for i in kept as usize..history.len() {
         push_entry(&mut entries, alloc, history.entry(i as u32 + 1))?;
     }
     Ok(entries)

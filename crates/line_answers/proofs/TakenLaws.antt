@@ -29,11 +29,10 @@ use Rattle.batch_replies.specs.Moments.{Logs}
 use Rattle.batch_replies.proofs.MomentLaws.{Logs-same}
 use Rattle.batch_replies.proofs.Vocabulary.{fewer_wait, same_source}
 use Rattle.batch_replies.specs.declared.counting.BatchCounts.{BatchCounts}
-use Rattle.batch_replies.specs.declared.answering.BatchStop.{BatchStop}
-use Rattle.batch_replies.specs.declared.answering.BatchStop.TheVariants as batch
+use Rattle.batch_replies.specs.declared.stops.Stop.{Stop}
+use Rattle.batch_replies.specs.declared.stops.Stop.TheVariants.{HistoryFull, NoMemory, DiskFault, WriteFault}
+use Rattle.batch_replies.specs.Stops.{disk_failed}
 use Rattle.batch_replies.specs.BatchAnswers.{core_behind, Answers, TellsBatch}
-use Rattle.line_answers.specs.declared.answering.LineStop.{LineStop}
-use Rattle.line_answers.specs.declared.answering.LineStop.TheVariants.{HistoryFull, NoMemory, DiskFault, WriteFault}
 use Rattle.line_answers.specs.Services.{Service, program_of, limits_of, service_of}
 use Rattle.line_answers.specs.LineAnswers.{before, Moment, Move, move_at, ran_by, Moves, AnswersLine, batch_on, line_result}
 
@@ -48,6 +47,11 @@ pub where_ok : {T E : Type 0} (result : Result T E) (P : Type 0) → false ≡ i
 where_ok (Ok value) P fine holds = holds
 where_ok (Err error) P fine holds = absurd (true≢false (sym fine))
 
+-- the disk failed at a line where it did at its batch
+pub fails_so : (result : Result BatchCounts Stop) (told : Result (Option BatchCounts) Stop) → told ≡ line_result result → disk_failed result ≡ disk_failed told
+fails_so (Ok counts) told is = ap disk_failed (sym is)
+fails_so (Err stop) told is = ap disk_failed (sym is)
+
 -- Behind lines that were written
 
 whole_then : (start between end : Option (List ℕ)) (lines more : List (List ℕ)) → Appends start between (joined lines) → Appends between end (joined more) → Appends start end (joined (lines ++ more))
@@ -58,7 +62,7 @@ part_then start between end lines more first rest = Wrote-after {T = Unit {0}} {
 
 module _ (v : Service) where
   -- a batch was due, and came to this behind what was written at once
-  pub batch_moved : (result : Result BatchCounts BatchStop) (m : Move) (old new : Moment) (between : Option (List ℕ)) → m.is_due ≡ true
+  pub batch_moved : (result : Result BatchCounts Stop) (m : Move) (old new : Moment) (between : Option (List ℕ)) → m.is_due ≡ true
       → Appends old.held between (joined m.answer) → Answers (program_of v) v.rule v.limits result m.core new.core between new.held → TellsBatch (batch_on v.compiled m.core) v.parts result old.outside new.outside
       → Moves v (line_result result) m old new
   batch_moved (Ok counts) m old new between due first a told = record {
@@ -68,21 +72,21 @@ module _ (v : Service) where
     core = a.2;
     wrote = whole_then old.held between new.held m.answer (batch_lines (program_of v) v.rule v.limits m.core) first a.3;
   }
-  batch_moved (Err batch.HistoryFull) m old new between due first a told = record {
+  batch_moved (Err HistoryFull) m old new between due first a told = record {
     due = due;
     full = a.0;
     core = a.1;
     wrote = subst (λ h. Appends old.held h (joined m.answer)) (sym a.2) first;
     untold = told;
   }
-  batch_moved (Err batch.NoMemory) m old new between due first a told = record {
+  batch_moved (Err NoMemory) m old new between due first a told = record {
     due = due;
     place = a.0;
     core = a.1;
     wrote = subst (λ h. Appends old.held h (joined m.answer)) (sym a.2) first;
     begun = told;
   }
-  batch_moved (Err batch.DiskFault) m old new between due first a told = record {
+  batch_moved (Err DiskFault) m old new between due first a told = record {
     due = due;
     place = a.0;
     core = a.1;
@@ -90,7 +94,7 @@ module _ (v : Service) where
     events = told.0;
     told = told.1;
   }
-  batch_moved (Err batch.WriteFault) m old new between due first a told =
+  batch_moved (Err WriteFault) m old new between due first a told =
       inr (record {
         due = due;
         place = a.0;
@@ -114,7 +118,7 @@ module _ (v : Service) where
       ∙ ap (λ (d : Bool). let m : Move = record { answer = answer core (number - 1 + 1) action; core = taken core action; is_due = d } in m) due_is
 
   -- which core there was before is of no account any more
-  pub line_moved : (result : Result (Option BatchCounts) LineStop) (s : Standing) (line : Line) (core next : Core) (held : Option (List ℕ)) (outside : Outside) (new : Moment)
+  pub line_moved : (result : Result (Option BatchCounts) Stop) (s : Standing) (line : Line) (core next : Core) (held : Option (List ℕ)) (outside : Outside) (new : Moment)
       → Moves v result (move_at v s line) (record { core = next; held = held; outside = outside }) new → AnswersLine v result s line (record { core = core; held = held; outside = outside }) new
   line_moved (Ok None) s line core next held outside new m = record { undue = m.undue; core = m.core; wrote = m.wrote; untold = m.untold }
   line_moved (Ok (Some counts)) s line core next held outside new m = record { due = m.due; place = m.place; ran = record { counted = m.ran.counted; told = m.ran.told }; core = m.core; wrote = m.wrote }
@@ -175,7 +179,7 @@ module _ (v : Service) where
   in_range k l more few = omega arith
 
   -- fewer than 256 wait behind a line
-  pub few_behind : IsLawfulRule v.rule → v.limits.batch ≤ 256 → (core : Core) (number : ℕ) (line : Line) → length core.pending < 256 → (result : Result (Option BatchCounts) LineStop) (old new : Moment)
+  pub few_behind : IsLawfulRule v.rule → v.limits.batch ≤ 256 → (core : Core) (number : ℕ) (line : Line) → length core.pending < 256 → (result : Result (Option BatchCounts) Stop) (old new : Moment)
       → Moves v result (move_at v (before core number) line) old new → OnOk result (length new.core.pending < 256)
   few_behind lawful most core number line few (Ok None) old new m =
       subst (λ (c : Core). length c.pending < 256) (sym m.core) (undue_few most core (action_of (program_of v) line) few m.undue)
@@ -190,7 +194,7 @@ module _ (v : Service) where
 -- so it is for what an engine took
 pub engine_moved : (e next : Engine) → RunsProgram next (compiled_of e) (limit_of e) → (rule : List Access → Chosen) (size parts number : ℕ) (line : Line) (lines : List (List ℕ)) (due : Bool) → 1 ≤ number
     → core_of next ≡ taken (core_of e) (action_of (source_of e) line) → lines ≡ answer (core_of e) number (action_of (source_of e) line)
-    → due ≡ is_due (source_of e) rule (limits_of size (limit_of e)) (core_of e) (action_of (source_of e) line) → (result : Result (Option BatchCounts) LineStop) (old new : Moment)
+    → due ≡ is_due (source_of e) rule (limits_of size (limit_of e)) (core_of e) (action_of (source_of e) line) → (result : Result (Option BatchCounts) Stop) (old new : Moment)
     → Moves (service_of next rule size parts) result (record { answer = lines; core = core_of next; is_due = due }) old new
     → Moves (service_of e rule size parts) result (move_at (service_of e rule size parts) (before (core_of e) number) line) old new
 engine_moved e next runs rule size parts number line lines due from_one next_is lines_are due_is result old new moves =

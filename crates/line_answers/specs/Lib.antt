@@ -1,5 +1,6 @@
 pub mod LineViews
 pub mod Services
+pub mod Takings
 pub mod LineAnswers
 pub mod Vocabulary
-pub mod BatchStopVariants
+pub mod StopVariants

@@ -18,11 +18,9 @@ use Rattle.engine.specs.Cores.{Core}
 use Rattle.engine.specs.EngineViews.{core_of}
 use Rattle.batch_replies.specs.Vocabulary.{Standing, answer, taken, is_due, batch_lines}
 use Rattle.batch_replies.specs.declared.counting.BatchCounts.{BatchCounts}
-use Rattle.batch_replies.specs.declared.answering.BatchStop.{BatchStop}
-use Rattle.batch_replies.specs.declared.answering.BatchStop.TheVariants as batch
+use Rattle.batch_replies.specs.declared.stops.Stop.{Stop}
+use Rattle.batch_replies.specs.declared.stops.Stop.TheVariants.{HistoryFull, NoMemory, DiskFault, WriteFault}
 use Rattle.batch_replies.specs.BatchAnswers.{HasPlace, IsFull, core_behind, runs_on, AreCounts}
-use Rattle.line_answers.specs.declared.answering.LineStop.{LineStop}
-use Rattle.line_answers.specs.declared.answering.LineStop.TheVariants.{HistoryFull, NoMemory, DiskFault, WriteFault}
 use Rattle.line_answers.specs.Services.{Service, program_of}
 
 -- before the line with this number, counted from 1
@@ -137,7 +135,7 @@ module _ (v : Service) where
     pub part : AppendsPrefix old.held new.held (whole_text m)
 
   -- what was done of it, by the result: the counts are those of the batch that was due
-  abbrev pub Moves : Result (Option BatchCounts) LineStop → Move → Moment → Moment → Type 0
+  abbrev pub Moves : Result (Option BatchCounts) Stop → Move → Moment → Moment → Type 0
   Moves (Ok None) m old new = IsAnswered m old new
   Moves (Ok (Some counts)) m old new = IsCommitted m counts old new
   Moves (Err HistoryFull) m old new = FindsFull m old new
@@ -146,7 +144,7 @@ module _ (v : Service) where
   Moves (Err WriteFault) m old new = IsUnanswered m old new ⊎ IsUnreplied m old new
 
   -- a line was answered, or as far as it went
-  abbrev pub AnswersLine : Result (Option BatchCounts) LineStop → Standing → Line → Moment → Moment → Type 0
+  abbrev pub AnswersLine : Result (Option BatchCounts) Stop → Standing → Line → Moment → Moment → Type 0
   AnswersLine (Ok counts) s line old new = Moves (Ok counts) (move_at s line) old new
   AnswersLine (Err HistoryFull) s line old new = FindsFull (move_at s line) old new
   AnswersLine (Err NoMemory) s line old new = IsUntaken s (move_at s line) old new ⊎ IsUnplanned (move_at s line) old new
@@ -154,20 +152,6 @@ module _ (v : Service) where
   AnswersLine (Err WriteFault) s line old new = IsUnanswered (move_at s line) old new ⊎ IsUnreplied (move_at s line) old new
 
 -- where a batch was due and came to this
-abbrev pub line_result : Result BatchCounts BatchStop → Result (Option BatchCounts) LineStop
+abbrev pub line_result : Result BatchCounts Stop → Result (Option BatchCounts) Stop
 line_result (Ok counts) = Ok (Some counts)
-line_result (Err batch.HistoryFull) = Err HistoryFull
-line_result (Err batch.NoMemory) = Err NoMemory
-line_result (Err batch.DiskFault) = Err DiskFault
-line_result (Err batch.WriteFault) = Err WriteFault
-
--- the disk failed, so the batch that was due isn't committed
-abbrev pub is_disk_fault : LineStop → Bool
-is_disk_fault HistoryFull = false
-is_disk_fault NoMemory = false
-is_disk_fault DiskFault = true
-is_disk_fault WriteFault = false
-
-abbrev pub disk_failed : {T : Type 0} → Result T LineStop → Bool
-disk_failed (Ok value) = false
-disk_failed (Err stop) = is_disk_fault stop
+line_result (Err stop) = Err stop

@@ -4,8 +4,10 @@
 
 mod answering;
 mod reading;
+mod settings;
 mod taking;
 
-pub use answering::{Batching, LineStop, answer_line};
-pub use batch_replies::{BatchCounts, BatchStop, answer_batch};
+pub use answering::answer_line;
+pub use batch_replies::{BatchCounts, Stop, answer_batch};
 pub use reading::InputLine;
+pub use settings::{Settings, Terms};

@@ -8,12 +8,12 @@ ghost use Rattle.request_history.specs.Repeats.{kept_in};
 ghost use Rattle.request_history.specs.SoundHistory.{RequestFits};
 ghost use Rattle.request_json.specs.Actions.{Ask, action_of};
 ghost use Rattle.request_json.specs.LineSpellings.{HasSpelling};
-ghost use Rattle.engine.specs.Cores.{CoreFits, IsSoundCore};
-ghost use Rattle.engine.specs.EngineViews.{core_of, source_of, tables_of, compiled_of, limit_of, fresh_of, RunsProgram};
-ghost use Rattle.batch_replies.specs.Vocabulary.{logged_of, most_bytes, IsStorable, kept_line, answer_on, answer, taken, is_due};
+ghost use Rattle.engine.specs.EngineViews.{core_of, source_of, tables_of};
+ghost use Rattle.batch_replies.specs.Vocabulary.{most_bytes, kept_line, answer_on, answer, taken, is_due};
 ghost use Rattle.line_answers.specs.LineViews.{line_of, asked, ActionFits, ActionIsSpelt};
 ghost use Rattle.line_answers.specs.Services.{limits_of};
 ghost use Rattle.line_answers.specs.LineAnswers.{fills_behind};
+ghost use Rattle.line_answers.specs.Takings.{Takes};
 
 use crate::reading::{Action, InputLine, read_action};
 use engine::{Arrival, Engine};
@@ -82,11 +82,7 @@ fn ask(
     ensures answer { IfOk result (λ t. cons_option t.answer [] ≡ answer (core_of engine.old) number (Ask request)) }
     ensures due { (rule : List Access → Chosen) (history : ℕ)
         → IfOk result (λ t. t.is_due ≡ is_due (source_of engine.old) rule (limits_of batch history) (core_of engine.old) (Ask request)) }
-    ensures runs { RunsProgram engine.new (compiled_of engine.old) (limit_of engine.old) }
-    ensures core_fits { CoreFits (tables_of engine.old) (core_of engine.old) → CoreFits (tables_of engine.old) (core_of engine.new) }
-    ensures sound { IsSoundCore (source_of engine.old) (core_of engine.old) → IsSoundCore (source_of engine.old) (core_of engine.new) }
-    ensures logged { logged_of engine.new ≡ logged_of engine.old }
-    ensures storable { IsStorable (core_of engine.old) (fresh_of engine.old) → IsStorable (core_of engine.new) (fresh_of engine.new) }
+    ensures takes { Takes engine.old engine.new }
 {
     let arrival = engine.arrive(alloc, request)?;
     let answer = answer_to(alloc, engine, arrival, number)?;
@@ -110,11 +106,7 @@ fn take_action(
     ensures answer { IfOk result (λ t. cons_option t.answer [] ≡ answer (core_of engine.old) number (asked action)) }
     ensures due { (rule : List Access → Chosen) (history : ℕ)
         → IfOk result (λ t. t.is_due ≡ is_due (source_of engine.old) rule (limits_of batch history) (core_of engine.old) (asked action)) }
-    ensures runs { RunsProgram engine.new (compiled_of engine.old) (limit_of engine.old) }
-    ensures core_fits { CoreFits (tables_of engine.old) (core_of engine.old) → CoreFits (tables_of engine.old) (core_of engine.new) }
-    ensures sound { IsSoundCore (source_of engine.old) (core_of engine.old) → IsSoundCore (source_of engine.old) (core_of engine.new) }
-    ensures logged { logged_of engine.new ≡ logged_of engine.old }
-    ensures storable { IsStorable (core_of engine.old) (fresh_of engine.old) → IsStorable (core_of engine.new) (fresh_of engine.new) }
+    ensures takes { Takes engine.old engine.new }
 {
     match action {
         Action::Skip => Ok(Taken {
@@ -145,11 +137,7 @@ pub(crate) fn take_line(
     ensures due { (rule : List Access → Chosen) (history : ℕ)
         → IfOk result (λ t. t.is_due ≡ is_due (source_of engine.old) rule (limits_of batch history) (core_of engine.old)
         (action_of (source_of engine.old) (line_of line.entry))) }
-    ensures runs { RunsProgram engine.new (compiled_of engine.old) (limit_of engine.old) }
-    ensures core_fits { CoreFits (tables_of engine.old) (core_of engine.old) → CoreFits (tables_of engine.old) (core_of engine.new) }
-    ensures sound { IsSoundCore (source_of engine.old) (core_of engine.old) → IsSoundCore (source_of engine.old) (core_of engine.new) }
-    ensures logged { logged_of engine.new ≡ logged_of engine.old }
-    ensures storable { IsStorable (core_of engine.old) (fresh_of engine.old) → IsStorable (core_of engine.new) (fresh_of engine.new) }
+    ensures takes { Takes engine.old engine.new }
 {
     let action = read_action(alloc, engine.compiled().program(), line)?;
     take_action(alloc, engine, batch, action, line.number)

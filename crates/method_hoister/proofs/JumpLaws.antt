@@ -1,5 +1,5 @@
--- Whether a statement leaves a loop around it, at each kind, one equation each, and along lists.
-use Rattle.std.proofs.Common.{◌≡◌, ◌<◌, ◌≤◌, ◌+◌, ℕ, true, false, ◌||◌, List, Option, drop, get_or, length, ap, ◌∙◌}
+-- Whether a statement leaves a loop around it, at each kind, one equation each, and along lists, up to what can't be reached.
+use Rattle.std.proofs.Common.{◌≡◌, ◌<◌, ◌≤◌, ◌+◌, ℕ, Bool, true, false, ◌||◌, ◌&&◌, List, Option, drop, get_or, length, ap, ◌∙◌}
 use Rattle.py_tree.specs.declared.names.Place.{Place}
 use Rattle.py_tree.specs.declared.names.PlacedName.{PlacedName}
 use Rattle.py_tree.specs.declared.ty.WrittenTy.{WrittenTy}
@@ -11,6 +11,7 @@ use Rattle.py_tree.specs.declared.stmt.Stmt.{Stmt}
 use Rattle.py_tree.specs.declared.stmt.Arm.{Arm, out-Arm}
 use Rattle.py_tree.specs.declared.stmt.StmtKind as s
 use Rattle.py_tree.specs.PlainStatements.{plain_stmt_kind, plain_stmt, plain_stmts, stmts_of, plain_arms, arms_of}
+use Rattle.py_tree.specs.Reachability.{goes_on}
 use Rattle.py_tree.proofs.Views.{stmt-Pass, stmt-Break, stmt-Continue, stmt-Expr, stmt-Return, stmt-Raise, stmt-Assert, stmt-Assign, stmt-Augment, stmt-If, stmt-While, stmt-For}
 use Rattle.py_tree.proofs.ListWalks.{stmts_from, stmts_end, arms_from, arms_end}
 use Rattle.flat_tree.specs.Flatness.{jumps, all_jump, arms_jump}
@@ -66,11 +67,22 @@ module _ (at : Place) where
 
 pub stmts_found : (ss : List Stmt) (i : ℕ) (x : Stmt) → i < length ss → x ≡ get_or ss i x → jumps (plain_stmt x) ≡ true → all_jump (stmts_of (plain_stmts (drop i ss))) ≡ true
 unfolding all_jump
-stmts_found ss i x within is found = ap all_jump (stmts_from ss i x within is) ∙ ap (λ b. b || all_jump (stmts_of (plain_stmts (drop (i + 1) ss)))) found
+stmts_found ss i x within is found = ap all_jump (stmts_from ss i x within is) ∙ ap (λ b. b || (goes_on (plain_stmt x) && all_jump (stmts_of (plain_stmts (drop (i + 1) ss))))) found
 
-pub stmts_passed : (ss : List Stmt) (i : ℕ) (x : Stmt) → i < length ss → x ≡ get_or ss i x → jumps (plain_stmt x) ≡ false → all_jump (stmts_of (plain_stmts (drop i ss))) ≡ all_jump (stmts_of (plain_stmts (drop (i + 1) ss)))
+-- one that doesn't jump, and what stands behind it where that can be reached
+stmts_behind : (ss : List Stmt) (i : ℕ) (x : Stmt) (go : Bool) → i < length ss → x ≡ get_or ss i x → jumps (plain_stmt x) ≡ false → goes_on (plain_stmt x) ≡ go
+    → all_jump (stmts_of (plain_stmts (drop i ss))) ≡ (go && all_jump (stmts_of (plain_stmts (drop (i + 1) ss))))
 unfolding all_jump
-stmts_passed ss i x within is none = ap all_jump (stmts_from ss i x within is) ∙ ap (λ b. b || all_jump (stmts_of (plain_stmts (drop (i + 1) ss)))) none
+stmts_behind ss i x go within is none goes = ap all_jump (stmts_from ss i x within is)
+    ∙ ap (λ b. b || (goes_on (plain_stmt x) && all_jump (stmts_of (plain_stmts (drop (i + 1) ss))))) none ∙ ap (λ b. b && all_jump (stmts_of (plain_stmts (drop (i + 1) ss)))) goes
+
+pub stmts_passed : (ss : List Stmt) (i : ℕ) (x : Stmt) → i < length ss → x ≡ get_or ss i x → jumps (plain_stmt x) ≡ false → goes_on (plain_stmt x) ≡ true
+    → all_jump (stmts_of (plain_stmts (drop i ss))) ≡ all_jump (stmts_of (plain_stmts (drop (i + 1) ss)))
+stmts_passed ss i x within is none goes = stmts_behind ss i x true within is none goes
+
+pub stmts_stopped : (ss : List Stmt) (i : ℕ) (x : Stmt) → i < length ss → x ≡ get_or ss i x → jumps (plain_stmt x) ≡ false → goes_on (plain_stmt x) ≡ false
+    → all_jump (stmts_of (plain_stmts (drop i ss))) ≡ false
+stmts_stopped ss i x within is none stops = stmts_behind ss i x false within is none stops
 
 pub stmts_over : (ss : List Stmt) (i : ℕ) → length ss ≤ i → all_jump (stmts_of (plain_stmts (drop i ss))) ≡ false
 unfolding all_jump
@@ -90,6 +102,6 @@ arms_over xs i past = ap arms_jump (arms_end xs i past)
 
 pub ruleset jump_rules = (jumps-Pass, jumps-Break, jumps-Continue, jumps-Expr, jumps-Return, jumps-Raise, jumps-Assert, jumps-Assign, jumps-Augment, jumps-If, jumps-While, jumps-For)
 
-pub ruleset stmts_rules = (stmts_found, stmts_passed, stmts_over)
+pub ruleset stmts_rules = (stmts_found, stmts_passed, stmts_stopped, stmts_over)
 
 pub ruleset arms_rules = (arms_found, arms_passed, arms_over)

@@ -4,9 +4,9 @@ ghost use Rattle.std.specs.Prelude.{◌≡◌};
 ghost use Rattle.py_tree.specs.PlainStatements.{plain_stmt, plain_stmts, stmts_of, plain_arms, arms_of};
 ghost use Rattle.flat_tree.specs.Flatness as spec;
 
-use py_tree::{Arm, Stmt, StmtKind};
+use py_tree::{Arm, Stmt, StmtKind, goes_on};
 
-/// Whether there is a `break` or `continue` of a loop around it.
+/// Whether a `break` or `continue` of a loop around it can be reached.
 #[cycle(jumps)]
 #[tactic(auto, using(crate::proofs::JumpLaws::jump_rules))]
 pub fn jumps(stmt: &Stmt) -> bool
@@ -35,6 +35,9 @@ fn all_jump(stmts: &[Stmt]) -> bool
     for stmt in stmts {
         if jumps(stmt) {
             return true;
+        }
+        if !goes_on(stmt) {
+            return false;
         }
     }
     false

@@ -1,22 +1,23 @@
 -- What the ends of blocks name is there, and ranks fall.
 use Rattle.std.proofs.Common.{◌≡◌, ℕ, suc, ◌+◌, ◌<◌, ◌≤◌, arith, Bool, true, false, List, [], ◌∷◌, ◌++◌, length, Option, Some, None, if◌then◌else◌, refl, sym, ap, ◌∙◌, subst, true≢false}
 use Rattle.std.specs.Prelude.{slice_get, max, ◌||◌}
-use Rattle.std.specs.List.{All}
+use Rattle.std.specs.List.{All, list_any}
 use Rattle.std.proofs.Math.Nat.{le-max_left, le-max_right}
 use Rattle.std.proofs.lemmas.Option.{same_Some, slice_get_within}
-use Rattle.std.proofs.lemmas.List.Elements.{All-nil, All-cons, All-append}
+use Rattle.std.proofs.lemmas.List.Elements.{All-nil, All-cons, All-head, All-tail, All-append}
 use Rattle.py_tree.specs.PlainExpressions.{PlainExpr}
 use Rattle.py_tree.specs.PlainStatements.{PlainStmt}
 use Rattle.py_tree.specs.Reachability.{goes_on}
 use Rattle.py_tree.specs.ClassRules.{PlainTable}
-use Rattle.block_code.specs.PlainBlocks.{PlainItem, IMark, ISet, IPut, IGive, IFail, ICode, PlainBlock}
-use Rattle.block_code.specs.GraphFits.{takes_step, BelowRank, NextAreBelow, HasBlock}
-use Rattle.flat_tree.specs.PlainFlat.{Point, PlainFlatStmt, FMark, FSet, FPut, FGive, FFail, FCode, FBreak, FContinue, FCall, FMake, FIf, FWhile, PlainFlatStmts, FNoStmt, FStmt, FArm, PlainFlatArms, FNoArm, FMoreArms, PlainFlatTest, FLeaf, FNot, FAnd, FOr, FOperand, PlainOperands, FNoOperand, FMoreOperands, flat_stmts_of}
-use Rattle.method_splitter.specs.Callees.{Each, EachInAll, EachInArms, EachInTest, EachInOperands, CalleeIsThere, CreatedIsThere}
-use Rattle.method_splitter.specs.Split.{Target, Rest, Jumps, Holds, end_of, rank_of, block, leave, front, front_code, coded, branch, Numbered, ◌and_then◌, lodge, joined, Around, inside, looped, endless, loop_code, always, stops, outermost, split, split_all, split_arms, split_test, split_each, split_blocks}
-use Rattle.method_splitter.specs.SplitTargets.{GoesOn, BlocksGoOn}
+use Rattle.block_code.specs.PlainBlocks.{PlainItem, IMark, ISet, IPut, IGive, IFail, ICode, PlainEnd, EJump, EBranch, ELeave, ECall, EMake, PlainBlock}
+use Rattle.block_code.specs.GraphFits.{takes_step, BelowRank, NamesAreThere, NextAreBelow, HasBlock}
+use Rattle.flat_tree.specs.PlainFlat.{Point, PlainFlatStmt, FMark, FSet, FPut, FGive, FFail, FCode, FBreak, FContinue, FCall, FMake, FIf, FWhile, FTry, PlainFlatStmts, FNoStmt, FStmt, FArm, PlainFlatArms, FNoArm, FMoreArms, FClause, PlainFlatClauses, FNoClause, FMoreClauses, PlainFlatTest, FLeaf, FNot, FAnd, FOr, FOperand, PlainOperands, FNoOperand, FMoreOperands, flat_stmts_of}
+use Rattle.method_splitter.specs.Callees.{Each, EachInAll, EachInArms, EachInClauses, EachInTest, EachInOperands, CalleeIsThere, CreatedIsThere}
+use Rattle.method_splitter.specs.Split.{Target, Rest, Jumps, Holds, code_of, end_of, rank_of, Caught, Around, catches_in, floor, rank_in, block, leave, front, front_code, coded, branch, Numbered, ◌and_then◌, lodge, homed, joined, outlet, inside, guarded, looped, endless, loop_code, always, stops, outermost, split, split_all, split_arms, split_clauses, split_test, split_each, split_blocks}
+use Rattle.method_splitter.specs.SplitTargets.{CatchGoesOn, GoesOn, BlocksGoOn}
 use Rattle.method_splitter.proofs.RestsRun.{StandAt, stand_first, stand_behind}
 use Rattle.method_splitter.proofs.BlocksMean.{stand_all}
+use Rattle.method_splitter.proofs.RankLaws.{raised_keeps, raised_reaches, floor_above, floor_grows}
 
 either_false : (a b : Bool) → (a || b) ≡ false → (a ≡ false) × (b ≡ false)
 either_false true b e = absurd (true≢false e)
@@ -37,20 +38,62 @@ module _ (tables : List PlainTable) (g : List PlainBlock) where
       let same : b.rank ≡ to.rank = ap (λ (b : PlainBlock). b.rank) (same_Some _ _ (sym is ∙ t.is)) ∙ t.rank in
       omega (arith, same, less)
 
+  -- code and an end, in a block of this rank or of a greater one
+  record HeldGoesOn (code : List PlainItem) (end : PlainEnd) (rank : ℕ) : Type 0 where
+    names : NamesAreThere tables g end
+    ranks : list_any takes_step code ≡ false → NextAreBelow g rank end
+
   -- a rest, of which a block may be made
   abbrev Good : Rest → Type 0
   Good (Jumps to) = IsThere to
-  Good (Holds code end rank) = GoesOn tables g (block [] (Holds code end rank))
+  Good (Holds code end rank) = HeldGoesOn code end rank
 
-  good_block : (params : Point) (r : Rest) → Good r → GoesOn tables g (block params r)
-  good_block params (Jumps to) t = record { names = has_block to t; ranks = λ none. below to (suc to.rank) t (omega arith) }
-  good_block params (Holds code end rank) b = record { names = b.names; ranks = b.ranks }
+  -- each block where failures go on is there
+  abbrev CatchesGood : List Caught → Type 0
+  CatchesGood ks = All (λ (k : Caught). IsThere k.to) ks
+
+  record AroundGood (a : Around) : Type 0 where
+    breaks : Good a.breaks
+    continues : Good a.continues
+    catches : CatchesGood a.catches
+
+  as_held : (r : Rest) → Good r → HeldGoesOn (code_of r) (end_of r) (rank_of r)
+  as_held (Jumps to) t = record { names = has_block to t; ranks = λ none. below to (suc to.rank) t (omega arith) }
+  as_held (Holds code end rank) h = h
+
+  below_higher : (low high to : ℕ) → low ≤ high → BelowRank g low to → BelowRank g high to
+  below_higher low high to le h b is = let less : b.rank < low = h b is in omega (arith, less, le)
+
+  next_higher : (low high : ℕ) → low ≤ high → (end : PlainEnd) → NextAreBelow g low end → NextAreBelow g high end
+  next_higher low high le (EJump to) h = below_higher low high to le h
+  next_higher low high le (EBranch test holds fails) h = (below_higher low high holds le h.0, below_higher low high fails le h.1)
+  next_higher low high le ELeave h = tt
+  next_higher low high le (ECall on class method args into after) h = tt
+  next_higher low high le (EMake class args into after) h = tt
+
+  catches_go_on : (ks : List Caught) (b : PlainBlock) → floor ks ≤ b.rank → CatchesGood ks → All (CatchGoesOn g b) (catches_in ks)
+  catches_go_on [] b le h = All-nil (CatchGoesOn g b)
+  catches_go_on (k ∷ ks) b le h =
+      let t = All-head (λ (k : Caught). IsThere k.to) k ks h in
+      let same : t.b.rank ≡ k.to.rank = t.rank in
+      let first : k.to.rank < floor (k ∷ ks) = floor_above k ks in
+      let others : floor ks ≤ floor (k ∷ ks) = floor_grows k ks in
+      All-cons (CatchGoesOn g b) _ (catches_in ks) (record { target = t.b; is = t.is; below = omega (arith, same, first, le) }) (catches_go_on ks b (omega (arith, others, le)) (All-tail (λ (k : Caught). IsThere k.to) k ks h))
+
+  good_block : (a : Around) (params : Point) (r : Rest) → AroundGood a → Good r → GoesOn tables g (block a params r)
+  good_block a params r around h =
+      let held = as_held r h in
+      record {
+        names = held.names;
+        ranks = λ none. next_higher (rank_of r) (rank_in a (rank_of r)) (raised_keeps (floor a.catches) (rank_of r)) (end_of r) (held.ranks none);
+        catches = catches_go_on a.catches (block a params r) (raised_reaches (floor a.catches) (rank_of r)) around.catches;
+      }
 
   good_leave : Good leave
   good_leave = record { names = tt; ranks = λ none. tt }
 
   good_front : (i : PlainItem) (r : Rest) → Good r → Good (front i r)
-  good_front i r h = let b = good_block [] r h in record { names = b.names; ranks = λ none. let both = either_false (takes_step i) _ none in by (takes_step i) both.0 (b.ranks both.1) }
+  good_front i r h = let b = as_held r h in record { names = b.names; ranks = λ none. let both = either_false (takes_step i) _ none in by (takes_step i) both.0 (b.ranks both.1) }
     where
       by : (takes : Bool) → takes ≡ false → NextAreBelow g (rank_of r) (end_of r) → NextAreBelow g (if takes then 0 else rank_of r) (end_of r)
       by true e h = absurd (true≢false e)
@@ -90,17 +133,20 @@ module _ (tables : List PlainTable) (g : List PlainBlock) where
   both_made : (xs ys : List PlainBlock) → AllGoOn xs → AllGoOn ys → AllGoOn (xs ++ ys)
   both_made xs ys first second = All-append (GoesOn tables g) xs ys first second
 
-  lodge_there : (params : Point) (r : Rest) (at : ℕ) → StandAt g at (lodge params r at).made → Good r → IsThere (lodge params r at).got × AllGoOn (lodge params r at).made
-  lodge_there params (Jumps to) at stand h = (h, none_made)
-  lodge_there params (Holds code end rank) at stand h = (record { b = block params (Holds code end rank); is = stand.0; rank = refl }, more_made _ [] (good_block params (Holds code end rank) h) none_made)
+  homed_there : (a : Around) (params : Point) (r : Rest) (at : ℕ) → StandAt g at (homed a params r at).made → AroundGood a → Good r → IsThere (homed a params r at).got × AllGoOn (homed a params r at).made
+  homed_there a params r at stand around h = (record { b = block a params r; is = stand.0; rank = refl }, more_made _ [] (good_block a params r around h) none_made)
 
-  joined_good : (after : Option Point) (c : Rest) (at : ℕ) → StandAt g at (joined after c at).made → Good c → Good (joined after c at).got × AllGoOn (joined after c at).made
-  joined_good None c at stand h = (h, none_made)
-  joined_good (Some params) c at stand h = let t = lodge_there params c at (stand_first g at (lodge params c at).made [] stand) h in (t.0, both_made _ [] t.1 none_made)
+  lodge_there : (a : Around) (params : Point) (r : Rest) (at : ℕ) → StandAt g at (lodge a params r at).made → AroundGood a → Good r → IsThere (lodge a params r at).got × AllGoOn (lodge a params r at).made
+  lodge_there a params (Jumps to) at stand around h = (h, none_made)
+  lodge_there a params (Holds code end rank) at stand around h = homed_there a params (Holds code end rank) at stand around h
 
-  record AroundGood (a : Around) : Type 0 where
-    breaks : Good a.breaks
-    continues : Good a.continues
+  joined_good : (a : Around) (after : Option Point) (c : Rest) (at : ℕ) → StandAt g at (joined a after c at).made → AroundGood a → Good c → Good (joined a after c at).got × AllGoOn (joined a after c at).made
+  joined_good a None c at stand around h = (h, none_made)
+  joined_good a (Some params) c at stand around h = let t = lodge_there a params c at (stand_first g at (lodge a params c at).made [] stand) around h in (t.0, both_made _ [] t.1 none_made)
+
+  outlet_good : (a : Around) (after : Option Point) (c : Rest) (at : ℕ) → StandAt g at (outlet a after c at).made → AroundGood a → Good c → Good (outlet a after c at).got × AllGoOn (outlet a after c at).made
+  outlet_good a None c at stand around h = (good_leave, none_made)
+  outlet_good a (Some params) c at stand around h = joined_good a (Some params) c at stand around h
 
   abbrev CodeGood : (Around → Rest → Numbered Rest) → Type 0
   CodeGood code = (a : Around) (c : Rest) (at : ℕ) → StandAt g at (code a c at).made → AroundGood a → Good c → Good (code a c at).got × AllGoOn (code a c at).made
@@ -108,45 +154,48 @@ module _ (tables : List PlainTable) (g : List PlainBlock) where
   abbrev TestGood : (Around → Target → Target → Numbered Rest) → Type 0
   TestGood code = (a : Around) (holds fails : Target) (at : ℕ) → StandAt g at (code a holds fails at).made → AroundGood a → IsThere holds → IsThere fails → Good (code a holds fails at).got × AllGoOn (code a holds fails at).made
 
-  inside_good : (behind : Rest) (again : Target) → Good behind → IsThere again → AroundGood (inside behind again)
-  inside_good behind again h t = record { breaks = h; continues = t }
+  inside_good : (a : Around) (behind : Rest) (again : Target) → AroundGood a → Good behind → IsThere again → AroundGood (inside a behind again)
+  inside_good a behind again around h t = record { breaks = h; continues = t; catches = around.catches }
+
+  guarded_good : (a : Around) (ks : List Caught) → AroundGood a → CatchesGood ks → AroundGood (guarded a ks)
+  guarded_good a ks around h = record { breaks = around.breaks; continues = around.continues; catches = h }
 
   -- Loops
 
   looped_good : (head start : Point) (behind : Rest) (fails : Target) (test : Around → Target → Target → Numbered Rest) (code : Around → Rest → Numbered Rest) → TestGood test → CodeGood code
-      → (a : Around) (at : ℕ) → StandAt g at (looped head start (λ holds. test a holds fails) (λ again. code (inside behind again) (Jumps again)) at).made → AroundGood a → Good behind → IsThere fails
-      → Good (looped head start (λ holds. test a holds fails) (λ again. code (inside behind again) (Jumps again)) at).got × AllGoOn (looped head start (λ holds. test a holds fails) (λ again. code (inside behind again) (Jumps again)) at).made
+      → (a : Around) (at : ℕ) → StandAt g at (looped a head start (λ holds. test a holds fails) (λ again. code (inside a behind again) (Jumps again)) at).made → AroundGood a → Good behind → IsThere fails
+      → Good (looped a head start (λ holds. test a holds fails) (λ again. code (inside a behind again) (Jumps again)) at).got × AllGoOn (looped a head start (λ holds. test a holds fails) (λ again. code (inside a behind again) (Jumps again)) at).made
   looped_good head start behind fails test code tests bodies a at stand around h f =
-      let first : Target = record { number = at + 1; rank = 0 } in
+      let first : Target = record { number = at + 1; rank = rank_in a 0 } in
       let two : at + 1 + 1 ≡ at + 2 = omega arith in
       let t = test a first fails (at + 2) in
-      let again : Target = record { number = at; rank = rank_of t.got } in
+      let again : Target = record { number = at; rank = rank_in a (rank_of t.got) } in
       let at3 = at + 2 + length t.made in
-      let b = code (inside behind again) (Jumps again) at3 in
+      let b = code (inside a behind again) (Jumps again) at3 in
       let rest = subst (λ k. StandAt g k (t.made ++ b.made)) two stand.1.1 in
-      let there : IsThere again = record { b = block head t.got; is = stand.0; rank = refl } in
-      let first_there : IsThere first = record { b = block start (front IMark b.got); is = stand.1.0; rank = refl } in
+      let there : IsThere again = record { b = block a head t.got; is = stand.0; rank = refl } in
+      let first_there : IsThere first = record { b = block a start (front IMark b.got); is = stand.1.0; rank = refl } in
       let test_good = tests a first fails (at + 2) (stand_first g (at + 2) t.made b.made rest) around first_there f in
-      let body_good = bodies (inside behind again) (Jumps again) at3 (stand_behind g (at + 2) t.made b.made rest) (inside_good behind again h there) there in
-      (there, more_made (block head t.got) (block start (front IMark b.got) ∷ t.made ++ b.made) (good_block head t.got test_good.0) (more_made (block start (front IMark b.got)) (t.made ++ b.made) (good_block start (front IMark b.got) (good_front IMark b.got body_good.0)) (both_made t.made b.made test_good.1 body_good.1)))
+      let body_good = bodies (inside a behind again) (Jumps again) at3 (stand_behind g (at + 2) t.made b.made rest) (inside_good a behind again around h there) there in
+      (there, more_made (block a head t.got) (block a start (front IMark b.got) ∷ t.made ++ b.made) (good_block a head t.got around test_good.0) (more_made (block a start (front IMark b.got)) (t.made ++ b.made) (good_block a start (front IMark b.got) around (good_front IMark b.got body_good.0)) (both_made t.made b.made test_good.1 body_good.1)))
 
-  endless_good : (head : Point) (behind : Rest) (code : Around → Rest → Numbered Rest) → CodeGood code → (at : ℕ) → StandAt g at (endless head (λ again. code (inside behind again) (Jumps again)) at).made → Good behind
-      → Good (endless head (λ again. code (inside behind again) (Jumps again)) at).got × AllGoOn (endless head (λ again. code (inside behind again) (Jumps again)) at).made
-  endless_good head behind code bodies at stand h =
-      let again : Target = record { number = at; rank = 0 } in
-      let b = code (inside behind again) (Jumps again) (at + 1) in
-      let there : IsThere again = record { b = block head (front IMark b.got); is = stand.0; rank = refl } in
-      let body_good = bodies (inside behind again) (Jumps again) (at + 1) stand.1 (inside_good behind again h there) there in
-      (there, more_made (block head (front IMark b.got)) b.made (good_block head (front IMark b.got) (good_front IMark b.got body_good.0)) body_good.1)
+  endless_good : (head : Point) (behind : Rest) (code : Around → Rest → Numbered Rest) → CodeGood code → (a : Around) (at : ℕ) → StandAt g at (endless a head (λ again. code (inside a behind again) (Jumps again)) at).made → AroundGood a → Good behind
+      → Good (endless a head (λ again. code (inside a behind again) (Jumps again)) at).got × AllGoOn (endless a head (λ again. code (inside a behind again) (Jumps again)) at).made
+  endless_good head behind code bodies a at stand around h =
+      let again : Target = record { number = at; rank = rank_in a 0 } in
+      let b = code (inside a behind again) (Jumps again) (at + 1) in
+      let there : IsThere again = record { b = block a head (front IMark b.got); is = stand.0; rank = refl } in
+      let body_good = bodies (inside a behind again) (Jumps again) (at + 1) stand.1 (inside_good a behind again around h there) there in
+      (there, more_made (block a head (front IMark b.got)) b.made (good_block a head (front IMark b.got) around (good_front IMark b.got body_good.0)) body_good.1)
 
   while_good : (b : Bool) (head start : Point) (behind : Rest) (test : Around → Target → Target → Numbered Rest) (code : Around → Rest → Numbered Rest) → TestGood test → CodeGood code
-      → (a : Around) (at : ℕ) → StandAt g at (loop_code b head start behind (λ holds fails. test a holds fails) (λ again. code (inside behind again) (Jumps again)) at).made → AroundGood a → Good behind
-      → Good (loop_code b head start behind (λ holds fails. test a holds fails) (λ again. code (inside behind again) (Jumps again)) at).got
-      × AllGoOn (loop_code b head start behind (λ holds fails. test a holds fails) (λ again. code (inside behind again) (Jumps again)) at).made
-  while_good true head start behind test code tests bodies a at stand around h = endless_good head behind code bodies at stand h
+      → (a : Around) (at : ℕ) → StandAt g at (loop_code a b head start behind (λ holds fails. test a holds fails) (λ again. code (inside a behind again) (Jumps again)) at).made → AroundGood a → Good behind
+      → Good (loop_code a b head start behind (λ holds fails. test a holds fails) (λ again. code (inside a behind again) (Jumps again)) at).got
+      × AllGoOn (loop_code a b head start behind (λ holds fails. test a holds fails) (λ again. code (inside a behind again) (Jumps again)) at).made
+  while_good true head start behind test code tests bodies a at stand around h = endless_good head behind code bodies a at stand around h
   while_good false head start behind test code tests bodies a at stand around h =
-      let to = lodge head behind at in
-      let fails = lodge_there head behind at (stand_first g at to.made _ stand) h in
+      let to = lodge a head behind at in
+      let fails = lodge_there a head behind at (stand_first g at to.made _ stand) around h in
       let loop = looped_good head start behind to.got test code tests bodies a (at + length to.made) (stand_behind g at to.made _ stand) around h fails.0 in
       (loop.0, both_made to.made _ fails.1 loop.1)
 
@@ -173,27 +222,48 @@ module _ (tables : List PlainTable) (g : List PlainBlock) where
     stmt_good FBreak known a c at stand around h = (around.breaks, none_made)
     stmt_good FContinue known a c at stand around h = (around.continues, none_made)
     stmt_good (FCall on callee args into after) known a c at stand around h =
-        let to = lodge after c at in
-        let there = lodge_there after c at (stand_first g at to.made [] stand) h in
+        let to = lodge a after c at in
+        let there = lodge_there a after c at (stand_first g at to.made [] stand) around h in
         (record { names = (known, has_block to.got there.0); ranks = λ none. tt }, both_made to.made [] there.1 none_made)
     stmt_good (FMake class args into after) known a c at stand around h =
-        let to = lodge after c at in
-        let there = lodge_there after c at (stand_first g at to.made [] stand) h in
+        let to = lodge a after c at in
+        let there = lodge_there a after c at (stand_first g at to.made [] stand) around h in
         (record { names = (known, has_block to.got there.0); ranks = λ none. tt }, both_made to.made [] there.1 none_made)
     stmt_good (FIf arms other after) known a c at stand around h =
-        let join = joined after c at in
+        let join = joined a after c at in
         let at2 = at + length join.made in
         let rest = split_all other a join.got at2 in
         let stand2 = stand_behind g at join.made _ stand in
-        let first = joined_good after c at (stand_first g at join.made _ stand) h in
+        let first = joined_good a after c at (stand_first g at join.made _ stand) around h in
         let second = stmts_good other known.1 a join.got at2 (stand_first g at2 rest.made _ stand2) around first.0 in
         let third = arms_good arms known.0 a join.got rest.got (at2 + length rest.made) (stand_behind g at2 rest.made _ stand2) around first.0 second.0 in
         (third.0, both_made join.made _ first.1 (both_made rest.made _ second.1 third.1))
     stmt_good (FWhile head test start body after) known a c at stand around h =
-        let behind = joined after c at in
-        let first = joined_good after c at (stand_first g at behind.made _ stand) h in
+        let behind = outlet a after c at in
+        let first = outlet_good a after c at (stand_first g at behind.made _ stand) around h in
         let second = while_good (always test) head start behind.got (λ a holds fails at. split_test test a holds fails at) (λ a c at. split_all body a c at) (test_good test known.0) (stmts_good body known.1) a (at + length behind.made) (stand_behind g at behind.made _ stand) around first.0 in
         (second.0, both_made behind.made _ first.1 second.1)
+    stmt_good (FTry start body clauses after) known a c at stand around h =
+        let behind = outlet a after c at in
+        let at2 = at + length behind.made in
+        let ks = split_clauses clauses a behind.got at2 in
+        let at3 = at2 + length ks.made in
+        let inner = guarded a ks.got in
+        let begin = split_all body inner behind.got at3 in
+        let at4 = at3 + length begin.made in
+        let to = lodge inner start begin.got at4 in
+        let made4 = to.made ++ [] in
+        let made3 = begin.made ++ made4 in
+        let made2 = ks.made ++ made3 in
+        let stand2 = stand_behind g at behind.made made2 stand in
+        let stand3 = stand_behind g at2 ks.made made3 stand2 in
+        let stand4 = stand_behind g at3 begin.made made4 stand3 in
+        let first = outlet_good a after c at (stand_first g at behind.made made2 stand) around h in
+        let second = clauses_good clauses known.1 a behind.got at2 (stand_first g at2 ks.made made3 stand2) around first.0 in
+        let within = guarded_good a ks.got around second.0 in
+        let third = stmts_good body known.0 inner behind.got at3 (stand_first g at3 begin.made made4 stand3) within first.0 in
+        let last = lodge_there inner start begin.got at4 (stand_first g at4 to.made [] stand4) within third.0 in
+        (last.0, both_made behind.made made2 first.1 (both_made ks.made made3 second.1 (both_made begin.made made4 third.1 (both_made to.made [] last.1 none_made))))
 
     stmts_good : (xs : PlainFlatStmts) → EachInAll (CalleeIsThere tables) (CreatedIsThere tables) xs → CodeGood (λ a c at. split_all xs a c at)
     stmts_good FNoStmt known a c at stand around h = (h, none_made)
@@ -205,11 +275,11 @@ module _ (tables : List PlainTable) (g : List PlainBlock) where
     arms_good (FMoreArms (FArm test start body otherwise) more) known a c rest at stand around h r =
         let later = split_arms more a c rest at in
         let at2 = at + length later.made in
-        let fails = lodge otherwise later.got at2 in
+        let fails = lodge a otherwise later.got at2 in
         let at3 = at2 + length fails.made in
         let begin = split_all body a c at3 in
         let at4 = at3 + length begin.made in
-        let holds = lodge start begin.got at4 in
+        let holds = lodge a start begin.got at4 in
         let at5 = at4 + length holds.made in
         let tested = split_test test a holds.got fails.got at5 in
         let made4 = holds.made ++ tested.made in
@@ -219,11 +289,29 @@ module _ (tables : List PlainTable) (g : List PlainBlock) where
         let stand3 = stand_behind g at2 fails.made made3 stand2 in
         let stand4 = stand_behind g at3 begin.made made4 stand3 in
         let first = arms_good more known.2 a c rest at (stand_first g at later.made made2 stand) around h r in
-        let second = lodge_there otherwise later.got at2 (stand_first g at2 fails.made made3 stand2) first.0 in
+        let second = lodge_there a otherwise later.got at2 (stand_first g at2 fails.made made3 stand2) around first.0 in
         let third = stmts_good body known.1 a c at3 (stand_first g at3 begin.made made4 stand3) around h in
-        let fourth = lodge_there start begin.got at4 (stand_first g at4 holds.made tested.made stand4) third.0 in
+        let fourth = lodge_there a start begin.got at4 (stand_first g at4 holds.made tested.made stand4) around third.0 in
         let last = test_good test known.0 a holds.got fails.got at5 (stand_behind g at4 holds.made tested.made stand4) around fourth.0 second.0 in
         (last.0, both_made later.made made2 first.1 (both_made fails.made made3 second.1 (both_made begin.made made4 third.1 (both_made holds.made tested.made fourth.1 last.1))))
+
+    clauses_good : (clauses : PlainFlatClauses) → EachInClauses (CalleeIsThere tables) (CreatedIsThere tables) clauses → (a : Around) (c : Rest) (at : ℕ) → StandAt g at (split_clauses clauses a c at).made → AroundGood a → Good c
+        → CatchesGood (split_clauses clauses a c at).got × AllGoOn (split_clauses clauses a c at).made
+    clauses_good FNoClause known a c at stand around h = (around.catches, none_made)
+    clauses_good (FMoreClauses (FClause kinds start body) more) known a c at stand around h =
+        let later = split_clauses more a c at in
+        let at2 = at + length later.made in
+        let begin = split_all body a c at2 in
+        let at3 = at2 + length begin.made in
+        let to = homed a start begin.got at3 in
+        let made3 = to.made ++ [] in
+        let made2 = begin.made ++ made3 in
+        let stand2 = stand_behind g at later.made made2 stand in
+        let stand3 = stand_behind g at2 begin.made made3 stand2 in
+        let first = clauses_good more known.1 a c at (stand_first g at later.made made2 stand) around h in
+        let second = stmts_good body known.0 a c at2 (stand_first g at2 begin.made made3 stand2) around h in
+        let third = homed_there a start begin.got at3 (stand_first g at3 to.made [] stand3) around second.0 in
+        (All-cons (λ (k : Caught). IsThere k.to) (record { kinds = kinds; to = to.got }) later.got third.0 first.0, both_made later.made made2 first.1 (both_made begin.made made3 second.1 (both_made to.made [] third.1 none_made)))
 
     test_good : (test : PlainFlatTest) → EachInTest (CalleeIsThere tables) (CreatedIsThere tables) test → TestGood (λ a holds fails at. split_test test a holds fails at)
     test_good (FLeaf before e) known a holds fails at stand around h f = stmts_good before known a (branch e holds fails) at stand around (good_branch e holds fails h f)
@@ -237,19 +325,19 @@ module _ (tables : List PlainTable) (g : List PlainBlock) where
     each_good true (FMoreOperands (FOperand test rest) more) known a holds fails at stand around h f =
         let later = split_each true more a holds fails at in
         let at2 = at + length later.made in
-        let onward = lodge rest later.got at2 in
+        let onward = lodge a rest later.got at2 in
         let stand2 = stand_behind g at later.made _ stand in
         let first = each_good true more known.1 a holds fails at (stand_first g at later.made _ stand) around h f in
-        let second = lodge_there rest later.got at2 (stand_first g at2 onward.made _ stand2) first.0 in
+        let second = lodge_there a rest later.got at2 (stand_first g at2 onward.made _ stand2) around first.0 in
         let last = test_good test known.0 a onward.got fails (at2 + length onward.made) (stand_behind g at2 onward.made _ stand2) around second.0 f in
         (last.0, both_made later.made _ first.1 (both_made onward.made _ second.1 last.1))
     each_good false (FMoreOperands (FOperand test rest) more) known a holds fails at stand around h f =
         let later = split_each false more a holds fails at in
         let at2 = at + length later.made in
-        let onward = lodge rest later.got at2 in
+        let onward = lodge a rest later.got at2 in
         let stand2 = stand_behind g at later.made _ stand in
         let first = each_good false more known.1 a holds fails at (stand_first g at later.made _ stand) around h f in
-        let second = lodge_there rest later.got at2 (stand_first g at2 onward.made _ stand2) first.0 in
+        let second = lodge_there a rest later.got at2 (stand_first g at2 onward.made _ stand2) around first.0 in
         let last = test_good test known.0 a holds onward.got (at2 + length onward.made) (stand_behind g at2 onward.made _ stand2) around h second.0 in
         (last.0, both_made later.made _ first.1 (both_made onward.made _ second.1 last.1))
 
@@ -257,6 +345,7 @@ pub blocks_go_on : BlocksGoOn
 blocks_go_on tables flat known =
     let body = split_all (flat_stmts_of flat.body) outermost leave 1 in
     let g = split_blocks flat in
-    let stand = stand_all body.made (block flat.params body.got ∷ []) in
-    let good = stmts_good tables g (flat_stmts_of flat.body) known outermost leave 1 stand (record { breaks = good_leave tables g; continues = good_leave tables g }) (good_leave tables g) in
-    more_made tables g (block flat.params body.got) body.made (good_block tables g flat.params body.got good.0) good.1
+    let stand = stand_all body.made (block outermost flat.params body.got ∷ []) in
+    let around : AroundGood tables g outermost = record { breaks = good_leave tables g; continues = good_leave tables g; catches = All-nil (λ (k : Caught). IsThere tables g k.to) } in
+    let good = stmts_good tables g (flat_stmts_of flat.body) known outermost leave 1 stand around (good_leave tables g) in
+    more_made tables g (block outermost flat.params body.got) body.made (good_block tables g outermost flat.params body.got around good.0) good.1

@@ -36,7 +36,7 @@ module _ {W : Type 0} (s : Site W) where
   method_ends g (Returns v w n) = refl
   method_ends g (Breaks vars w n) = record { fuel = 0; by = λ number. refl }
   method_ends g (Continues vars w n) = record { fuel = 0; by = λ number. refl }
-  method_ends g (Fails f vars w n) = refl
+  method_ends g (Fails f vars w n) = record { fuel = 0; by = refl }
 
   pub body_comes : CallsTakeSteps s.calls → (leaves : Leaving) (flat : PlainFlat) → AreFlat leaves (flat_stmts_of flat.body) → CalleesAreNamed s.src (flat_stmts_of flat.body)
       → (vars : List Var) (w : W) (n : ℕ) → ComesTo s (split_blocks flat) vars w n (result_of (run s flat.body vars w n))
@@ -44,8 +44,8 @@ module _ {W : Type 0} (s : Site W) where
   body_comes calls leaves flat is_flat named vars w n =
       let body = split_all (flat_stmts_of flat.body) outermost leave 1 in
       let g = split_blocks flat in
-      let stand = stand_all body.made (block flat.params body.got ∷ []) in
-      let r = (stmts_lead s calls g leaves (flat_stmts_of flat.body) is_flat named outermost leave 1 stand vars w n).by _ (method_ends g (run s flat.body vars w n)) in
+      let stand = stand_all body.made (block outermost flat.params body.got ∷ []) in
+      let r = (stmts_lead s calls g leaves (flat_stmts_of flat.body) is_flat named outermost (record { breaks = tt; continues = tt }) leave 1 stand vars w n).by _ (method_ends g (run s flat.body vars w n)) in
       record { fuel = suc r.fuel; by = r.by 0 }
 
 pub blocks_mean_flat : BlocksMeanFlat

@@ -6,9 +6,9 @@ use Rattle.py_tree.specs.declared.stmt.Target.TheVariants as target
 use Rattle.py_tree.specs.PlainExpressions.{PlainExpr, PBool, PVar, PSelf, PAttr, PChain, PNoExpr, PExpr, PLink, PNoLink, PMoreLinks}
 use Rattle.py_tree.specs.PlainStatements.{PlainStmt, PReturn, PAssign, PNoStmt, PStmt}
 use Rattle.py_tree.specs.Reachability.{goes_on}
-use Rattle.block_code.specs.PlainBlocks.{PlainItem, IMark, ISet, IPut, ICode, PlainEnd, EJump, EBranch, ELeave, ECall, PlainBlock}
+use Rattle.block_code.specs.PlainBlocks.{PlainItem, IMark, ISet, IPut, ICode, PlainEnd, EJump, EBranch, ELeave, ECall, PlainCatch, PlainBlock}
 use Rattle.flat_tree.specs.declared.tree.Callee.{Callee}
-use Rattle.flat_tree.specs.PlainFlat.{Point, FMark, FSet, FPut, FCode, FBreak, FContinue, FCall, FIf, FWhile, FNoStmt, FStmt, FArm, FNoArm, FMoreArms, PlainFlatTest, FLeaf, FAnd, FOperand, FNoOperand, FMoreOperands}
+use Rattle.flat_tree.specs.PlainFlat.{Point, PlainFlatStmts, FMark, FSet, FPut, FCode, FBreak, FContinue, FCall, FIf, FWhile, FTry, FNoStmt, FStmt, FArm, FNoArm, FMoreArms, FClause, PlainFlatClauses, FNoClause, FMoreClauses, PlainFlatTest, FLeaf, FAnd, FOperand, FNoOperand, FMoreOperands}
 use Rattle.method_splitter.specs.Split.{split, split_blocks}
 
 module _ (at : Place) where
@@ -91,3 +91,48 @@ module _ (at : Place) where
       ∷ []
   unfolding split goes_on
   go params after = refl
+
+  -- a block among catches
+  abbrev caught : Point → List PlainItem → PlainEnd → ℕ → List PlainCatch → PlainBlock
+  caught params code end rank catches = record { params = params; code = code; end = end; rank = rank; catches = catches }
+
+  abbrev catch : List ℕ → ℕ → PlainCatch
+  catch kinds to = record { kinds = kinds; to = to }
+
+  abbrev except : List ℕ → Point → PlainFlatStmts → PlainFlatClauses
+  except kinds start body = FMoreClauses (FClause kinds start body) FNoClause
+
+  -- `try: b.f()`, `except NoEntity: x = r`, and then `return r`: what stands behind isn't among the catches
+  tried : (b r : PlainExpr) (params start first called after : Point)
+      → split_blocks (record { params = params; body = FMark ∷ FTry start (FStmt (FCall b (callee 20 1 2) PNoExpr 50 called) FNoStmt) (except (9 ∷ []) first (FStmt (FCode (set 9 r)) FNoStmt)) (Some after) ∷ FCode (PReturn at (Some r)) ∷ [] })
+      ≡ made params (IMark ∷ []) (EJump 3) 0
+      ∷ made after (code (PReturn at (Some r)) ∷ []) ELeave 0
+      ∷ made first (code (set 9 r) ∷ []) (EJump 1) 0
+      ∷ caught start [] (ECall b 1 2 PNoExpr 50 1) 1 (catch (9 ∷ []) 2 ∷ [])
+      ∷ []
+  unfolding split goes_on
+  tried b r params start first called after = refl
+
+  -- a `try` within a loop, whose clause goes on with the next turn at a block of its own
+  tried_again : (r : PlainExpr) (params head begin start first after : Point)
+      → split_blocks (record { params = params; body = FMark ∷ FWhile head (FLeaf FNoStmt (PVar at 8)) begin (FStmt (FTry start (FStmt FMark FNoStmt) (except (1 ∷ 2 ∷ []) first (FStmt FContinue FNoStmt)) None) FNoStmt) (Some after) ∷ FCode (PReturn at (Some r)) ∷ [] })
+      ≡ made params (IMark ∷ []) (EJump 2) 0
+      ∷ made after (code (PReturn at (Some r)) ∷ []) ELeave 0
+      ∷ made head [] (EBranch (PVar at 8) 3 1) 1
+      ∷ made begin (IMark ∷ []) (EJump 5) 0
+      ∷ made first [] (EJump 2) 2
+      ∷ caught start (IMark ∷ []) ELeave 3 (catch (1 ∷ 2 ∷ []) 4 ∷ [])
+      ∷ []
+  unfolding split goes_on
+  tried_again r params head begin start first after = refl
+
+  -- of two, one within the other, the inner one's clauses come first, and themselves are among the outer one's
+  tried_within : (params outer inner first second : Point)
+      → split_blocks (record { params = params; body = FMark ∷ FTry outer (FStmt (FTry inner (FStmt FMark FNoStmt) (except (1 ∷ []) second FNoStmt) None) FNoStmt) (except (2 ∷ []) first FNoStmt) None ∷ [] })
+      ≡ made params (IMark ∷ []) (EJump 3) 0
+      ∷ made first [] ELeave 0
+      ∷ caught second [] ELeave 1 (catch (2 ∷ []) 1 ∷ [])
+      ∷ caught inner (IMark ∷ []) ELeave 2 (catch (1 ∷ []) 2 ∷ catch (2 ∷ []) 1 ∷ [])
+      ∷ []
+  unfolding split goes_on
+  tried_within params outer inner first second = refl

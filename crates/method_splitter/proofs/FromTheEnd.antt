@@ -2,12 +2,12 @@
 use Rattle.std.proofs.Common.{◌≡◌, ℕ, zero, suc, ◌+◌, ◌<◌, ◌≤◌, arith, Bool, true, false, List, [], ◌∷◌, length, map, take, drop, get_or, if◌then◌else◌, append-nil, refl, sym, ap, subst, ◌∙◌, true≢false}
 use Rattle.std.proofs.lemmas.List.{drop_all}
 use Rattle.block_code.specs.PlainBlocks.{PlainBlock}
-use Rattle.flat_tree.specs.PlainFlat.{PlainFlatStmt, FNoStmt, PlainFlatArm, FArm, FNoArm, PlainOperand, FOperand, FNoOperand, flat_stmts_of, flat_arms_of, operands_of}
+use Rattle.flat_tree.specs.PlainFlat.{PlainFlatStmt, FNoStmt, PlainFlatArm, FArm, FNoArm, PlainFlatClause, FClause, FNoClause, PlainOperand, FOperand, FNoOperand, flat_stmts_of, flat_arms_of, flat_clauses_of, operands_of}
 use Rattle.method_splitter.specs.declared.fault.SplitError.{SplitError}
 use Rattle.method_splitter.specs.declared.fault.SplitError.TheVariants.{TooManyBlocks, NoMemory}
-use Rattle.method_splitter.specs.Split.{Target, Rest, Jumps, rank_of, Around, Numbered, plain, ◌and_then◌, stops, split, split_all, split_arms, split_each}
+use Rattle.method_splitter.specs.Split.{Target, Rest, Jumps, rank_of, Caught, floor, Around, Numbered, plain, ◌and_then◌, stops, split, split_all, split_arms, split_clauses, split_each}
 use Rattle.method_splitter.specs.SmallStatements.{reached_part}
-use Rattle.method_splitter.specs.SplitSteps.{arm_code, and_code, or_code}
+use Rattle.method_splitter.specs.SplitSteps.{arm_code, clause_code, and_code, or_code}
 use Rattle.method_splitter.specs.Numbering.{rank_below, Ready, Made, Fails}
 use Rattle.method_splitter.proofs.NumberLaws.{made_then, fails_then, fails_first, made_plain}
 
@@ -166,6 +166,37 @@ module _ (a : Around) (c other : Rest) (old : List PlainBlock) where
   pub arms_fail_from : (arms : List PlainFlatArm) (i : ℕ) (arm : PlainFlatArm) (more : List PlainFlatArm) (mid : List PlainBlock) (r : Rest) (k : ℕ) (e : SplitError) → drop i arms ≡ arm ∷ more → Made (split_arms (flat_arms_of more) a c other) old mid r k
       → Fails (arm_code arm a c r) mid e → Fails (split_arms (flat_arms_of arms) a c other) old e
   arms_fail_from arms i arm more mid r k e from p q = arms_fail arms i e (subst (λ l. Fails (split_arms (flat_arms_of l) a c other) old e) (sym from) (arm_fails arm more mid r k e p q))
+
+-- Clauses
+
+module _ (a : Around) (c : Rest) (old : List PlainBlock) where
+  no_clause : (ks : List Caught) → ks ≡ a.catches → Ready old (floor a.catches) → Made (split_clauses FNoClause a c) old old ks (floor ks)
+  unfolding split
+  no_clause ks is ready = made_plain a.catches ks old (floor ks) is (record { few = ready.few; low = subst (λ ls. floor ls ≤ length old) (sym is) ready.low })
+
+  pub clauses_begin : (clauses : List PlainFlatClause) (n : ℕ) (ks : List Caught) → length clauses ≤ n → ks ≡ a.catches → Ready old (floor a.catches) → Made (split_clauses (flat_clauses_of (drop n clauses)) a c) old old ks (floor ks)
+  clauses_begin clauses n ks past is ready = subst (λ l. Made (split_clauses (flat_clauses_of l) a c) old old ks (floor ks)) (sym (drop_all n clauses past)) (no_clause ks is ready)
+
+  pub clause_more : (clause : PlainFlatClause) (more : List PlainFlatClause) (mid new : List PlainBlock) (ks ls : List Caught) (k l : ℕ) → Made (split_clauses (flat_clauses_of more) a c) old mid ks k → Made (clause_code clause a c ks) mid new ls l
+      → Made (split_clauses (flat_clauses_of (clause ∷ more)) a c) old new ls l
+  unfolding split
+  clause_more (FClause kinds start body) more mid new ks ls k l p q = made_then _ (λ later. clause_code (FClause kinds start body) a c later) old mid new ks k p ls l q
+
+  clause_fails : (clause : PlainFlatClause) (more : List PlainFlatClause) (mid : List PlainBlock) (ks : List Caught) (k : ℕ) (e : SplitError) → Made (split_clauses (flat_clauses_of more) a c) old mid ks k → Fails (clause_code clause a c ks) mid e
+      → Fails (split_clauses (flat_clauses_of (clause ∷ more)) a c) old e
+  unfolding split
+  clause_fails (FClause kinds start body) more mid ks k e p q = fails_then _ (λ later. clause_code (FClause kinds start body) a c later) old mid mid ks k p e q
+
+  -- what the last clauses fail by, all do
+  clauses_fail : (clauses : List PlainFlatClause) (i : ℕ) (e : SplitError) → Fails (split_clauses (flat_clauses_of (drop i clauses)) a c) old e → Fails (split_clauses (flat_clauses_of clauses) a c) old e
+  unfolding split
+  clauses_fail clauses zero e h = h
+  clauses_fail [] (suc i) e h = h
+  clauses_fail (FClause kinds start body ∷ clauses) (suc i) e h = fails_first (split_clauses (flat_clauses_of clauses) a c) (λ later. clause_code (FClause kinds start body) a c later) old old old [] 0 e (clauses_fail clauses i e h)
+
+  pub clauses_fail_from : (clauses : List PlainFlatClause) (i : ℕ) (clause : PlainFlatClause) (more : List PlainFlatClause) (mid : List PlainBlock) (ks : List Caught) (k : ℕ) (e : SplitError) → drop i clauses ≡ clause ∷ more
+      → Made (split_clauses (flat_clauses_of more) a c) old mid ks k → Fails (clause_code clause a c ks) mid e → Fails (split_clauses (flat_clauses_of clauses) a c) old e
+  clauses_fail_from clauses i clause more mid ks k e from p q = clauses_fail clauses i e (subst (λ l. Fails (split_clauses (flat_clauses_of l) a c) old e) (sym from) (clause_fails clause more mid ks k e p q))
 
 -- Operands
 

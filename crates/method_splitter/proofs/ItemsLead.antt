@@ -13,12 +13,12 @@ use Rattle.program_meaning.specs.Reached.{IsReached}
 use Rattle.program_meaning.proofs.StepsTaken.{eval_takes, acts_take}
 use Rattle.program_meaning.proofs.NotReached.{act_reached}
 use Rattle.block_code.specs.PlainBlocks.{PlainItem, IMark, ISet, IPut, IGive, IFail, ICode, PlainEnd, PlainBlock}
-use Rattle.block_runs.specs.BlockRuns.{run_item, run_items, run_end, fall, behind, run_blocks, recursing}
+use Rattle.block_runs.specs.BlockRuns.{run_item, run_items, run_end, behind, run_blocks, recursing}
 use Rattle.flat_tree.specs.FlatMeaning.{Way, into_local, into_field}
 use Rattle.flat_tree.proofs.InTurn.{next_nothing}
-use Rattle.method_splitter.specs.Split.{Rest, Jumps, Holds, leave, front, front_code, coded, Around, stops}
+use Rattle.method_splitter.specs.Split.{Rest, Jumps, Holds, leave, front, front_code, coded, Caught, Around}
 use Rattle.method_splitter.proofs.LoopsLeft.{StaysInLoop, given_stays}
-use Rattle.method_splitter.proofs.RestsRun.{Stops, Runs, Leads, leads_nowhere, leads_same, front_leads}
+use Rattle.method_splitter.proofs.RestsRun.{Stops, falls_on, Runs, Leads, leads_nowhere, leads_same, front_leads}
 use Rattle.method_splitter.proofs.FewerSteps.{given_few, message_few}
 
 module _ {W : Type 0} (s : Site W) (calls : CallsTakeSteps s.calls) (g : List PlainBlock) where
@@ -65,10 +65,10 @@ module _ {W : Type 0} (s : Site W) (calls : CallsTakeSteps s.calls) (g : List Pl
       leads_same s g a _ c vars w n _ _ (sym same) (front_leads s g a (ICode (PStmt x PNoStmt)) c vars w n (subst StaysInLoop (sym same) stays) (acts_take s calls (PStmt x PNoStmt) vars w n))
 
   -- a statement before others behaves as it does alone before code of the others
-  merged : (a : Around) (x : PlainStmt) (xs : PlainStmts) (is : List PlainItem) (end : PlainEnd) (rank : ℕ) (vars : List Var) (w : W) (n : ℕ) (r : Gives W Value)
-      → Runs s g (front (ICode (PStmt x PNoStmt)) (Holds (ICode xs ∷ is) end rank)) vars w n r → Runs s g (Holds (ICode (PStmt x xs) ∷ is) end 0) vars w n r
+  merged : (ks : List Caught) (x : PlainStmt) (xs : PlainStmts) (is : List PlainItem) (end : PlainEnd) (rank : ℕ) (vars : List Var) (w : W) (n : ℕ) (r : Gives W Value)
+      → Runs s g ks (front (ICode (PStmt x PNoStmt)) (Holds (ICode xs ∷ is) end rank)) vars w n r → Runs s g ks (Holds (ICode (PStmt x xs) ∷ is) end 0) vars w n r
   unfolding run_items run_item act
-  merged a x xs is end rank vars w n r h = record { fuel = h.fuel; by = λ number. ap (λ e. behind (recursing s) e (run_end s (recursing s) number (run_blocks s (recursing s) g h.fuel) (fall (recursing s) [] (run_blocks s (recursing s) g h.fuel)) end) (fall (recursing s) [] (run_blocks s (recursing s) g h.fuel))) same ∙ h.by number }
+  merged ks x xs is end rank vars w n r h = record { fuel = h.fuel; by = λ number. ap (λ e. behind (recursing s) e (run_end s (recursing s) number (run_blocks s (recursing s) g h.fuel) (falls_on s g ks h.fuel) end) (falls_on s g ks h.fuel)) same ∙ h.by number }
     where
       same : next (next (act s x vars w n) (λ vars w n. act_all s xs vars w n)) (run_items s is) ≡ next (next (act s x vars w n) (λ vars w n. Goes vars w n)) (λ vars w n. next (act_all s xs vars w n) (run_items s is))
       same = next_in_turn (act s x vars w n) _ _ ∙ sym (next_in_turn (act s x vars w n) _ _)
@@ -78,7 +78,7 @@ module _ {W : Type 0} (s : Site W) (calls : CallsTakeSteps s.calls) (g : List Pl
   code_leads a x (Holds [] end rank) vars w n stays = alone_leads a x _ vars w n stays
   code_leads a x (Holds (ICode xs ∷ is) end rank) vars w n stays =
       let l = alone_leads a x (Holds (ICode xs ∷ is) end rank) vars w n stays in
-      record { by = λ r h. merged a x xs is end rank vars w n r (l.by r h); fewer = l.fewer }
+      record { by = λ r h. merged a.catches x xs is end rank vars w n r (l.by r h); fewer = l.fewer }
   code_leads a x (Holds (IMark ∷ is) end rank) vars w n stays = alone_leads a x _ vars w n stays
   code_leads a x (Holds (ISet y e ∷ is) end rank) vars w n stays = alone_leads a x _ vars w n stays
   code_leads a x (Holds (IPut y e ∷ is) end rank) vars w n stays = alone_leads a x _ vars w n stays

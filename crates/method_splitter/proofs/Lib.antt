@@ -4,14 +4,17 @@ pub mod FewerSteps
 pub mod ItemsLead
 pub mod EndsLead
 pub mod LoopsLead
+pub mod TriesLead
 pub mod CodeFollows
 pub mod BlocksMean
+pub mod RankLaws
 pub mod BlocksGoOn
 pub mod RanksAreSmall
 pub mod ParamsArePoints
 pub mod OtherOrder
 pub mod RestLaws
 pub mod NumberLaws
+pub mod CatchLaws
 pub mod ReachedParts
 pub mod FromTheEnd
 pub mod StatementsMade

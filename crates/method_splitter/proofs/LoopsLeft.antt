@@ -1,5 +1,5 @@
--- A statement that holds no `break` or `continue` of a loop outside it leaves no loop.
-use Rattle.std.proofs.Common.{◌≡◌, ℕ, zero, suc, ℤ, pos, ◌+ℤ◌, Bool, true, false, ◌||◌, List, [], ◌∷◌, if◌then◌else◌, refl, true≢false}
+-- A statement of which no `break` or `continue` of a loop outside it can be reached leaves no loop.
+use Rattle.std.proofs.Common.{◌≡◌, ℕ, zero, suc, ℤ, pos, ◌+ℤ◌, Bool, true, false, ◌||◌, ◌&&◌, List, [], ◌∷◌, if◌then◌else◌, refl, sym, ap, ◌∙◌, true≢false}
 use Rattle.std.specs.Ordering.{int_cmp, is_lt}
 use Rattle.py_tree.specs.PlainStatements.{PlainStmt, PPass, PBreak, PContinue, PDo, PReturn, PRaise, PAssert, PAssign, PAugment, PIf, PWhile, PFor, PlainStmts, PNoStmt, PStmt, PArm, PlainArms, PNoArm, PMoreArms}
 use Rattle.py_tree.specs.declared.stmt.Target.{Target}
@@ -11,6 +11,9 @@ use Rattle.program_meaning.specs.World.{Gives, Got, Fell, Ends, Goes, Returns, B
 use Rattle.program_meaning.specs.Operations.{is_true}
 use Rattle.program_meaning.specs.Evaluation.{Site, eval}
 use Rattle.program_meaning.specs.Execution.{stepping, store, augmented, value_or_none, message, Turns, Items, Numbers, turns_of, turn, counting, over_items, over_numbers, over_turns, while_turns, act, act_all, act_arms}
+use Rattle.py_tree.specs.Reachability.{goes_on, breaks}
+use Rattle.program_meaning.specs.Reached.{IsReached}
+use Rattle.program_meaning.proofs.NotReached.{act_reached}
 use Rattle.flat_tree.specs.FlatMeaning.{Way}
 use Rattle.flat_tree.specs.Flatness.{jumps, all_jump, arms_jump}
 
@@ -52,6 +55,14 @@ module _ {W : Type 0} where
   next_stays (Breaks vars w n) f stays later = stays
   next_stays (Continues vars w n) f stays later = stays
   next_stays (Fails e vars w n) f stays later = tt
+
+  -- what stands behind it stays in the loop too where that is reached
+  reached_stays : (go leave : Bool) (e : Ends W) (f : Way W) → IsReached go leave e → StaysInLoop e → (go ≡ true → WayStays f) → StaysInLoop (next e f)
+  reached_stays go leave (Goes vars w n) f reached stays later = later reached vars w n
+  reached_stays go leave (Returns v w n) f reached stays later = tt
+  reached_stays go leave (Breaks vars w n) f reached stays later = stays
+  reached_stays go leave (Continues vars w n) f reached stays later = stays
+  reached_stays go leave (Fails e vars w n) f reached stays later = tt
 
   -- a turn may end so or so
   turn_stays : (e : Ends W) (f : Way W) → WayStays f → StaysInLoop (next_turn e f)
@@ -113,7 +124,9 @@ module _ {W : Type 0} where
 
       acts_stay : (xs : PlainStmts) → all_jump xs ≡ false → WayStays (act_all s xs)
       acts_stay PNoStmt none vars w n = tt
-      acts_stay (PStmt x xs) none vars w n = next_stays (act s x vars w n) _ (act_stays x (neither_first (jumps x) _ none) vars w n) (acts_stay xs (neither_second (jumps x) _ none))
+      acts_stay (PStmt x xs) none vars w n =
+          reached_stays (goes_on x) (breaks x) (act s x vars w n) _ (act_reached s x vars w n) (act_stays x (neither_first (jumps x) _ none) vars w n)
+          (λ go. acts_stay xs (sym (ap (λ b. b && all_jump xs) go) ∙ neither_second (jumps x) _ none))
 
       arms_stay : (arms : PlainArms) → arms_jump arms ≡ false → (other : Way W) → WayStays other → WayStays (act_arms s arms other)
       arms_stay PNoArm none other later vars w n = later vars w n

@@ -68,4 +68,4 @@ module _ {A : Type 0} (m : Numbered A) (old new : List PlainBlock) (x : A) (k : 
   ready_later r ready = record { few = p.ready.few; low = at_most ready.low longer }
 
   pub around_later : (a : Around) → AroundReady old a → AroundReady new a
-  around_later a ready = record { breaks = at_most ready.breaks longer; continues = at_most ready.continues longer }
+  around_later a ready = record { breaks = at_most ready.breaks longer; continues = at_most ready.continues longer; catches = at_most ready.catches longer }

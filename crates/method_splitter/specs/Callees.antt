@@ -7,7 +7,7 @@ use Rattle.program_meaning.specs.Evaluation.{class_of}
 use Rattle.block_runs.specs.BlockRuns.{name_if_there}
 use Rattle.flat_tree.specs.declared.tree.Callee.{Callee}
 use Rattle.flat_tree.specs.declared.tree.Created.{Created}
-use Rattle.flat_tree.specs.PlainFlat.{PlainFlatStmt, FMark, FSet, FPut, FGive, FFail, FCode, FBreak, FContinue, FCall, FMake, FIf, FWhile, PlainFlatStmts, FNoStmt, FStmt, FArm, PlainFlatArms, FNoArm, FMoreArms, PlainFlatTest, FLeaf, FNot, FAnd, FOr, FOperand, PlainOperands, FNoOperand, FMoreOperands}
+use Rattle.flat_tree.specs.PlainFlat.{PlainFlatStmt, FMark, FSet, FPut, FGive, FFail, FCode, FBreak, FContinue, FCall, FMake, FIf, FWhile, FTry, PlainFlatStmts, FNoStmt, FStmt, FArm, PlainFlatArms, FNoArm, FMoreArms, FClause, PlainFlatClauses, FNoClause, FMoreClauses, PlainFlatTest, FLeaf, FNot, FAnd, FOr, FOperand, PlainOperands, FNoOperand, FMoreOperands}
 
 module _ (P : Callee → Type 0) (Q : Created → Type 0) where
   unfoldable mutual
@@ -24,6 +24,7 @@ module _ (P : Callee → Type 0) (Q : Created → Type 0) where
     Each (FMake class args into after) = Q class
     Each (FIf arms other after) = EachInArms arms × EachInAll other
     Each (FWhile head test start body after) = EachInTest test × EachInAll body
+    Each (FTry start body clauses after) = EachInAll body × EachInClauses clauses
 
     pub EachInAll : PlainFlatStmts → Type 0
     EachInAll FNoStmt = ⊤
@@ -32,6 +33,10 @@ module _ (P : Callee → Type 0) (Q : Created → Type 0) where
     pub EachInArms : PlainFlatArms → Type 0
     EachInArms FNoArm = ⊤
     EachInArms (FMoreArms (FArm test start body rest) more) = EachInTest test × EachInAll body × EachInArms more
+
+    pub EachInClauses : PlainFlatClauses → Type 0
+    EachInClauses FNoClause = ⊤
+    EachInClauses (FMoreClauses (FClause kinds start body) more) = EachInAll body × EachInClauses more
 
     pub EachInTest : PlainFlatTest → Type 0
     EachInTest (FLeaf before e) = EachInAll before

@@ -7,8 +7,9 @@ use Rattle.method_splitter.specs.declared.fault.SplitError.{SplitError}
 use Rattle.method_splitter.specs.declared.fault.SplitError.TheVariants.{TooManyBlocks, NoMemory}
 use Rattle.method_splitter.specs.declared.rest.Target as target
 use Rattle.method_splitter.specs.declared.rest.Rest as rest
-use Rattle.method_splitter.specs.Split.{Target, Rest, rank_of, Around, Numbered, split_blocks}
-use Rattle.method_splitter.specs.Rests.{plain_target, plain_rest}
+use Rattle.method_splitter.specs.declared.around.Caught as caught
+use Rattle.method_splitter.specs.Split.{Target, Rest, rank_of, Caught, floor, Around, Numbered, split_blocks}
+use Rattle.method_splitter.specs.Rests.{plain_target, plain_rest, plain_caughts}
 
 -- so many blocks have numbers, and their number has 32 bits too
 abbrev pub most_blocks : ℕ
@@ -27,10 +28,11 @@ pub record Ready (blocks : List PlainBlock) (rank : ℕ) : Type 0 where
   pub few : length blocks ≤ 4294967295
   pub low : rank ≤ length blocks
 
--- so it is with the rests where `break` and `continue` go on
+-- so it is with where `break`, `continue` and failures go on
 pub record AroundReady (blocks : List PlainBlock) (around : Around) : Type 0 where
   pub breaks : rank_of around.breaks ≤ length blocks
   pub continues : rank_of around.continues ≤ length blocks
+  pub catches : floor around.catches ≤ length blocks
 
 -- behind what was there stand the blocks that are made from the first free number, and this is what is got
 pub record Made {A : Type 0} (m : Numbered A) (old new : List PlainBlock) (got : A) (rank : ℕ) : Type 0 where
@@ -55,6 +57,10 @@ MakesRest m old new (Err e) = Fails m (plain_blocks old) e
 abbrev pub MakesTarget : Numbered Target → List Block → List Block → Result target.Target SplitError → Type 0
 MakesTarget m old new (Ok made) = Made m (plain_blocks old) (plain_blocks new) (plain_target made) (rank_below (plain_target made))
 MakesTarget m old new (Err e) = Fails m (plain_blocks old) e
+
+abbrev pub MakesCaughts : Numbered (List Caught) → List Block → List Block → Result (List caught.Caught) SplitError → Type 0
+MakesCaughts m old new (Ok made) = Made m (plain_blocks old) (plain_blocks new) (plain_caughts made) (floor (plain_caughts made))
+MakesCaughts m old new (Err e) = Fails m (plain_blocks old) e
 
 -- a block at the first free number
 abbrev pub AddsBlock : PlainBlock → List PlainBlock → List PlainBlock → Result ℕ SplitError → Type 0

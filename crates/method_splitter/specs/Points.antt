@@ -1,6 +1,6 @@
 -- What is asked of each point of flat code.
 use Rattle.std.specs.Prelude.{◌≡◌, Bool, true, ⊤, IfSome}
-use Rattle.flat_tree.specs.PlainFlat.{Point, PlainFlatStmt, FMark, FSet, FPut, FGive, FFail, FCode, FBreak, FContinue, FCall, FMake, FIf, FWhile, PlainFlatStmts, FNoStmt, FStmt, FArm, PlainFlatArms, FNoArm, FMoreArms, PlainFlatTest, FLeaf, FNot, FAnd, FOr, FOperand, PlainOperands, FNoOperand, FMoreOperands}
+use Rattle.flat_tree.specs.PlainFlat.{Point, PlainFlatStmt, FMark, FSet, FPut, FGive, FFail, FCode, FBreak, FContinue, FCall, FMake, FIf, FWhile, FTry, PlainFlatStmts, FNoStmt, FStmt, FArm, PlainFlatArms, FNoArm, FMoreArms, FClause, PlainFlatClauses, FNoClause, FMoreClauses, PlainFlatTest, FLeaf, FNot, FAnd, FOr, FOperand, PlainOperands, FNoOperand, FMoreOperands}
 
 module _ (passes : Point → Bool) where
   abbrev pub Passes : Point → Type 0
@@ -20,6 +20,7 @@ module _ (passes : Point → Bool) where
     PointsPass (FMake class args into after) = Passes after
     PointsPass (FIf arms other after) = PointsPassInArms arms × PointsPassInAll other × IfSome after Passes
     PointsPass (FWhile head test start body after) = Passes head × PointsPassInTest test × Passes start × PointsPassInAll body × IfSome after Passes
+    PointsPass (FTry start body clauses after) = Passes start × PointsPassInAll body × PointsPassInClauses clauses × IfSome after Passes
 
     pub PointsPassInAll : PlainFlatStmts → Type 0
     PointsPassInAll FNoStmt = ⊤
@@ -29,6 +30,10 @@ module _ (passes : Point → Bool) where
     PointsPassInArms FNoArm = ⊤
     PointsPassInArms (FMoreArms (FArm test start body rest) more) =
         PointsPassInTest test × Passes start × PointsPassInAll body × Passes rest × PointsPassInArms more
+
+    pub PointsPassInClauses : PlainFlatClauses → Type 0
+    PointsPassInClauses FNoClause = ⊤
+    PointsPassInClauses (FMoreClauses (FClause kinds start body) more) = Passes start × PointsPassInAll body × PointsPassInClauses more
 
     pub PointsPassInTest : PlainFlatTest → Type 0
     PointsPassInTest (FLeaf before e) = PointsPassInAll before

@@ -7,8 +7,9 @@ use Rattle.method_splitter.specs.declared.rest.Target as target
 use Rattle.method_splitter.specs.declared.rest.Held.{Held}
 use Rattle.method_splitter.specs.declared.rest.Rest as rest
 use Rattle.method_splitter.specs.declared.rest.Rest.TheVariants as variant
-use Rattle.method_splitter.specs.declared.rest.Around as around
-use Rattle.method_splitter.specs.Split.{Target, Rest, Jumps, Holds, Around}
+use Rattle.method_splitter.specs.declared.around.Caught as caught
+use Rattle.method_splitter.specs.declared.around.Around as around
+use Rattle.method_splitter.specs.Split.{Target, Rest, Jumps, Holds, Caught, Around}
 
 -- statements in the other order, before others
 unfoldable pub onto : PlainStmts → PlainStmts → PlainStmts
@@ -49,5 +50,11 @@ abbrev pub plain_rest : rest.Rest → Rest
 plain_rest (variant.Jumps to) = Jumps (plain_target to)
 plain_rest (variant.Holds h) = plain_held h
 
+abbrev pub plain_caught : caught.Caught → Caught
+plain_caught k = record { kinds = k.kinds; to = plain_target k.to }
+
+abbrev pub plain_caughts : List caught.Caught → List Caught
+plain_caughts = map plain_caught
+
 abbrev pub plain_around : around.Around → Around
-plain_around a = record { breaks = plain_rest a.breaks; continues = plain_rest a.continues }
+plain_around a = record { breaks = plain_rest a.breaks; continues = plain_rest a.continues; catches = plain_caughts a.catches }

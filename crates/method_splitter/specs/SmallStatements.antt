@@ -4,7 +4,7 @@ use Rattle.py_tree.specs.PlainExpressions.{PlainExpr, PlainExprs}
 use Rattle.py_tree.specs.Reachability.{goes_on}
 use Rattle.block_code.specs.PlainBlocks.{IMark, ISet, IPut, IGive, IFail, ECall}
 use Rattle.flat_tree.specs.declared.tree.Callee.{Callee}
-use Rattle.flat_tree.specs.PlainFlat.{PlainFlatStmt, FMark, FSet, FPut, FGive, FFail, FCode, FBreak, FContinue, FCall, FMake, FIf, FWhile}
+use Rattle.flat_tree.specs.PlainFlat.{PlainFlatStmt, FMark, FSet, FPut, FGive, FFail, FCode, FBreak, FContinue, FCall, FMake, FIf, FWhile, FTry}
 use Rattle.method_splitter.specs.Split.{Rest, Holds, Around, leave, front, coded, stops}
 
 abbrev pub is_small : PlainFlatStmt → Bool
@@ -12,6 +12,7 @@ is_small (FCall on callee args into after) = false
 is_small (FMake class args into after) = false
 is_small (FIf arms other after) = false
 is_small (FWhile head test start body after) = false
+is_small (FTry start body clauses after) = false
 is_small _ = true
 
 -- the rest where a small statement begins that goes on at another

@@ -4,6 +4,7 @@
 //! mean is said at the functions of `laws`.
 #![tactic(auto)]
 
+mod around;
 mod blocks;
 mod fault;
 mod laws;

@@ -39,13 +39,6 @@ pub enum Rest {
     Holds(Held),
 }
 
-/// Where `break` and `continue` go on.
-#[derive(Drop)]
-pub struct Around {
-    pub breaks: Rest,
-    pub continues: Rest,
-}
-
 /// An end without code before it.
 pub fn ending(alloc: Global, end: End, rank: u32) -> Rest
     ensures { plain_rest result ≡ spec.Holds [] (plain_end end) rank }

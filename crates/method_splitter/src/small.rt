@@ -9,7 +9,8 @@ ghost use Rattle.method_splitter.specs.Split as spec;
 ghost use Rattle.method_splitter.specs.SmallStatements as statement;
 ghost use Rattle.method_splitter.specs.Rests.{plain_rest, plain_around};
 
-use crate::rest::{Around, Rest, coded, copy_rest, ending, front, leave};
+use crate::around::Around;
+use crate::rest::{Rest, coded, copy_rest, ending, front, leave};
 use block_code::{End, Item};
 use flat_tree::{Callee, Created, FlatStmt};
 use py_tree::{Expr, Exprs, Name};
@@ -60,7 +61,8 @@ pub fn small(
         FlatStmt::Call { .. }
         | FlatStmt::Make { .. }
         | FlatStmt::If { .. }
-        | FlatStmt::While { .. } => Ok(rest),
+        | FlatStmt::While { .. }
+        | FlatStmt::Try { .. } => Ok(rest),
     }
 }
 

@@ -5,22 +5,23 @@ ghost use Rattle.py_tree.specs.PlainExpressions.{plain_expr, plain_exprs, exprs_
 ghost use Rattle.py_tree.specs.PlainStatements.{plain_option};
 ghost use Rattle.block_code.specs.PlainVars.{plain_vars};
 ghost use Rattle.block_code.specs.PlainBlocks.{plain_block, plain_blocks};
-ghost use Rattle.flat_tree.specs.PlainFlat.{flat_stmts_of, plain_flat_stmt, plain_flat_stmts, plain_flat_arm, plain_flat_test, plain_operand, plain_flat};
+ghost use Rattle.flat_tree.specs.PlainFlat.{flat_stmts_of, plain_flat_stmt, plain_flat_stmts, plain_flat_arm, plain_flat_clause, plain_flat_test, plain_operand, plain_flat};
 ghost use Rattle.method_splitter.specs.Split as spec;
 ghost use Rattle.method_splitter.specs.Split.{◌and_then◌};
 ghost use Rattle.method_splitter.specs.SmallStatements as statement;
 ghost use Rattle.method_splitter.specs.SmallStatements.{reached_part};
-ghost use Rattle.method_splitter.specs.Rests.{plain_target, plain_rest, plain_around};
-ghost use Rattle.method_splitter.specs.SplitSteps.{arm_code, and_code, or_code, body_code, endless_code, head_code, MakesBody};
-ghost use Rattle.method_splitter.specs.TreesSplit.{arms_split, test_split, operands_split, head_split, body_split};
-ghost use Rattle.method_splitter.specs.Numbering.{SplitsInto, no_block, rank_below, Ready, AroundReady, MakesRest, MakesTarget};
+ghost use Rattle.method_splitter.specs.Rests.{plain_target, plain_rest, plain_caughts, plain_around};
+ghost use Rattle.method_splitter.specs.SplitSteps.{arm_code, and_code, or_code, body_code, endless_code, head_code, clause_code, guarded_code, MakesBody};
+ghost use Rattle.method_splitter.specs.TreesSplit.{arms_split, test_split, operands_split, head_split, body_split, clauses_split};
+ghost use Rattle.method_splitter.specs.Numbering.{SplitsInto, no_block, rank_below, Ready, AroundReady, MakesRest, MakesTarget, MakesCaughts};
 
-use crate::blocks::{add_block, block_of, joined, lodge};
+use crate::around::{Around, Caughts, caught_first, copy_caughts, guarded, inside, rank_in};
+use crate::blocks::{add_block, block_of, homed, joined, lodge, outlet};
 use crate::fault::SplitError;
-use crate::rest::{Around, Rest, Target, as_held, branch, copy_rest, ending, front, leave};
+use crate::rest::{Rest, Target, as_held, branch, copy_rest, ending, front, leave};
 use crate::small::{call_end, make_end, small};
 use block_code::{Block, Blocks, End, Item, VarTypes};
-use flat_tree::{Flat, FlatArm, FlatStmt, FlatTest, Operand};
+use flat_tree::{Flat, FlatArm, FlatClause, FlatStmt, FlatTest, Operand};
 use py_tree::is_true;
 use sf_list::{Sequence, TryClone};
 use std::alloc::{AllocError, Global};
@@ -39,7 +40,8 @@ fn stops(stmt: &FlatStmt) -> bool
         | FlatStmt::Call { .. }
         | FlatStmt::Make { .. }
         | FlatStmt::If { .. }
-        | FlatStmt::While { .. } => false,
+        | FlatStmt::While { .. }
+        | FlatStmt::Try { .. } => false,
     }
 }
 
@@ -84,15 +86,17 @@ fn empty_block(alloc: Global) -> Block
 fn set_block(
     alloc: Global,
     blocks: &mut Blocks,
+    around: &Around,
     number: u32,
     params: &VarTypes,
     rest: Rest,
 ) -> Result<(), AllocError>
     requires there { number < length (plain_blocks blocks.old) }
     requires ready { Ready (plain_blocks blocks.old) (spec.rank_of (plain_rest rest)) }
-    ensures { OnOk result (plain_blocks blocks.new ≡ slice_set (plain_blocks blocks.old) number (spec.block (plain_vars params.now) (plain_rest rest))) }
+    requires around { AroundReady (plain_blocks blocks.old) (plain_around around.now) }
+    ensures { OnOk result (plain_blocks blocks.new ≡ slice_set (plain_blocks blocks.old) number (spec.block (plain_around around.now) (plain_vars params.now) (plain_rest rest))) }
 {
-    let block = block_of(alloc, params, as_held(alloc, rest))?;
+    let block = block_of(alloc, around, params, as_held(alloc, rest))?;
     blocks.set(number as usize, block);
     Ok(())
 }
@@ -128,7 +132,7 @@ fn split_stmt(
             into,
             after,
         } => {
-            let to = lodge(alloc, blocks, after, rest)?;
+            let to = lodge(alloc, blocks, around, after, rest)?;
             Ok(call_end(alloc, on, *callee, args, *into, to.number)?)
         }
         FlatStmt::Make {
@@ -137,11 +141,11 @@ fn split_stmt(
             into,
             after,
         } => {
-            let to = lodge(alloc, blocks, after, rest)?;
+            let to = lodge(alloc, blocks, around, after, rest)?;
             Ok(make_end(alloc, *class, args, *into, to.number)?)
         }
         FlatStmt::If { arms, other, after } => {
-            let join = joined(alloc, blocks, after, rest)?;
+            let join = joined(alloc, blocks, around, after, rest)?;
             let last = copy_rest(alloc, &join)?;
             let rest = split_all(alloc, other.as_slice(), blocks, around, last)?;
             split_arms(alloc, arms.as_slice(), blocks, around, &join, rest)
@@ -153,14 +157,26 @@ fn split_stmt(
             body,
             after,
         } => {
-            let behind = joined(alloc, blocks, after, rest)?;
+            let behind = outlet(alloc, blocks, around, after, rest)?;
             if always(test) {
-                return split_endless(alloc, body.as_slice(), head, blocks, behind);
+                return split_endless(alloc, body.as_slice(), head, blocks, around, behind);
             }
-            let fails = lodge(alloc, blocks, head, copy_rest(alloc, &behind)?)?;
+            let fails = lodge(alloc, blocks, around, head, copy_rest(alloc, &behind)?)?;
             let again = split_head(alloc, test, head, blocks, around, fails)?;
-            split_body(alloc, body.as_slice(), start, blocks, behind, again)?;
+            let within = inside(alloc, around, behind, again)?;
+            split_body(alloc, body.as_slice(), start, blocks, within, again)?;
             Ok(Rest::Jumps(again))
+        }
+        FlatStmt::Try {
+            start,
+            body,
+            clauses,
+            after,
+        } => {
+            let behind = outlet(alloc, blocks, around, after, rest)?;
+            let catches = split_clauses(alloc, clauses.as_slice(), blocks, around, &behind)?;
+            let within = guarded(alloc, around, catches)?;
+            split_guarded(alloc, body.as_slice(), start, blocks, within, behind)
         }
         FlatStmt::Mark
         | FlatStmt::Set(..)
@@ -231,10 +247,10 @@ fn split_arm(
     requires around { AroundReady (plain_blocks blocks.old) (plain_around around.now) }
     ensures { MakesRest (arm_code (plain_flat_arm arm.now) (plain_around around.now) (plain_rest join.now) (plain_rest later)) blocks.old blocks.new result }
 {
-    let fails = lodge(alloc, blocks, &arm.rest, later)?;
+    let fails = lodge(alloc, blocks, around, &arm.rest, later)?;
     let last = copy_rest(alloc, join)?;
     let first = split_all(alloc, arm.body.as_slice(), blocks, around, last)?;
-    let holds = lodge(alloc, blocks, &arm.start, first)?;
+    let holds = lodge(alloc, blocks, around, &arm.start, first)?;
     split_test(alloc, &arm.test, blocks, around, holds, fails)
 }
 
@@ -327,7 +343,7 @@ fn split_and_operand(
     requires around { AroundReady (plain_blocks blocks.old) (plain_around around.now) }
     ensures { MakesRest (and_code (plain_operand operand.now) (plain_around around.now) (plain_target fails) (plain_rest later)) blocks.old blocks.new result }
 {
-    let onward = lodge(alloc, blocks, &operand.rest, later)?;
+    let onward = lodge(alloc, blocks, around, &operand.rest, later)?;
     split_test(alloc, &operand.test, blocks, around, onward, fails)
 }
 
@@ -345,7 +361,7 @@ fn split_or_operand(
     requires around { AroundReady (plain_blocks blocks.old) (plain_around around.now) }
     ensures { MakesRest (or_code (plain_operand operand.now) (plain_around around.now) (plain_target holds) (plain_rest later)) blocks.old blocks.new result }
 {
-    let onward = lodge(alloc, blocks, &operand.rest, later)?;
+    let onward = lodge(alloc, blocks, around, &operand.rest, later)?;
     split_test(alloc, &operand.test, blocks, around, holds, onward)
 }
 
@@ -355,21 +371,21 @@ fn split_endless(
     body: &[FlatStmt],
     head: &VarTypes,
     blocks: &mut Blocks,
+    around: &Around,
     behind: Rest,
 ) -> Result<Rest, SplitError>
     requires ready { Ready (plain_blocks blocks.old) (spec.rank_of (plain_rest behind)) }
-    ensures { MakesRest (endless_code (flat_stmts_of (plain_flat_stmts body.now)) (plain_vars head.now) (plain_rest behind)) blocks.old blocks.new result }
+    requires around { AroundReady (plain_blocks blocks.old) (plain_around around.now) }
+    ensures { MakesRest (endless_code (flat_stmts_of (plain_flat_stmts body.now)) (plain_around around.now) (plain_vars head.now) (plain_rest behind)) blocks.old blocks.new result }
 {
     let number = add_block(alloc, blocks, empty_block(alloc))?;
-    let again = Target { number, rank: 0 };
-    let around = Around {
-        breaks: behind,
-        continues: Rest::Jumps(again),
-    };
-    let begin = split_all(alloc, body, blocks, &around, Rest::Jumps(again))?;
-    drop(around);
+    let rank = rank_in(around, 0);
+    let again = Target { number, rank };
+    let within = inside(alloc, around, behind, again)?;
+    let begin = split_all(alloc, body, blocks, &within, Rest::Jumps(again))?;
+    drop(within);
     let begin = front(alloc, Item::Mark, begin)?;
-    set_block(alloc, blocks, number, head, begin)?;
+    set_block(alloc, blocks, around, number, head, begin)?;
     Ok(Rest::Jumps(again))
 }
 
@@ -390,11 +406,11 @@ fn split_head(
     let start = add_block(alloc, blocks, empty_block(alloc))?;
     let holds = Target {
         number: start,
-        rank: 0,
+        rank: rank_in(around, 0),
     };
     let begin = split_test(alloc, test, blocks, around, holds, fails)?;
-    let rank = rank_of(&begin);
-    set_block(alloc, blocks, number, head, begin)?;
+    let rank = rank_in(around, rank_of(&begin));
+    set_block(alloc, blocks, around, number, head, begin)?;
     Ok(Target { number, rank })
 }
 
@@ -404,23 +420,79 @@ fn split_body(
     body: &[FlatStmt],
     start: &VarTypes,
     blocks: &mut Blocks,
-    behind: Rest,
+    around: Around,
     again: Target,
 ) -> Result<(), SplitError>
-    requires behind { Ready (plain_blocks blocks.old) (spec.rank_of (plain_rest behind)) }
+    requires around { AroundReady (plain_blocks blocks.old) (plain_around around) }
     requires again { Ready (plain_blocks blocks.old) (rank_below (plain_target again)) }
     requires there { again.number + 1 < length (plain_blocks blocks.old) }
-    ensures { MakesBody (body_split body.now behind again) (plain_vars start.now) (again.number + 1) blocks.old blocks.new result }
+    ensures { MakesBody (body_split body.now around again) (plain_around around) (plain_vars start.now) (again.number + 1) blocks.old blocks.new result }
 {
-    let around = Around {
-        breaks: behind,
-        continues: Rest::Jumps(again),
-    };
     let begin = split_all(alloc, body, blocks, &around, Rest::Jumps(again))?;
-    drop(around);
     let begin = front(alloc, Item::Mark, begin)?;
-    set_block(alloc, blocks, again.number + 1, start, begin)?;
+    set_block(alloc, blocks, &around, again.number + 1, start, begin)?;
+    drop(around);
     Ok(())
+}
+
+#[cycle(split)]
+fn split_clauses(
+    alloc: Global,
+    clauses: &[FlatClause],
+    blocks: &mut Blocks,
+    around: &Around,
+    join: &Rest,
+) -> Result<Caughts, SplitError>
+    requires join { Ready (plain_blocks blocks.old) (spec.rank_of (plain_rest join.now)) }
+    requires around { AroundReady (plain_blocks blocks.old) (plain_around around.now) }
+    ensures { MakesCaughts (clauses_split clauses.now around.now join.now) blocks.old blocks.new result }
+{
+    let mut later = copy_caughts(alloc, &around.catches)?;
+    let mut at = clauses.len();
+    while at > 0 {
+        at -= 1;
+        later = split_clause(alloc, &clauses[at], blocks, around, join, later)?;
+    }
+    Ok(later)
+}
+
+#[cycle(split)]
+fn split_clause(
+    alloc: Global,
+    clause: &FlatClause,
+    blocks: &mut Blocks,
+    around: &Around,
+    join: &Rest,
+    later: Caughts,
+) -> Result<Caughts, SplitError>
+    requires join { Ready (plain_blocks blocks.old) (spec.rank_of (plain_rest join.now)) }
+    requires later { Ready (plain_blocks blocks.old) (spec.floor (plain_caughts later)) }
+    requires around { AroundReady (plain_blocks blocks.old) (plain_around around.now) }
+    ensures { MakesCaughts (clause_code (plain_flat_clause clause.now) (plain_around around.now) (plain_rest join.now) (plain_caughts later)) blocks.old blocks.new result }
+{
+    let last = copy_rest(alloc, join)?;
+    let first = split_all(alloc, clause.body.as_slice(), blocks, around, last)?;
+    let to = homed(alloc, blocks, around, &clause.start, first)?;
+    Ok(caught_first(alloc, &clause.kinds, to, later)?)
+}
+
+#[cycle(split)]
+fn split_guarded(
+    alloc: Global,
+    body: &[FlatStmt],
+    start: &VarTypes,
+    blocks: &mut Blocks,
+    around: Around,
+    behind: Rest,
+) -> Result<Rest, SplitError>
+    requires ready { Ready (plain_blocks blocks.old) (spec.rank_of (plain_rest behind)) }
+    requires around { AroundReady (plain_blocks blocks.old) (plain_around around) }
+    ensures { MakesRest (guarded_code (flat_stmts_of (plain_flat_stmts body.now)) (plain_around around) (plain_vars start.now) (plain_rest behind)) blocks.old blocks.new result }
+{
+    let first = split_all(alloc, body, blocks, &around, behind)?;
+    let to = lodge(alloc, blocks, &around, start, first)?;
+    drop(around);
+    Ok(Rest::Jumps(to))
 }
 
 /// The blocks of a flat method; the first has its parameters.
@@ -432,6 +504,7 @@ pub fn split(alloc: Global, flat: &Flat) -> Result<Blocks, SplitError>
     let around = Around {
         breaks: leave(alloc),
         continues: leave(alloc),
+        catches: Sequence::new(alloc),
     };
     let body = split_all(
         alloc,
@@ -440,7 +513,7 @@ pub fn split(alloc: Global, flat: &Flat) -> Result<Blocks, SplitError>
         &around,
         leave(alloc),
     )?;
+    set_block(alloc, &mut blocks, &around, first, &flat.params, body)?;
     drop(around);
-    set_block(alloc, &mut blocks, first, &flat.params, body)?;
     Ok(blocks)
 }

@@ -21,6 +21,7 @@ use Rattle.interleaving.specs.AsAlone.{sum_of}
 use Rattle.transaction_steps.specs.Transactions.{Transaction, is_done}
 use Rattle.transaction_steps.specs.GoingOn.{TransactionFits, GoesOn}
 use Rattle.operator_graph.specs.declared.flight.Flight.{Flight}
+use Rattle.operator_graph.specs.Partitions.{IsParts}
 use Rattle.operator_graph.specs.Telling.{Told, AlsoTold}
 use Rattle.operator_graph.specs.BatchEvents.{event_told}
 use Rattle.operator_graph.specs.Going.{going, place_going, weights}
@@ -46,18 +47,18 @@ lighter_list (x ∷ fs) (suc i) f new is less = by (weight x.next) (weights (sli
     by a b d less = omega (arith, less)
 
 -- the operators of all classes have numbers of 32 bits
-few_operators : (class parts : ℕ) → class < 256 → parts ≤ 64 → (class + 1) * parts < 2 ^ 32
-few_operators class parts small few =
+few_operators : (class parts : ℕ) → class < 256 → IsParts parts → (class + 1) * parts < 2 ^ 32
+few_operators class parts small range =
     let more : class + 1 ≤ 256 = omega (arith, small) in
-    let product : (class + 1) * parts ≤ 256 * 64 = mul-le-mul more few in
+    let product : (class + 1) * parts ≤ 256 * 64 = mul-le-mul more range.few in
     omega (arith, product)
 
-pub has_room : (c : Compiled) → IsWhole c → (parts : ℕ) → parts ≤ 64 → (snapshot : State) (fs : List Flight) (place : ℕ) (f : Flight) → slice_get fs place ≡ Some f → (g : Flight) × (slice_get fs place ≡ Some g) × CanStep c snapshot g
+pub has_room : (c : Compiled) → IsWhole c → (parts : ℕ) → IsParts parts → (snapshot : State) (fs : List Flight) (place : ℕ) (f : Flight) → slice_get fs place ≡ Some f → (g : Flight) × (slice_get fs place ≡ Some g) × CanStep c snapshot g
     → (at : Ref) → target_of f.next.kind (lasts f.next.frames) ≡ Some at → (at.class + 1) * parts < 2 ^ 32
-has_room c whole parts few snapshot fs place f is can at target =
+has_room c whole parts range snapshot fs place f is can at target =
     let same : can.0 ≡ f = same_Some _ _ (sym can.1 ∙ is) in
     let fits : EventFits (compiled_tables c) (compiled_blocks c) f.next = subst (λ (h : Flight). EventFits (compiled_tables c) (compiled_blocks c) h.next) same can.2.ready.fits in
-    few_operators at.class parts (few_classes c whole snapshot f.next fits at target) few
+    few_operators at.class parts (few_classes c whole snapshot f.next fits at target) range
 
 -- of those that go on, of which there are so many, this pick takes the one at this place
 pub record IsPick (fs : List Flight) (count pick place : ℕ) : Type 0 where

@@ -1,3 +1,4 @@
+pub mod Partitions
 pub mod Routing
 pub mod Telling
 pub mod Notes

@@ -38,6 +38,7 @@ impl InFlight {
     ghost use Rattle.transaction_steps.specs.Transactions.{Transaction, firsts};
     ghost use Rattle.transaction_steps.specs.GoingOn.{most_weight};
     ghost use Rattle.operator_graph.specs.FirstFlights.{acts_of};
+    ghost use Rattle.operator_graph.specs.Partitions.{IsParts};
     ghost use Rattle.operator_graph.specs.Flights.{no_works, turns_of};
     ghost use Rattle.operator_graph.specs.BatchInFlight.{flights_in, AreTransactions, IsUnderWay, count_in_flight, weight_in_flight, outcomes_in};
     ghost use Rattle.operator_graph.specs.Turns.{Turns};
@@ -85,8 +86,7 @@ impl InFlight {
         watch: &mut W,
     ) -> Result<bool, AllocError>
         requires whole { IsWhole compiled.now }
-        requires least { 1 ≤ parts }
-        requires most { parts ≤ 64 }
+        requires parts { IsParts parts }
         requires under_way { IsUnderWay compiled.now state.now.contents self.old works.old }
         ensures still { OnOk result (IsUnderWay compiled.now state.now.contents self.new works.new) }
         ensures turns { (ts : List Transaction) → AreTransactions state.now.contents ts self.old works.old →

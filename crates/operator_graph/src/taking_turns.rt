@@ -1,11 +1,12 @@
 //! One turn of a batch in flight.
 
-ghost use Rattle.std.specs.Prelude.{◌≡◌, ◌<◌, ◌≤◌, ◌+◌, ◌*◌, ◌^◌, ◌∷◌, ◌++◌, [], List, true, false, Some, length, take, drop, slice_get, IfOk, OnOk};
+ghost use Rattle.std.specs.Prelude.{◌≡◌, ◌<◌, ◌+◌, ◌*◌, ◌^◌, ◌∷◌, ◌++◌, [], List, true, false, Some, length, take, drop, slice_get, IfOk, OnOk};
 ghost use Rattle.sf_value.specs.declared.value.Ref.{Ref};
 ghost use Rattle.block_runs.specs.EventStep.{lasts, target_of};
 ghost use Rattle.block_step.specs.CompiledViews.{IsWhole};
 ghost use Rattle.transaction_steps.specs.Transactions.{Transaction, is_done};
 ghost use Rattle.operator_graph.specs.declared.flight.Flight.{Flight};
+ghost use Rattle.operator_graph.specs.Partitions.{IsParts};
 ghost use Rattle.operator_graph.specs.Telling.{AlsoTold};
 ghost use Rattle.operator_graph.specs.BatchEvents as spec;
 ghost use Rattle.operator_graph.specs.BatchEvents.{event_told};
@@ -26,7 +27,7 @@ use std::alloc::AllocError;
 
 /// The operator that is to handle an event.
 fn operator_for(event: &Event, parts: u32) -> u32
-    requires parts { 1 ≤ parts }
+    requires parts { IsParts parts }
     requires room { (at : Ref) → target_of event.now.kind (lasts event.now.frames) ≡ Some at → (at.class + 1) * parts < 2 ^ 32 }
     ensures { result ≡ spec.operator_for (target_of event.now.kind (lasts event.now.frames)) parts }
 {
@@ -37,7 +38,7 @@ fn operator_for(event: &Event, parts: u32) -> u32
 }
 
 fn tell<W: Watch>(watch: &mut W, parts: u32, event: &Event)
-    requires parts { 1 ≤ parts }
+    requires parts { IsParts parts }
     requires room { (at : Ref) → target_of event.now.kind (lasts event.now.frames) ≡ Some at → (at.class + 1) * parts < 2 ^ 32 }
     ensures { AlsoTold (W.told watch.old) (W.told watch.new) (event_told parts event.now ∷ []) }
 {
@@ -53,8 +54,7 @@ fn turn_at<W: Watch>(
     watch: &mut W,
 ) -> Result<(), AllocError>
     requires whole { IsWhole on.now.compiled.now }
-    requires least { 1 ≤ on.now.parts }
-    requires most { on.now.parts ≤ 64 }
+    requires parts { IsParts on.now.parts }
     requires works { place < length works.old }
     requires can { (f : Flight) × (slice_get flights.old place ≡ Some f) × CanStep on.now.compiled.now on.now.state.now.contents f }
     ensures told { (f : Flight) → slice_get flights.old place ≡ Some f →
@@ -91,8 +91,7 @@ pub(crate) fn take_turn<C: Chooser, W: Watch>(
     watch: &mut W,
 ) -> Result<bool, AllocError>
     requires whole { IsWhole on.now.compiled.now }
-    requires least { 1 ≤ on.now.parts }
-    requires most { on.now.parts ≤ 64 }
+    requires parts { IsParts on.now.parts }
     requires few { length flights.old < 2 ^ 32 }
     requires fit { FlightsFit on.now.compiled.now on.now.state.now.contents flights.old works.old }
     requires placed { places.old ≡ places_going 0 flights.old }

@@ -1,4 +1,5 @@
 pub mod Logs
+pub mod NamedEntries
 pub mod OneLog
 pub mod OneStore
 pub mod StoreLogs

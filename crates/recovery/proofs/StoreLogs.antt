@@ -6,15 +6,15 @@ use Rattle.sf_outside.proofs.ImageSteps.{if_one, if_both}
 use Rattle.sf_value.specs.declared.Snapshot.{Snapshot}
 use Rattle.request_log.specs.declared.fault.LogFault.{LogFault}
 use Rattle.request_log.specs.declared.fault.LogFault.TheVariants.{Failed, Bad, NoMemory}
-use Rattle.snapshot_store.specs.SlotFile.{log_of, IsNewest}
+use Rattle.snapshot_store.specs.SlotFile.{log_of}
 use Rattle.recovery.specs.Answers.{Answers, AnswersLog, log_fault}
-use Rattle.recovery.specs.StoreImage.{BreaksAt, IsBad}
+use Rattle.recovery.specs.StoreImage.{KeepsSnapshot, BreaksAt, IsBad}
 
 -- where the log is bad the store is
-pub seen_bad_log : (seen : Option Image) (epoch : ℕ) (kept : Snapshot) (fault : LogFault) → IfSome seen (λ now. IsNewest now epoch kept) → IfSome seen (λ now. AnswersLog (of_file (log_of epoch) now) (Err fault))
+pub seen_bad_log : (seen : Option Image) (epoch : ℕ) (kept : Snapshot) (bytes : ℕ) (fault : LogFault) → IfSome seen (λ now. KeepsSnapshot now epoch kept bytes) → IfSome seen (λ now. AnswersLog (of_file (log_of epoch) now) (Err fault))
     → IfSome seen (λ now. Answers now (Err (log_fault (log_of epoch) fault)))
-seen_bad_log seen epoch kept (Bad at) newest breaks =
-    if_both seen (λ now. IsNewest now epoch kept) (λ now. BreaksAt (of_file (log_of epoch) now) at) (λ now. IsBad now (log_of epoch) at)
-    (λ now is there. inr (record { epoch = epoch; kept = kept; newest = is; same_file = refl; breaks = there })) newest breaks
-seen_bad_log seen epoch kept Failed newest breaks = if_one seen (λ now. IsNewest now epoch kept) (λ now. Unit {0}) (λ now is. tt) newest
-seen_bad_log seen epoch kept NoMemory newest breaks = if_one seen (λ now. IsNewest now epoch kept) (λ now. Unit {0}) (λ now is. tt) newest
+seen_bad_log seen epoch kept bytes (Bad at) newest breaks =
+    if_both seen (λ now. KeepsSnapshot now epoch kept bytes) (λ now. BreaksAt (of_file (log_of epoch) now) at) (λ now. IsBad now (log_of epoch) at)
+    (λ now is there. inr (inr (record { epoch = epoch; kept = kept; bytes = bytes; newest = is; same_file = refl; breaks = there }))) newest breaks
+seen_bad_log seen epoch kept bytes Failed newest breaks = if_one seen (λ now. KeepsSnapshot now epoch kept bytes) (λ now. Unit {0}) (λ now is. tt) newest
+seen_bad_log seen epoch kept bytes NoMemory newest breaks = if_one seen (λ now. KeepsSnapshot now epoch kept bytes) (λ now. Unit {0}) (λ now is. tt) newest

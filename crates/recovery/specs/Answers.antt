@@ -1,9 +1,12 @@
 -- What finding a store again answers.
-use Rattle.std.specs.Prelude.{ℕ, List, Result, Ok, Err}
+use Rattle.std.specs.Prelude.{ℕ, ◌≡◌, List, length, Result, Ok, Err}
 use Rattle.std.specs.List.{AllByRecursion}
-use Rattle.sf_bytes.specs.Spelt.{IsReadBatch, IsReadSnapshot}
+use Rattle.sf_bytes.specs.Entries.{HistoryIs, HistoryBreaks}
+use Rattle.sf_bytes.specs.Spelt.{IsReadEntry, IsReadBatch, IsReadSnapshot}
 use Rattle.sf_outside.specs.DiskModel.{Image}
 use Rattle.sf_outside.specs.declared.store_disk.StoreFile.{StoreFile}
+use Rattle.sf_outside.specs.declared.store_disk.StoreFile.TheVariants.{Hist}
+use Rattle.sf_value.specs.declared.Entry.{Entry}
 use Rattle.request_log.specs.declared.fault.LogFault.{LogFault}
 use Rattle.request_log.specs.declared.fault.LogFault.TheVariants as of_log
 use Rattle.snapshot_store.specs.SlotFile.{slot_file, IsEpoch, IsNew}
@@ -20,7 +23,7 @@ use Rattle.recovery.specs.StoreImage.{ArePlaced, EndsAt, BreaksAt, IsOld, IsBad}
 -- the store is new, or old with exactly these, or bad at exactly this place
 abbrev pub Answers : Image → Result Opened OpenFault → Type 0
 Answers image (Ok New) = IsNew image
-Answers image (Ok (Old epoch kept batches at)) = IsOld image epoch kept batches at
+Answers image (Ok (Old epoch kept bytes batches at)) = IsOld image epoch kept bytes batches at
 Answers image (Err (Bad file at)) = IsBad image file at
 Answers image (Err Failed) = Unit {0}
 Answers image (Err NoMemory) = Unit {0}
@@ -33,7 +36,7 @@ pub record AreLogged (batches : List Placed) (at : ℕ) : Type 0 where
 -- what is old can be kept and read
 abbrev pub IsPlaced : Result Opened OpenFault → Type 0
 IsPlaced (Ok New) = Unit {0}
-IsPlaced (Ok (Old epoch kept batches at)) = IsEpoch epoch × IsReadSnapshot kept × AreLogged batches at
+IsPlaced (Ok (Old epoch kept bytes batches at)) = IsEpoch epoch × IsReadSnapshot kept × AreLogged batches at
 IsPlaced (Err fault) = Unit {0}
 
 -- what holds wherever the disk didn't fail
@@ -56,6 +59,20 @@ abbrev pub log_fault : StoreFile → LogFault → OpenFault
 log_fault log of_log.Failed = Failed
 log_fault log (of_log.Bad at) = Bad log at
 log_fault log of_log.NoMemory = NoMemory
+
+-- ---- one history
+
+-- what is named of the file is these entries, or it breaks at this place
+abbrev pub AnswersHistory : List ℕ → ℕ → ℕ → Result (List Entry) OpenFault → Type 0
+AnswersHistory file kept bytes (Ok entries) = HistoryIs file kept bytes entries
+AnswersHistory file kept bytes (Err (Bad named at)) = (named ≡ Hist) × HistoryBreaks file kept bytes at
+AnswersHistory file kept bytes (Err Failed) = Unit {0}
+AnswersHistory file kept bytes (Err NoMemory) = Unit {0}
+
+-- there are so many entries, and each can be read
+abbrev pub AreEntries : ℕ → Result (List Entry) OpenFault → Type 0
+AreEntries kept (Ok entries) = (length entries ≡ kept) × AllByRecursion IsReadEntry entries
+AreEntries kept (Err fault) = Unit {0}
 
 -- ---- one log
 

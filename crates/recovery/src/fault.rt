@@ -2,11 +2,12 @@
 
 ghost use Rattle.std.specs.Prelude.{◌≡◌};
 ghost use Rattle.recovery.specs.Answers.{slot_fault, log_fault};
-ghost use Rattle.recovery.specs.declared.fault.OpenFault.TheVariants.{Failed as DiskFailed};
+ghost use Rattle.recovery.specs.declared.fault.OpenFault.TheVariants.{Failed as DiskFailed, NoMemory};
 
 use request_log::LogFault;
 use sf_outside::{Failed, StoreFile};
 use snapshot_store::{SnapFault, slot_file};
+use std::alloc::AllocError;
 
 /// Why it isn't said what a store has.
 #[derive(Clone, Copy, PartialEq, Eq, Debug)]
@@ -23,6 +24,14 @@ impl From<Failed> for OpenFault {
 
     fn from(_fault: Failed) -> OpenFault {
         OpenFault::Failed
+    }
+}
+
+impl From<AllocError> for OpenFault {
+    ghost from_gives = { λ _ fault. fault ≡ NoMemory };
+
+    fn from(_fault: AllocError) -> OpenFault {
+        OpenFault::NoMemory
     }
 }
 

@@ -5,6 +5,7 @@
 #![tactic(auto)]
 
 mod fault;
+mod history;
 mod laws;
 mod log;
 mod opened;

@@ -18,11 +18,12 @@ pub type Batches = Sequence<Placed>;
 pub enum Opened {
     /// No snapshot was kept yet.
     New,
-    /// The newest snapshot with its epoch, the batches of its log, and the place of the gate where the
-    /// log ends.
+    /// The newest snapshot with its epoch, how many bytes its history takes, the batches of its log, and
+    /// the place of the gate where the log ends.
     Old {
         epoch: u64,
         kept: Snapshot,
+        bytes: u64,
         batches: Batches,
         at: u64,
     },

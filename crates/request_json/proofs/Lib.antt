@@ -2,6 +2,7 @@ pub mod DataLaws
 pub mod ArgLaws
 pub mod IntLaws
 pub mod FloatLaws
+pub mod SentValues
 pub mod RequestFits
 pub mod LinesFit
 pub mod LineTexts

@@ -1,6 +1,7 @@
 pub mod Arguments
 pub mod RequestLines
 pub mod ReplyLines
+pub mod Sending
 pub mod Answers
 pub mod Actions
 pub mod LinesFit

@@ -221,7 +221,7 @@ fn args_of(
 ) -> Result<Option<Values>, AllocError>
     ensures { IfOk result (λ made. made ≡ spec.args_of (source_of program.now) (plain_params params.now) (items_view items.now)) }
 {
-    let mut made = Sequence::new(alloc);
+    let mut made = Sequence::with_room(alloc, params.len())?;
     for (i, param) in params.iter().enumerate() {
         if i >= items.len() {
             return Ok(None);

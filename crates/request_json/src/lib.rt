@@ -5,6 +5,7 @@ mod arguments;
 mod fault;
 mod laws;
 mod read;
+mod sending;
 mod write;
 
 pub use fault::{LineError, LineFault};

@@ -16,7 +16,7 @@ use py_tree::{Class, Method, Name, Names, Place, Program, Stmt, StmtKind, Stmts}
 use sf_list::{Sequence, TryClone};
 use std::alloc::{AllocError, Global};
 use std::test::Fail;
-use test_support::{Setting, hold_table};
+use test_support::{Setting, hold_table, hold_text};
 use text_trees::{last_method, tree_in, written};
 
 /// A row has the lines of a method f that gives nothing, from line 8 on.
@@ -184,6 +184,31 @@ const LOOPS: &str = "
 #[test]
 fn behind_while_true_only_breaks_count(rt: HostRuntime) -> Result<(), Fail> {
     hold(rt.alloc(), ENDS, LOOPS, 3)
+}
+
+/// So many loops that stand in each other, each with a test around the next one, and a break in the innermost.
+fn nested(alloc: Global, pairs: u32) -> Result<String, AllocError> {
+    let mut text = String::new(alloc);
+    let mut indent = String::new(alloc);
+    for _ in 0..pairs {
+        text.push_str(indent.as_str())?;
+        text.push_str("while True:\n")?;
+        indent.push(' ')?;
+        text.push_str(indent.as_str())?;
+        text.push_str("if flag:\n")?;
+        indent.push(' ')?;
+    }
+    text.push_str(indent.as_str())?;
+    text.push_str("break")?;
+    Ok(text)
+}
+
+#[test]
+fn each_way_out_of_nested_loops_is_looked_for_once(rt: HostRuntime) -> Result<(), Fail> {
+    let text = nested(rt.alloc(), 31)?;
+    let answered = told(rt.alloc(), ENDS, text.as_str());
+    drop(text);
+    hold_text(answered, "3 locals")
 }
 
 const UNREACHED: &str = "

@@ -9,9 +9,8 @@ use Rattle.sf_outside.specs.declared.gains.WriteStop.TheVariants as write
 use Rattle.sf_outside.proofs.GainLaws.{joined-nil, joined-append, Wrote-more, Wrote-after, Wrote-no_memory}
 use Rattle.operator_graph.specs.Turns.{Outside}
 use Rattle.batch_output.specs.BatchOutput.{Standing, batch_lines, lines_if}
-use Rattle.line_answers.specs.Vocabulary.{Batch, IsToldAlong, Core, BatchCounts, HasPlace, core_behind}
-use Rattle.line_answers.specs.declared.answering.LineStop.{LineStop}
-use Rattle.line_answers.specs.declared.answering.LineStop.TheVariants.{HistoryFull, NoMemory, DiskFault, WriteFault}
+use Rattle.line_answers.specs.Vocabulary.{Batch, IsToldAlong, Core, BatchCounts, HasPlace, core_behind, Stop}
+use Rattle.line_answers.specs.StopVariants.{HistoryFull, NoMemory, DiskFault, WriteFault}
 use Rattle.line_answers.specs.Services.{Service, program_of}
 use Rattle.line_answers.specs.LineAnswers.{Move, IsUntaken, FindsFull, IsUnplanned, IsUnlogged, IsUnanswered, IsUnreplied, batch_on, whole_text}
 use Rattle.session_steps.specs.Steps.{Step, move_of, behind, standing_after, printed, ran_on}
@@ -27,7 +26,7 @@ run_begins : (batch : Batch) (parts events : ℕ) (old new : Outside) → IsTold
 run_begins batch parts events old new t = record { picks = t.picks; picked = t.picked; told_of_them = t.told_of_them; one_each = t.one_each; ended = tt; counted_all = tt }
 
 -- what was written behind a whole text
-wrote_after : (r : Result (Unit {0}) LineStop) (a b c : Option (List ℕ)) (xs ys : List ℕ) → Appends a b xs → WroteAs r b c ys → WroteAs r a c (xs ++ ys)
+wrote_after : (r : Result (Unit {0}) Stop) (a b c : Option (List ℕ)) (xs ys : List ℕ) → Appends a b xs → WroteAs r b c ys → WroteAs r a c (xs ++ ys)
 wrote_after (Ok value) a b c xs ys first rest = Appends-trans a b c xs ys first rest
 wrote_after (Err HistoryFull) a b c xs ys first rest = Appends-trans a b c xs ys first rest
 wrote_after (Err NoMemory) a b c xs ys first rest = prefix_after a b c xs ys first rest
@@ -35,7 +34,7 @@ wrote_after (Err DiskFault) a b c xs ys first rest = prefix_after a b c xs ys fi
 wrote_after (Err WriteFault) a b c xs ys first rest = prefix_after a b c xs ys first rest
 
 -- and whole lines behind whole ones
-whole_after : (r : Result (Unit {0}) LineStop) (a b c : Option (List ℕ)) (xs ys : List (List ℕ)) → Appends a b (joined xs) → WholeAs r b c ys
+whole_after : (r : Result (Unit {0}) Stop) (a b c : Option (List ℕ)) (xs ys : List (List ℕ)) → Appends a b (joined xs) → WholeAs r b c ys
     → WholeAs r a c (xs ++ ys)
 whole_after (Ok value) a b c xs ys first rest = tt
 whole_after (Err HistoryFull) a b c xs ys first rest = tt
@@ -44,7 +43,7 @@ whole_after (Err DiskFault) a b c xs ys first rest = Wrote-after {T = Unit {0}} 
 whole_after (Err WriteFault) a b c xs ys first rest = tt
 
 -- what was told of batches behind others that were run, and what was traced of them
-told_after : (v : Service) (r : Result (Unit {0}) LineStop) (xs ys : List Core) (cs ds : List BatchCounts) (a b c : Outside) → RunBatches v xs cs a b
+told_after : (v : Service) (r : Result (Unit {0}) Stop) (xs ys : List Core) (cs ds : List BatchCounts) (a b c : Outside) → RunBatches v xs cs a b
     → ToldAs v r ys ds b c → ToldAs v r (xs ++ ys) (cs ++ ds) a c
 told_after v (Ok value) xs ys cs ds a b c first rest = Ran-then v xs ys cs ds a b c first rest
 told_after v (Err HistoryFull) xs ys cs ds a b c first rest = Ran-then v xs ys cs ds a b c first rest
@@ -52,7 +51,7 @@ told_after v (Err NoMemory) xs ys cs ds a b c first rest = Begin-then v xs ys cs
 told_after v (Err DiskFault) xs ys cs ds a b c first rest = Begin-then v xs ys cs ds a b c first rest
 told_after v (Err WriteFault) xs ys cs ds a b c first rest = Begin-then v xs ys cs ds a b c first rest
 
-traced_after : (r : Result (Unit {0}) LineStop) (a b c : Option (List ℕ)) (xs ys : List ℕ) → Appends a b xs → TracedAs r b c ys → TracedAs r a c (xs ++ ys)
+traced_after : (r : Result (Unit {0}) Stop) (a b c : Option (List ℕ)) (xs ys : List ℕ) → Appends a b xs → TracedAs r b c ys → TracedAs r a c (xs ++ ys)
 traced_after (Ok value) a b c xs ys first rest = Appends-trans a b c xs ys first rest
 traced_after (Err HistoryFull) a b c xs ys first rest = Appends-trans a b c xs ys first rest
 traced_after (Err NoMemory) a b c xs ys first rest = Appends-trans a b c xs ys first rest
@@ -67,7 +66,7 @@ counts_of_each v (core ∷ cores) [] a b ran = absurd ran
 counts_of_each v (core ∷ cores) (c ∷ counts) a b ran = ap (λ n. suc n) (counts_of_each v cores counts ran.0 b ran.2)
 
 -- so many more were counted, and committed
-counted_after : (r : Result (Unit {0}) LineStop) (before counted ran : ℕ) → AreCounted r counted ran → AreCounted r (before + counted) (before + ran)
+counted_after : (r : Result (Unit {0}) Stop) (before counted ran : ℕ) → AreCounted r counted ran → AreCounted r (before + counted) (before + ran)
 counted_after (Ok value) before counted ran same = ap (λ n. before + n) same
 counted_after (Err HistoryFull) before counted ran same = ap (λ n. before + n) same
 counted_after (Err NoMemory) before counted ran same = ap (λ n. before + n) same
@@ -91,10 +90,10 @@ unchanged : (a b : Option (List ℕ)) (xs : List ℕ) → b ≡ a → AppendsPre
 unchanged a b xs same = subst (λ c. AppendsPrefix a c xs) (sym same) (prefix_none a xs)
 
 module _ (v : Service) (traces : Bool) where
-  abbrev Begun : Result (Unit {0}) LineStop → List Step → Point → Point → Type 0
+  abbrev Begun : Result (Unit {0}) Stop → List Step → Point → Point → Type 0
   Begun r steps p q = HasBegun v traces r steps p q
 
-  ended_after : (r : Result (Unit {0}) LineStop) (xs ys : List Step) (p q z : Point) → (d : Does v traces xs p q) → (counts : List BatchCounts)
+  ended_after : (r : Result (Unit {0}) Stop) (xs ys : List Step) (p q z : Point) → (d : Does v traces xs p q) → (counts : List BatchCounts)
       → EndsAmong v ys (going q) z.core (AreCounted r (length counts)) → EndsAmong v (xs ++ ys) (going p) z.core (AreCounted r (length (d.counts ++ counts)))
   ended_after r xs ys p q z d counts e =
       let there : standing_after v (going p) (xs ++ e.first) ≡ standing_after v (going q) e.first = standing-append v xs e.first (going p)
@@ -117,7 +116,7 @@ module _ (v : Service) (traces : Bool) where
       }
 
   -- the first steps were done, and this was begun of the rest
-  begun_after : (r : Result (Unit {0}) LineStop) (xs ys : List Step) (p q z : Point) → Does v traces xs p q → Begun r ys q z → Begun r (xs ++ ys) p z
+  begun_after : (r : Result (Unit {0}) Stop) (xs ys : List Step) (p q z : Point) → Does v traces xs p q → Begun r ys q z → Begun r (xs ++ ys) p z
   begun_after r xs ys p q z d h =
       let texts : printed v (going p) (xs ++ ys) ≡ printed v (going p) xs ++ printed v (going q) ys = printed-append v xs ys (going p)
       ∙ ap (λ s. printed v (going p) xs ++ printed v s ys) d.stands in
@@ -160,7 +159,7 @@ module _ (v : Service) (traces : Bool) where
   }
 
   -- no step was done: the core is the same, or has the request of the first one besides
-  ended_before : (r : Result (Unit {0}) LineStop) → AreCounted r 0 0 → (steps : List Step) (p q : Point) → (q.core ≡ p.core) ⊎ IsAtNext v (going p) steps q.core
+  ended_before : (r : Result (Unit {0}) Stop) → AreCounted r 0 0 → (steps : List Step) (p q : Point) → (q.core ≡ p.core) ⊎ IsAtNext v (going p) steps q.core
       → EndsAmong v steps (going p) q.core (AreCounted r 0)
   unfolding standing_after ran_on
   ended_before r none steps p q core = record { first = []; rest = steps; split = refl; core = core; ran = none }
@@ -337,7 +336,7 @@ module _ (v : Service) (traces : Bool) where
           ended = ended_behind 1 (inl refl) c.due c.place c.core;
         }
 
-    at_stop : (stop : LineStop) → StopsAt v traces stop step p q → Begun (Err stop) (step ∷ rest) p q
+    at_stop : (stop : Stop) → StopsAt v traces stop step p q → Begun (Err stop) (step ∷ rest) p q
     at_stop HistoryFull s = at_full s.0 s.1
     at_stop NoMemory s = by s.0
       where
@@ -352,12 +351,12 @@ module _ (v : Service) (traces : Bool) where
         by (inr a) = at_unreplied a s.1
     at_stop WriteFault (inr s) = at_untraced s
 
-  within : (stop : LineStop) (steps : List Step) (p q : Point) → StopsWithin v traces stop steps p q → Begun (Err stop) steps p q
+  within : (stop : Stop) (steps : List Step) (p q : Point) → StopsWithin v traces stop steps p q → Begun (Err stop) steps p q
   within stop steps p q s =
       subst (λ l. Begun (Err stop) l p q) (sym s.split) (begun_after (Err stop) s.first (s.step ∷ s.rest) p s.between q s.did
       (at_stop s.step s.rest s.between q stop s.stopped))
 
-  begins : (r : Result (Unit {0}) LineStop) (steps : List Step) (p q : Point) → Comes v traces r steps p q → Begun r steps p q
+  begins : (r : Result (Unit {0}) Stop) (steps : List Step) (p q : Point) → Comes v traces r steps p q → Begun r steps p q
   begins (Ok value) steps p q d = record {
     stands = d.stands;
     wrote = d.wrote;

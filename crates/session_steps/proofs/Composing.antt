@@ -6,9 +6,8 @@ use Rattle.std.proofs.KnownBytes.{Appends-nil, Appends-trans}
 use Rattle.sf_outside.specs.Gains.{joined}
 use Rattle.sf_outside.proofs.GainLaws.{joined-nil, joined-append}
 use Rattle.operator_graph.specs.Turns.{Outside}
-use Rattle.line_answers.specs.Vocabulary.{Core, BatchCounts}
-use Rattle.line_answers.specs.declared.answering.LineStop.{LineStop}
-use Rattle.line_answers.specs.declared.answering.LineStop.TheVariants.{HistoryFull, NoMemory, DiskFault, WriteFault}
+use Rattle.line_answers.specs.Vocabulary.{Core, BatchCounts, Stop}
+use Rattle.line_answers.specs.StopVariants.{HistoryFull, NoMemory, DiskFault, WriteFault}
 use Rattle.line_answers.specs.Services.{Service}
 use Rattle.session_steps.specs.declared.tally.Tally.{Tally}
 use Rattle.session_steps.specs.Steps.{Step, standing_after, printed, ran_on}
@@ -105,7 +104,7 @@ module _ (v : Service) (traces : Bool) where
       }
 
   -- a stop within those, behind these
-  pub Within-after : (stop : LineStop) (xs ys : List Step) (p q z : Point) → Does v traces xs p q → StopsWithin v traces stop ys q z
+  pub Within-after : (stop : Stop) (xs ys : List Step) (p q z : Point) → Does v traces xs p q → StopsWithin v traces stop ys q z
       → StopsWithin v traces stop (xs ++ ys) p z
   Within-after stop xs ys p q z d s = record {
     first = xs ++ s.first;
@@ -126,7 +125,7 @@ module _ (v : Service) (traces : Bool) where
   }
 
   -- these steps were done, and this is the result of those
-  pub Comes-then : {T : Type 0} (r : Result T LineStop) (xs ys : List Step) (p q z : Point) → Does v traces xs p q → Comes v traces r ys q z
+  pub Comes-then : {T : Type 0} (r : Result T Stop) (xs ys : List Step) (p q z : Point) → Does v traces xs p q → Comes v traces r ys q z
       → Comes v traces r (xs ++ ys) p z
   Comes-then (Ok value) xs ys p q z d c = Does-then xs ys p q z d c
   Comes-then (Err HistoryFull) xs ys p q z d c = Within-after HistoryFull xs ys p q z d c
@@ -136,7 +135,7 @@ module _ (v : Service) (traces : Bool) where
   Comes-then (Err DiskFault) xs ys p q z d (inr c) = inr (Between-after xs ys p q z d c)
   Comes-then (Err WriteFault) xs ys p q z d c = Within-after WriteFault xs ys p q z d c
 
-  Within-more : (stop : LineStop) (xs ys : List Step) (p q : Point) → StopsWithin v traces stop xs p q → StopsWithin v traces stop (xs ++ ys) p q
+  Within-more : (stop : Stop) (xs ys : List Step) (p q : Point) → StopsWithin v traces stop xs p q → StopsWithin v traces stop (xs ++ ys) p q
   Within-more stop xs ys p q s = record {
     first = s.first;
     step = s.step;
@@ -156,7 +155,7 @@ module _ (v : Service) (traces : Bool) where
   }
 
   -- a stop at these steps is a stop at them and those
-  pub Comes-cut : {T : Type 0} (r : Result T LineStop) (xs ys : List Step) (p q : Point) → IsErr r → Comes v traces r xs p q → Comes v traces r (xs ++ ys) p q
+  pub Comes-cut : {T : Type 0} (r : Result T Stop) (xs ys : List Step) (p q : Point) → IsErr r → Comes v traces r xs p q → Comes v traces r (xs ++ ys) p q
   Comes-cut (Ok value) xs ys p q stopped c = cc
   Comes-cut (Err HistoryFull) xs ys p q stopped c = Within-more HistoryFull xs ys p q c
   Comes-cut (Err NoMemory) xs ys p q stopped (inl c) = inl (Within-more NoMemory xs ys p q c)
@@ -166,7 +165,7 @@ module _ (v : Service) (traces : Bool) where
   Comes-cut (Err WriteFault) xs ys p q stopped c = Within-more WriteFault xs ys p q c
 
   -- a result that hands the stop of another on
-  pub Comes-passed : (V : Type 0) {T : Type 0} (stop : LineStop) (r : Result T LineStop) (steps : List Step) (p q : Point)
+  pub Comes-passed : (V : Type 0) {T : Type 0} (stop : Stop) (r : Result T Stop) (steps : List Step) (p q : Point)
       → r ≡ Err stop → Comes v traces {T = V} (Err stop) steps p q → Comes v traces r steps p q
   Comes-passed V HistoryFull r steps p q is c = rw is c
   Comes-passed V NoMemory r steps p q is c = rw is c
@@ -174,11 +173,11 @@ module _ (v : Service) (traces : Bool) where
   Comes-passed V WriteFault r steps p q is c = rw is c
 
   -- a stop at a step, behind others
-  Within-at : (stop : LineStop) (first rest : List Step) (step : Step) (p q z : Point) → Does v traces first p q → StopsAt v traces stop step q z
+  Within-at : (stop : Stop) (first rest : List Step) (step : Step) (p q z : Point) → Does v traces first p q → StopsAt v traces stop step q z
       → StopsWithin v traces stop (first ++ step ∷ rest) p z
   Within-at stop first rest step p q z d s = record { first = first; step = step; rest = rest; split = refl; between = q; did = d; stopped = s }
 
-  pub Comes-at : {T : Type 0} (r : Result T LineStop) (stop : LineStop) (first rest : List Step) (step : Step) (p q z : Point) → r ≡ Err stop
+  pub Comes-at : {T : Type 0} (r : Result T Stop) (stop : Stop) (first rest : List Step) (step : Step) (p q z : Point) → r ≡ Err stop
       → Does v traces first p q → StopsAt v traces stop step q z → Comes v traces r (first ++ step ∷ rest) p z
   Comes-at r HistoryFull first rest step p q z is d s = rw is (Within-at HistoryFull first rest step p q z d s)
   Comes-at r NoMemory first rest step p q z is d s = rw is (inl (Within-at NoMemory first rest step p q z d s))
@@ -186,7 +185,7 @@ module _ (v : Service) (traces : Bool) where
   Comes-at r WriteFault first rest step p q z is d s = rw is (Within-at WriteFault first rest step p q z d s)
 
   -- before the first step memory was wanted
-  pub Comes-between : {T : Type 0} (r : Result T LineStop) (steps : List Step) (p q : Point) → r ≡ Err NoMemory → q ≡ p → Comes v traces r steps p q
+  pub Comes-between : {T : Type 0} (r : Result T Stop) (steps : List Step) (p q : Point) → r ≡ Err NoMemory → q ≡ p → Comes v traces r steps p q
   Comes-between r steps p q is same = rw is (inr (record { first = []; rest = steps; split = refl; did = subst (Does v traces [] p) (sym same) (Does-none p) }))
 
   -- behind these steps memory was wanted, or the disk failed
@@ -194,7 +193,7 @@ module _ (v : Service) (traces : Bool) where
   Between-behind steps p q d = record { first = steps; rest = []; split = sym (append-nil steps); did = d }
 
 -- the same service does the same
-pub Comes-same : {T : Type 0} (v v' : Service) (traces : Bool) (r : Result T LineStop) (steps : List Step) (p q : Point) → v' ≡ v
+pub Comes-same : {T : Type 0} (v v' : Service) (traces : Bool) (r : Result T Stop) (steps : List Step) (p q : Point) → v' ≡ v
     → Comes v' traces r steps p q → Comes v traces r steps p q
 Comes-same v v' traces r steps p q same c = subst (λ x. Comes x traces r steps p q) same c
 

@@ -5,8 +5,7 @@ use Rattle.std.specs.declared.result.Result.{Result}
 use Rattle.request_json.specs.Actions.{Line, whole_lines, all_lines, last_line, rest_from}
 use Rattle.batch_output.specs.SerialBatches.{IsLawfulRule}
 use Rattle.batch_output.proofs.LawfulBatches.{fewer_wait}
-use Rattle.line_answers.specs.Vocabulary.{Core, BatchCounts, Answers, TellsBatch, core_behind}
-use Rattle.line_answers.specs.declared.answering.LineStop.{LineStop}
+use Rattle.line_answers.specs.Vocabulary.{Core, BatchCounts, Answers, TellsBatch, core_behind, Stop}
 use Rattle.line_answers.specs.Services.{Service, program_of}
 use Rattle.line_answers.specs.LineAnswers.{batch_on}
 use Rattle.session_steps.specs.Steps.{Step, open_at, Answer, RunWaiting, answers, endings, standing_after, last_steps, all_steps, whole_steps}
@@ -83,7 +82,7 @@ module _ (v : Service) (traces : Bool) where
       over e.count (length old.core.pending) old p e.did (omega arith) none
 
   -- a stop at the next batch
-  stop_at : {T : Type 0} (r : Result T LineStop) (k n : ℕ) (old p q : Point) → IsErr r → Does v traces (runs k) old p → k + 1 ≤ n
+  stop_at : {T : Type 0} (r : Result T Stop) (k n : ℕ) (old p q : Point) → IsErr r → Does v traces (runs k) old p → k + 1 ≤ n
       → Comes v traces r (RunWaiting ∷ []) p q → Comes v traces r (runs n) old q
   stop_at r k n old p q stopped d within c =
       let left = n - k - 1 in
@@ -92,7 +91,7 @@ module _ (v : Service) (traces : Bool) where
       (subst (λ m. Comes v traces r (runs k ++ runs m) old q) (sym (add-one left))
       (Comes-then v traces r (runs k) (runs (suc left)) old p q d (Comes-cut v traces r (RunWaiting ∷ []) (runs left) p q stopped c)))
 
-  pub Ending-stop : {T : Type 0} (r : Result T LineStop) (old p q : Point) → IsErr r → Ending old p → 0 < length p.core.pending
+  pub Ending-stop : {T : Type 0} (r : Result T Stop) (old p q : Point) → IsErr r → Ending old p → 0 < length p.core.pending
       → Comes v traces r (RunWaiting ∷ []) p q → Comes v traces r (endings (going old)) old q
   Ending-stop r old p q stopped e some c =
       let fewer = e.fewer in
@@ -101,17 +100,17 @@ module _ (v : Service) (traces : Bool) where
   -- Lines, and then the end of the input
 
   -- a stop at the lines is a stop at them and the end
-  pub Last-stop : {T : Type 0} (r : Result T LineStop) (lines : List Line) (p q : Point) → IsErr r → Comes v traces r (answers lines) p q
+  pub Last-stop : {T : Type 0} (r : Result T Stop) (lines : List Line) (p q : Point) → IsErr r → Comes v traces r (answers lines) p q
       → Comes v traces r (last_steps v (going p) lines) p q
   Last-stop r lines p q stopped c = Comes-cut v traces r (answers lines) (endings (standing_after v (going p) (answers lines))) p q stopped c
 
-  pub Last-then : {T : Type 0} (r : Result T LineStop) (lines : List Line) (p q z : Point) → Does v traces (answers lines) p q
+  pub Last-then : {T : Type 0} (r : Result T Stop) (lines : List Line) (p q z : Point) → Does v traces (answers lines) p q
       → Comes v traces r (endings (going q)) q z → Comes v traces r (last_steps v (going p) lines) p z
   Last-then r lines p q z d c =
       subst (λ s. Comes v traces r (answers lines ++ endings s) p z) (sym d.stands) (Comes-then v traces r (answers lines) (endings (going q)) p q z d c)
 
   -- lines, and then more of them and the end
-  pub Last-after : {T : Type 0} (r : Result T LineStop) (xs ys : List Line) (p q z : Point) → Does v traces (answers xs) p q
+  pub Last-after : {T : Type 0} (r : Result T Stop) (xs ys : List Line) (p q z : Point) → Does v traces (answers xs) p q
       → Comes v traces r (last_steps v (going q) ys) q z → Comes v traces r (last_steps v (going p) (xs ++ ys)) p z
   Last-after r xs ys p q z d c =
       let stands : standing_after v (going p) (answers (xs ++ ys)) ≡ standing_after v (going q) (answers ys) =
@@ -124,7 +123,7 @@ module _ (v : Service) (traces : Bool) where
       (Comes-then v traces r (answers xs) (last_steps v (going q) ys) p q z d c)
 
   -- the whole lines of an input, and then what is left of it and its end
-  pub Comes-all : {T : Type 0} (r : Result T LineStop) (bytes : List ℕ) (p q z : Point) → p.lines ≡ 0 → Does v traces (whole_steps bytes) p q
+  pub Comes-all : {T : Type 0} (r : Result T Stop) (bytes : List ℕ) (p q z : Point) → p.lines ≡ 0 → Does v traces (whole_steps bytes) p q
       → Comes v traces r (last_steps v (going q) (last_line (rest_from [] bytes))) q z → Comes v traces r (all_steps v p.core bytes) p z
   Comes-all r bytes p q z first d c =
       subst (λ n. Comes v traces r (last_steps v (open_at p.core n) (all_lines bytes)) p z) first

@@ -9,10 +9,8 @@ use Rattle.sf_outside.specs.Gains.{joined}
 use Rattle.sf_outside.proofs.GainLaws.{joined-nil, joined_one}
 use Rattle.request_json.specs.Actions.{Line, Action, action_of}
 use Rattle.batch_output.specs.BatchOutput.{Standing, waits, answer, taken, is_due}
-use Rattle.line_answers.specs.Vocabulary.{Core, BatchCounts, BatchStop, Answers, TellsBatch, core_behind}
-use Rattle.line_answers.specs.BatchStopVariants as batch
-use Rattle.line_answers.specs.declared.answering.LineStop.{LineStop}
-use Rattle.line_answers.specs.declared.answering.LineStop.TheVariants.{HistoryFull, NoMemory, DiskFault, WriteFault}
+use Rattle.line_answers.specs.Vocabulary.{Core, BatchCounts, Answers, TellsBatch, core_behind, Stop}
+use Rattle.line_answers.specs.StopVariants.{HistoryFull, NoMemory, DiskFault, WriteFault}
 use Rattle.line_answers.specs.Services.{Service, program_of}
 use Rattle.line_answers.specs.LineAnswers.{before, Move, Moment, Moves, IsUntaken, FindsFull, IsUnplanned, IsUnlogged, AnswersLine, batch_on, line_result}
 use Rattle.line_answers.proofs.TakenLaws.{batch_moved}
@@ -41,13 +39,6 @@ pub trace_on : (traces : Bool) (t : Tally) (counts : BatchCounts) → traces ≡
 unfolding trace_lines
 trace_on true t counts on = joined_one (trace_line (with_batch t counts).batches counts)
 trace_on false t counts on = cc
-
--- why a session stops where a batch did
-abbrev pub stop_of : BatchStop → LineStop
-stop_of batch.HistoryFull = HistoryFull
-stop_of batch.NoMemory = NoMemory
-stop_of batch.DiskFault = DiskFault
-stop_of batch.WriteFault = WriteFault
 
 module _ (v : Service) (traces : Bool) where
   -- A step
@@ -93,7 +84,7 @@ module _ (v : Service) (traces : Bool) where
       }
 
   -- the session stopped at the step, and counted nothing
-  pub Stops-step : (stop : LineStop) (step : Step) (old new : Point) → Moves v (Err stop) (move_from old step) (moment old) (moment new)
+  pub Stops-step : (stop : Stop) (step : Step) (old new : Point) → Moves v (Err stop) (move_from old step) (moment old) (moment new)
       → IsUncounted old new → StopsAt v traces stop step old new
   Stops-step HistoryFull step old new a u = (a, u)
   Stops-step NoMemory step old new a u = (inr a, u)
@@ -108,7 +99,7 @@ module _ (v : Service) (traces : Bool) where
 
   -- A stop at one step is one of it alone
 
-  pub Comes-one : {T : Type 0} (r : Result T LineStop) (stop : LineStop) (step : Step) (old new : Point) → r ≡ Err stop → StopsAt v traces stop step old new
+  pub Comes-one : {T : Type 0} (r : Result T Stop) (stop : Stop) (step : Step) (old new : Point) → r ≡ Err stop → StopsAt v traces stop step old new
       → Comes v traces r (step ∷ []) old new
   Comes-one r stop step old new is s = Comes-at v traces r stop [] [] step old old new is (Does-none v traces old) s
 
@@ -117,7 +108,7 @@ module _ (v : Service) (traces : Bool) where
   before_is : (p : Point) → before p.core (p.lines + 1) ≡ going p
   before_is p = let same : p.lines + 1 - 1 ≡ p.lines = omega arith in ap (open_at p.core) same
 
-  abbrev LineComes : Result (Option BatchCounts) LineStop → Line → Point → Point → Type 0
+  abbrev LineComes : Result (Option BatchCounts) Stop → Line → Point → Point → Type 0
   LineComes r line old new = AnswersLine v r (before old.core (old.lines + 1)) line (moment old) (moment new)
 
   pub Does-line : (counts : Option BatchCounts) (line : Line) (old new : Point) → new.lines ≡ old.lines + 1
@@ -126,7 +117,7 @@ module _ (v : Service) (traces : Bool) where
   Does-line counts line old new lines a u =
       Does-step counts (Answer line) old new lines (subst (λ s. AnswersLine v (Ok counts) s line (moment old) (moment new)) (before_is old) a) u
 
-  stops_line : (stop : LineStop) (line : Line) (old new : Point) → AnswersLine v (Err stop) (going old) line (moment old) (moment new) → IsUncounted old new
+  stops_line : (stop : Stop) (line : Line) (old new : Point) → AnswersLine v (Err stop) (going old) line (moment old) (moment new) → IsUncounted old new
       → StopsAt v traces stop (Answer line) old new
   stops_line HistoryFull line old new a u = (a, u)
   stops_line NoMemory line old new (inl a) u = (inl a, u)
@@ -134,7 +125,7 @@ module _ (v : Service) (traces : Bool) where
   stops_line DiskFault line old new a u = (a, u)
   stops_line WriteFault line old new a u = inl (a, u)
 
-  pub Stops-line : (stop : LineStop) (line : Line) (old new : Point)
+  pub Stops-line : (stop : Stop) (line : Line) (old new : Point)
       → AnswersLine v (Err stop) (before old.core (old.lines + 1)) line (moment old) (moment new) → IsUncounted old new
       → StopsAt v traces stop (Answer line) old new
   Stops-line stop line old new a u = stops_line stop line old new (subst (λ s. AnswersLine v (Err stop) s line (moment old) (moment new)) (before_is old) a) u
@@ -152,7 +143,7 @@ module _ (v : Service) (traces : Bool) where
   nothing a = subst (Appends a a) (sym joined-nil) (Appends-nil a)
 
   -- from what the batch came to and told
-  pub Moves-waiting : (result : Result BatchCounts BatchStop) (old new : Point) → waits old.core ≡ true
+  pub Moves-waiting : (result : Result BatchCounts Stop) (old new : Point) → waits old.core ≡ true
       → Answers (program_of v) v.rule v.limits result old.core new.core old.held new.held
       → TellsBatch (batch_on v.compiled old.core) v.parts result old.outside new.outside
       → Moves v (line_result result) (move_from old RunWaiting) (moment old) (moment new)
@@ -171,18 +162,11 @@ module _ (v : Service) (traces : Bool) where
   Does-batch counts old new lines some a t u = Does-step (Some counts) RunWaiting old new lines
       (Moves-waiting (Ok counts) old new (some_waits old.core some) a t) u
 
-  stops_batch : (stop : BatchStop) (old new : Point) → Moves v (line_result (Err stop)) (move_from old RunWaiting) (moment old) (moment new)
-      → IsUncounted old new → StopsAt v traces (stop_of stop) RunWaiting old new
-  stops_batch batch.HistoryFull old new a u = (a, u)
-  stops_batch batch.NoMemory old new a u = (inr a, u)
-  stops_batch batch.DiskFault old new a u = (a, u)
-  stops_batch batch.WriteFault old new a u = inl (a, u)
-
-  pub Stops-batch : (stop : BatchStop) (old new : Point) → 0 < length old.core.pending
+  pub Stops-batch : (stop : Stop) (old new : Point) → 0 < length old.core.pending
       → Answers (program_of v) v.rule v.limits (Err stop) old.core new.core old.held new.held
       → TellsBatch (batch_on v.compiled old.core) v.parts (Err stop) old.outside new.outside → IsUncounted old new
-      → StopsAt v traces (stop_of stop) RunWaiting old new
-  Stops-batch stop old new some a t u = stops_batch stop old new (Moves-waiting (Err stop) old new (some_waits old.core some) a t) u
+      → StopsAt v traces stop RunWaiting old new
+  Stops-batch stop old new some a t u = Stops-step stop RunWaiting old new (Moves-waiting (Err stop) old new (some_waits old.core some) a t) u
 
   pub Untraced-batch : (counts : BatchCounts) (old new : Point) → 0 < length old.core.pending
       → Answers (program_of v) v.rule v.limits (Ok counts) old.core new.core old.held new.held
@@ -208,7 +192,7 @@ module _ (v : Service) where
   move_as s line line' same = ap (move_by s) same
 
   -- is answered the same
-  pub Line-as : (r : Result (Option BatchCounts) LineStop) (s : Standing) (line line' : Line) (old new : Moment)
+  pub Line-as : (r : Result (Option BatchCounts) Stop) (s : Standing) (line line' : Line) (old new : Moment)
       → action_of (program_of v) line ≡ action_of (program_of v) line'
       → AnswersLine v r s line old new → AnswersLine v r s line' old new
   Line-as (Ok counts) s line line' old new same a = subst (λ m. Moves v (Ok counts) m old new) (move_as s line line' same) a

@@ -8,9 +8,8 @@ use Rattle.sf_outside.specs.DiskModel.{DiskFacts}
 use Rattle.sf_outside.specs.Gains.{joined}
 use Rattle.operator_graph.specs.Turns.{Outside}
 use Rattle.batch_output.specs.BatchOutput.{Standing}
-use Rattle.line_answers.specs.Vocabulary.{IsToldAlong, Core, BatchCounts, Logs, StoreSettings}
-use Rattle.line_answers.specs.declared.answering.LineStop.{LineStop}
-use Rattle.line_answers.specs.declared.answering.LineStop.TheVariants.{HistoryFull, NoMemory, DiskFault, WriteFault}
+use Rattle.line_answers.specs.Vocabulary.{IsToldAlong, Core, BatchCounts, Logs, StoreSettings, Stop}
+use Rattle.line_answers.specs.StopVariants.{HistoryFull, NoMemory, DiskFault, WriteFault}
 use Rattle.line_answers.specs.Services.{Service, program_of}
 use Rattle.line_answers.specs.LineAnswers.{Moment, RunsBatch, Moves, IsUntaken, FindsFull, IsUnplanned, IsUnlogged, IsCommitted, batch_on}
 use Rattle.session_steps.specs.declared.tally.Tally.{Tally}
@@ -78,7 +77,7 @@ module _ (v : Service) (traces : Bool) where
     pub part : AppendsPrefix old.traced new.traced (trace_text traces old.tally (counts ∷ []))
 
   -- the session stopped at a step
-  abbrev pub StopsAt : LineStop → Step → Point → Point → Type 0
+  abbrev pub StopsAt : Stop → Step → Point → Point → Type 0
   StopsAt HistoryFull step old new = FindsFull v (move_of v (going old) step) (moment old) (moment new) × IsUncounted old new
   StopsAt NoMemory step old new =
       (IsUntaken (going old) (move_of v (going old) step) (moment old) (moment new) ⊎ IsUnplanned v (move_of v (going old) step) (moment old) (moment new))
@@ -88,7 +87,7 @@ module _ (v : Service) (traces : Bool) where
       (Moves v (Err WriteFault) (move_of v (going old) step) (moment old) (moment new) × IsUncounted old new) ⊎ IsUntraced step old new
 
   -- it did the first of these steps in full, and stopped at the next
-  pub record StopsWithin (stop : LineStop) (steps : List Step) (old new : Point) : Type 0 where
+  pub record StopsWithin (stop : Stop) (steps : List Step) (old new : Point) : Type 0 where
     pub first : List Step
     pub step : Step
     pub rest : List Step
@@ -106,7 +105,7 @@ module _ (v : Service) (traces : Bool) where
 
   -- What it came to. Memory may be wanted between two steps too: for more of a line of the input, or behind a batch for a checkpoint, where the disk
   -- may fail as well.
-  abbrev pub Comes : {T : Type 0} → Result T LineStop → List Step → Point → Point → Type 0
+  abbrev pub Comes : {T : Type 0} → Result T Stop → List Step → Point → Point → Type 0
   Comes (Ok value) steps old new = Does steps old new
   Comes (Err HistoryFull) steps old new = StopsWithin HistoryFull steps old new
   Comes (Err NoMemory) steps old new = StopsWithin NoMemory steps old new ⊎ StopsBetween steps old new

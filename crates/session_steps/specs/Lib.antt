@@ -3,5 +3,4 @@ pub mod Traces
 pub mod Doings
 pub mod StepLaws
 pub mod Vocabulary
-pub mod BatchStopVariants
-pub mod LineStopVariants
+pub mod StopVariants

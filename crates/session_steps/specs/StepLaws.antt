@@ -8,9 +8,8 @@ use Rattle.sf_outside.specs.Gains.{joined}
 use Rattle.request_json.specs.Actions.{Line, all_lines}
 use Rattle.operator_graph.specs.Turns.{Outside}
 use Rattle.batch_output.specs.BatchOutput.{Standing, begun, after, replies, at_end, all_replies}
-use Rattle.line_answers.specs.Vocabulary.{Core, BatchCounts}
-use Rattle.line_answers.specs.declared.answering.LineStop.{LineStop}
-use Rattle.line_answers.specs.declared.answering.LineStop.TheVariants.{HistoryFull, NoMemory, DiskFault, WriteFault}
+use Rattle.line_answers.specs.Vocabulary.{Core, BatchCounts, Stop}
+use Rattle.line_answers.specs.StopVariants.{HistoryFull, NoMemory, DiskFault, WriteFault}
 use Rattle.line_answers.specs.Services.{Service, program_of}
 use Rattle.session_steps.specs.Steps.{Step, answers, all_steps, move_of, standing_after, printed, ran_on}
 use Rattle.session_steps.specs.Traces.{trace_text}
@@ -35,7 +34,7 @@ StepsPrint = (v : Service) → ((s : Standing) (lines : List Line) → AnswersPr
 -- What a session has come to
 
 -- the text of what they print was written; where it stopped for want of memory or at a fault, a prefix of it
-abbrev pub WroteAs : {T : Type 0} → Result T LineStop → Option (List ℕ) → Option (List ℕ) → List ℕ → Type 0
+abbrev pub WroteAs : {T : Type 0} → Result T Stop → Option (List ℕ) → Option (List ℕ) → List ℕ → Type 0
 WroteAs (Ok value) old new text = Appends old new text
 WroteAs (Err HistoryFull) old new text = Appends old new text
 WroteAs (Err NoMemory) old new text = AppendsPrefix old new text
@@ -43,7 +42,7 @@ WroteAs (Err DiskFault) old new text = AppendsPrefix old new text
 WroteAs (Err WriteFault) old new text = AppendsPrefix old new text
 
 -- where memory was wanted or the disk failed whole lines stand on its output
-abbrev pub WholeAs : {T : Type 0} → Result T LineStop → Option (List ℕ) → Option (List ℕ) → List (List ℕ) → Type 0
+abbrev pub WholeAs : {T : Type 0} → Result T Stop → Option (List ℕ) → Option (List ℕ) → List (List ℕ) → Type 0
 WholeAs (Ok value) old new lines = ⊤
 WholeAs (Err HistoryFull) old new lines = ⊤
 WholeAs (Err NoMemory) old new lines = (k : ℕ) × Appends old new (joined (take k lines))
@@ -51,7 +50,7 @@ WholeAs (Err DiskFault) old new lines = (k : ℕ) × Appends old new (joined (ta
 WholeAs (Err WriteFault) old new lines = ⊤
 
 -- their batches were told; where it stopped for want of memory or at a fault, some first ones, and perhaps some events of the next
-abbrev pub ToldAs : {T : Type 0} → Service → Result T LineStop → List Core → List BatchCounts → Outside → Outside → Type 0
+abbrev pub ToldAs : {T : Type 0} → Service → Result T Stop → List Core → List BatchCounts → Outside → Outside → Type 0
 ToldAs v (Ok value) cores counts old new = RunBatches v cores counts old new
 ToldAs v (Err HistoryFull) cores counts old new = RunBatches v cores counts old new
 ToldAs v (Err NoMemory) cores counts old new = BeginBatches v cores counts old new
@@ -59,7 +58,7 @@ ToldAs v (Err DiskFault) cores counts old new = BeginBatches v cores counts old 
 ToldAs v (Err WriteFault) cores counts old new = BeginBatches v cores counts old new
 
 -- the lines of those that were counted were traced; at a write fault perhaps a part of them
-abbrev pub TracedAs : {T : Type 0} → Result T LineStop → Option (List ℕ) → Option (List ℕ) → List ℕ → Type 0
+abbrev pub TracedAs : {T : Type 0} → Result T Stop → Option (List ℕ) → Option (List ℕ) → List ℕ → Type 0
 TracedAs (Ok value) old new text = Appends old new text
 TracedAs (Err HistoryFull) old new text = Appends old new text
 TracedAs (Err NoMemory) old new text = Appends old new text
@@ -67,7 +66,7 @@ TracedAs (Err DiskFault) old new text = Appends old new text
 TracedAs (Err WriteFault) old new text = AppendsPrefix old new text
 
 -- where it stands is where they lead; or the history is full there
-abbrev pub StandsAs : {T : Type 0} → Result T LineStop → Standing → Standing → Type 0
+abbrev pub StandsAs : {T : Type 0} → Result T Stop → Standing → Standing → Type 0
 StandsAs (Ok value) stands new = stands ≡ new
 StandsAs (Err HistoryFull) stands new = stands.is_full ≡ true
 StandsAs (Err NoMemory) stands new = ⊤
@@ -80,7 +79,7 @@ IsAtNext v behind [] core = ⊥
 IsAtNext v behind (step ∷ rest) core = core ≡ (move_of v behind step).core
 
 -- so many batches were counted of as many as were committed; where something couldn't be written perhaps one less
-abbrev pub AreCounted : {T : Type 0} → Result T LineStop → ℕ → ℕ → Type 0
+abbrev pub AreCounted : {T : Type 0} → Result T Stop → ℕ → ℕ → Type 0
 AreCounted (Ok value) counted ran = counted ≡ ran
 AreCounted (Err HistoryFull) counted ran = counted ≡ ran
 AreCounted (Err NoMemory) counted ran = counted ≡ ran
@@ -98,7 +97,7 @@ pub record EndsAmong (v : Service) (steps : List Step) (old : Standing) (last : 
 
 -- a first part of what the steps print was printed, and of their batches some first ones were run, told, counted and traced; all of it where the
 -- steps were done or the history was full
-pub record HasBegun {T : Type 0} (v : Service) (traces : Bool) (result : Result T LineStop) (steps : List Step) (old new : Point) : Type 0 where
+pub record HasBegun {T : Type 0} (v : Service) (traces : Bool) (result : Result T Stop) (steps : List Step) (old new : Point) : Type 0 where
   pub stands : StandsAs result (standing_after v (going old) steps) (going new)
   pub wrote : WroteAs result old.held new.held (joined (printed v (going old) steps))
   pub whole : WholeAs result old.held new.held (printed v (going old) steps)
@@ -108,5 +107,5 @@ pub record HasBegun {T : Type 0} (v : Service) (traces : Bool) (result : Result 
   pub ended : EndsAmong v steps (going old) new.core (AreCounted result (length counts))
 
 abbrev pub ComesBegin : Type 0
-ComesBegin = (v : Service) (traces : Bool) (result : Result (Unit {0}) LineStop) (steps : List Step) (old new : Point)
+ComesBegin = (v : Service) (traces : Bool) (result : Result (Unit {0}) Stop) (steps : List Step) (old new : Point)
     → Comes v traces result steps old new → HasBegun v traces result steps old new

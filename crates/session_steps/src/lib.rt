@@ -8,9 +8,7 @@ mod tally;
 mod tracing;
 
 pub use laws::{comes_begin, steps_print};
-pub use line_answers::{
-    BatchCounts, BatchStop, Batching, InputLine, LineStop, answer_batch, answer_line,
-};
+pub use line_answers::{BatchCounts, InputLine, Settings, Stop, Terms, answer_batch, answer_line};
 pub use pieces::write_pieces;
 pub use tally::Tally;
 pub use tracing::write_trace;

@@ -2,5 +2,5 @@ pub mod StoreLaws
 pub mod CycleLaws
 pub mod NoStore
 mod LoggingLaws
-mod Snapshots
+mod CheckpointBytes
 pub mod Vocabulary

@@ -1,10 +1,12 @@
 -- The store of a session, where it has one, and what a disk keeps in it.
-use Rattle.std.specs.Prelude.{◌≡◌, ◌⊎◌, ℕ, ◌+◌, ◌≤◌, ◌<◌, ◌^◌, ⊤, List, Some, None, true}
+use Rattle.std.specs.Prelude.{◌≡◌, ◌⊎◌, ℕ, ◌+◌, ◌≤◌, ◌<◌, ◌^◌, ⊤, List, drop, Some, None, true}
+use Rattle.std.specs.List.{sum_by}
 use Rattle.std.specs.declared.option.Option.{Option}
 use Rattle.sf_outside.specs.DiskModel.{Image, DiskFacts}
 use Rattle.sf_value.specs.declared.BatchRecord.{BatchRecord}
-use Rattle.sf_value.specs.declared.Snapshot.{Snapshot}
-use Rattle.byte_sizes.specs.Sizes.{batch_size, snapshot_size}
+use Rattle.sf_value.specs.Heads.{snapshot_of}
+use Rattle.sf_value.specs.declared.heads.Head.{Head}
+use Rattle.byte_sizes.specs.Sizes.{batch_size, entry_size, head_size}
 use Rattle.byte_sizes.specs.Spelt.{IsShortText}
 use Rattle.program_meaning.specs.ClassTables.{Source}
 use Rattle.keyed_state.specs.Works.{entities_differ}
@@ -68,23 +70,32 @@ IsRecordFor (Some store) batch (Some body) = IsBatch body batch
 abbrev pub next_record : (List Access → Chosen) → Source → Core → ℕ → BatchRecord
 next_record rule src core fresh = record { news = news_of core fresh; committed = (rule (accesses_on src core)).committed }
 
--- a record, or a snapshot of this core that has each entity once, would end past place 2^62 of its file
+-- the record would end past place 2^62 of its file
 abbrev pub RecordEndsPast : Option Store → BatchRecord → Type 0
 RecordEndsPast None batch = ⊥
 RecordEndsPast (Some store) batch = 2 ^ 62 < store.position.at + 6 + batch_size batch
 
+-- a head of this core that has each entity once would
 pub record HasSnapshotPast (text : List ℕ) (core : Core) : Type 0 where
-  pub kept : Snapshot
-  pub program : kept.program ≡ text
-  pub holds : core_of_snapshot kept ≡ core
-  pub once : entities_differ kept.records ≡ true
-  pub past : 2 ^ 62 < 17 + snapshot_size kept
+  pub head : Head
+  pub program : head.program ≡ text
+  pub holds : core_of_snapshot (snapshot_of head core.history) ≡ core
+  pub once : entities_differ head.records ≡ true
+  pub past : 2 ^ 62 < 17 + head_size head
+
+-- so would the entries that a store at this position doesn't have yet
+abbrev pub HistoryEndsPast : Position → Core → Type 0
+HistoryEndsPast position core = 2 ^ 62 < position.bytes + sum_by entry_size (drop position.kept core.history)
+
+-- one of these two: a checkpoint would end past it
+abbrev pub CheckpointEndsPast : Position → List ℕ → Core → Type 0
+CheckpointEndsPast position text core = HasSnapshotPast text core ⊎ HistoryEndsPast position core
 
 abbrev pub SnapshotEndsPast : Option Store → Core → Type 0
 SnapshotEndsPast None core = ⊥
-SnapshotEndsPast (Some store) core = HasSnapshotPast store.settings.program core
+SnapshotEndsPast (Some store) core = CheckpointEndsPast store.position store.settings.program core
 
--- one of the two: the record of the next batch of a core, or a snapshot of what is logged of it, where so many requests came since the last batch
+-- one of the two: the record of the next batch of a core, or a checkpoint of what is logged of it, where so many requests came since the last batch
 abbrev pub EndsPast : (List Access → Chosen) → Option Store → Source → Core → ℕ → DiskFacts → Type 0
 EndsPast rule store src core fresh facts =
     (RecordEndsPast store (next_record rule src core fresh) × Keeps store src (settled core fresh) facts) ⊎ SnapshotEndsPast store (settled core fresh)

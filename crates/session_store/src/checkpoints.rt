@@ -1,25 +1,27 @@
-//! Checkpoints: after every so many batches the store keeps a snapshot of all that was committed and of what waits.
+//! Checkpoints: after every so many batches the store keeps a head, and the entries of the history that it doesn't have yet.
 
 ghost use Rattle.std.specs.Prelude.{◌≡◌, ◌+◌, ◌≤◌, ◌<◌, ◌^◌, ◌⊎◌, length, IfOk, OnOk, IsErrOf, Err};
 ghost use Rattle.sf_outside.specs.Causes.{Rose};
 ghost use Rattle.sf_outside.specs.DiskModel.{LeavesOnly};
-ghost use Rattle.byte_sizes.specs.Spelt.{IsShortText};
+ghost use Rattle.std.specs.List.{AllByRecursion};
+ghost use Rattle.byte_sizes.specs.Spelt.{IsShortText, IsSpeltEntry};
+ghost use Rattle.sf_bytes.specs.Entries.{EntriesTo};
 ghost use Rattle.store_meaning.specs.Vocabulary.{CoreFits, core_of, source_of, tables_of};
-ghost use Rattle.store_meaning.specs.Checkpoints.{next_epoch};
 ghost use Rattle.store_meaning.specs.Engines.{program_of};
 ghost use Rattle.store_meaning.specs.Keeping.{KeepsCore};
 ghost use Rattle.storable_cores.specs.Storable.{IsStorable};
 ghost use Rattle.session_store.specs.Cycles.{cycle_of, next_cycle};
-ghost use Rattle.session_store.specs.Stores.{settings_of, Keeps, StandsSomewhere, HasSnapshotPast, SnapshotEndsPast};
+ghost use Rattle.session_store.specs.Stores.{settings_of, Keeps, StandsSomewhere, HistoryEndsPast, CheckpointEndsPast, SnapshotEndsPast};
 ghost use Rattle.session_store.specs.Endings.{KeepsWhere, LeavesMeanwhile};
-ghost use Rattle.session_store.specs.Checkpoints.{disk_failed, HasSnapshot};
+ghost use Rattle.session_store.specs.Checkpoints.{disk_failed, HasEntries, HasHead, IsCheckpointAt, kept_at};
 
 use crate::store::Store;
-use sf_bytes::write_snapshot;
+use sf_bytes::{write_entry, write_head};
+use sf_list::Sequence;
 use sf_outside::{Disk, Failed};
-use sf_value::{Bytes, Text};
+use sf_value::{Bytes, Entry, Text};
 use std::alloc::{AllocError, Global};
-use store_meaning::{Engine, Position, keep_snapshot};
+use store_meaning::{Engine, Position, keep_head};
 
 /// Behind this epoch there is no checkpoint any more.
 const LAST_EPOCH: u64 = (1 << 63) - 1;
@@ -111,7 +113,7 @@ fn count_batch<D: Disk>(
     Ok(())
 }
 
-/// Keeps a snapshot of the core of an engine under the next epoch, and gives where the store is then.
+/// Keeps the core of an engine under the next epoch, and gives where the store is then. The history goes on behind the entries that the store has.
 ///
 /// At each moment a crash leaves the core, at the one position or at the other. Want of memory comes before the first write.
 pub fn keep_core<D: Disk>(
@@ -127,28 +129,103 @@ pub fn keep_core<D: Disk>(
     requires text { IsShortText text.now }
     requires kept { KeepsCore (program_of engine.now text.now) (D.facts disk.old) (core_of engine.now) position }
     requires more { position.epoch + 1 < 2 ^ 63 }
-    ensures next { IfOk result (λ next. next ≡ next_epoch position) }
-    ensures kept { OnOk result (KeepsCore (program_of engine.now text.now) (D.facts disk.new) (core_of engine.now) (next_epoch position)) }
+    ensures next { IfOk result (λ next. next ≡ kept_at position (core_of engine.now)) }
+    ensures kept { OnOk result (KeepsCore (program_of engine.now text.now) (D.facts disk.new) (core_of engine.now) (kept_at position (core_of engine.now))) }
     ensures moments { LeavesOnly (D.facts disk.old) (D.facts disk.new) (λ image. StandsSomewhere (program_of engine.now text.now) image (core_of engine.now)) }
     ensures unwritten { IsErrOf result KeepFault.NoMemory → disk.new ≡ disk.old }
     ensures later { D.faults disk.old ≤ D.faults disk.new }
-    ensures cause { IsErrOf result KeepFault.DiskFault → Rose (D.faults disk.old) (D.faults disk.new) ⊎ HasSnapshotPast text.now (core_of engine.now) }
+    ensures cause { IsErrOf result KeepFault.DiskFault → Rose (D.faults disk.old) (D.faults disk.new) ⊎ CheckpointEndsPast position text.now (core_of engine.now) }
     ensures mounts { D.mounts disk.new ≡ D.mounts disk.old }
 {
-    let body = snapshot_bytes(alloc, engine, text)?;
-    Ok(keep_snapshot(disk, position, body.as_slice())?)
+    let made = checkpoint_bytes(alloc, engine, text, position)?;
+    Ok(keep_head(
+        disk,
+        position,
+        made.more.as_slice(),
+        made.body.as_slice(),
+        made.kept,
+    )?)
 }
 
-/// The bytes of a snapshot of the core of an engine.
-fn snapshot_bytes(alloc: Global, engine: &Engine, text: &Text) -> Result<Bytes, AllocError>
+/// What a checkpoint writes.
+#[derive(Drop)]
+struct Checkpoint {
+    /// The bytes of the entries that the store doesn't have yet.
+    more: Bytes,
+    /// The bytes of the head.
+    body: Bytes,
+    /// How many entries the head has.
+    kept: u32,
+}
+
+/// What a checkpoint of the core of an engine writes behind a position. None is made whose history would end past all places.
+fn checkpoint_bytes(
+    alloc: Global,
+    engine: &Engine,
+    text: &Text,
+    position: Position,
+) -> Result<Checkpoint, KeepFault>
     requires fits { CoreFits (tables_of engine.now) (core_of engine.now) }
     requires storable { IsStorable (core_of engine.now) 0 }
     requires few { length (core_of engine.now).pending ≤ 255 }
     requires text { IsShortText text.now }
-    ensures { IfOk result (HasSnapshot (program_of engine.now text.now) (core_of engine.now)) }
+    ensures made { IfOk result (IsCheckpointAt (program_of engine.now text.now) position (core_of engine.now)) }
+    ensures past { IsErrOf result KeepFault.DiskFault → HistoryEndsPast position (core_of engine.now) }
 {
-    let kept = engine.snapshot(alloc, text.as_str().as_bytes())?;
-    let body = write_snapshot(alloc, &kept);
-    drop(kept);
-    body
+    let more = history_bytes(alloc, engine, position.kept)?;
+    let Some(bytes) = position.bytes.checked_add(more.len() as u64) else {
+        return Err(KeepFault::DiskFault);
+    };
+    let (body, kept) = head_bytes(alloc, engine, text, bytes)?;
+    Ok(Checkpoint { more, body, kept })
+}
+
+/// The bytes of the entries of an engine's history behind the first so many.
+fn history_bytes(alloc: Global, engine: &Engine, kept: u32) -> Result<Bytes, AllocError>
+    requires { IsStorable (core_of engine.now) 0 }
+    ensures { IfOk result (HasEntries (core_of engine.now) kept) }
+{
+    let entries = engine.entries_behind(alloc, kept)?;
+    let more = bytes_of(alloc, entries.as_slice());
+    drop(entries);
+    more
+}
+
+/// The bytes of entries, one behind the other.
+fn bytes_of(alloc: Global, entries: &[Entry]) -> Result<Bytes, AllocError>
+    requires { AllByRecursion IsSpeltEntry entries.now }
+    ensures { IfOk result (λ more. EntriesTo more 0 entries.now (length more)) }
+{
+    let mut more = Sequence::new(alloc);
+    for entry in entries {
+        more.append(alloc, write_entry(alloc, entry)?)?;
+    }
+    Ok(more)
+}
+
+/// The bytes of a head of the core of an engine, and how many entries it has. They take so many bytes.
+fn head_bytes(
+    alloc: Global,
+    engine: &Engine,
+    text: &Text,
+    bytes: u64,
+) -> Result<(Bytes, u32), AllocError>
+    requires fits { CoreFits (tables_of engine.now) (core_of engine.now) }
+    requires storable { IsStorable (core_of engine.now) 0 }
+    requires few { length (core_of engine.now).pending ≤ 255 }
+    requires text { IsShortText text.now }
+    ensures { IfOk result (HasHead (program_of engine.now text.now) (core_of engine.now) bytes) }
+{
+    let head = engine.head(alloc, text.as_str().as_bytes(), bytes)?;
+    let kept = head.kept;
+    match write_head(alloc, &head) {
+        Ok(body) => {
+            drop(head);
+            Ok((body, kept))
+        }
+        Err(error) => {
+            drop(head);
+            Err(error)
+        }
+    }
 }

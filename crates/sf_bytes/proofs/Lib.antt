@@ -12,3 +12,5 @@ pub mod RecordLaws
 pub mod Lengths
 pub mod Stands
 pub mod Wholes
+pub mod Histories
+mod HistoryExamples

@@ -12,6 +12,7 @@ ghost use Rattle.sf_bytes.specs.Spelt.{IsSpeltValue, IsSpeltRequest, IsSpeltOutc
 ghost use Rattle.sf_bytes.specs.Spelt.{IsReal, IsRealRequest, IsRealOutcome, IsRealEntry, IsRealBatch, IsRealSnapshot, IsRealHead};
 ghost use Rattle.sf_bytes.specs.Spelt.{IsReadValue, IsReadRequest, IsReadOutcome, IsReadEntry, IsReadBatch, IsReadSnapshot, IsReadHead};
 ghost use Rattle.sf_bytes.specs.Lengths.{HasSizes};
+ghost use Rattle.sf_bytes.specs.OneHistory.{HistoryIsOne, HistoryIsWhole, BreakIsOne, HistoryStays, HistoryGrows};
 ghost use Rattle.sf_bytes.specs.Reads.{Reads, NoneBeginsAnother};
 
 mod fault;
@@ -177,4 +178,14 @@ pub fn spellings_have_sizes()
     ensures batches { HasSizes batch_bytes batch_size }
     ensures snapshots { HasSizes snapshot_bytes snapshot_size }
     ensures heads { HasSizes head_bytes head_size }
+{}
+
+/// The bytes of a file that are named as so many entries are one history, or they are none and break at one place. A history
+/// stays whatever comes behind it, and grows by entries that are written there.
+pub fn histories_stand_apart()
+    ensures one { HistoryIsOne }
+    ensures whole { HistoryIsWhole }
+    ensures one_break { BreakIsOne }
+    ensures stays { HistoryStays }
+    ensures grows { HistoryGrows }
 {}

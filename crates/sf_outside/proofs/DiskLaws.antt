@@ -1,9 +1,9 @@
 -- What holds of every disk: the files of an image, moments that accumulate, and what a sync makes durable.
-use Rattle.std.proofs.Common.{◌≡◌, ◌≢◌, inl, inr, ⊎_elim, ℕ, List, length, Some, None, refl, sym, ap, ◌∙◌, subst, arith, IsSomeAnd}
+use Rattle.std.proofs.Common.{◌≡◌, ◌≢◌, inl, inr, ⊎_elim, ℕ, List, length, Some, None, refl, sym, ap, ◌∙◌, subst, arith, IfSome, IsSomeAnd}
 use Rattle.std.specs.declared.option.Option.{Option}
 use Rattle.sf_outside.specs.declared.store_disk.StoreFile.{StoreFile}
 use Rattle.sf_outside.specs.declared.store_disk.StoreFile.TheVariants.{Log0, Log1, Snap0, Snap1, Hist}
-use Rattle.sf_outside.specs.DiskModel.{PerFile, Image, DiskFacts, of_file, with_file, written, Torn, TornFile, Elapses, LeavesOnly, Stays, KnownStep, SeenWritten, SeenTorn, IsDurable, IsClean}
+use Rattle.sf_outside.specs.DiskModel.{PerFile, Image, DiskFacts, of_file, with_file, written, Torn, TornFile, Elapses, LeavesOnly, Stays, LeavesNoMore, KnownStep, SeenWritten, SeenTorn, IsDurable, IsClean}
 use Rattle.sf_outside.specs.ImageSteps.{ComesTorn}
 
 -- the file that was put is there
@@ -119,19 +119,49 @@ Stays-refl facts = record {
   time = record { later = omega arith; nothing_else = λ since image le left. inl left; keeps = λ since image le left. left };
 }
 
+-- time goes on, and then on
+elapses_then : (old between new : DiskFacts) → ((image : Image) → between.may_leave image → old.may_leave image) → Elapses old between → Elapses between new → Elapses old new
+elapses_then old between new images first rest = record {
+  later = omega (arith, first.later, rest.later);
+  nothing_else = λ since image le left. ⊎_elim
+      (λ was. ⊎_elim (λ earlier. inl earlier) (λ meanwhile. inl (old.counts_now since image le (images image meanwhile))) (first.nothing_else since image le was))
+      (λ last. inr last) (rest.nothing_else since image (omega (arith, le, first.later)) left);
+  keeps = λ since image le left. rest.keeps since image (omega (arith, le, first.later)) (first.keeps since image le left);
+}
+
 -- calls that change nothing, and more of them
 pub Stays-then : (old between new : DiskFacts) → Stays old between → Stays between new → Stays old new
 Stays-then old between new first rest = record {
   seen = rest.seen ∙ first.seen;
   images = λ image left. first.images image (rest.images image left);
-  time = record {
-    later = omega (arith, first.time.later, rest.time.later);
-    nothing_else = λ since image le left. ⊎_elim
-        (λ was. ⊎_elim (λ earlier. inl earlier) (λ meanwhile. inl (old.counts_now since image le (first.images image meanwhile))) (first.time.nothing_else since image le was))
-        (λ last. inr last) (rest.time.nothing_else since image (omega (arith, le, first.time.later)) left);
-    keeps = λ since image le left. rest.time.keeps since image (omega (arith, le, first.time.later)) (first.time.keeps since image le left);
-  };
+  time = elapses_then old between new first.images first.time rest.time;
 }
+
+-- calls that change nothing leave no more than before
+pub LeavesNoMore-stays : (old new : DiskFacts) → Stays old new → LeavesNoMore old new
+LeavesNoMore-stays old new stays = record {
+  seen = subst (KnownStep (λ before now. old.may_leave now) old.seen) (sym stays.seen) (one_of old.seen old.reads);
+  images = stays.images;
+  time = stays.time;
+}
+  where
+    one_of : (seen : Option Image) → IfSome seen old.may_leave → KnownStep (λ before now. old.may_leave now) seen seen
+    one_of None reads = tt
+    one_of (Some now) reads = reads
+
+-- nor do more of those that don't
+pub LeavesNoMore-then : (old between new : DiskFacts) → LeavesNoMore old between → LeavesNoMore between new → LeavesNoMore old new
+LeavesNoMore-then old between new first rest = record {
+  seen = one_of old.seen between.seen new.seen first.seen rest.seen;
+  images = λ image left. first.images image (rest.images image left);
+  time = elapses_then old between new first.images first.time rest.time;
+}
+  where
+    one_of : (a b c : Option Image) → KnownStep (λ before now. old.may_leave now) a b → KnownStep (λ before now. between.may_leave now) b c → KnownStep (λ before now. old.may_leave now) a c
+    one_of None b c one two = tt
+    one_of (Some x) None c one two = absurd one
+    one_of (Some x) (Some y) None one two = absurd two
+    one_of (Some x) (Some y) (Some z) one two = first.images z two
 
 -- an image is one of itself with a file torn
 pub TornFile-none : (file : StoreFile) (at n : ℕ) (image : Image) → TornFile file at n image image
@@ -149,10 +179,17 @@ SeenTorn-stays file at n old new stays = subst (KnownStep (TornFile file at n) o
     torn_same None = tt
     torn_same (Some image) = TornFile-none file at n image
 
--- after calls that change nothing a file is as durable as before
-pub IsDurable-stays : (file : StoreFile) (old new : DiskFacts) → IsDurable file old → Stays old new → IsDurable file new
-IsDurable-stays file old new durable stays image leaves = subst (λ seen. IsSomeAnd seen (λ now. of_file file image ≡ of_file file now)) (sym stays.seen) (durable image (stays.images image leaves))
+-- after calls that leave no more a file is as durable as before
+pub IsDurable-no_more : (file : StoreFile) (old new : DiskFacts) → IsDurable file old → LeavesNoMore old new → IsDurable file new
+IsDurable-no_more file old new durable fewer image left = as_read old.seen new.seen durable fewer.seen
+  where
+    as_read : (a b : Option Image) → ((other : Image) → old.may_leave other → IsSomeAnd a (λ now. of_file file other ≡ of_file file now))
+        → KnownStep (λ before now. old.may_leave now) a b → IsSomeAnd b (λ now. of_file file image ≡ of_file file now)
+    as_read None b each step = absurd (each image (fewer.images image left))
+    as_read (Some x) None each step = absurd step
+    as_read (Some x) (Some y) each step = each image (fewer.images image left) ∙ sym (each y step)
 
+-- after calls that change nothing a disk is as clean as before
 pub IsClean-stays : (old new : DiskFacts) → IsClean old → Stays old new → IsClean new
 IsClean-stays old new clean stays image leaves = stays.seen ∙ clean image (stays.images image leaves)
 
@@ -193,15 +230,15 @@ module _ (file other : StoreFile) (differs : other ≢ file) where
   IsDurable-torn at n old new durable seen moments =
       durable_other at n (TornFile file at n) (λ before now step. TornFile-other file other at n before now step differs) old new durable seen moments
 
--- a run of calls that change nothing leaves an image from before them
-pub LeavesOnly-stays : (old new : DiskFacts) → Stays old new → LeavesOnly old new old.may_leave
-LeavesOnly-stays old new stays = LeavesOnly-next old old new old.may_leave (LeavesOnly-start old old.may_leave (λ image leaves. leaves)) stays.time stays.images
+-- a run of calls that leave no more leaves an image from before them
+pub LeavesOnly-no_more : (old new : DiskFacts) → LeavesNoMore old new → LeavesOnly old new old.may_leave
+LeavesOnly-no_more old new fewer = LeavesOnly-next old old new old.may_leave (LeavesOnly-start old old.may_leave (λ image leaves. leaves)) fewer.time fewer.images
 
--- so it may stand for a write that isn't whole
+-- so calls that change nothing may stand for a write that isn't whole
 pub LeavesOnly-unwritten : (file : StoreFile) (at n : ℕ) (old new : DiskFacts) → Stays old new → LeavesOnly old new (ComesTorn file at n old)
 LeavesOnly-unwritten file at n old new stays =
-    LeavesOnly-weaker old new old.may_leave (ComesTorn file at n old) (LeavesOnly-stays old new stays) (λ image left. (image, left, TornFile-none file at n image))
+    LeavesOnly-weaker old new old.may_leave (ComesTorn file at n old) (LeavesOnly-no_more old new (LeavesNoMore-stays old new stays)) (λ image left. (image, left, TornFile-none file at n image))
 
--- and calls that change nothing may follow a run
-pub LeavesOnly-and-stays : (old mid new : DiskFacts) (P : Image → Type 0) → LeavesOnly old mid P → Stays mid new → LeavesOnly old new P
-LeavesOnly-and-stays old mid new P moments stays = LeavesOnly-next old mid new P moments stays.time (λ image left. left_now old mid P moments image (stays.images image left))
+-- and calls that leave no more may follow a run
+pub LeavesOnly-and-no_more : (old mid new : DiskFacts) (P : Image → Type 0) → LeavesOnly old mid P → LeavesNoMore mid new → LeavesOnly old new P
+LeavesOnly-and-no_more old mid new P moments fewer = LeavesOnly-next old mid new P moments fewer.time (λ image left. left_now old mid P moments image (fewer.images image left))

@@ -2,7 +2,7 @@
 use Rattle.std.proofs.Common.{◌≡◌, ◌≢◌, ℕ, List, length, take, drop, Some, None, Result, Ok, Err, OnOk, sym, ap, ◌∙◌, subst, IsSome, IsSomeAnd, IfSome, true≢false}
 use Rattle.std.specs.declared.option.Option.{Option}
 use Rattle.sf_outside.specs.declared.store_disk.StoreFile.{StoreFile}
-use Rattle.sf_outside.specs.DiskModel.{Image, DiskFacts, of_file, with_file, written, Torn, TornFile, LeavesOnly, KnownStep, SeenWritten, Stays, IsDurable}
+use Rattle.sf_outside.specs.DiskModel.{Image, DiskFacts, of_file, with_file, written, Torn, TornFile, LeavesOnly, KnownStep, SeenWritten, Stays, LeavesNoMore, IsDurable}
 use Rattle.sf_outside.specs.ImageSteps.{ComesTorn, ComesBy}
 use Rattle.sf_outside.proofs.DiskLaws.{of_file-same, of_file-other, with_file-same, with_file-again, TornFile-torn, left_now}
 use Rattle.sf_outside.proofs.WrittenBytes.{written-stands}
@@ -64,9 +64,9 @@ comes_weaker file Step Weaker old image came step = record { before = came.befor
 pub comes_same : (file : StoreFile) (Step : List ℕ → List ℕ → Type 0) (old : DiskFacts) (image : Image) → ((bytes : List ℕ) → Step bytes bytes) → old.may_leave image → ComesBy file Step old image
 comes_same file Step old image same left = record { before = image; left = left; step = same (of_file file image); others = sym (with_file-same file image) }
 
--- calls that change nothing may come before
-pub comes_earlier : (file : StoreFile) (Step : List ℕ → List ℕ → Type 0) (old mid : DiskFacts) (image : Image) → Stays old mid → ComesBy file Step mid image → ComesBy file Step old image
-comes_earlier file Step old mid image stays came = record { before = came.before; left = stays.images came.before came.left; step = came.step; others = came.others }
+-- calls that leave no more may come before
+pub comes_earlier : (file : StoreFile) (Step : List ℕ → List ℕ → Type 0) (old mid : DiskFacts) (image : Image) → LeavesNoMore old mid → ComesBy file Step mid image → ComesBy file Step old image
+comes_earlier file Step old mid image fewer came = record { before = came.before; left = fewer.images came.before came.left; step = came.step; others = came.others }
 
 -- one step after another
 pub comes_then : (file : StoreFile) (First Second Both : List ℕ → List ℕ → Type 0) → ((a b c : List ℕ) → First a b → Second b c → Both a c) → (old mid : DiskFacts) (image : Image)

@@ -110,6 +110,12 @@ KnownStep Step None new = ⊤
 KnownStep Step (Some old) None = ⊥
 KnownStep Step (Some old) (Some new) = Step old new
 
+-- a call leaves no more than before: a read gives one of the images that a crash might have left, and a crash leaves none but those
+pub record LeavesNoMore (old new : DiskFacts) : Type 0 where
+  pub seen : KnownStep (λ before now. old.may_leave now) old.seen new.seen
+  pub images : (image : Image) → new.may_leave image → old.may_leave image
+  pub time : Elapses old new
+
 -- what a read gives after a whole write
 abbrev pub SeenWritten : StoreFile → ℕ → List ℕ → DiskFacts → DiskFacts → Type 0
 SeenWritten file at bytes old new = KnownStep (λ before now. now ≡ with_file file (written (of_file file before) at bytes) before) old.seen new.seen

@@ -4,7 +4,7 @@ ghost use Rattle.std.specs.Prelude.{◌≡◌, ◌+◌, ◌^◌, ◌<◌, ◌≤
 ghost use Rattle.std.specs.Io.{ReadsAtMost};
 ghost use Rattle.sf_outside.specs.Bytes.{CopiedAll};
 ghost use Rattle.sf_outside.specs.Causes.{HasCause, Rose, next_count};
-ghost use Rattle.sf_outside.specs.DiskModel.{of_file, LeavesOnly, Stays, SeenWritten, SeenTorn, IsDurable, IsClean, mounted, NotMounted};
+ghost use Rattle.sf_outside.specs.DiskModel.{of_file, LeavesOnly, Stays, LeavesNoMore, SeenWritten, SeenTorn, IsDurable, IsClean, mounted, NotMounted};
 ghost use Rattle.sf_outside.specs.ImageSteps.{ComesTorn};
 ghost use Rattle.sf_outside.specs.DiskCalls.{Quiet, Write, Sync, Mount, no_bytes};
 ghost use Rattle.sf_outside.specs.DiskState.{facts_of, NotesAll, fails_next, after_done, after_quiet, after_fault};
@@ -225,6 +225,7 @@ impl Disk for MemDisk {
     fn sync(&mut self, file: StoreFile) -> Result<(), Failed>
         ensures durable { OnOk result (IsDurable file (facts_of self.new)) }
         ensures stays { Stays (facts_of self.old) (facts_of self.new) }
+        ensures no_more { LeavesNoMore (facts_of self.old) (facts_of self.new) }
         ensures cause { HasCause self.old.faults self.new.faults result }
         ensures mounts { mounts_of self.new.mounts ≡ mounts_of self.old.mounts }
         ensures fails { is_err result ≡ fails_next self.old }

@@ -5,7 +5,7 @@ ghost use Rattle.std.specs.declared.option.Option.{Option};
 ghost use Rattle.std.specs.Io.{ReadsAtMost};
 ghost use Rattle.sf_outside.specs.Bytes.{CopiedAll};
 ghost use Rattle.sf_outside.specs.Causes.{HasCause, Rose};
-ghost use Rattle.sf_outside.specs.DiskModel.{Image, DiskFacts, Mounts, of_file, LeavesOnly, Stays, SeenWritten, SeenTorn, IsDurable, IsClean, mounted, NotMounted};
+ghost use Rattle.sf_outside.specs.DiskModel.{Image, DiskFacts, Mounts, of_file, LeavesOnly, Stays, LeavesNoMore, SeenWritten, SeenTorn, IsDurable, IsClean, mounted, NotMounted};
 ghost use Rattle.sf_outside.specs.ImageSteps.{ComesTorn};
 
 use crate::devices::Failed;
@@ -89,10 +89,11 @@ pub trait Disk {
         ensures cause { HasCause (faults self.old) (faults self.new) result }
         ensures mounts { mounts self.new ≡ mounts self.old };
 
-    /// After it a crash leaves the file as a read gives it. One that fails leaves reads as they were, and no more.
+    /// After it a crash leaves the file as a read gives it. After one that fails a read may give any of the images that a crash might have left.
     fn sync(&mut self, file: StoreFile) -> Result<(), Failed>
         ensures durable { OnOk result (IsDurable file (facts self.new)) }
-        ensures stays { Stays (facts self.old) (facts self.new) }
+        ensures stays { OnOk result (Stays (facts self.old) (facts self.new)) }
+        ensures no_more { LeavesNoMore (facts self.old) (facts self.new) }
         ensures cause { HasCause (faults self.old) (faults self.new) result }
         ensures mounts { mounts self.new ≡ mounts self.old };
 }

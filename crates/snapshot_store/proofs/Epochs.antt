@@ -1,6 +1,6 @@
 -- Which files an epoch and the one after it have.
-use Rattle.std.proofs.Common.{◌≡◌, ◌≢◌, ℕ, zero, suc, ◌+◌, refl, arith}
-use Rattle.sf_outside.specs.declared.store_disk.StoreFile.TheVariants.{Snap1, Log1}
+use Rattle.std.proofs.Common.{◌≡◌, ◌≢◌, ℕ, zero, suc, ◌+◌, refl, sym, arith}
+use Rattle.sf_outside.specs.declared.store_disk.StoreFile.TheVariants.{Snap1, Log1, Hist}
 use Rattle.snapshot_store.specs.SlotFile.{number_of, slot_file, log_file, slot_of, log_of}
 
 pub slot_file-one : (n : ℕ) → n ≢ 0 → slot_file n ≡ Snap1
@@ -23,6 +23,15 @@ log-slot zero zero = λ same. cc
 log-slot zero (suc n) = λ same. cc
 log-slot (suc m) zero = λ same. cc
 log-slot (suc m) (suc n) = λ same. cc
+
+-- and neither is the history
+slot-hist : (n : ℕ) → slot_file n ≢ Hist
+slot-hist zero = λ same. cc
+slot-hist (suc n) = λ same. cc
+
+log-hist : (n : ℕ) → log_file n ≢ Hist
+log-hist zero = λ same. cc
+log-hist (suc n) = λ same. cc
 
 -- files of different numbers differ
 slot-slot : (m n : ℕ) → m + n ≡ 1 → slot_file m ≢ slot_file n
@@ -58,3 +67,15 @@ module _ (epoch : ℕ) where
 
   pub other_log-log : log_of (epoch + 1) ≢ log_of epoch
   other_log-log = log-log (number_of (epoch + 1)) (number_of epoch) (numbers epoch)
+
+  pub slot-history : slot_of epoch ≢ Hist
+  slot-history = slot-hist (number_of epoch)
+
+  pub log-history : log_of epoch ≢ Hist
+  log-history = log-hist (number_of epoch)
+
+  pub history-slot : Hist ≢ slot_of epoch
+  history-slot = λ same. slot-history (sym same)
+
+  pub history-log : Hist ≢ log_of epoch
+  history-log = λ same. log-history (sym same)

@@ -5,9 +5,9 @@ use Rattle.std.proofs.lemmas.Bool.{cases_eq}
 use Rattle.sf_bytes.specs.Gates.{open_gate, StandsAt, ClosedAt, OpenAt}
 use Rattle.sf_bytes.proofs.Stands.{Stands-byte}
 use Rattle.sf_outside.specs.declared.store_disk.StoreFile.{StoreFile}
-use Rattle.sf_outside.specs.DiskModel.{Image, DiskFacts, of_file, Torn, LeavesOnly, SeenWritten, Stays, IsDurable}
+use Rattle.sf_outside.specs.DiskModel.{Image, DiskFacts, of_file, Torn, LeavesOnly, SeenWritten, Stays, LeavesNoMore, IsDurable}
 use Rattle.sf_outside.specs.ImageSteps.{ComesTorn, ComesBy}
-use Rattle.sf_outside.proofs.DiskLaws.{left_now, LeavesOnly-stays, LeavesOnly-then, LeavesOnly-weaker}
+use Rattle.sf_outside.proofs.DiskLaws.{left_now, LeavesNoMore-stays, LeavesOnly-no_more, LeavesOnly-then, LeavesOnly-weaker}
 use Rattle.sf_outside.proofs.ImageSteps.{comes_torn, comes_torn_at, comes_weaker, comes_earlier, comes_same, written_stands}
 use Rattle.sf_outside.proofs.Writes.{Torn-length}
 use Rattle.snapshot_store.specs.SlotFile.{IsOpenSlot}
@@ -84,41 +84,42 @@ module _ (file : StoreFile) (old new : DiskFacts) (moments : LeavesOnly old new 
 stays_or_closes : (file : List ℕ) → StaysOrCloses file file
 stays_or_closes file = record { gate = gate_same file; slot = inl refl }
 
-module _ (file : StoreFile) (old mid : DiskFacts) (stays : Stays old mid) where
+module _ (file : StoreFile) (old mid : DiskFacts) (fewer : LeavesNoMore old mid) where
   -- nothing was written
   pub quiet_moments : LeavesOnly old mid (ComesBy file StaysOrCloses old)
-  quiet_moments = LeavesOnly-weaker old mid old.may_leave (ComesBy file StaysOrCloses old) (LeavesOnly-stays old mid stays) (λ image left. comes_same file StaysOrCloses old image stays_or_closes left)
+  quiet_moments = LeavesOnly-weaker old mid old.may_leave (ComesBy file StaysOrCloses old) (LeavesOnly-no_more old mid fewer) (λ image left. comes_same file StaysOrCloses old image stays_or_closes left)
 
   -- and then more
   pub then_moments : (new : DiskFacts) → LeavesOnly mid new (ComesBy file StaysOrCloses mid) → LeavesOnly old new (ComesBy file StaysOrCloses old)
   then_moments new more =
       LeavesOnly-then old mid new (ComesBy file StaysOrCloses old) quiet_moments
-      (LeavesOnly-weaker mid new (ComesBy file StaysOrCloses mid) (ComesBy file StaysOrCloses old) more (λ image came. comes_earlier file StaysOrCloses old mid image stays came))
+      (LeavesOnly-weaker mid new (ComesBy file StaysOrCloses mid) (ComesBy file StaysOrCloses old) more (λ image came. comes_earlier file StaysOrCloses old mid image fewer came))
 
   pub then_now : (new : DiskFacts) → ((image : Image) → new.may_leave image → ComesBy file Closes mid image) → (image : Image) → new.may_leave image → ComesBy file Closes old image
-  then_now new more image left = comes_earlier file Closes old mid image stays (more image left)
+  then_now new more image left = comes_earlier file Closes old mid image fewer (more image left)
 
-  -- a file that is as it was read
-  may_close : (seen : Option Image) (image : Image) → IfSome seen (λ now. MayClose (of_file file now)) → IsSomeAnd seen (λ now. of_file file image ≡ of_file file now) → MayClose (of_file file image)
-  may_close None image may same = absurd same
-  may_close (Some now) image may same = subst MayClose (sym same) may
+-- a file that is as it was read
+module _ (file : StoreFile) (image : Image) where
+  may_close : (seen : Option Image) → IfSome seen (λ now. MayClose (of_file file now)) → IsSomeAnd seen (λ now. of_file file image ≡ of_file file now) → MayClose (of_file file image)
+  may_close None may same = absurd same
+  may_close (Some now) may same = subst MayClose (sym same) may
 
-  closed_there : (seen : Option Image) (image : Image) → IfSome seen (λ now. ClosedAt (of_file file now) 0) → IsSomeAnd seen (λ now. of_file file image ≡ of_file file now) → ClosedAt (of_file file image) 0
-  closed_there None image closed same = absurd same
-  closed_there (Some now) image closed same = subst (λ f. ClosedAt f 0) (sym same) closed
+  closed_there : (seen : Option Image) → IfSome seen (λ now. ClosedAt (of_file file now) 0) → IsSomeAnd seen (λ now. of_file file image ≡ of_file file now) → ClosedAt (of_file file image) 0
+  closed_there None closed same = absurd same
+  closed_there (Some now) closed same = subst (λ f. ClosedAt f 0) (sym same) closed
 
-  module _ (durable : IsDurable file mid) where
-    -- the gate is written over a slot that is safe
-    pub close_moments : (new : DiskFacts) → IfSome old.seen (λ now. MayClose (of_file file now)) → LeavesOnly mid new (ComesTorn file 0 1 mid) → LeavesOnly old new (ComesBy file StaysOrCloses old)
-    close_moments new may more =
-        let there = subst (λ seen. IfSome seen (λ now. MayClose (of_file file now))) (sym stays.seen) may in
-        let each = λ (image : Image) (torn : ComesTorn file 0 1 mid image).
-        comes_torn_at file 0 1 StaysOrCloses mid image torn (λ t. torn_closes (of_file file torn.0) (of_file file image) t (may_close mid.seen torn.0 there (durable torn.0 torn.1))) in
-        then_moments new (LeavesOnly-weaker mid new (ComesTorn file 0 1 mid) (ComesBy file StaysOrCloses mid) more each)
+module _ (file : StoreFile) (old mid : DiskFacts) (stays : Stays old mid) (durable : IsDurable file mid) where
+  -- the gate is written over a slot that is safe
+  pub close_moments : (new : DiskFacts) → IfSome old.seen (λ now. MayClose (of_file file now)) → LeavesOnly mid new (ComesTorn file 0 1 mid) → LeavesOnly old new (ComesBy file StaysOrCloses old)
+  close_moments new may more =
+      let there = subst (λ seen. IfSome seen (λ now. MayClose (of_file file now))) (sym stays.seen) may in
+      let each = λ (image : Image) (torn : ComesTorn file 0 1 mid image).
+      comes_torn_at file 0 1 StaysOrCloses mid image torn (λ t. torn_closes (of_file file torn.0) (of_file file image) t (may_close file torn.0 mid.seen there (durable torn.0 torn.1))) in
+      then_moments file old mid (LeavesNoMore-stays old mid stays) new (LeavesOnly-weaker mid new (ComesTorn file 0 1 mid) (ComesBy file StaysOrCloses mid) more each)
 
-    -- a closed gate that was read is safe
-    pub closed_now : IfSome old.seen (λ now. ClosedAt (of_file file now) 0) → (image : Image) → mid.may_leave image → ComesBy file Closes old image
-    closed_now closed image left =
-        let there = subst (λ seen. IfSome seen (λ now. ClosedAt (of_file file now) 0)) (sym stays.seen) closed in
-        let came = comes_same file GateChanges old image gate_same (stays.images image left) in
-        comes_weaker file GateChanges Closes old image came (record { gate = came.step; closed = closed_there mid.seen image there (durable image left) })
+  -- a closed gate that was read is safe
+  pub closed_now : IfSome old.seen (λ now. ClosedAt (of_file file now) 0) → (image : Image) → mid.may_leave image → ComesBy file Closes old image
+  closed_now closed image left =
+      let there = subst (λ seen. IfSome seen (λ now. ClosedAt (of_file file now) 0)) (sym stays.seen) closed in
+      let came = comes_same file GateChanges old image gate_same (stays.images image left) in
+      comes_weaker file GateChanges Closes old image came (record { gate = came.step; closed = closed_there file image mid.seen there (durable image left) })

@@ -2,5 +2,6 @@ pub mod CheckpointSteps
 pub mod Epochs
 pub mod Fillings
 pub mod Gates
+pub mod Histories
 pub mod OneNewest
 pub mod Slots

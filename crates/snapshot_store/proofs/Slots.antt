@@ -1,16 +1,17 @@
--- Which snapshot a slot keeps, from the bytes that were read.
+-- Which head a slot keeps, from the bytes that were read.
 use Rattle.std.proofs.Common.{◌≡◌, inl, inr, ℕ, ◌+◌, ◌-◌, ◌≤◌, ◌<◌, ◌^◌, List, [], ◌∷◌, ◌++◌, length, take, drop, Bool, true, false, cond, Some, None, Ok, refl, sym, ap, ◌∙◌, subst, arith, IfSome, length-append}
 use Rattle.std.specs.declared.option.Option.{Option}
 use Rattle.std.specs.Int.{w64, from_be_bytes}
 use Rattle.std.proofs.lemmas.Bool.{ltb-true, ltb-false}
 use Rattle.std.proofs.lemmas.List.{take_all}
 use Rattle.std.specs.Prelude.{nat_lt}
-use Rattle.sf_bytes.specs.ByteForms.{long_bytes, snapshot_bytes}
+use Rattle.sf_bytes.specs.ByteForms.{long_bytes, head_bytes}
 use Rattle.sf_bytes.specs.Gates.{open_gate, StandsAt}
-use Rattle.sf_bytes.specs.Reading.{snapshot_at}
-use Rattle.sf_bytes.specs.Spelt.{IsReadSnapshot}
+use Rattle.sf_bytes.specs.Heads.{IsHead}
+use Rattle.sf_bytes.specs.Reading.{head_at}
+use Rattle.sf_bytes.specs.Spelt.{IsReadHead}
 use Rattle.sf_bytes.proofs.Fronts.{stands_apart}
-use Rattle.sf_bytes.proofs.RecordLaws.{snapshot_spells}
+use Rattle.sf_bytes.proofs.RecordLaws.{head_spells}
 use Rattle.sf_bytes.proofs.Stands.{Stands-length, Stands-front, Stands-behind, Stands-both}
 use Rattle.sf_bytes.proofs.Wholes.{part_only}
 use Rattle.sf_bytes.proofs.Wide.{wide64}
@@ -19,19 +20,19 @@ use Rattle.sf_outside.specs.DiskModel.{Image, of_file}
 use Rattle.sf_outside.specs.declared.store_disk.StoreFile.{StoreFile}
 use Rattle.sf_outside.proofs.ImageSteps.{if_one, if_both}
 use Rattle.sf_outside.proofs.WrittenBytes.{copied-stands}
-use Rattle.sf_value.specs.declared.Snapshot.{Snapshot}
+use Rattle.sf_value.specs.declared.heads.Head.{Head}
 use Rattle.snapshot_store.specs.declared.reading.Kept.{Kept}
-use Rattle.snapshot_store.specs.Answers.{Answers, AnswersSlot, SaysNumber, SaysSnapshot, newer_of}
-use Rattle.snapshot_store.specs.SlotFile.{IsEpoch, number_of, slot_file, IsOpenSlot, IsSnapshot, behind_gate, slot_bytes, HoldsAt, IsBadSlot, IsOlder, IsNewest}
+use Rattle.snapshot_store.specs.Answers.{Answers, AnswersSlot, SaysNumber, SaysHead, newer_of}
+use Rattle.snapshot_store.specs.SlotFile.{IsEpoch, number_of, slot_file, IsOpenSlot, behind_gate, slot_bytes, HoldsAt, IsBadSlot, IsOlder, IsNewest}
 use Rattle.snapshot_store.proofs.Fillings.{long-length}
 
--- ---- whole snapshots
+-- ---- whole heads
 
-pub no_snapshot : (bytes : List ℕ) → ((kept : Snapshot) (count : ℕ) → IsReadSnapshot kept → (count ≤ length bytes) × (take count bytes ≡ snapshot_bytes kept) → ⊥) → SaysSnapshot bytes None
-no_snapshot bytes none kept is = none kept (length bytes) is.0 (omega arith, take_all (length bytes) bytes (omega arith) ∙ sym is.1)
+pub no_head : (bytes : List ℕ) → ((head : Head) (count : ℕ) → IsReadHead head → (count ≤ length bytes) × (take count bytes ≡ head_bytes head) → ⊥) → SaysHead bytes None
+no_head bytes none head is = none head (length bytes) is.0 (omega arith, take_all (length bytes) bytes (omega arith) ∙ sym is.1)
 
-pub other_snapshot : (bytes : List ℕ) (found : Snapshot) (count : ℕ) → IsReadSnapshot found → take count bytes ≡ snapshot_bytes found → count < length bytes → SaysSnapshot bytes None
-other_snapshot bytes found count is_read front less kept is = part_only snapshot_bytes IsReadSnapshot (stands_apart snapshot_at snapshot_bytes IsReadSnapshot snapshot_spells) bytes found count is_read front less kept is.0 is.1
+pub other_head : (bytes : List ℕ) (found : Head) (count : ℕ) → IsReadHead found → take count bytes ≡ head_bytes found → count < length bytes → SaysHead bytes None
+other_head bytes found count is_read front less head is = part_only head_bytes IsReadHead (stands_apart head_at head_bytes IsReadHead head_spells) bytes found count is_read front less head is.0 is.1
 
 -- ---- numbers
 
@@ -48,8 +49,8 @@ long-same m n short-m short-n same = sym (wide64.again m short-m) ∙ ap (from_b
 
 -- ---- open slots
 
--- what stands in a slot that keeps a snapshot, part by part
-module _ (number : ℕ) (file : List ℕ) (epoch : ℕ) (kept : Snapshot) (holds : HoldsAt number file epoch kept) where
+-- what stands in a slot that keeps a head, part by part
+module _ (number : ℕ) (file : List ℕ) (epoch : ℕ) (head : Head) (holds : HoldsAt number file epoch head) where
   behind : StandsAt file 1 (behind_gate epoch holds.body)
   behind = Stands-behind file 0 (open_gate ∷ []) (behind_gate epoch holds.body) holds.stands
 
@@ -93,14 +94,14 @@ module _ (number : ℕ) (file : List ℕ) (epoch : ℕ) (kept : Snapshot) (holds
 
 -- a slot that ends within its epoch or its length is bad
 pub too_short : (number : ℕ) (file : List ℕ) → IsOpenSlot file → length file < 17 → IsBadSlot number file
-too_short number file is_open less = (is_open, λ epoch kept holds. absurd (omega (arith, less, held_reach number file epoch kept holds)))
+too_short number file is_open less = (is_open, λ epoch head holds. absurd (omega (arith, less, held_reach number file epoch head holds)))
 
 -- so is one with an epoch that isn't its own
 pub other_epoch : (number : ℕ) (file : List ℕ) (claimed : ℕ) → claimed < 2 ^ 64 → IsOpenSlot file → StandsAt file 1 (long_bytes claimed) → (IsEpoch claimed → number_of claimed ≡ number → ⊥) → IsBadSlot number file
 other_epoch number file claimed small is_open stands other = (
   is_open,
-  λ epoch kept holds.
-      let same = same_epoch number file epoch kept holds claimed small stands in
+  λ epoch head holds.
+      let same = same_epoch number file epoch head holds claimed small stands in
       other (subst IsEpoch (sym same) holds.in_range) (ap number_of same ∙ holds.own),
 )
 
@@ -112,22 +113,22 @@ module _ (number : ℕ) (file : List ℕ) (epoch len : ℕ) (small : len < 2 ^ 6
 
   -- so is one that ends within its body
   pub body_cut : length file - 17 < len → IsBadSlot number file
-  body_cut less = (is_open, λ e kept holds. absurd (omega (arith, less, held_reach number file e kept holds, same_length number file e kept holds len small length_stands)))
+  body_cut less = (is_open, λ e head holds. absurd (omega (arith, less, held_reach number file e head holds, same_length number file e head holds len small length_stands)))
 
   module _ (buf : List ℕ) (behind_it : StandsAt file 17 buf) (all : length buf ≡ len) where
-    -- and one whose body is no snapshot
-    pub body_other : SaysSnapshot buf None → IsBadSlot number file
+    -- and one whose body is no head
+    pub body_other : SaysHead buf None → IsBadSlot number file
     body_other none = (
       is_open,
-      λ e kept holds.
-          let same = same_length number file e kept holds len small length_stands in
+      λ e head holds.
+          let same = same_length number file e head holds len small length_stands in
           let count : length holds.body ≡ length buf = sym same ∙ sym all in
-          none kept (subst (λ bytes. IsSnapshot bytes kept) (sym (held_body number file e kept holds) ∙ ap (λ k. take k (drop 17 file)) count ∙ behind_it) holds.spells),
+          none head (subst (λ bytes. IsHead bytes head) (sym (held_body number file e head holds) ∙ ap (λ k. take k (drop 17 file)) count ∙ behind_it) holds.spells),
     )
 
-    -- else it keeps that snapshot
-    pub body_found : IsEpoch epoch → number_of epoch ≡ number → (kept : Snapshot) → IsSnapshot buf kept → HoldsAt number file epoch kept
-    body_found in_range own kept is =
+    -- else it keeps that head
+    pub body_found : IsEpoch epoch → number_of epoch ≡ number → (head : Head) → IsHead buf head → HoldsAt number file epoch head
+    body_found in_range own head is =
         let two = long_bytes epoch ++ long_bytes len in
         let place : 17 ≡ 1 + length two = omega (arith, long-length epoch, long-length len, length-append (long_bytes epoch) (long_bytes len)) in
         let behind_gate_there : StandsAt file 1 (two ++ buf) = Stands-both file 1 two buf claims (subst (λ at. StandsAt file at buf) place behind_it) in
@@ -170,15 +171,15 @@ module _ (file : StoreFile) (seen : Option Image) (number : ℕ) (opens : IfSome
       stands_there : (now : Image) → CopiedAll (of_file file now) 17 count buf → StandsAt (of_file file now) 17 buf
       stands_there now c = copied-stands (of_file file now) 17 count buf c (omega (arith, long, all))
 
-      pub seen_other : SaysSnapshot buf None → IfSome seen (λ now. IsBadSlot number (of_file file now))
+      pub seen_other : SaysHead buf None → IfSome seen (λ now. IsBadSlot number (of_file file now))
       seen_other none =
           if_both seen Claims (λ now. CopiedAll (of_file file now) 17 count buf) (λ now. IsBadSlot number (of_file file now))
           (λ now there c. body_other number (of_file file now) epoch len small there.0 there.1 buf (stands_there now c) long none) claims_there copied
 
-      pub seen_found : IsEpoch epoch → number_of epoch ≡ number → (kept : Snapshot) → IsSnapshot buf kept → IfSome seen (λ now. HoldsAt number (of_file file now) epoch kept)
-      seen_found in_range own kept is =
-          if_both seen Claims (λ now. CopiedAll (of_file file now) 17 count buf) (λ now. HoldsAt number (of_file file now) epoch kept)
-          (λ now there c. body_found number (of_file file now) epoch len small there.0 there.1 buf (stands_there now c) long in_range own kept is) claims_there copied
+      pub seen_found : IsEpoch epoch → number_of epoch ≡ number → (head : Head) → IsHead buf head → IfSome seen (λ now. HoldsAt number (of_file file now) epoch head)
+      seen_found in_range own head is =
+          if_both seen Claims (λ now. CopiedAll (of_file file now) 17 count buf) (λ now. HoldsAt number (of_file file now) epoch head)
+          (λ now there c. body_found number (of_file file now) epoch len small there.0 there.1 buf (stands_there now c) long in_range own head is) claims_there copied
 
 -- two numbers, one behind the other
 pub seen_claims : (file : StoreFile) (seen : Option Image) (epoch len : ℕ) → IfSome seen (λ now. SaysNumber (of_file file now) 1 (Some epoch)) → IfSome seen (λ now. SaysNumber (of_file file now) 9 (Some len))
@@ -191,25 +192,25 @@ seen_claims file seen epoch len first second =
 -- ---- both slots
 
 module _ (image : Image) where
-  newest_at : (m n : ℕ) → m + n ≡ 1 → (epoch : ℕ) (kept : Snapshot) → HoldsAt m (of_file (slot_file m) image) epoch kept → IsOlder epoch n (of_file (slot_file n) image) → IsNewest image epoch kept
-  newest_at m n both epoch kept holds older =
+  newest_at : (m n : ℕ) → m + n ≡ 1 → (epoch : ℕ) (head : Head) → HoldsAt m (of_file (slot_file m) image) epoch head → IsOlder epoch n (of_file (slot_file n) image) → IsNewest image epoch head
+  newest_at m n both epoch head holds older =
       let other : n ≡ number_of (epoch + 1) = omega (arith, both, holds.own) in
       record {
-        here = subst (λ x. HoldsAt x (of_file (slot_file x) image) epoch kept) (sym holds.own) holds;
+        here = subst (λ x. HoldsAt x (of_file (slot_file x) image) epoch head) (sym holds.own) holds;
         other = subst (λ x. IsOlder epoch x (of_file (slot_file x) image)) other older;
       }
 
   pub both_slots : (first second : Option Kept) → AnswersSlot 0 image.snap0 (Ok first) → AnswersSlot 1 image.snap1 (Ok second) → Answers image (Ok (newer_of first second))
   both_slots None None a b = (a, b)
-  both_slots None (Some second) a b = newest_at 1 0 (omega arith) second.epoch second.kept b (inl a)
-  both_slots (Some first) None a b = newest_at 0 1 (omega arith) first.epoch first.kept a (inl b)
+  both_slots None (Some second) a b = newest_at 1 0 (omega arith) second.epoch second.head b (inl a)
+  both_slots (Some first) None a b = newest_at 0 1 (omega arith) first.epoch first.head a (inl b)
   both_slots (Some first) (Some second) a b = newer (nat_lt second.epoch first.epoch) refl
     where
       newer : (less : Bool) → nat_lt second.epoch first.epoch ≡ less → Answers image (Ok (cond less (Some first) (Some second)))
-      newer true is = newest_at 0 1 (omega arith) first.epoch first.kept a (inr (second.epoch, second.kept, ltb-true second.epoch first.epoch is, b))
+      newer true is = newest_at 0 1 (omega arith) first.epoch first.head a (inr (second.epoch, second.head, ltb-true second.epoch first.epoch is, b))
       newer false is =
           let less : first.epoch < second.epoch = omega (arith, ltb-false second.epoch first.epoch is, a.own, b.own) in
-          newest_at 1 0 (omega arith) second.epoch second.kept b (inr (first.epoch, first.kept, less, a))
+          newest_at 1 0 (omega arith) second.epoch second.head b (inr (first.epoch, first.head, less, a))
 
 pub seen_both : (seen : Option Image) (first second : Option Kept) → IfSome seen (λ now. AnswersSlot 0 now.snap0 (Ok first)) → IfSome seen (λ now. AnswersSlot 1 now.snap1 (Ok second)) → IfSome seen (λ now. Answers now (Ok (newer_of first second)))
 seen_both seen first second a b =

@@ -1,13 +1,13 @@
 -- The file of a slot, and what the two slots of an image say together. A slot is closed, or open with an epoch and a
--- snapshot, or bad. Each epoch has a slot and a log, and the epoch after it has the others.
+-- head, or bad. Each epoch has a slot and a log, and the epoch after it has the others.
 use Rattle.std.specs.Prelude.{ℕ, zero, suc, ◌≡◌, ◌⊎◌, ◌+◌, ◌%◌, ◌≤◌, ◌<◌, ◌^◌, List, ◌∷◌, ◌++◌, length}
-use Rattle.sf_bytes.specs.ByteForms.{long_bytes, snapshot_bytes}
+use Rattle.sf_bytes.specs.ByteForms.{long_bytes}
 use Rattle.sf_bytes.specs.Gates.{open_gate, StandsAt, ClosedAt, OpenAt}
-use Rattle.sf_bytes.specs.Spelt.{IsReadSnapshot}
+use Rattle.sf_bytes.specs.Heads.{IsHead}
 use Rattle.sf_outside.specs.DiskModel.{Image, of_file}
 use Rattle.sf_outside.specs.declared.store_disk.StoreFile.{StoreFile}
 use Rattle.sf_outside.specs.declared.store_disk.StoreFile.TheVariants.{Log0, Log1, Snap0, Snap1}
-use Rattle.sf_value.specs.declared.Snapshot.{Snapshot}
+use Rattle.sf_value.specs.declared.heads.Head.{Head}
 
 -- ---- epochs
 
@@ -49,10 +49,6 @@ IsOpenSlot file = (1 < length file) × OpenAt file 0
 abbrev pub IsShutSlot : List ℕ → Type 0
 IsShutSlot file = (1 < length file) × ClosedAt file 0
 
--- these bytes are a spelling of the snapshot, and nothing else
-abbrev pub IsSnapshot : List ℕ → Snapshot → Type 0
-IsSnapshot body kept = IsReadSnapshot kept × (snapshot_bytes kept ≡ body)
-
 -- what stands behind the gate of an open slot: the epoch, the length of the body, and the body
 abbrev pub behind_gate : ℕ → List ℕ → List ℕ
 behind_gate epoch body = long_bytes epoch ++ long_bytes (length body) ++ body
@@ -61,10 +57,10 @@ behind_gate epoch body = long_bytes epoch ++ long_bytes (length body) ++ body
 abbrev pub slot_bytes : ℕ → List ℕ → List ℕ
 slot_bytes epoch body = open_gate ∷ behind_gate epoch body
 
--- the slot of this number is open with an epoch of its own and a spelling of a snapshot; what is behind that doesn't count
-pub record HoldsAt (number : ℕ) (file : List ℕ) (epoch : ℕ) (kept : Snapshot) : Type 0 where
+-- the slot of this number is open with an epoch of its own and a spelling of a head; what is behind that doesn't count
+pub record HoldsAt (number : ℕ) (file : List ℕ) (epoch : ℕ) (head : Head) : Type 0 where
   pub body : List ℕ
-  pub spells : IsSnapshot body kept
+  pub spells : IsHead body head
   pub stands : StandsAt file 0 (slot_bytes epoch body)
   pub in_range : IsEpoch epoch
   pub own : number_of epoch ≡ number
@@ -72,21 +68,21 @@ pub record HoldsAt (number : ℕ) (file : List ℕ) (epoch : ℕ) (kept : Snapsh
 
 -- open, and with nothing of that form
 abbrev pub IsBadSlot : ℕ → List ℕ → Type 0
-IsBadSlot number file = IsOpenSlot file × ((epoch : ℕ) (kept : Snapshot) → HoldsAt number file epoch kept → ⊥)
+IsBadSlot number file = IsOpenSlot file × ((epoch : ℕ) (head : Head) → HoldsAt number file epoch head → ⊥)
 
--- closed, or open with an epoch and a snapshot
+-- closed, or open with an epoch and a head
 abbrev pub IsGoodSlot : ℕ → List ℕ → Type 0
-IsGoodSlot number file = IsClosedSlot file ⊎ ((epoch : ℕ) × (kept : Snapshot) × HoldsAt number file epoch kept)
+IsGoodSlot number file = IsClosedSlot file ⊎ ((epoch : ℕ) × (head : Head) × HoldsAt number file epoch head)
 
 -- ---- both
 
 -- closed, or open with a smaller epoch
 abbrev pub IsOlder : ℕ → ℕ → List ℕ → Type 0
-IsOlder epoch number file = IsClosedSlot file ⊎ ((older : ℕ) × (kept : Snapshot) × (older < epoch) × HoldsAt number file older kept)
+IsOlder epoch number file = IsClosedSlot file ⊎ ((older : ℕ) × (head : Head) × (older < epoch) × HoldsAt number file older head)
 
--- the slot of this epoch is the open one of greatest epoch, and keeps this snapshot
-pub record IsNewest (image : Image) (epoch : ℕ) (kept : Snapshot) : Type 0 where
-  pub here : HoldsAt (number_of epoch) (of_file (slot_of epoch) image) epoch kept
+-- the slot of this epoch is the open one of greatest epoch, and keeps this head
+pub record IsNewest (image : Image) (epoch : ℕ) (head : Head) : Type 0 where
+  pub here : HoldsAt (number_of epoch) (of_file (slot_of epoch) image) epoch head
   pub other : IsOlder epoch (number_of (epoch + 1)) (of_file (slot_of (epoch + 1)) image)
 
 -- both slots are closed
@@ -100,4 +96,10 @@ IsFirstBad image (suc n) = (n ≡ 0) × IsGoodSlot 0 image.snap0 × IsBadSlot 1 
 
 -- the epoch is one more than the newest, or 1 where there is none
 abbrev pub IsNext : ℕ → Image → Type 0
-IsNext epoch image = (IsNew image × (epoch ≡ 1)) ⊎ ((newest : ℕ) × (kept : Snapshot) × IsNewest image newest kept × (epoch ≡ newest + 1))
+IsNext epoch image = (IsNew image × (epoch ≡ 1)) ⊎ ((newest : ℕ) × (head : Head) × IsNewest image newest head × (epoch ≡ newest + 1))
+
+-- ---- the history
+
+-- the newest names no byte from this place on
+abbrev pub NamesWithin : ℕ → Image → Type 0
+NamesWithin at image = (epoch : ℕ) (head : Head) → IsNewest image epoch head → head.bytes ≤ at

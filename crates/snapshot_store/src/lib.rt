@@ -1,8 +1,9 @@
 //! The snapshots of a store: in which of two slots the newest is, and how the next one takes the other.
 //!
 //! A slot counts once its gate is open, and the gate is opened only when all behind it is on the
-//! disk, and the log that goes with it is empty. Until then the other slot counts, which isn't
-//! touched. So a crash leaves the snapshot from before or the new one.
+//! disk, with what was to be added to the history, and the log that goes with it is empty. Until then
+//! the other slot counts, which isn't touched, nor is what it names of the history. So a crash leaves
+//! the snapshot from before or the new one.
 #![tactic(auto)]
 
 mod checkpoints;
@@ -11,7 +12,7 @@ mod files;
 mod front;
 mod reading;
 
-pub use checkpoints::{checkpoint, clear_log, close_slot, fill_slot, open_slot};
+pub use checkpoints::{append_history, checkpoint, clear_log, close_slot, fill_slot, open_slot};
 pub use fault::SnapFault;
 pub use files::{log_of, slot_file};
 pub use reading::{Kept, newest};

@@ -1,32 +1,32 @@
-//! Reading which snapshot is the newest.
+//! Reading which head is the newest.
 
 ghost use Rattle.std.specs.Prelude.{◌≡◌, ◌↔◌, ◌≤◌, ◌++◌, IfOk, IfSome, IsErrOf, IsTrue};
 ghost use Rattle.sf_bytes.specs.ByteForms.{long_bytes};
 ghost use Rattle.sf_bytes.specs.Gates.{StandsAt};
 ghost use Rattle.sf_outside.specs.Causes.{Rose};
 ghost use Rattle.sf_outside.specs.DiskModel.{of_file, Stays};
-ghost use Rattle.snapshot_store.specs.Answers.{Answers, IsPlaced, AnswersSlot, IsPlacedSlot, SaysSnapshot, newer_of};
+ghost use Rattle.snapshot_store.specs.Answers.{Answers, IsPlaced, AnswersSlot, IsPlacedSlot, SaysHead, newer_of};
 ghost use Rattle.snapshot_store.specs.SlotFile.{IsEpoch, number_of, slot_file, IsOpenSlot};
 
 use crate::fault::SnapFault;
 use crate::files::slot_file;
 use crate::front::{Gate, gate_of, number_at};
-use sf_bytes::read_snapshot;
+use sf_bytes::read_head;
 use sf_outside::{Disk, StoreFile};
-use sf_value::Snapshot;
+use sf_value::Head;
 use std::alloc::{AllocError, Global};
 
 /// The greatest epoch.
 const LAST: u64 = (1 << 63) - 1;
 
-/// A snapshot, and the epoch in which it was kept.
+/// What a checkpoint kept beside the history, and its epoch.
 #[derive(Drop)]
 pub struct Kept {
     pub epoch: u64,
-    pub kept: Snapshot,
+    pub head: Head,
 }
 
-/// The newest snapshot, or none where the store is new. It takes memory by the bytes that are there.
+/// The newest head, or none where the store is new. It takes memory by the bytes that are there.
 pub fn newest<D: Disk>(alloc: Global, disk: &mut D) -> Result<Option<Kept>, SnapFault>
     ensures answer { IfSome (D.facts disk.old).seen (λ now. Answers now result) }
     ensures placed { IsPlaced result }
@@ -107,7 +107,7 @@ fn is_own(epoch: u64, slot: u32) -> bool
     epoch > 0 && epoch <= LAST && epoch % 2 == slot as u64
 }
 
-/// What the open slot of this number keeps, which claims this epoch and so many bytes for a snapshot.
+/// What the open slot of this number keeps, which claims this epoch and so many bytes for a head.
 fn kept_behind<D: Disk>(
     alloc: Global,
     disk: &mut D,
@@ -136,21 +136,21 @@ fn kept_behind<D: Disk>(
     if count < body.len() {
         return Err(SnapFault::Bad { slot });
     }
-    match whole_snapshot(alloc, &body)? {
-        Some(kept) => Ok(Some(Kept { epoch, kept })),
+    match whole_head(alloc, &body)? {
+        Some(head) => Ok(Some(Kept { epoch, head })),
         None => Err(SnapFault::Bad { slot }),
     }
 }
 
-/// The snapshot whose bytes these are, with none left over.
-fn whole_snapshot(alloc: Global, bytes: &[u8]) -> Result<Option<Snapshot>, AllocError>
-    ensures { IfOk result (λ found. SaysSnapshot bytes.now found) }
+/// The head whose bytes these are, with none left over.
+fn whole_head(alloc: Global, bytes: &[u8]) -> Result<Option<Head>, AllocError>
+    ensures { IfOk result (λ found. SaysHead bytes.now found) }
 {
-    let Some((kept, count)) = read_snapshot(alloc, bytes)? else {
+    let Some((head, count)) = read_head(alloc, bytes)? else {
         return Ok(None);
     };
     if count < bytes.len() {
         return Ok(None);
     }
-    Ok(Some(kept))
+    Ok(Some(head))
 }

@@ -4,8 +4,7 @@ ghost use Rattle.std.specs.Prelude.{map, string_bytes};
 ghost use Rattle.std.specs.Process.{exit_status};
 ghost use Rattle.sf_outside.specs.DiskModel.{untold};
 ghost use Rattle.command_words.specs.CommandReading.{asked};
-ghost use Rattle.stateflow_cli.specs.Endings.{longest_input};
-ghost use Rattle.stateflow_cli.specs.Answers.{Answers};
+ghost use Rattle.stateflow_cli.specs.Promise.{Promise};
 
 use operator_graph::NoWatch;
 use stateflow_cli::{Call, Generator, NamedFiles, Reading, Shows, Writing, stateflow};
@@ -42,7 +41,7 @@ impl Shown for SystemDevices {
 impl SystemDevices {
     /// Does what the words ask for, and answers the status that the process is to end with.
     pub(crate) fn answer(&mut self, alloc: Global, words: &[String]) -> ExitCode
-        ensures { Answers longest_input (asked (map string_bytes words.now))
+        ensures { Promise (asked (map string_bytes words.now))
             (⟦<SystemDevices as Shown>⟧.shown self.old) (⟦<SystemDevices as Shown>⟧.shown self.new) untold untold (exit_status result) }
     {
         let status = stateflow(

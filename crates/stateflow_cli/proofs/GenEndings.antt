@@ -1,7 +1,7 @@
 -- How generated work ends, by its status.
-use Rattle.std.proofs.Common.{◌≡◌, ℕ, ◌⊎◌, inl, inr, Bool, true, false, List, [], Ok, Err, refl, sym, subst, arith}
+use Rattle.std.proofs.Common.{◌≡◌, ℕ, ◌⊎◌, inl, inr, List, [], Ok, Err, refl, sym, subst, arith}
 use Rattle.std.proofs.KnownBytes.{Keeps-refl}
-use Rattle.std.specs.Prelude.{◌||◌, ◌==◌, alloc_error}
+use Rattle.std.specs.Prelude.{alloc_error}
 use Rattle.std.specs.declared.option.Option.{Option}
 use Rattle.std.specs.declared.alloc.AllocError.{AllocError}
 use Rattle.std.specs.Io.KnownBytes.{Appends, Keeps}
@@ -19,22 +19,15 @@ use Rattle.generated_run.specs.Summaries.{summary_line}
 use Rattle.generated_run.specs.Generated.{SumsUp, GivesUp, Gives, service_by, input_of, batch_cores}
 use Rattle.batch_run.proofs.EventLaws.{run_have_begun}
 use Rattle.command_words.specs.Commands as words
-use Rattle.stateflow_cli.specs.Words.{Gen, file_of}
+use Rattle.stateflow_cli.specs.Words.{Gen}
+use Rattle.stateflow_cli.specs.Deeds.{file_of}
 use Rattle.stateflow_cli.specs.Devices.{Devices, Input, Output, StoreDisk, devices, with_err, IsIdle, AreUnread}
 use Rattle.stateflow_cli.specs.Endings.{PrintsSummary, PrintsSummaryFront, IsGivenUp, GenEnds, work_for}
+use Rattle.stateflow_cli.specs.Causes.{IsFault, WasUnwritten, WantedMemory}
 use Rattle.stateflow_cli.specs.GenClauses.{TellsWork, WorkTells}
 use Rattle.stateflow_cli.specs.StatusLines.{status_of, line_of}
 use Rattle.stateflow_cli.specs.declared.ending.Ending.{Ending}
 use Rattle.stateflow_cli.specs.declared.ending.Ending.TheVariants.{Misused, Refused, FileFault, NoMemory, Printed, Unprinted, Served, Stopped, Unopened}
-
--- the statuses that generated work ends with
-abbrev is_of_work : ℕ → Bool
-is_of_work n = n == 0 || (n == 4 || n == 8)
-
-no_other : (m n : ℕ) → m ≡ n → is_of_work m ≡ true → is_of_work n ≡ false → ⊥
-no_other m n same of other =
-    let of_n : is_of_work n ≡ true = subst (λ k. is_of_work k ≡ true) same of in
-    cc
 
 module _ (s : words.GenSettings) (before after : Devices) (behind : Output) where
   abbrev mid : Devices
@@ -66,27 +59,17 @@ module _ (s : words.GenSettings) (before after : Devices) (behind : Output) wher
   kept_input : after.input ≡ before.input → Keeps before.input.left after.input.left
   kept_input same = subst (λ (i : Input). Keeps before.input.left i.left) (sym same) (Keeps-refl before.input.left)
 
+  -- why it has its status
+  pub gen_cause : (status : ℕ) (e : Ending) → GenEnds s before mid e → status ≡ status_of e → (status ≡ 0) ⊎ IsFault ⊥ ⊥ before after status
+  gen_cause status e ends n =
+      by_ending (λ e. status ≡ status_of e → (status ≡ 0) ⊎ IsFault ⊥ ⊥ before after status) (λ p m. inl m) (λ p m. inr (WasUnwritten m (inl p.1)))
+      (λ g m. inr (WantedMemory m)) e ends n
+
   -- By the status
-
-  pub gen_completes : (e : Ending) → GenEnds s before mid e → status_of e ≡ 0 → PrintsSummary s before after
-  gen_completes e ends n =
-      by_ending (λ e. status_of e ≡ 0 → PrintsSummary s before after) (λ p m. printed_whole p) (λ p m. absurd (omega (arith, m))) (λ g m. absurd (omega (arith, m)))
-      e ends n
-
-  pub gen_unwritten : (e : Ending) → GenEnds s before mid e → status_of e ≡ 4 → Rose before.out.faults after.out.faults
-  gen_unwritten e ends n =
-      by_ending (λ e. status_of e ≡ 4 → Rose before.out.faults after.out.faults) (λ p m. absurd (omega (arith, m))) (λ p m. p.1) (λ g m. absurd (omega (arith, m)))
-      e ends n
 
   pub gen_status : (e : Ending) (status : ℕ) → GenEnds s before mid e → status ≡ status_of e → (status ≡ 0) ⊎ ((status ≡ 4) ⊎ (status ≡ 8))
   gen_status e status ends n =
       by_ending (λ e. status ≡ status_of e → (status ≡ 0) ⊎ ((status ≡ 4) ⊎ (status ≡ 8))) (λ p m. inl m) (λ p m. inr (inl m)) (λ g m. inr (inr m)) e ends n
-
-  -- no other status comes
-  pub gen_other : {P : Type 0} (status : ℕ) (e : Ending) → GenEnds s before mid e → status_of e ≡ status → is_of_work status ≡ false → P
-  gen_other {P = P} status e ends n other =
-      by_ending (λ e. status_of e ≡ status → P) (λ p m. absurd (no_other 0 status m refl other)) (λ p m. absurd (no_other 4 status m refl other))
-      (λ g m. absurd (no_other 8 status m refl other)) e ends n
 
   -- what was printed with the first
   pub gen_done : (e : Ending) (said said' : Option (List ℕ)) → GenEnds s before mid e → Appends said said' (line_of (file_of (Gen s)) e) → status_of e ≡ 0
@@ -121,7 +104,6 @@ module _ (s : words.GenSettings) (before after : Devices) (behind : Output) wher
         record {
           compiled = compiled;
           is = is;
-          graph = record { blocks = is.blocks; whole = is.whole };
           started = t.started;
           starts = t.starts;
           counts = t.served.counts;
@@ -135,7 +117,6 @@ module _ (s : words.GenSettings) (before after : Devices) (behind : Output) wher
     given_up_told not compiled is t = record {
       compiled = compiled;
       is = is;
-      graph = record { blocks = is.blocks; whole = is.whole };
       started = t.started;
       starts = t.starts;
       counts = t.served.counts;
@@ -156,12 +137,6 @@ module _ (s : words.GenSettings) (before after : Devices) (behind : Output) wher
         by_ending (λ e. ((status ≡ 4 → ⊥) → status ≡ status_of e) → WorkTells s before after status) (λ p is. inr (summed_told p.summary p.gives.0 p.gives.1 p.gives.2))
         (λ p is. inr (summed_told p.0.summary p.0.gives.0 p.0.gives.1 p.0.gives.2))
         (λ g is. given_up (λ n. omega (arith, n, is (λ m. omega (arith, n, m)))) (record { left = kept_input ends.unread.input; held = kept_out g.out }) g.gives) e ends own
-
-  -- what an undisturbed call ends with
-  pub gen_whole : (status : ℕ) → (Rose before.out.faults after.out.faults → ⊥) → (e : Ending) → GenEnds s before mid e → status ≡ status_of e
-      → (status ≡ 0) ⊎ (status ≡ 8)
-  gen_whole status still e ends n =
-      by_ending (λ e. status ≡ status_of e → (status ≡ 0) ⊎ (status ≡ 8)) (λ p m. inl m) (λ p m. absurd (still p.1)) (λ g m. inr m) e ends n
 
 -- From a run on generated work to how it ends the call
 

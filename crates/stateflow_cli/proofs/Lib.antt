@@ -2,6 +2,7 @@ pub mod CountLaws
 pub mod LoadLaws
 pub mod PrintLaws
 pub mod OneReading
+pub mod OneCause
 pub mod GainedLaws
 pub mod WordLaws
 pub mod WordNames
@@ -9,7 +10,9 @@ pub mod GraphTexts
 pub mod ReportEndings
 pub mod LocalEndings
 pub mod RunEndings
+pub mod SessionEndings
 pub mod StoreEndings
 pub mod ServedRuns
 pub mod GenEndings
 pub mod AnswerLaws
+pub mod DeedLaws

@@ -5,8 +5,6 @@ use Rattle.std.proofs.KnownBytes.{Consumes-trans}
 use Rattle.std.specs.declared.option.Option.{Option}
 use Rattle.std.specs.declared.result.Result.{Result}
 use Rattle.std.specs.Io.KnownBytes.{Appends, Consumes, IsAtEnd, Keeps}
-use Rattle.sf_outside.specs.Causes.{Rose}
-use Rattle.py_tree.specs.PlainProgram.{PlainProgram}
 use Rattle.program_meaning.specs.ClassTables.{Source}
 use Rattle.request_json.specs.Actions.{Line, whole_lines, whole_from, rest_from, last_line, all_lines}
 use Rattle.input_lines.proofs.CutLaws.{whole-append}
@@ -23,17 +21,14 @@ use Rattle.session.proofs.TakenLaws.{Served-taken}
 use Rattle.batch_run.specs.Vocabulary.{SessionFault}
 use Rattle.batch_run.specs.SessionFaultVariants as stop
 use Rattle.batch_run.proofs.FullLaws.{all_taken, fits_whole, exceeds, full_at_line, full_at_end}
-use Rattle.stateflow_cli.proofs.OneReading.{never_refused, never_held}
 use Rattle.stateflow_cli.proofs.ReportEndings.{still_idle}
-use Rattle.stateflow_cli.specs.Words.{Local}
 use Rattle.stateflow_cli.specs.Devices.{Devices, Output, with_err, IsIdle}
-use Rattle.program_text.specs.Readings.{IsAcceptedText, HasFault}
 use Rattle.stateflow_cli.specs.Loading.{source_in}
 use Rattle.stateflow_cli.specs.Endings.{LocalEnds, Interprets, local_history, local_ending}
-use Rattle.stateflow_cli.specs.RunClauses.{OfProgram}
-use Rattle.stateflow_cli.specs.StatusLines.{status_of}
-use Rattle.stateflow_cli.specs.Answers.{WritesText, IsRefused, ServedRose, fills_local, IsWithin, IsLonger, IsFilled, IsUndisturbed, RunsWhole}
-use Rattle.program_text.specs.declared.fault.ProgramFault.{ProgramFault}
+use Rattle.stateflow_cli.specs.StatusLines.{status_of, line_of}
+use Rattle.stateflow_cli.specs.Answers.{TellsFault}
+use Rattle.stateflow_cli.specs.Causes.{IsFault, WasUnread, WasUnwritten, WantedMemory, ServedRose, HasNoProgram, HasProgram, ServesAll, TakesNoMore, KeepsNoMore}
+use Rattle.stateflow_cli.specs.LocalPromise.{OfProgram, WritesText, fills_local, LocalCause, Came}
 use Rattle.stateflow_cli.specs.declared.ending.Ending.{Ending}
 use Rattle.stateflow_cli.specs.declared.ending.Ending.TheVariants.{Misused, Refused, FileFault, NoMemory, Printed, Unprinted, Served, Stopped, Unopened}
 
@@ -105,83 +100,102 @@ module _ (limit : ℕ) (before after : Devices) (behind : Output) (file : List �
   abbrev mid : Devices
   mid = with_err behind after
 
-  pub local_completes : (e : Ending) → LocalEnds limit file before mid e → status_of e ≡ 0 → Interprets limit file before mid (Ok input.End)
-  local_completes Served ends s = ends
+  -- By the status
+
+  abbrev CameTo : Result InputEnd SessionStop → Type 0
+  CameTo result = Came limit file before after result
+
+  came_so : (result : Result InputEnd SessionStop) → Interprets limit file before mid result → CameTo result
+  came_so result i = record { holds = i.holds; served = i.served; input_cause = i.input_cause; out_cause = i.out_cause; err = refl; outside = i.outside }
+
+  pub local_completes : (e : Ending) → LocalEnds limit file before mid e → status_of e ≡ 0 → CameTo (Ok input.End)
+  local_completes Served ends s = came_so (Ok input.End) ends
   local_completes Printed ends s = absurd ends
   local_completes (Stopped stopped) ends s = absurd (no_stop stopped 0 (omega arith) s)
   local_completes (Unopened stopped) ends s = absurd ends
   local_completes e ends s = absurd (omega (arith, s))
 
-  pub local_done : Interprets limit file before mid (Ok input.End) → IsWithin limit (Some (Local file)) before
-  local_done i = record { holds = i.holds; is = local_fits (source_in (before.content file) i.holds) limit before.input.left after.input.left before.out.held after.out.held i.served.0 i.served.1 }
+  pub local_unread : (e : Ending) → LocalEnds limit file before mid e → status_of e ≡ 3 → IsIdle before after ⊎ CameTo (Ok input.ReadFault)
+  local_unread FileFault ends s = inl (still_idle before after behind ends.still)
+  local_unread (Stopped stop.ReadFault) ends s = inr (came_so (Ok input.ReadFault) ends)
+  local_unread (Stopped stop.WriteFault) ends s = absurd (omega (arith, s))
+  local_unread (Stopped stop.DiskFault) ends s = absurd ends
+  local_unread (Stopped stop.NoMemory) ends s = absurd (omega (arith, s))
+  local_unread (Stopped stop.InputTooLong) ends s = absurd (omega (arith, s))
+  local_unread (Stopped stop.HistoryFull) ends s = absurd (omega (arith, s))
+  local_unread (Unopened stopped) ends s = absurd ends
+  local_unread e ends s = absurd (omega (arith, s))
 
-  pub local_writes : Interprets limit file before mid (Ok input.End) → WritesText file before after
+  pub local_long : (e : Ending) → LocalEnds limit file before mid e → status_of e ≡ 9 → CameTo (Ok input.TooLong)
+  local_long (Stopped stop.ReadFault) ends s = absurd (omega (arith, s))
+  local_long (Stopped stop.WriteFault) ends s = absurd (omega (arith, s))
+  local_long (Stopped stop.DiskFault) ends s = absurd ends
+  local_long (Stopped stop.NoMemory) ends s = absurd (omega (arith, s))
+  local_long (Stopped stop.InputTooLong) ends s = came_so (Ok input.TooLong) ends
+  local_long (Stopped stop.HistoryFull) ends s = absurd (omega (arith, s))
+  local_long (Unopened stopped) ends s = absurd ends
+  local_long e ends s = absurd (omega (arith, s))
+
+  pub local_full : (e : Ending) → LocalEnds limit file before mid e → status_of e ≡ 10 → CameTo (Err local.HistoryFull)
+  local_full (Stopped stop.ReadFault) ends s = absurd (omega (arith, s))
+  local_full (Stopped stop.WriteFault) ends s = absurd (omega (arith, s))
+  local_full (Stopped stop.DiskFault) ends s = absurd ends
+  local_full (Stopped stop.NoMemory) ends s = absurd (omega (arith, s))
+  local_full (Stopped stop.InputTooLong) ends s = absurd (omega (arith, s))
+  local_full (Stopped stop.HistoryFull) ends s = came_so (Err local.HistoryFull) ends
+  local_full (Unopened stopped) ends s = absurd ends
+  local_full e ends s = absurd (omega (arith, s))
+
+  pub local_some : (e : Ending) → LocalEnds limit file before mid e → status_of e ≡ 8 → IsIdle before after ⊎ CameTo (Err local.NoMemory)
+  local_some NoMemory ends s = inl (still_idle before after behind ends)
+  local_some (Stopped stop.ReadFault) ends s = absurd (omega (arith, s))
+  local_some (Stopped stop.WriteFault) ends s = absurd (omega (arith, s))
+  local_some (Stopped stop.DiskFault) ends s = absurd ends
+  local_some (Stopped stop.NoMemory) ends s = inr (came_so (Err local.NoMemory) ends)
+  local_some (Stopped stop.InputTooLong) ends s = absurd (omega (arith, s))
+  local_some (Stopped stop.HistoryFull) ends s = absurd (omega (arith, s))
+  local_some (Unopened stopped) ends s = absurd ends
+  local_some e ends s = absurd (omega (arith, s))
+
+  pub local_writes : CameTo (Ok input.End) → WritesText file before after
   local_writes i = record { holds = i.holds; text = whole_text (source_in (before.content file) i.holds) limit before.input.left after.input.left before.out.held after.out.held i.served.0 i.served.1 }
 
-  pub local_refused : (e : Ending) → LocalEnds limit file before mid e → status_of e ≡ 1 → IsRefused (Some (Local file)) before × IsIdle before after
-  local_refused (Refused f) ends s = ((f, ends.refused), still_idle before after behind ends.still)
+  pub local_told : (e : Ending) → LocalEnds limit file before mid e → Appends behind.held after.err.held (line_of file e) → status_of e ≡ 1 → TellsFault file before after
+  local_told (Refused f) ends wrote s = record {
+    fault = f;
+    refused = ends.refused;
+    line = subst (λ (o : Output). Appends o.held after.err.held (line_of file (Refused f))) ends.still.err wrote;
+  }
+  local_told (Stopped stopped) ends wrote s = absurd (no_stop stopped 1 (omega arith) s)
+  local_told (Unopened stopped) ends wrote s = absurd ends
+  local_told e ends wrote s = absurd (omega (arith, s))
+
+  pub local_refused : (e : Ending) → LocalEnds limit file before mid e → status_of e ≡ 1 → IsIdle before after
+  local_refused (Refused f) ends s = still_idle before after behind ends.still
   local_refused (Stopped stopped) ends s = absurd (no_stop stopped 1 (omega arith) s)
   local_refused (Unopened stopped) ends s = absurd ends
   local_refused e ends s = absurd (omega (arith, s))
 
-  pub local_misused : {P : Type 0} (e : Ending) → LocalEnds limit file before mid e → status_of e ≡ 2 → P
-  local_misused Misused ends s = absurd ends
-  local_misused (Stopped stopped) ends s = absurd (no_stop stopped 2 (omega arith) s)
-  local_misused (Unopened stopped) ends s = absurd ends
-  local_misused e ends s = absurd (omega (arith, s))
-
-  pub local_unread : (e : Ending) → LocalEnds limit file before mid e → status_of e ≡ 3 → ServedRose file before after
-  local_unread FileFault ends s = inl ends.file_cause
-  local_unread (Stopped stop.ReadFault) ends s = inr (ends.input_cause refl)
-  local_unread (Stopped stop.DiskFault) ends s = absurd ends
-  local_unread (Stopped stop.WriteFault) ends s = absurd (omega (arith, s))
-  local_unread (Stopped stop.InputTooLong) ends s = absurd (omega (arith, s))
-  local_unread (Stopped stop.HistoryFull) ends s = absurd (omega (arith, s))
-  local_unread (Stopped stop.NoMemory) ends s = absurd (omega (arith, s))
-  local_unread (Unopened stopped) ends s = absurd ends
-  local_unread e ends s = absurd (omega (arith, s))
-
-  pub local_unwritten : (e : Ending) → LocalEnds limit file before mid e → status_of e ≡ 4 → Rose before.out.faults after.out.faults
-  local_unwritten Unprinted ends s = absurd ends
-  local_unwritten (Stopped stop.DiskFault) ends s = absurd ends
-  local_unwritten (Stopped stop.WriteFault) ends s = ends.out_cause refl
-  local_unwritten (Stopped stop.ReadFault) ends s = absurd (omega (arith, s))
-  local_unwritten (Stopped stop.InputTooLong) ends s = absurd (omega (arith, s))
-  local_unwritten (Stopped stop.HistoryFull) ends s = absurd (omega (arith, s))
-  local_unwritten (Stopped stop.NoMemory) ends s = absurd (omega (arith, s))
-  local_unwritten (Unopened stopped) ends s = absurd ends
-  local_unwritten e ends s = absurd (omega (arith, s))
-
-  pub local_long : (e : Ending) → LocalEnds limit file before mid e → status_of e ≡ 9 → IsLonger limit (Some (Local file)) before
-  local_long (Stopped stop.InputTooLong) ends s = record { holds = ends.holds; is = local_exceeds (source_in (before.content file) ends.holds) limit before.input.left after.input.left before.out.held after.out.held ends.served }
-  local_long (Stopped stop.ReadFault) ends s = absurd (omega (arith, s))
-  local_long (Stopped stop.DiskFault) ends s = absurd ends
-  local_long (Stopped stop.WriteFault) ends s = absurd (omega (arith, s))
-  local_long (Stopped stop.HistoryFull) ends s = absurd (omega (arith, s))
-  local_long (Stopped stop.NoMemory) ends s = absurd (omega (arith, s))
-  local_long (Unopened stopped) ends s = absurd ends
-  local_long e ends s = absurd (omega (arith, s))
-
-  pub local_full : (e : Ending) → LocalEnds limit file before mid e → status_of e ≡ 10 → IsFilled limit (Some (Local file)) before
-  local_full (Stopped stop.HistoryFull) ends s = record { holds = ends.holds; is = local_fills (source_in (before.content file) ends.holds) limit before.input.left after.input.left before.out.held after.out.held ends.served }
-  local_full (Stopped stop.ReadFault) ends s = absurd (omega (arith, s))
-  local_full (Stopped stop.DiskFault) ends s = absurd ends
-  local_full (Stopped stop.WriteFault) ends s = absurd (omega (arith, s))
-  local_full (Stopped stop.InputTooLong) ends s = absurd (omega (arith, s))
-  local_full (Stopped stop.NoMemory) ends s = absurd (omega (arith, s))
-  local_full (Unopened stopped) ends s = absurd ends
-  local_full e ends s = absurd (omega (arith, s))
-
-  -- it has none of the statuses of a store
-  pub local_unstored : {P : Type 0} (n : ℕ) (e : Ending) → LocalEnds limit file before mid e → status_of e ≡ n → 4 < n → n < 8 → P
-  local_unstored n (Stopped stop.ReadFault) ends s low high = absurd (omega (arith, s, low, high))
-  local_unstored n (Stopped stop.WriteFault) ends s low high = absurd (omega (arith, s, low, high))
-  local_unstored n (Stopped stop.InputTooLong) ends s low high = absurd (omega (arith, s, low, high))
-  local_unstored n (Stopped stop.HistoryFull) ends s low high = absurd (omega (arith, s, low, high))
-  local_unstored n (Stopped stop.NoMemory) ends s low high = absurd (omega (arith, s, low, high))
-  local_unstored n (Stopped stop.DiskFault) ends s low high = absurd ends
-  local_unstored n (Unopened stopped) ends s low high = absurd ends
-  local_unstored n e ends s low high = absurd (omega (arith, s, low, high))
+  -- why it has its status
+  pub local_cause : (status : ℕ) (e : Ending) → LocalEnds limit file before mid e → status ≡ status_of e
+      → LocalCause limit file before status ⊎ IsFault (ServedRose file before after) ⊥ before after status
+  local_cause status Misused ends s = absurd ends
+  local_cause status (Refused f) ends s = inl (HasNoProgram f s ends.refused)
+  local_cause status FileFault ends s = inr (WasUnread s (inl ends.file_cause))
+  local_cause status NoMemory ends s = inr (WantedMemory s)
+  local_cause status Printed ends s = absurd ends
+  local_cause status Unprinted ends s = absurd ends
+  local_cause status Served ends s =
+      inl (HasProgram ends.holds (ServesAll s (local_fits (source_in (before.content file) ends.holds) limit before.input.left after.input.left before.out.held after.out.held ends.served.0 ends.served.1)))
+  local_cause status (Stopped stop.ReadFault) ends s = inr (WasUnread s (inr (ends.input_cause refl)))
+  local_cause status (Stopped stop.WriteFault) ends s = inr (WasUnwritten s (inl (ends.out_cause refl)))
+  local_cause status (Stopped stop.DiskFault) ends s = absurd ends
+  local_cause status (Stopped stop.NoMemory) ends s = inr (WantedMemory s)
+  local_cause status (Stopped stop.InputTooLong) ends s =
+      inl (HasProgram ends.holds (TakesNoMore s (local_exceeds (source_in (before.content file) ends.holds) limit before.input.left after.input.left before.out.held after.out.held ends.served)))
+  local_cause status (Stopped stop.HistoryFull) ends s =
+      inl (HasProgram ends.holds (KeepsNoMore s (local_fills (source_in (before.content file) ends.holds) limit before.input.left after.input.left before.out.held after.out.held ends.served)))
+  local_cause status (Unopened stopped) ends s = absurd ends
 
   -- Whatever the ending
 
@@ -253,42 +267,3 @@ module _ (limit : ℕ) (before after : Devices) (behind : Output) (file : List �
   local_untold (Stopped stop.HistoryFull) ends = ends.outside
   local_untold (Stopped stop.NoMemory) ends = ends.outside
   local_untold (Unopened stopped) ends = absurd ends
-
--- what an undisturbed session ends with
-module _ (limit : ℕ) (before after : Devices) (behind : Output) (file text : List ℕ) (status : ℕ) (u : IsUndisturbed file text before after) where
-  local_accepted : (program : PlainProgram) (names : List (List ℕ)) → IsAcceptedText text program names
-      → (e : Ending) → LocalEnds limit file before (with_err behind after) e → status ≡ status_of e → (status ≡ 0) ⊎ ((status ≡ 8) ⊎ ((status ≡ 9) ⊎ (status ≡ 10)))
-  local_accepted program names is Misused ends s = absurd ends
-  local_accepted program names is (Refused f) ends s = never_refused (before.content file) text u.holds program names f is ends.refused
-  local_accepted program names is FileFault ends s = absurd (u.file_still ends.file_cause)
-  local_accepted program names is NoMemory ends s = inr (inl s)
-  local_accepted program names is Printed ends s = absurd ends
-  local_accepted program names is Unprinted ends s = absurd ends
-  local_accepted program names is Served ends s = inl s
-  local_accepted program names is (Stopped stop.ReadFault) ends s = absurd (u.input_still (ends.input_cause refl))
-  local_accepted program names is (Stopped stop.DiskFault) ends s = absurd ends
-  local_accepted program names is (Stopped stop.WriteFault) ends s = absurd (u.out_still (ends.out_cause refl))
-  local_accepted program names is (Stopped stop.NoMemory) ends s = inr (inl s)
-  local_accepted program names is (Stopped stop.InputTooLong) ends s = inr (inr (inl s))
-  local_accepted program names is (Stopped stop.HistoryFull) ends s = inr (inr (inr s))
-  local_accepted program names is (Unopened stopped) ends s = absurd ends
-
-  local_faulty : (fault : ProgramFault) → HasFault text fault
-      → (e : Ending) → LocalEnds limit file before (with_err behind after) e → status ≡ status_of e → (status ≡ 1) ⊎ (status ≡ 8)
-  local_faulty fault has Misused ends s = absurd ends
-  local_faulty fault has (Refused f) ends s = inl s
-  local_faulty fault has FileFault ends s = absurd (u.file_still ends.file_cause)
-  local_faulty fault has NoMemory ends s = inr s
-  local_faulty fault has Printed ends s = absurd ends
-  local_faulty fault has Unprinted ends s = absurd ends
-  local_faulty fault has Served ends s = never_held (before.content file) text u.holds fault has ends.holds
-  local_faulty fault has (Stopped stop.ReadFault) ends s = never_held (before.content file) text u.holds fault has ends.holds
-  local_faulty fault has (Stopped stop.DiskFault) ends s = absurd ends
-  local_faulty fault has (Stopped stop.WriteFault) ends s = never_held (before.content file) text u.holds fault has ends.holds
-  local_faulty fault has (Stopped stop.NoMemory) ends s = never_held (before.content file) text u.holds fault has ends.holds
-  local_faulty fault has (Stopped stop.InputTooLong) ends s = never_held (before.content file) text u.holds fault has ends.holds
-  local_faulty fault has (Stopped stop.HistoryFull) ends s = never_held (before.content file) text u.holds fault has ends.holds
-  local_faulty fault has (Unopened stopped) ends s = absurd ends
-
-  pub locals_whole : (e : Ending) → LocalEnds limit file before (with_err behind after) e → status ≡ status_of e → RunsWhole text status
-  locals_whole e ends s = record { accepted = λ program names is. local_accepted program names is e ends s; refused = λ fault has. local_faulty fault has e ends s }

@@ -67,7 +67,7 @@ module _ (content : Option (List ℕ)) (c : Compiled) (one : HoldsOne (λ text. 
       record {
         tables = compiled_tables c;
         blocks = compiled_blocks c;
-        graph = record { blocks = one.is.blocks; whole = one.is.whole };
+        graph = one.is.whole;
         same = spelt ∙ ap encode_utf8_all is ∙ same_bytes (compiled_names c) (compiled_program c) (compiled_tables c) (compiled_blocks c) texts one.is.whole.has_tables;
         told = told;
         unchosen = refl;

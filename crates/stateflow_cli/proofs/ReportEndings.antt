@@ -1,17 +1,13 @@
 -- How a report on a program ends, by its status.
-use Rattle.std.proofs.Common.{◌≡◌, ◌≤◌, ℕ, ◌⊎◌, inl, inr, List, [], Some, refl, sym, arith}
+use Rattle.std.proofs.Common.{◌≡◌, ℕ, ◌⊎◌, inl, inr, List, [], refl, arith}
 use Rattle.std.specs.declared.option.Option.{Option}
-use Rattle.std.specs.Io.KnownBytes.{Appends, Keeps}
-use Rattle.sf_outside.specs.Causes.{Rose}
-use Rattle.py_tree.specs.PlainProgram.{PlainProgram}
+use Rattle.std.specs.Io.KnownBytes.{Appends}
 use Rattle.batch_run.proofs.Vocabulary.{prefix_whole}
-use Rattle.stateflow_cli.proofs.OneReading.{never_refused, never_held}
-use Rattle.stateflow_cli.specs.Words.{Check}
 use Rattle.stateflow_cli.specs.Devices.{Devices, Output, with_err, IsIdle, IsStill}
-use Rattle.program_text.specs.Readings.{IsAcceptedText, HasFault}
 use Rattle.stateflow_cli.specs.Endings.{Report, ReportEnds, Prints}
 use Rattle.stateflow_cli.specs.StatusLines.{status_of, line_of}
-use Rattle.stateflow_cli.specs.Answers.{PrintsFront, IsSilent, IsRefused, FileRose, IsUndisturbed, ReportsWhole}
+use Rattle.stateflow_cli.specs.Causes.{IsFault, WasUnread, WasUnwritten, WantedMemory, FileRose, OfText, HasNoProgram, HasProgram}
+use Rattle.stateflow_cli.specs.ReportPromise.{PrintsFront, IsSilent}
 use Rattle.stateflow_cli.specs.Loading.{Refuses}
 use Rattle.program_text.specs.declared.fault.ProgramFault.{ProgramFault}
 use Rattle.stateflow_cli.specs.declared.ending.Ending.{Ending}
@@ -32,45 +28,20 @@ module _ (Is : Report) (before after : Devices) (behind : Output) (file : List �
   printed_all : Prints Is file before mid → Prints Is file before after
   printed_all p = record { holds = p.holds; text = p.text; is = p.is; wrote = p.wrote; left = p.left }
 
-  pub report_completes : (e : Ending) → ReportEnds Is file before mid e → status_of e ≡ 0 → Prints Is file before after
-  report_completes Printed ends s = printed_all ends.0
-  report_completes Served ends s = absurd ends
-  report_completes (Stopped stopped) ends s = absurd ends
-  report_completes (Unopened stopped) ends s = absurd ends
-  report_completes e ends s = absurd (omega (arith, s))
+  -- why it has its status
+  pub report_cause : (status : ℕ) (e : Ending) → ReportEnds Is file before mid e → status ≡ status_of e
+      → OfText (before.content file) (λ src text k. k ≡ 0) status ⊎ IsFault (FileRose file before after) ⊥ before after status
+  report_cause status Misused ends s = absurd ends
+  report_cause status (Refused f) ends s = inl (HasNoProgram f s ends.refused)
+  report_cause status FileFault ends s = inr (WasUnread s ends.file_cause)
+  report_cause status NoMemory ends s = inr (WantedMemory s)
+  report_cause status Printed ends s = inl (HasProgram ends.0.holds s)
+  report_cause status Unprinted ends s = inr (WasUnwritten s (inl ends.0.out_cause))
+  report_cause status Served ends s = absurd ends
+  report_cause status (Stopped stopped) ends s = absurd ends
+  report_cause status (Unopened stopped) ends s = absurd ends
 
-  pub report_refused : (e : Ending) → ReportEnds Is file before mid e → status_of e ≡ 1 → IsRefused (Some (Check file)) before × IsIdle before after
-  report_refused (Refused f) ends s = ((f, ends.refused), still_idle before after behind ends.still)
-  report_refused (Stopped stopped) ends s = absurd ends
-  report_refused (Unopened stopped) ends s = absurd ends
-  report_refused e ends s = absurd (omega (arith, s))
-
-  pub report_misused : {P : Type 0} (e : Ending) → ReportEnds Is file before mid e → status_of e ≡ 2 → P
-  report_misused Misused ends s = absurd ends
-  report_misused (Stopped stopped) ends s = absurd ends
-  report_misused (Unopened stopped) ends s = absurd ends
-  report_misused e ends s = absurd (omega (arith, s))
-
-  pub report_unread : (e : Ending) → ReportEnds Is file before mid e → status_of e ≡ 3 → FileRose file before after
-  report_unread FileFault ends s = ends.file_cause
-  report_unread (Stopped stopped) ends s = absurd ends
-  report_unread (Unopened stopped) ends s = absurd ends
-  report_unread e ends s = absurd (omega (arith, s))
-
-  pub report_unwritten : (e : Ending) → ReportEnds Is file before mid e → status_of e ≡ 4 → Rose before.out.faults after.out.faults
-  report_unwritten Unprinted ends s = ends.0.out_cause
-  report_unwritten (Stopped stopped) ends s = absurd ends
-  report_unwritten (Unopened stopped) ends s = absurd ends
-  report_unwritten e ends s = absurd (omega (arith, s))
-
-  -- no report has one of the other statuses
-  pub report_bounded : {P : Type 0} (n : ℕ) (e : Ending) → ReportEnds Is file before mid e → status_of e ≡ n → 5 ≤ n → (n ≡ 8 → ⊥) → P
-  report_bounded n (Stopped stopped) ends s large not = absurd ends
-  report_bounded n (Unopened stopped) ends s large not = absurd ends
-  report_bounded n NoMemory ends s large not = absurd (not (sym s))
-  report_bounded n e ends s large not = absurd (omega (arith, s, large))
-
-  -- what it said, took, printed, chose and told, whatever the ending
+  -- what it said, printed, chose and told, whatever the ending
   pub report_err : (e : Ending) → ReportEnds Is file before mid e → behind ≡ before.err
   report_err Misused ends = absurd ends
   report_err (Refused f) ends = ends.still.err
@@ -92,17 +63,6 @@ module _ (Is : Report) (before after : Devices) (behind : Output) (file : List �
   report_prints Served ends = absurd ends
   report_prints (Stopped stopped) ends = absurd ends
   report_prints (Unopened stopped) ends = absurd ends
-
-  pub report_left : (e : Ending) → ReportEnds Is file before mid e → Keeps before.input.left after.input.left
-  report_left Misused ends = absurd ends
-  report_left (Refused f) ends = ends.still.idle.left
-  report_left FileFault ends = ends.still.idle.left
-  report_left NoMemory ends = ends.idle.left
-  report_left Printed ends = ends.0.left
-  report_left Unprinted ends = ends.0.left
-  report_left Served ends = absurd ends
-  report_left (Stopped stopped) ends = absurd ends
-  report_left (Unopened stopped) ends = absurd ends
 
   pub report_silent : (e : Ending) → ReportEnds Is file before mid e → (status_of e ≡ 0 → ⊥) → (status_of e ≡ 4 → ⊥) → IsSilent before after
   report_silent Misused ends a b = absurd ends
@@ -129,32 +89,3 @@ module _ (Is : Report) (before after : Devices) (behind : Output) (file : List �
   report_told (Stopped stopped) said said' ends wrote s = absurd ends
   report_told (Unopened stopped) said said' ends wrote s = absurd ends
   report_told e said said' ends wrote s = absurd (omega (arith, s))
-
--- what an undisturbed report ends with
-module _ (Is : Report) (before after : Devices) (behind : Output) (file text : List ℕ) (status : ℕ) (u : IsUndisturbed file text before after) where
-  report_accepted : (program : PlainProgram) (names : List (List ℕ)) → IsAcceptedText text program names
-      → (e : Ending) → ReportEnds Is file before (with_err behind after) e → status ≡ status_of e → (status ≡ 0) ⊎ (status ≡ 8)
-  report_accepted program names is Misused ends s = absurd ends
-  report_accepted program names is (Refused f) ends s = never_refused (before.content file) text u.holds program names f is ends.refused
-  report_accepted program names is FileFault ends s = absurd (u.file_still ends.file_cause)
-  report_accepted program names is NoMemory ends s = inr s
-  report_accepted program names is Printed ends s = inl s
-  report_accepted program names is Unprinted ends s = absurd (u.out_still ends.0.out_cause)
-  report_accepted program names is Served ends s = absurd ends
-  report_accepted program names is (Stopped stopped) ends s = absurd ends
-  report_accepted program names is (Unopened stopped) ends s = absurd ends
-
-  report_faulty : (fault : ProgramFault) → HasFault text fault
-      → (e : Ending) → ReportEnds Is file before (with_err behind after) e → status ≡ status_of e → (status ≡ 1) ⊎ (status ≡ 8)
-  report_faulty fault has Misused ends s = absurd ends
-  report_faulty fault has (Refused f) ends s = inl s
-  report_faulty fault has FileFault ends s = absurd (u.file_still ends.file_cause)
-  report_faulty fault has NoMemory ends s = inr s
-  report_faulty fault has Printed ends s = never_held (before.content file) text u.holds fault has ends.0.holds
-  report_faulty fault has Unprinted ends s = absurd (u.out_still ends.0.out_cause)
-  report_faulty fault has Served ends s = absurd ends
-  report_faulty fault has (Stopped stopped) ends s = absurd ends
-  report_faulty fault has (Unopened stopped) ends s = absurd ends
-
-  pub reports_whole : (e : Ending) → ReportEnds Is file before (with_err behind after) e → status ≡ status_of e → ReportsWhole text status
-  reports_whole e ends s = record { accepted = λ program names is. report_accepted program names is e ends s; refused = λ fault has. report_faulty fault has e ends s }

@@ -1,6 +1,7 @@
 -- From what was loaded, opened and run to how a run ends the call.
 use Rattle.std.proofs.Common.{◌≡◌, ℕ, ◌≤◌, ◌<◌, ◌⊎◌, inl, inr, true, false, true≢false, List, length, None, Some, Ok, Err, refl, sym, ap, ◌∙◌, subst, arith, Bor}
 use Rattle.std.proofs.KnownBytes.{Keeps-refl}
+use Rattle.std.specs.Io.KnownBytes.{Keeps}
 use Rattle.std.specs.Prelude.{IfSome, IfOk, IsErrOf, option_map}
 use Rattle.std.specs.Str.{chars}
 use Rattle.std.specs.declared.option.Option.{Option}
@@ -8,7 +9,6 @@ use Rattle.std.specs.declared.result.Result.{Result}
 use Rattle.sf_outside.specs.Causes.{Rose}
 use Rattle.sf_outside.specs.DiskModel.{Image, DiskFacts, Mounts, untold, mounted}
 use Rattle.program_meaning.specs.ClassTables.{Source}
-use Rattle.reservations.specs.BatchRule.{batch_rule}
 use Rattle.block_step.specs.declared.compiled.Compiled.{Compiled}
 use Rattle.aria_batch.specs.BatchRun.{source_of}
 use Rattle.snapshot_store.specs.SlotFile.{IsNew}
@@ -28,11 +28,12 @@ use Rattle.session_store.specs.Cycles.{IsInCycle}
 use Rattle.session_store.specs.Endings.{KeepsWhere, next_core}
 use Rattle.session_store.specs.Stores.{settings_of, HasSnapshotPast, EndsPast}
 use Rattle.session_store.specs.Vocabulary.{IsStorable}
-use Rattle.batch_run.specs.Vocabulary.{Tally, SessionFault, disk_failed, LogsServed}
+use Rattle.batch_run.specs.Vocabulary.{Tally, Step, SessionFault, disk_failed}
 use Rattle.batch_run.specs.SessionFaultVariants.{ReadFault, WriteFault}
+use Rattle.batch_run.specs.SessionFaultVariants as cause
 use Rattle.batch_run.specs.declared.running.RunSettings.{RunSettings}
-use Rattle.batch_run.specs.RunViews.{Shown, CanServe, run_service}
-use Rattle.batch_run.specs.Runs.{Runs}
+use Rattle.batch_run.specs.RunViews.{Shown, CanServe, rule_of}
+use Rattle.batch_run.specs.Runs.{Ran, RanLogged, Runs}
 use Rattle.batch_run.proofs.GrowthLaws.{logged_grows}
 use Rattle.store_opening.specs.declared.opened_store.OpenSettings.{OpenSettings}
 use Rattle.store_opening.specs.declared.opened_store.OpenedStore.{OpenedStore}
@@ -47,9 +48,9 @@ use Rattle.program_text.specs.declared.fault.ProgramFault.{ProgramFault}
 use Rattle.stateflow_cli.specs.Devices.{Devices, Input, Output, StoreDisk, devices, IsStill}
 use Rattle.stateflow_cli.specs.Loading.{HoldsOne, Refuses, IsCompiledWith}
 use Rattle.stateflow_cli.specs.declared.loading.CompiledText.{CompiledText}
-use Rattle.stateflow_cli.specs.Starts.{program_of, BeginsWith}
+use Rattle.stateflow_cli.specs.Starts.{program_of, rule_for, BeginsWith}
 use Rattle.stateflow_cli.specs.StoredRuns.{IsUntouched, DiskRose, settings_by, RanOpened, RunMoments, MomentsIn, KeepsRun, KeepsIn}
-use Rattle.stateflow_cli.specs.Endings.{RunEnds, RunsFile, shown_of, settings_for}
+use Rattle.stateflow_cli.specs.Endings.{RunEnds, RunsFile, GivesUp, shown_of, settings_for, run_ending}
 use Rattle.stateflow_cli.specs.declared.ending.Ending.{Ending}
 use Rattle.stateflow_cli.specs.declared.ending.Ending.TheVariants.{Misused, Refused, FileFault, NoMemory, Printed, Unprinted, Served, Stopped, Unopened}
 use Rattle.stateflow_cli.proofs.GainedLaws.{Rose-earlier}
@@ -107,10 +108,10 @@ keeps_alone (Some dir) s src text start last before after now result alone fine 
     named same = cc
 
 -- and no moment leaves anything
-pub moments_alone : (store : Option (List ℕ)) (compiled : Compiled) (s : RunSettings) (text : List ℕ) (start : Core) (left left' : Option (List ℕ)) (before after : StoreDisk) (now : DiskFacts)
-    → store ≡ None → MomentsIn store compiled s text start left left' before after now
-moments_alone None compiled s text start left left' before after now alone = tt
-moments_alone (Some dir) compiled s text start left left' before after now alone = absurd (named alone)
+pub moments_alone : (store : Option (List ℕ)) (compiled : Compiled) (s : RunSettings) (text : List ℕ) (start : Core) (steps : List Step) (before after : StoreDisk) (now : DiskFacts)
+    → store ≡ None → MomentsIn store compiled s text start steps before after now
+moments_alone None compiled s text start steps before after now alone = tt
+moments_alone (Some dir) compiled s text start steps before after now alone = absurd (named alone)
   where
     named : Some dir ≡ None → ⊥
     named same = cc
@@ -132,7 +133,7 @@ module _ (limit : ℕ) (file : List ℕ) (s : words.RunSettings) (before after :
     write_cause = r.write_cause;
     err_later = r.err_later;
     keeps = kept s.store alone r.keeps;
-    moments = moments_alone s.store r.compiled (settings_for limit s) r.holds.text r.start before.input.left after.input.left before.disk after.disk facts alone;
+    moments = moments_alone s.store r.compiled (settings_for limit s) r.holds.text r.start r.runs.steps before.disk after.disk facts alone;
   }
     where
       kept : (store : Option (List ℕ)) → store ≡ None → KeepsIn store s (source_of r.compiled) r.holds.text r.start r.last before.disk after.disk untold result
@@ -157,8 +158,67 @@ module _ (limit : ℕ) (file : List ℕ) (s : words.RunSettings) (before after :
   ends_alone Printed ends = ends
   ends_alone Unprinted ends = ends
   ends_alone Served ends = (ends.0, ran_alone (Ok ends.0) ends.1)
-  ends_alone (Stopped stopped) ends = ran_alone (Err stopped) ends
+  ends_alone (Stopped stopped) (inl g) =
+      inl (record { is = g.is; idle = g.idle; said = g.said; outside = g.outside; err_later = g.err_later; untouched = untouched_too })
+  ends_alone (Stopped stopped) (inr r) = inr (ran_alone (Err stopped) r)
   ends_alone (Unopened stopped) ends = absurd (not_named ends.dir ends.named)
+
+-- from a run without a store to how it ends the call: memory was wanted before it began, or it came to a result
+module _ (limit : ℕ) (file : List ℕ) (w : words.RunSettings) (before after : Devices) (facts : DiskFacts) (alone : w.store ≡ None) (same : after.disk ≡ before.disk) (compiled : Compiled)
+    (holds : HoldsOne (λ text. IsCompiledOf text compiled) (before.content file)) (result : Result Tally SessionFault) (last : Core)
+    (input_cause : result ≡ Err ReadFault → Rose before.input.faults after.input.faults)
+    (write_cause : result ≡ Err WriteFault → Rose before.out.faults after.out.faults ⊎ Rose before.err.faults after.err.faults)
+    (err_later : before.err.faults ≤ after.err.faults) (fine : disk_failed result ≡ false) where
+  ran_so : Ran compiled (settings_for limit w) empty_core last result (shown_of before) (shown_of after) → RunsFile limit file w before after facts result
+  ran_so ran = record {
+    compiled = compiled;
+    holds = holds;
+    start = empty_core;
+    is_start = begins_alone w.store (source_of compiled) holds.text before.disk.found alone;
+    last = last;
+    runs = ran;
+    input_cause = input_cause;
+    write_cause = write_cause;
+    err_later = err_later;
+    keeps = keeps_alone w.store w (source_of compiled) holds.text empty_core last before.disk after.disk facts result alone fine;
+    moments = moments_alone w.store compiled (settings_for limit w) holds.text empty_core ran.steps before.disk after.disk facts alone;
+  }
+
+  gives_up : shown_of after ≡ shown_of before → (fault : SessionFault) → fault ≡ cause.NoMemory → GivesUp before after facts facts fault
+  gives_up unbegun fault is = record {
+    is = is;
+    idle = record {
+      left = subst (Keeps before.input.left) (sym (ap (λ (x : Shown). x.left) unbegun)) (Keeps-refl before.input.left);
+      held = subst (Keeps before.out.held) (sym (ap (λ (x : Shown). x.held) unbegun)) (Keeps-refl before.out.held);
+    };
+    said = ap (λ (x : Shown). x.said) unbegun;
+    outside = ap (λ (x : Shown). x.outside) unbegun;
+    err_later = err_later;
+    untouched = subst (λ disk. IsUntouched before.disk disk facts facts) (sym same) (untouched before.disk facts);
+  }
+
+-- by what it came to
+module _ (limit : ℕ) (file : List ℕ) (w : words.RunSettings) (before after : Devices) (facts : DiskFacts) (alone : w.store ≡ None) (same : after.disk ≡ before.disk) (compiled : Compiled)
+    (holds : HoldsOne (λ text. IsCompiledOf text compiled) (before.content file)) (last : Core) (err_later : before.err.faults ≤ after.err.faults) where
+  ended_alone : (result : Result Tally SessionFault) → (result ≡ Err ReadFault → Rose before.input.faults after.input.faults)
+      → (result ≡ Err WriteFault → Rose before.out.faults after.out.faults ⊎ Rose before.err.faults after.err.faults) → disk_failed result ≡ false
+      → Runs compiled (settings_for limit w) empty_core last result (shown_of before) (shown_of after) → RunEnds limit file w before after facts facts (run_ending result)
+  ended_alone (Ok tally) read write fine (inl u) = absurd (began u.0)
+    where
+      began : Ok tally ≡ Err cause.NoMemory → ⊥
+      began is = cc
+  ended_alone (Err fault) read write fine (inl u) =
+      inl (gives_up limit file w before after facts alone same compiled holds (Err fault) last read write err_later fine u.1 fault (is (Err fault) refl u.0))
+    where
+      is : (x : Result Tally SessionFault) → x ≡ Err fault → x ≡ Err cause.NoMemory → fault ≡ cause.NoMemory
+      is x this that = cc
+  ended_alone (Ok tally) read write fine (inr ran) = (tally, ran_so limit file w before after facts alone same compiled holds (Ok tally) last read write err_later fine ran)
+  ended_alone (Err fault) read write fine (inr ran) = inr (ran_so limit file w before after facts alone same compiled holds (Err fault) last read write err_later fine ran)
+
+  pub run_alone_ends : (result : Result Tally SessionFault) (e : Ending) → e ≡ run_ending result → (result ≡ Err ReadFault → Rose before.input.faults after.input.faults)
+      → (result ≡ Err WriteFault → Rose before.out.faults after.out.faults ⊎ Rose before.err.faults after.err.faults) → disk_failed result ≡ false
+      → Runs compiled (settings_for limit w) empty_core last result (shown_of before) (shown_of after) → RunEnds limit file w before after facts facts e
+  run_alone_ends result e is read write fine runs = subst (RunEnds limit file w before after facts facts) (sym is) (ended_alone result read write fine runs)
 
 -- ---- with one
 
@@ -168,31 +228,28 @@ module _ (opened : OpenedStore) (now : Engine) (limit : ℕ) (runs : RunsProgram
   same_source : engine.source_of now ≡ engine.source_of opened.engine
   same_source = ap source_of runs.compiled_is
 
-  pub ran_opened : (store : Option Store) → settings_of store ≡ Some opened.store.settings → Runs (compiled_of opened.engine) s (core_of opened.engine) (core_of now) result old new
+  pub ran_opened : (store : Option Store) → settings_of store ≡ Some opened.store.settings → RanLogged (compiled_of opened.engine) s (Some opened.store.settings) (core_of opened.engine) (core_of now) result old new (logged_of opened.engine) (logged_of now) was facts
       → (IsSoundCore (engine.source_of opened.engine) (core_of opened.engine) → IsSoundCore (engine.source_of opened.engine) (core_of now))
-      → KeepsWhere (disk_failed result) store (engine.source_of now) (logged_of now) (next_core batch_rule (engine.source_of now) (core_of now)) facts
+      → KeepsWhere (disk_failed result) store (engine.source_of now) (logged_of now) (next_core (rule_of s) (engine.source_of now) (core_of now)) facts
       → IfOk result (λ tally. IsInCycle store tally.batches)
-      → (disk_failed result ≡ true → Rose faults faults' ⊎ EndsPast batch_rule store (engine.source_of now) (core_of now) (fresh_of now) facts)
-      → IsStorable (core_of now) (fresh_of now) → fresh_of opened.engine ≡ 0
-      → LogsServed (run_service (compiled_of opened.engine) s) (Some opened.store.settings) s.limit (core_of opened.engine) old.left new.left (logged_of opened.engine) (logged_of now) was facts
-      → RanOpened opened s result old new faults faults' was facts
-  ran_opened None settings ran sound kept in_cycle cause storable none_fresh logs = absurd (none settings)
+      → (disk_failed result ≡ true → Rose faults faults' ⊎ EndsPast (rule_of s) store (engine.source_of now) (core_of now) (fresh_of now) facts)
+      → IsStorable (core_of now) (fresh_of now) → fresh_of opened.engine ≡ 0 → RanOpened opened s result old new faults faults' was facts
+  ran_opened None settings ran sound kept in_cycle cause storable none_fresh = absurd (none settings)
     where
       none : None ≡ Some opened.store.settings → ⊥
       none same = cc
-  ran_opened (Some store) settings ran sound kept in_cycle cause storable none_fresh logs = record {
+  ran_opened (Some store) settings ran sound kept in_cycle cause storable none_fresh = record {
     last = core_of now;
-    runs = ran;
     sound = sound;
     store = store;
     settings = is settings;
     fresh = fresh_of now;
     storable = storable;
-    kept = subst (λ src. KeepsWhere (disk_failed result) (Some store) src (logged_of now) (next_core batch_rule src (core_of now)) facts) same_source kept;
+    kept = subst (λ src. KeepsWhere (disk_failed result) (Some store) src (logged_of now) (next_core (rule_of s) src (core_of now)) facts) same_source kept;
     in_cycle = in_cycle;
-    logs = subst (λ first. LogsServed (run_service (compiled_of opened.engine) s) (Some opened.store.settings) s.limit (core_of opened.engine) old.left new.left first (logged_of now) was facts)
-        (all_logged opened.engine none_fresh) logs;
-    cause = λ failed. subst (λ src. Rose faults faults' ⊎ EndsPast batch_rule (Some store) src (core_of now) (fresh_of now) facts) same_source (cause failed);
+    runs = subst (λ first. RanLogged (compiled_of opened.engine) s (Some opened.store.settings) (core_of opened.engine) (core_of now) result old new first (logged_of now) was facts)
+        (all_logged opened.engine none_fresh) ran;
+    cause = λ failed. subst (λ src. Rose faults faults' ⊎ EndsPast (rule_of s) (Some store) src (core_of now) (fresh_of now) facts) same_source (cause failed);
   }
     where
       is : Some store.settings ≡ Some opened.store.settings → store.settings ≡ opened.store.settings
@@ -262,22 +319,22 @@ module _ (limit : ℕ) (file dir : List ℕ) (w : words.RunSettings) (before aft
       source_so : engine.source_of opened.engine ≡ source_of made.compiled
       source_so = ap source_of ready.runs.compiled_is
 
-      cause_so : disk_failed result ≡ true → DiskRose dir before.disk after.disk ⊎ EndsPast batch_rule (Some ran.store) (source_of made.compiled) ran.last ran.fresh now
+      cause_so : disk_failed result ≡ true → DiskRose dir before.disk after.disk ⊎ EndsPast (rule_for w) (Some ran.store) (source_of made.compiled) ran.last ran.fresh now
       cause_so failed = by (ran.cause failed)
         where
-          by : Rose faults after.disk.faults ⊎ EndsPast batch_rule (Some ran.store) (engine.source_of opened.engine) ran.last ran.fresh now
-              → DiskRose dir before.disk after.disk ⊎ EndsPast batch_rule (Some ran.store) (source_of made.compiled) ran.last ran.fresh now
+          by : Rose faults after.disk.faults ⊎ EndsPast (rule_for w) (Some ran.store) (engine.source_of opened.engine) ran.last ran.fresh now
+              → DiskRose dir before.disk after.disk ⊎ EndsPast (rule_for w) (Some ran.store) (source_of made.compiled) ran.last ran.fresh now
           by (inl rose) = inl (inl (Rose-earlier before.disk.faults faults after.disk.faults later rose))
-          by (inr past) = inr (subst (λ src. EndsPast batch_rule (Some ran.store) src ran.last ran.fresh now) source_so past)
+          by (inr past) = inr (subst (λ src. EndsPast (rule_for w) (Some ran.store) src ran.last ran.fresh now) source_so past)
 
       -- what was logged, in this run's own terms
       abbrev Logged : Compiled → RunSettings → StoreSettings → Type 0
-      Logged c t kept = LogsServed (run_service c t) (Some kept) t.limit start before.input.left after.input.left start (settled ran.last ran.fresh) mid now
+      Logged c t kept = RanLogged c t (Some kept) start ran.last result (shown_of before) (shown_of after) start (settled ran.last ran.fresh) mid now
 
       logs_so : Logged made.compiled (settings_for limit w) (settings_by w holds.text opened.store.position.epoch)
       logs_so =
           subst (Logged made.compiled (settings_for limit w)) same_settings
-          (subst (λ t. Logged made.compiled t opened.store.settings) is (subst (λ c. Logged c s opened.store.settings) ready.runs.compiled_is ran.logs))
+          (subst (λ t. Logged made.compiled t opened.store.settings) is (subst (λ c. Logged c s opened.store.settings) ready.runs.compiled_is ran.runs))
 
       keeps_run : KeepsRun dir w (source_of made.compiled) holds.text start ran.last before.disk after.disk now result
       keeps_run = record {
@@ -291,7 +348,7 @@ module _ (limit : ℕ) (file dir : List ℕ) (w : words.RunSettings) (before aft
         settings = ran.settings ∙ same_settings;
         fresh = ran.fresh;
         storable = ran.storable;
-        kept = subst (λ src. KeepsWhere (disk_failed result) (Some ran.store) src (settled ran.last ran.fresh) (next_core batch_rule src ran.last) now) source_so ran.kept;
+        kept = subst (λ src. KeepsWhere (disk_failed result) (Some ran.store) src (settled ran.last ran.fresh) (next_core (rule_for w) src ran.last) now) source_so ran.kept;
         in_cycle = ran.in_cycle;
         cause = cause_so;
       }
@@ -302,18 +359,14 @@ module _ (limit : ℕ) (file dir : List ℕ) (w : words.RunSettings) (before aft
       few_wait : length start.pending < 256
       few_wait = let few : length start.pending ≤ 255 = ready.few in omega (arith, few)
 
-      moments_run : RunMoments made.compiled (settings_for limit w) holds.text start before.input.left after.input.left (before.disk.found dir) after.disk.mounts.moment now
+      moments_run : RunMoments made.compiled (settings_for limit w) holds.text start logs_so.ran.steps (before.disk.found dir) after.disk.mounts.moment now
       moments_run = record {
-        taken = logs_so.taken;
-        consumed = logs_so.consumed;
-        steps = logs_so.steps;
-        of_taken = logs_so.of_taken;
         each = λ image left.
             elim (logs_so.logs.moments.before moment image within (subst (λ n. now.left_since n image) (ap (λ (m : Mounts). m.moment) mounts) left)) [
               | inl before_run ↦ inl (subst (λ t. LeavesFound (program_for made.compiled t) (before.disk.found dir) image) holds.is.characters (earlier image before_run))
               | inr stands ↦ inr stands
             ];
-        grow = λ sound. logged_grows made.compiled (settings_for limit w) few_so start sound few_wait logs_so.steps;
+        grow = λ sound. logged_grows made.compiled (settings_for limit w) few_so start sound few_wait logs_so.ran.steps;
       }
 
       pub ran_stored : (result ≡ Err ReadFault → Rose before.input.faults after.input.faults)
@@ -325,12 +378,11 @@ module _ (limit : ℕ) (file dir : List ℕ) (w : words.RunSettings) (before aft
         start = start;
         is_start = subst (λ store. BeginsWith store before.disk.found (program_of (source_of made.compiled) holds.text) start) (sym named) begins_so;
         last = ran.last;
-        runs = subst (λ (x : RunSettings). Runs made.compiled x start ran.last result (shown_of before) (shown_of after)) is
-            (subst (λ (c : Compiled). Runs c s start ran.last result (shown_of before) (shown_of after)) ready.runs.compiled_is ran.runs);
+        runs = logs_so.ran;
         input_cause = input_cause;
         write_cause = write_cause;
         err_later = err_later;
         keeps = subst (λ store. KeepsIn store w (source_of made.compiled) holds.text start ran.last before.disk after.disk now result) (sym named) keeps_run;
         moments =
-            subst (λ store. MomentsIn store made.compiled (settings_for limit w) holds.text start before.input.left after.input.left before.disk after.disk now) (sym named) moments_run;
+            subst (λ store. MomentsIn store made.compiled (settings_for limit w) holds.text start logs_so.ran.steps before.disk after.disk now) (sym named) moments_run;
       }

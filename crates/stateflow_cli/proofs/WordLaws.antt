@@ -1,15 +1,12 @@
 -- What words ask for is in range.
-use Rattle.std.proofs.Common.{◌≡◌, ℕ, ◌≤◌, Bool, true, false, ◌&&◌, nat_le, List, [], ◌∷◌, Option, Some, None, refl, ap, subst, arith}
-use Rattle.std.specs.Prelude.{option_map, option_and_then, if◌then◌else◌, Result, Ok, Err, IfOk}
+use Rattle.std.proofs.Common.{◌≡◌, ℕ, ◌≤◌, Bool, true, false, ◌&&◌, nat_le, Option, Some, None, refl, ap, subst, arith}
+use Rattle.std.specs.Prelude.{option_map, option_and_then, if◌then◌else◌}
 use Rattle.std.proofs.lemmas.Bool.Decides.{nat_tests}
 use Rattle.command_words.specs.WordReading.{Text}
 use Rattle.command_words.specs.Numbers.{number_of, at_least_one, count_of, or_usual}
-use Rattle.command_words.specs.Commands as given
-use Rattle.command_words.specs.Commands.{RunSettings, GenSettings, Texts, texts_in, ◌>>?◌, run_settings, gen_settings, run_in, gen_in, file_in, batch_in, partitions_in, schedule_in, store_in, every_in, history_in, trace_in, number_in, size_in}
-use Rattle.command_words.specs.Readings.{ReadsOnly}
-use Rattle.command_words.specs.declared.command.Command.{Command as Given}
-use Rattle.command_words.specs.declared.command.WordsError.{WordsError}
-use Rattle.stateflow_cli.specs.Words.{AreInRange, IsWorkInRange, IsInRange}
+use Rattle.command_words.specs.Commands.{Asked, Run, Gen, RunSettings, GenSettings, Texts, ◌>>?◌, with_file, run_settings, gen_settings, run_in, gen_in, file_in, batch_in, partitions_in, schedule_in, store_in, every_in, history_in, trace_in, number_in, size_in}
+use Rattle.stateflow_cli.specs.Words.{AreInRange, IsWorkInRange}
+use Rattle.stateflow_cli.specs.Deeds.{IsInRange}
 
 -- The ranges of the settings
 
@@ -72,22 +69,15 @@ settings_range texts s is =
     let batch = count_range 256 64 _ s.batch (omega arith) (omega arith) two.0 in
     let partitions = count_range 64 4 _ s.partitions (omega arith) (omega arith) two.1 in
     let every = count_range 65535 64 _ s.every (omega arith) (omega arith) two.2 in
-    record { some = batch.0; few = batch.1; least = partitions.0; most = partitions.1; every = every.0 }
+    record { some = batch.0; few = batch.1; partitions = record { some = partitions.0; few = partitions.1 }; every = every.0 }
 
-run_range : (texts : Texts) (file : Text) (s : RunSettings) → run_in texts ≡ Some (given.Run file s) → AreInRange s
-run_range texts file s is = by (file_in texts) (run_settings texts) (settings_range texts) is
+pub run_in_range : (texts : Texts) (a : Asked) → run_in texts ≡ Some a → IsInRange a
+run_in_range texts a is = by (file_in texts) (run_settings texts) (settings_range texts) is
   where
-    settings_in : RunSettings → given.Asked → RunSettings
-    settings_in other (given.Run f t) = t
-    settings_in other (given.Check f) = other
-    settings_in other (given.Compile f) = other
-    settings_in other (given.Local f) = other
-    settings_in other (given.Gen t) = other
-
-    by : (o : Option Text) (r : Option RunSettings) → ((t : RunSettings) → r ≡ Some t → AreInRange t) → (o >>? (λ f. option_map (given.Run f) r)) ≡ Some (given.Run file s) → AreInRange s
-    by None r range e = none_some (given.Run file s) e
-    by (Some f) None range e = none_some (given.Run file s) e
-    by (Some f) (Some t) range e = subst AreInRange (ap (settings_in s) (some_same (given.Run f t) (given.Run file s) e)) (range t refl)
+    by : (o : Option Text) (r : Option RunSettings) → ((t : RunSettings) → r ≡ Some t → AreInRange t) → (o >>? (λ f. option_map (Run f) r)) ≡ Some a → IsInRange a
+    by None r range e = none_some a e
+    by (Some f) None range e = none_some a e
+    by (Some f) (Some t) range e = subst IsInRange (some_same (Run f t) a e) (range t refl)
 
 -- and the settings of generated work have what was read of the last three
 last_three : (number size batch partitions : Option ℕ) (s : GenSettings)
@@ -111,45 +101,19 @@ work_range texts s is =
     let three = last_three (number_in texts) (size_in texts) (batch_in texts) (partitions_in texts) s is in
     let batch = count_range 256 64 _ s.batch (omega arith) (omega arith) three.1 in
     let partitions = count_range 64 4 _ s.partitions (omega arith) (omega arith) three.2 in
-    record { size = size_range _ s.size three.0; some = batch.0; few = batch.1; least = partitions.0; most = partitions.1 }
+    record { size = size_range _ s.size three.0; some = batch.0; few = batch.1; partitions = record { some = partitions.0; few = partitions.1 } }
 
-gen_range : (texts : Texts) (s : GenSettings) → gen_in texts ≡ Some (given.Gen s) → IsWorkInRange s
-gen_range texts s is = by (gen_settings texts) (work_range texts) is
+pub gen_in_range : (texts : Texts) (a : Asked) → gen_in texts ≡ Some a → IsInRange a
+gen_in_range texts a is = by (gen_settings texts) (work_range texts) is
   where
-    work_in : GenSettings → given.Asked → GenSettings
-    work_in other (given.Gen t) = t
-    work_in other (given.Check f) = other
-    work_in other (given.Compile f) = other
-    work_in other (given.Local f) = other
-    work_in other (given.Run f t) = other
+    by : (r : Option GenSettings) → ((t : GenSettings) → r ≡ Some t → IsWorkInRange t) → option_map Gen r ≡ Some a → IsInRange a
+    by None range e = none_some a e
+    by (Some t) range e = subst IsInRange (some_same (Gen t) a e) (range t refl)
 
-    by : (r : Option GenSettings) → ((t : GenSettings) → r ≡ Some t → IsWorkInRange t) → option_map given.Gen r ≡ Some (given.Gen s) → IsWorkInRange s
-    by None range e = none_some (given.Gen s) e
-    by (Some t) range e = subst IsWorkInRange (ap (work_in s) (some_same (given.Gen t) (given.Gen s) e)) (range t refl)
-
--- so it is in all that is asked for
-abbrev GivenInRange : given.Asked → Type 0
-GivenInRange (given.Run file s) = AreInRange s
-GivenInRange (given.Check file) = Unit {0}
-GivenInRange (given.Compile file) = Unit {0}
-GivenInRange (given.Local file) = Unit {0}
-GivenInRange (given.Gen s) = IsWorkInRange s
-
-asked_in_range : (words : List Text) (a : given.Asked) → given.Ask words a → GivenInRange a
-asked_in_range [] a h = absurd h
-asked_in_range (name ∷ words) (given.Run file s) h = run_range (texts_in h.1.0) file s h.1.3
-asked_in_range (name ∷ words) (given.Check file) h = tt
-asked_in_range (name ∷ words) (given.Compile file) h = tt
-asked_in_range (name ∷ words) (given.Local file) h = tt
-asked_in_range (name ∷ words) (given.Gen s) h = gen_range (texts_in h.1.0) s h.1.3
-
-pub command_in_range : (words : List Text) (r : Result Given WordsError) → ReadsOnly given.asked_by (given.Ask words) r → IfOk r (λ c. IsInRange (given.asked_by c))
-command_in_range words (Ok c) h = by (given.asked_by c) (asked_in_range words (given.asked_by c) h.0)
+pub file_in_range : (command : Text → Asked) → ((file : Text) → IsInRange (command file)) → (texts : Texts) (a : Asked) → with_file command texts ≡ Some a → IsInRange a
+unfolding with_file
+file_in_range command fine texts a is = by (file_in texts) is
   where
-    by : (a : given.Asked) → GivenInRange a → IsInRange a
-    by (given.Check file) r = tt
-    by (given.Compile file) r = tt
-    by (given.Local file) r = tt
-    by (given.Run file s) r = r
-    by (given.Gen s) r = r
-command_in_range words (Err e) h = tt
+    by : (o : Option Text) → option_map command o ≡ Some a → IsInRange a
+    by None e = none_some a e
+    by (Some file) e = subst IsInRange (some_same (command file) a e) (fine file)

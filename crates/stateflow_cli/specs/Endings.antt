@@ -1,6 +1,5 @@
 -- Why a call ends, and what it did to its devices by then.
-use Rattle.std.specs.Prelude.{ℕ, ◌≡◌, ◌≤◌, ◌⊎◌, List, None, Some, Ok, Err, alloc_error}
-use Rattle.std.specs.declared.option.Option.{Option}
+use Rattle.std.specs.Prelude.{ℕ, ◌≡◌, ◌≤◌, ◌⊎◌, List, Some, Ok, Err, alloc_error}
 use Rattle.std.specs.declared.result.Result.{Result}
 use Rattle.std.specs.Io.KnownBytes.{Appends, Keeps}
 use Rattle.sf_outside.specs.Bytes.{AppendsPrefix}
@@ -22,15 +21,12 @@ use Rattle.batch_run.specs.SessionFaultVariants.{ReadFault, WriteFault, InputToo
 use Rattle.batch_run.specs.SessionFaultVariants as cause
 use Rattle.batch_run.specs.declared.running.RunSettings.{RunSettings}
 use Rattle.batch_run.specs.RunViews.{Shown}
-use Rattle.batch_run.specs.Runs.{Runs}
+use Rattle.batch_run.specs.Runs.{Ran}
 use Rattle.generated_run.specs.declared.running.GenSettings.{GenSettings}
 use Rattle.generated_run.specs.declared.summing.Summary.{Summary}
 use Rattle.generated_run.specs.Summaries.{summary_line}
 use Rattle.generated_run.specs.Generated.{Gives}
-use Rattle.stateflow_cli.specs.Words.{Asked, Check, Compile, Local, Run, Gen}
-use Rattle.stateflow_cli.specs.CheckLine.{IsCheckLine}
-use Rattle.stateflow_cli.specs.CompiledText.{IsCompiledText}
-use Rattle.stateflow_cli.specs.Devices.{Devices, AreUnread, IsStill}
+use Rattle.stateflow_cli.specs.Devices.{Devices, AreUnread, IsIdle, IsStill}
 use Rattle.stateflow_cli.specs.Loading.{Refuses, Holds, HoldsOne, source_in}
 use Rattle.stateflow_cli.specs.Starts.{IsStart}
 use Rattle.stateflow_cli.specs.StoredRuns.{KeepsIn, FailsToOpen, IsUntouched, MomentsIn}
@@ -95,12 +91,21 @@ pub record RunsFile (limit : ℕ) (file : List ℕ) (s : words.RunSettings) (bef
   pub start : Core
   pub is_start : IsStart s before (source_of compiled) holds.text start
   pub last : Core
-  pub runs : Runs compiled (settings_for limit s) start last result (shown_of before) (shown_of after)
+  pub runs : Ran compiled (settings_for limit s) start last result (shown_of before) (shown_of after)
   pub input_cause : result ≡ Err ReadFault → Rose before.input.faults after.input.faults
   pub write_cause : result ≡ Err WriteFault → Rose before.out.faults after.out.faults ⊎ Rose before.err.faults after.err.faults
   pub err_later : before.err.faults ≤ after.err.faults
   pub keeps : KeepsIn s.store s (source_of compiled) holds.text start last before.disk after.disk now result
-  pub moments : MomentsIn s.store compiled (settings_for limit s) holds.text start before.input.left after.input.left before.disk after.disk now
+  pub moments : MomentsIn s.store compiled (settings_for limit s) holds.text start runs.steps before.disk after.disk now
+
+-- memory was wanted before the run began
+pub record GivesUp (before after : Devices) (was now : DiskFacts) (stop : SessionFault) : Type 0 where
+  pub is : stop ≡ cause.NoMemory
+  pub idle : IsIdle before after
+  pub said : after.err.held ≡ before.err.held
+  pub outside : after.outside ≡ before.outside
+  pub err_later : before.err.faults ≤ after.err.faults
+  pub untouched : IsUntouched before.disk after.disk was now
 
 -- the work that words give
 abbrev pub work_for : words.GenSettings → GenSettings
@@ -179,7 +184,7 @@ RunEnds limit file s before after was now NoMemory = IsStill before after × IsU
 RunEnds limit file s before after was now Printed = ⊥
 RunEnds limit file s before after was now Unprinted = ⊥
 RunEnds limit file s before after was now Served = (tally : Tally) × RunsFile limit file s before after now (Ok tally)
-RunEnds limit file s before after was now (Stopped stop) = RunsFile limit file s before after now (Err stop)
+RunEnds limit file s before after was now (Stopped stop) = GivesUp before after was now stop ⊎ RunsFile limit file s before after now (Err stop)
 RunEnds limit file s before after was now (Unopened stop) = IsUnopened file s before after was now stop
 
 -- what serves generated work prints the line that sums it up, or nothing; its program has no fault
@@ -212,16 +217,3 @@ local_ending (Err local.WriteFault) = Stopped WriteFault
 abbrev pub run_ending : Result Tally SessionFault → Ending
 run_ending (Ok tally) = Served
 run_ending (Err fault) = Stopped fault
-
--- `check` and `compile` report on the program; `local` and `run` serve the input; `gen` serves its own
-abbrev pub EndsOn : ℕ → Asked → Devices → Devices → DiskFacts → DiskFacts → Ending → Type 0
-EndsOn limit (Check file) before after was now ending = ReportEnds IsCheckLine file before after ending
-EndsOn limit (Compile file) before after was now ending = ReportEnds IsCompiledText file before after ending
-EndsOn limit (Local file) before after was now ending = LocalEnds limit file before after ending
-EndsOn limit (Run file settings) before after was now ending = RunEnds limit file settings before after was now ending
-EndsOn limit (Gen settings) before after was now ending = GenEnds settings before after ending
-
--- where no command is asked for the words are misused, unless memory ran out as they were read; else it is done
-abbrev pub Ends : ℕ → Option Asked → Devices → Devices → DiskFacts → DiskFacts → Ending → Type 0
-Ends limit None before after was now ending = ((ending ≡ Misused) ⊎ (ending ≡ NoMemory)) × IsStill before after
-Ends limit (Some asked) before after was now ending = EndsOn limit asked before after was now ending

@@ -3,11 +3,9 @@ use Rattle.std.specs.Prelude.{ℕ, ◌≡◌, ◌≤◌, ◌⊎◌, ⊤, true, L
 use Rattle.std.specs.Str.{chars}
 use Rattle.std.specs.declared.option.Option.{Option}
 use Rattle.std.specs.declared.result.Result.{Result}
-use Rattle.std.specs.Io.KnownBytes.{Consumes}
 use Rattle.sf_outside.specs.Causes.{Rose}
 use Rattle.sf_outside.specs.DiskModel.{Image, DiskFacts, Stays, mounted}
 use Rattle.program_meaning.specs.ClassTables.{Source}
-use Rattle.reservations.specs.BatchRule.{batch_rule}
 use Rattle.block_step.specs.declared.compiled.Compiled.{Compiled}
 use Rattle.aria_batch.specs.BatchRun as batch
 use Rattle.engine.specs.Cores.{Core, IsSoundCore, empty_core}
@@ -21,11 +19,11 @@ use Rattle.session_store.specs.Cycles.{IsInCycle}
 use Rattle.session_store.specs.Endings.{KeepsWhere, next_core}
 use Rattle.session_store.specs.Stores.{HasSnapshotPast, EndsPast}
 use Rattle.session_store.specs.Vocabulary.{IsStorable}
-use Rattle.batch_run.specs.Vocabulary.{Tally, Step, SessionFault, disk_failed, LogsServed, IsLogged, StandsLogged}
+use Rattle.batch_run.specs.Vocabulary.{Tally, Step, SessionFault, disk_failed, IsLogged, StandsLogged}
 use Rattle.batch_run.specs.declared.running.RunSettings.{RunSettings}
-use Rattle.batch_run.specs.RunViews.{Shown, run_service}
-use Rattle.batch_run.specs.RunEvents.{AreStepsOf, batches_of}
-use Rattle.batch_run.specs.Runs.{Runs}
+use Rattle.batch_run.specs.RunViews.{Shown, rule_of}
+use Rattle.batch_run.specs.RunEvents.{batches_of}
+use Rattle.batch_run.specs.Runs.{RanLogged}
 use Rattle.batch_run.specs.GrownCores.{GrowsFrom}
 use Rattle.store_opening.specs.declared.opened_store.OpenedStore.{OpenedStore}
 use Rattle.store_opening.specs.declared.stop.OpenStop.{OpenStop}
@@ -33,7 +31,7 @@ use Rattle.store_opening.specs.declared.stop.OpenStop.TheVariants as of_store
 use Rattle.store_opening.specs.Openings.{WasAt, AnswersFound, KeepsFound, LeavesFound, MountsFor}
 use Rattle.command_words.specs.Commands as words
 use Rattle.stateflow_cli.specs.Devices.{StoreDisk}
-use Rattle.stateflow_cli.specs.Starts.{program_of}
+use Rattle.stateflow_cli.specs.Starts.{program_of, rule_for}
 
 -- the disk is as it was
 pub record IsUntouched (before after : StoreDisk) (was now : DiskFacts) : Type 0 where
@@ -63,44 +61,39 @@ pub record KeepsRun (dir : List ℕ) (s : words.RunSettings) (src : Source) (tex
   pub settings : store.settings ≡ settings_by s text opened.epoch
   pub fresh : ℕ
   pub storable : IsStorable last fresh
-  pub kept : KeepsWhere (disk_failed result) (Some store) src (settled last fresh) (next_core batch_rule src last) now
+  pub kept : KeepsWhere (disk_failed result) (Some store) src (settled last fresh) (next_core (rule_for s) src last) now
   pub in_cycle : IfOk result (λ tally. IsInCycle (Some store) tally.batches)
-  pub cause : disk_failed result ≡ true → DiskRose dir before after ⊎ EndsPast batch_rule (Some store) src last fresh now
+  pub cause : disk_failed result ≡ true → DiskRose dir before after ⊎ EndsPast (rule_for s) (Some store) src last fresh now
 
 -- a run of an engine on the store that was opened for it: from the engine's core to the last one, and what the store keeps then
 pub record RanOpened (opened : OpenedStore) (s : RunSettings) (result : Result Tally SessionFault) (old new : Shown) (faults faults' : ℕ) (was now : DiskFacts) : Type 0 where
   pub last : Core
-  pub runs : Runs (compiled_of opened.engine) s (core_of opened.engine) last result old new
   pub sound : IsSoundCore (source_of opened.engine) (core_of opened.engine) → IsSoundCore (source_of opened.engine) last
   pub store : Store
   pub settings : store.settings ≡ opened.store.settings
   pub fresh : ℕ
   pub storable : IsStorable last fresh
-  pub kept : KeepsWhere (disk_failed result) (Some store) (source_of opened.engine) (settled last fresh)
-      (next_core batch_rule (source_of opened.engine) last) now
-  pub in_cycle : IfOk result (λ tally. IsInCycle (Some store) tally.batches)
-  pub logs : LogsServed (run_service (compiled_of opened.engine) s) (Some opened.store.settings) s.limit (core_of opened.engine) old.left new.left
+  pub runs : RanLogged (compiled_of opened.engine) s (Some opened.store.settings) (core_of opened.engine) last result old new
       (core_of opened.engine) (settled last fresh) was now
-  pub cause : disk_failed result ≡ true → Rose faults faults' ⊎ EndsPast batch_rule (Some store) (source_of opened.engine) last fresh now
+  pub kept : KeepsWhere (disk_failed result) (Some store) (source_of opened.engine) (settled last fresh)
+      (next_core (rule_of s) (source_of opened.engine) last) now
+  pub in_cycle : IfOk result (λ tally. IsInCycle (Some store) tally.batches)
+  pub cause : disk_failed result ≡ true → Rose faults faults' ⊎ EndsPast (rule_of s) (Some store) (source_of opened.engine) last fresh now
 
 -- Each image that a crash may have left at some moment since the store was mounted is what was found, or stands for nothing committed where a new
--- store was found; or it stands for the core that the run began with, or for the one behind one of the batches of what was taken. Where the first of
+-- store was found; or it stands for the core that the run began with, or for the one behind one of the batches of these steps. Where the first of
 -- these cores is sound so is each, and its history begins with that of the first.
-pub record RunMoments (compiled : Compiled) (s : RunSettings) (text : List ℕ) (start : Core) (left left' : Option (List ℕ)) (found : Option Image)
-    (moment : ℕ) (now : DiskFacts) : Type 0 where
-  pub taken : List ℕ
-  pub consumed : Consumes left left' taken
-  pub steps : List Step
-  pub of_taken : AreStepsOf compiled s start taken left' steps
+pub record RunMoments (compiled : Compiled) (s : RunSettings) (text : List ℕ) (start : Core) (steps : List Step) (found : Option Image) (moment : ℕ)
+    (now : DiskFacts) : Type 0 where
   pub each : (image : Image) → now.left_since moment image → LeavesFound (program_of (batch.source_of compiled) text) found image
-      ⊎ StandsLogged (batch.source_of compiled) batch_rule (chars text) start (batches_of compiled s start steps) image
+      ⊎ StandsLogged (batch.source_of compiled) (rule_of s) (chars text) start (batches_of compiled s start steps) image
   pub grow : IsSoundCore (batch.source_of compiled) start → (core : Core)
-      → IsLogged (batch.source_of compiled) batch_rule start (batches_of compiled s start steps) core → GrowsFrom (batch.source_of compiled) start core
+      → IsLogged (batch.source_of compiled) (rule_of s) start (batches_of compiled s start steps) core → GrowsFrom (batch.source_of compiled) start core
 
 -- where the words name a store, the last that was mounted
-abbrev pub MomentsIn : Option (List ℕ) → Compiled → RunSettings → List ℕ → Core → Option (List ℕ) → Option (List ℕ) → StoreDisk → StoreDisk → DiskFacts → Type 0
-MomentsIn None compiled s text start left left' before after now = ⊤
-MomentsIn (Some dir) compiled s text start left left' before after now = RunMoments compiled s text start left left' (before.found dir) after.mounts.moment now
+abbrev pub MomentsIn : Option (List ℕ) → Compiled → RunSettings → List ℕ → Core → List Step → StoreDisk → StoreDisk → DiskFacts → Type 0
+MomentsIn None compiled s text start steps before after now = ⊤
+MomentsIn (Some dir) compiled s text start steps before after now = RunMoments compiled s text start steps (before.found dir) after.mounts.moment now
 
 -- where the words name no store there is none, and no disk fails
 abbrev pub KeepsIn : Option (List ℕ) → words.RunSettings → Source → List ℕ → Core → Core → StoreDisk → StoreDisk → DiskFacts

@@ -19,7 +19,7 @@ use crate::ending::Ending;
 use crate::loading::{CompiledText, LoadStop, load_compiled, load_with_text};
 use crate::running::LONGEST_INPUT;
 use crate::showing::{Call, Shows};
-use batch_run::{RunSettings, SessionFault, Tally, run_opened, run_program};
+use batch_run::{RunSettings, SessionFault, StoredEngine, Tally, run_opened, run_program};
 use command_words::RunWords;
 use operator_graph::Watch;
 use sf_outside::{Chooser, Disk, Files, Sink, Source};
@@ -121,12 +121,14 @@ fn run_on<S: Source, K: Sink, E: Sink, D: Disk, C: Chooser, W: Watch>(
     ensures later_disk { D.faults disk.old ≤ D.faults disk.new }
     ensures mounts { D.mounts disk.new ≡ D.mounts disk.old }
 {
-    let OpenedStore { mut engine, store } = opened;
-    let mut store = Some(store);
+    let OpenedStore { engine, store } = opened;
+    let mut stored = StoredEngine {
+        engine,
+        store: Some(store),
+    };
     let ended = run_opened(
         alloc,
-        &mut engine,
-        &mut store,
+        &mut stored,
         settings,
         input,
         out,
@@ -135,8 +137,7 @@ fn run_on<S: Source, K: Sink, E: Sink, D: Disk, C: Chooser, W: Watch>(
         chooser,
         watch,
     );
-    drop(store);
-    drop(engine);
+    drop(stored);
     ended
 }
 

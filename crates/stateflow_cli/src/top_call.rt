@@ -3,24 +3,10 @@
 ghost use Rattle.std.specs.Prelude.{◌≡◌, None, Some, map, string_bytes};
 ghost use Rattle.command_words.specs.CommandReading.{asked};
 ghost use Rattle.command_words.specs.Commands.{asked_by};
-ghost use Rattle.stateflow_cli.specs.Words.{IsInRange};
-ghost use Rattle.stateflow_cli.specs.Endings.{EndsOn, longest_input};
-ghost use Rattle.stateflow_cli.specs.Answers.{
-  Answers,
-  Completes,
-  ChecksText,
-  CompilesText,
-  GivesText,
-  RunsText,
-  SumsText,
-  PrintsSerially,
-  TakesInput,
-  TellsEvents,
-  TellsLines,
-  HasCauses,
-  IsComplete,
-};
-ghost use Rattle.stateflow_cli.specs.StoreClauses.{StoreEnds, store_in};
+ghost use Rattle.stateflow_cli.specs.Endings.{longest_input};
+ghost use Rattle.stateflow_cli.specs.Deeds.{EndsOn, IsInRange, LeavesUnasked, store_in};
+ghost use Rattle.stateflow_cli.specs.Devices.{Devices};
+ghost use Rattle.stateflow_cli.specs.Promise.{Answers, Promise};
 
 use crate::checking::check_file;
 use crate::compiling::compile_file;
@@ -53,6 +39,9 @@ fn perform<F: Files, S: Source, K: Sink, E: Sink, D: Disk, C: Chooser, W: Watch>
         (⟦<Call as Shows<F, S, K, E, D, C, W>>⟧.shown files.old input.old out.old err.old disk.old chooser.old watch.old)
         (⟦<Call as Shows<F, S, K, E, D, C, W>>⟧.shown files.new input.new out.new err.new disk.new chooser.new watch.new)
         (D.facts disk.old) (D.facts disk.new) result }
+    ensures aside { LeavesUnasked (Some (asked_by command.entry))
+        (⟦<Call as Shows<F, S, K, E, D, C, W>>⟧.shown files.old input.old out.old err.old disk.old chooser.old watch.old)
+        (⟦<Call as Shows<F, S, K, E, D, C, W>>⟧.shown files.new input.new out.new err.new disk.new chooser.new watch.new) }
     ensures untouched { store_in (Some (asked_by command.entry)) ≡ None → disk.new ≡ disk.old }
 {
     match command {
@@ -82,6 +71,9 @@ fn run_words<F: Files, S: Source, K: Sink, E: Sink, D: Disk, C: Chooser, W: Watc
         (⟦<Call as Shows<F, S, K, E, D, C, W>>⟧.shown files.old input.old out.old err.old disk.old chooser.old watch.old)
         (⟦<Call as Shows<F, S, K, E, D, C, W>>⟧.shown files.new input.new out.new err.new disk.new chooser.new watch.new)
         (D.facts disk.old) (D.facts disk.new) result }
+    ensures aside { LeavesUnasked (asked (map string_bytes words.now))
+        (⟦<Call as Shows<F, S, K, E, D, C, W>>⟧.shown files.old input.old out.old err.old disk.old chooser.old watch.old)
+        (⟦<Call as Shows<F, S, K, E, D, C, W>>⟧.shown files.new input.new out.new err.new disk.new chooser.new watch.new) }
     ensures untouched { store_in (asked (map string_bytes words.now)) ≡ None → disk.new ≡ disk.old }
 {
     match command_of(alloc, words) {
@@ -109,51 +101,9 @@ pub fn stateflow<F: Files, S: Source, K: Sink, E: Sink, D: Disk, C: Chooser, W: 
     chooser: &mut C,
     watch: &mut W,
 ) -> u8
-    ensures answers { Answers longest_input (asked (map string_bytes words.now))
-        (⟦<Call as Shows<F, S, K, E, D, C, W>>⟧.shown files.old input.old out.old err.old disk.old chooser.old watch.old)
-        (⟦<Call as Shows<F, S, K, E, D, C, W>>⟧.shown files.new input.new out.new err.new disk.new chooser.new watch.new)
-        (D.facts disk.old) (D.facts disk.new) result }
-    ensures text { result ≡ 0 → Completes longest_input (asked (map string_bytes words.now))
-        (⟦<Call as Shows<F, S, K, E, D, C, W>>⟧.shown files.old input.old out.old err.old disk.old chooser.old watch.old)
-        (⟦<Call as Shows<F, S, K, E, D, C, W>>⟧.shown files.new input.new out.new err.new disk.new chooser.new watch.new) }
-    ensures check_text { ChecksText (asked (map string_bytes words.now))
-        (⟦<Call as Shows<F, S, K, E, D, C, W>>⟧.shown files.old input.old out.old err.old disk.old chooser.old watch.old)
-        (⟦<Call as Shows<F, S, K, E, D, C, W>>⟧.shown files.new input.new out.new err.new disk.new chooser.new watch.new) result }
-    ensures compile_text { CompilesText (asked (map string_bytes words.now))
-        (⟦<Call as Shows<F, S, K, E, D, C, W>>⟧.shown files.old input.old out.old err.old disk.old chooser.old watch.old)
-        (⟦<Call as Shows<F, S, K, E, D, C, W>>⟧.shown files.new input.new out.new err.new disk.new chooser.new watch.new) result }
-    ensures local_text { result ≡ 0 → GivesText (asked (map string_bytes words.now))
-        (⟦<Call as Shows<F, S, K, E, D, C, W>>⟧.shown files.old input.old out.old err.old disk.old chooser.old watch.old)
-        (⟦<Call as Shows<F, S, K, E, D, C, W>>⟧.shown files.new input.new out.new err.new disk.new chooser.new watch.new) }
-    ensures run_text { RunsText longest_input (asked (map string_bytes words.now))
-        (⟦<Call as Shows<F, S, K, E, D, C, W>>⟧.shown files.old input.old out.old err.old disk.old chooser.old watch.old)
-        (⟦<Call as Shows<F, S, K, E, D, C, W>>⟧.shown files.new input.new out.new err.new disk.new chooser.new watch.new) result }
-    ensures gen_text { SumsText (asked (map string_bytes words.now))
-        (⟦<Call as Shows<F, S, K, E, D, C, W>>⟧.shown files.old input.old out.old err.old disk.old chooser.old watch.old)
-        (⟦<Call as Shows<F, S, K, E, D, C, W>>⟧.shown files.new input.new out.new err.new disk.new chooser.new watch.new) result }
-    ensures serial { PrintsSerially (asked (map string_bytes words.now))
-        (⟦<Call as Shows<F, S, K, E, D, C, W>>⟧.shown files.old input.old out.old err.old disk.old chooser.old watch.old)
-        (⟦<Call as Shows<F, S, K, E, D, C, W>>⟧.shown files.new input.new out.new err.new disk.new chooser.new watch.new) }
-    ensures taken { TakesInput longest_input (asked (map string_bytes words.now))
-        (⟦<Call as Shows<F, S, K, E, D, C, W>>⟧.shown files.old input.old out.old err.old disk.old chooser.old watch.old)
-        (⟦<Call as Shows<F, S, K, E, D, C, W>>⟧.shown files.new input.new out.new err.new disk.new chooser.new watch.new) }
-    ensures events { TellsEvents longest_input (asked (map string_bytes words.now))
-        (⟦<Call as Shows<F, S, K, E, D, C, W>>⟧.shown files.old input.old out.old err.old disk.old chooser.old watch.old)
-        (⟦<Call as Shows<F, S, K, E, D, C, W>>⟧.shown files.new input.new out.new err.new disk.new chooser.new watch.new) result }
-    ensures trace { TellsLines longest_input (asked (map string_bytes words.now))
-        (⟦<Call as Shows<F, S, K, E, D, C, W>>⟧.shown files.old input.old out.old err.old disk.old chooser.old watch.old)
-        (⟦<Call as Shows<F, S, K, E, D, C, W>>⟧.shown files.new input.new out.new err.new disk.new chooser.new watch.new) result }
-    ensures causes { HasCauses longest_input (asked (map string_bytes words.now))
-        (⟦<Call as Shows<F, S, K, E, D, C, W>>⟧.shown files.old input.old out.old err.old disk.old chooser.old watch.old)
-        (⟦<Call as Shows<F, S, K, E, D, C, W>>⟧.shown files.new input.new out.new err.new disk.new chooser.new watch.new)
-        (D.facts disk.new) result }
-    ensures complete { IsComplete (asked (map string_bytes words.now))
-        (⟦<Call as Shows<F, S, K, E, D, C, W>>⟧.shown files.old input.old out.old err.old disk.old chooser.old watch.old)
-        (⟦<Call as Shows<F, S, K, E, D, C, W>>⟧.shown files.new input.new out.new err.new disk.new chooser.new watch.new) result }
-    ensures store { StoreEnds longest_input (asked (map string_bytes words.now))
-        (⟦<Call as Shows<F, S, K, E, D, C, W>>⟧.shown files.old input.old out.old err.old disk.old chooser.old watch.old)
-        (⟦<Call as Shows<F, S, K, E, D, C, W>>⟧.shown files.new input.new out.new err.new disk.new chooser.new watch.new)
-        (D.facts disk.old) (D.facts disk.new) result }
+    ensures promise { let before : Devices = ⟦<Call as Shows<F, S, K, E, D, C, W>>⟧.shown files.old input.old out.old err.old disk.old chooser.old watch.old in
+        let after : Devices = ⟦<Call as Shows<F, S, K, E, D, C, W>>⟧.shown files.new input.new out.new err.new disk.new chooser.new watch.new in
+        Promise (asked (map string_bytes words.now)) before after (D.facts disk.old) (D.facts disk.new) result }
     ensures untouched { store_in (asked (map string_bytes words.now)) ≡ None → disk.new ≡ disk.old }
 {
     run_words(alloc, words, files, input, out, err, disk, chooser, watch)

@@ -4,7 +4,7 @@ ghost use Rattle.std.specs.Prelude.{◌≡◌, map, string_bytes, IfOk};
 ghost use Rattle.command_words.specs.CommandReading.{asked};
 ghost use Rattle.command_words.specs.Commands.{asked_by};
 ghost use Rattle.command_words.specs.Readings.{Reads};
-ghost use Rattle.stateflow_cli.specs.Words.{file_of, IsInRange};
+ghost use Rattle.stateflow_cli.specs.Deeds.{file_of, IsInRange};
 
 use command_words::{Command, WordsError};
 use std::alloc::Global;

@@ -3,15 +3,16 @@ use Rattle.std.proofs.Common.{◌≡◌, ℕ, ◌-◌, ◌*◌, ◌≤◌, ◌<�
 use Rattle.std.specs.List.{AllByRecursion, sum_by}
 use Rattle.std.proofs.lemmas.List.{length-drop}
 use Rattle.std.proofs.lemmas.List.Sums.{sum_by-le}
+use Rattle.sf_value.specs.Heads.{snapshot_of}
 use Rattle.sf_value.specs.Keys.{Key}
 use Rattle.sf_value.specs.declared.value.Value.{Value}
 use Rattle.sf_value.specs.declared.BatchRecord.{BatchRecord}
 use Rattle.byte_sizes.specs.Sizes.{request_size, batch_size}
-use Rattle.byte_sizes.specs.Spelt.{IsSpeltHeld, IsSpeltRequest, IsSpeltBatch}
+use Rattle.byte_sizes.specs.Spelt.{IsSpeltEntry, IsSpeltHeld, IsSpeltRequest, IsSpeltBatch}
 use Rattle.engine.specs.Cores.{Core}
 use Rattle.engine.specs.Kept.{core_of_snapshot}
 use Rattle.storable_cores.specs.Storable.{held_at, most_bytes, news_of, IsSpeltCore, IsStorable}
-use Rattle.storable_cores.specs.StorableLaws.{SnapshotsAreStorable, RecordsAreSpelt, CoresAreSpelt}
+use Rattle.storable_cores.specs.StorableLaws.{SnapshotsAreStorable, RecordsAreSpelt, CoresAreSpelt, HeadsAreSpelt, EntriesAreSpelt}
 use Rattle.storable_cores.proofs.Lists.{each_behind, sizes_most}
 use Rattle.storable_cores.proofs.HeldRecords.{each_of_records, records_of_each}
 use Rattle.storable_cores.proofs.CoreLaws.{none_fresh}
@@ -59,3 +60,13 @@ pub cores_are_spelt : CoresAreSpelt
 cores_are_spelt src core fresh kept storable fits holds text =
     let own = subst IsSpeltCore (sym holds) storable.spelt in
     (text, ((fits.places, own.entries), (records_of_each HasSpeltRecord kept.records fits.entities own.state, (omega (arith, fits.few), own.requests))))
+
+-- ---- a head and the entries that it names
+
+pub heads_are_spelt : HeadsAreSpelt
+heads_are_spelt src core fresh head storable fits holds text =
+    let whole = cores_are_spelt src core fresh (snapshot_of head core.history) storable fits holds text in
+    (whole.0, whole.1.1)
+
+pub entries_are_spelt : EntriesAreSpelt
+entries_are_spelt core fresh kept storable = each_behind IsSpeltEntry kept core.history storable.spelt.entries

@@ -1,10 +1,13 @@
 -- A core that can be written to a store can be so behind each arrival and each batch, and what is written of it has a spelling.
-use Rattle.std.specs.Prelude.{◌≡◌, ℕ, ◌≤◌, ◌<◌, ◌^◌, List, length}
+use Rattle.std.specs.Prelude.{◌≡◌, ℕ, ◌≤◌, ◌<◌, ◌^◌, List, length, drop}
+use Rattle.std.specs.List.{AllByRecursion}
+use Rattle.sf_value.specs.Heads.{snapshot_of}
 use Rattle.sf_value.specs.declared.BatchRecord.{BatchRecord}
 use Rattle.sf_value.specs.declared.Request.{Request}
 use Rattle.sf_value.specs.declared.Snapshot.{Snapshot}
+use Rattle.sf_value.specs.declared.heads.Head.{Head}
 use Rattle.byte_sizes.specs.Sizes.{batch_size}
-use Rattle.byte_sizes.specs.Spelt.{IsShortText, IsSpeltBatch, IsSpeltSnapshot, IsReadBatch, IsReadSnapshot}
+use Rattle.byte_sizes.specs.Spelt.{IsShortText, IsSpeltEntry, IsSpeltBatch, IsSpeltSnapshot, IsSpeltHead, IsReadBatch, IsReadSnapshot}
 use Rattle.program_meaning.specs.ClassTables.{Source}
 use Rattle.program_meaning.specs.NothingGoesWrong.{IsKnownAccepted}
 use Rattle.py_tree.specs.ClassRules.{tables_of}
@@ -49,3 +52,13 @@ RecordsAreSpelt = (core : Core) (fresh : ℕ) (batch : BatchRecord) → IsStorab
 abbrev pub CoresAreSpelt : Type 0
 CoresAreSpelt = (src : Source) (core : Core) (fresh : ℕ) (kept : Snapshot) → IsStorable core fresh → SnapshotFits (tables_of src.names src.program) kept
     → core_of_snapshot kept ≡ core → IsShortText kept.program → IsSpeltSnapshot kept
+
+-- and a head
+abbrev pub HeadsAreSpelt : Type 0
+HeadsAreSpelt = (src : Source) (core : Core) (fresh : ℕ) (head : Head) → IsStorable core fresh
+    → SnapshotFits (tables_of src.names src.program) (snapshot_of head core.history)
+    → core_of_snapshot (snapshot_of head core.history) ≡ core → IsShortText head.program → IsSpeltHead head
+
+-- and each entry of the history, those behind the first so many
+abbrev pub EntriesAreSpelt : Type 0
+EntriesAreSpelt = (core : Core) (fresh kept : ℕ) → IsStorable core fresh → AllByRecursion IsSpeltEntry (drop kept core.history)

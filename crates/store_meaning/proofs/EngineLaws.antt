@@ -4,7 +4,6 @@ use Rattle.std.specs.List.{list_any}
 use Rattle.std.proofs.lemmas.List.{length-map}
 use Rattle.sf_outside.specs.DiskModel.{DiskFacts, LeavesOnly}
 use Rattle.sf_value.specs.declared.Request.{Request}
-use Rattle.sf_value.specs.declared.Snapshot.{Snapshot}
 use Rattle.program_meaning.specs.ClassTables.{Source}
 use Rattle.program_meaning.specs.RequestRun.{run}
 use Rattle.serial_order.specs.ConflictFree.{access_of, runs_on}
@@ -26,7 +25,7 @@ use Rattle.engine.specs.RanBatches.{accesses_on}
 use Rattle.engine.specs.Replays.{settled}
 use Rattle.engine.proofs.PlanReplays.{plans_replay}
 use Rattle.store_meaning.specs.declared.position.Position.{Position}
-use Rattle.store_meaning.specs.Checkpoints.{IsSnapshotOf, next_epoch}
+use Rattle.store_meaning.specs.Checkpoints.{IsCheckpointOf, next_of}
 use Rattle.store_meaning.specs.Engines.{program_of, logged_of, KeepsEngine}
 use Rattle.store_meaning.specs.Keeping.{KeepsCore, StandsForOne, KeepsBatch, LeavesBatch, KeepsCheckpoint, LeavesCheckpoint}
 use Rattle.store_meaning.specs.LoggedBatches.{CanFollow, behind}
@@ -95,15 +94,22 @@ module _ (e now : Engine) (text : List ℕ) (runs : RunsProgram now (compiled_of
         (subst (λ c. KeepsCore (program_of e text) new c (behind position body)) replays.core (kept (program_of e text) (logged_of e) p.batch keeps can_follow))
 
 -- a checkpoint of an engine to which no request came since its last batch
-module _ (e : Engine) (text : List ℕ) (none : fresh_of e ≡ 0) (body : List ℕ) (kept : Snapshot) (is : IsSnapshotOf (program_of e text) (core_of e) body kept) (old new : DiskFacts) (position : Position) (keeps : KeepsEngine e text old position) where
+module _ (e : Engine) (text : List ℕ) (none : fresh_of e ≡ 0) (position : Position) (more body : List ℕ) (is : IsCheckpointOf (program_of e text) (core_of e) position (core_of e) more body) (old new : DiskFacts)
+    (keeps : KeepsEngine e text old position) where
+  abbrev p : Program
+  p = program_of e text
+
+  abbrev there : Position
+  there = next_of position (length more) (length (core_of e).history)
+
   all_logged : logged_of e ≡ core_of e
   all_logged = ap (settled (core_of e)) none ∙ none_unlogged (core_of e)
 
-  whole : KeepsCore (program_of e text) old (core_of e) position
-  whole = subst (λ core. KeepsCore (program_of e text) old core position) all_logged keeps
+  whole : KeepsCore p old (core_of e) position
+  whole = subst (λ core. KeepsCore p old core position) all_logged keeps
 
-  pub leaves_snapshot : LeavesCheckpoint old new position body → LeavesOnly old new (StandsForOne (program_of e text) (core_of e) position (core_of e) (next_epoch position))
-  leaves_snapshot moments = moments (program_of e text) (core_of e) kept whole is
+  pub leaves_checkpoint : LeavesCheckpoint old new position more body → LeavesOnly old new (StandsForOne p (core_of e) position (core_of e) there)
+  leaves_checkpoint moments = moments p p (core_of e) (core_of e) whole is
 
-  pub keeps_snapshot : KeepsCheckpoint old new position body → KeepsEngine e text new (next_epoch position)
-  keeps_snapshot now = subst (λ core. KeepsCore (program_of e text) new core (next_epoch position)) (sym all_logged) (now (program_of e text) (core_of e) kept whole is)
+  pub keeps_checkpoint : KeepsCheckpoint old new position more body → KeepsEngine e text new there
+  keeps_checkpoint now = subst (λ core. KeepsCore p new core there) (sym all_logged) (now p p (core_of e) (core_of e) whole is)

@@ -8,16 +8,16 @@ use Rattle.sf_outside.specs.declared.store_disk.StoreFile.{StoreFile}
 use Rattle.sf_outside.specs.ImageSteps.{ComesBy}
 use Rattle.sf_outside.proofs.DiskLaws.{left_now, LeavesOnly-weaker}
 use Rattle.sf_value.specs.declared.BatchRecord.{BatchRecord}
-use Rattle.sf_value.specs.declared.Snapshot.{Snapshot}
 use Rattle.request_log.specs.Appends.{HasRecord, StaysOrHasRecord}
 use Rattle.request_log.specs.LogFile.{LogFrom}
-use Rattle.snapshot_store.specs.SlotFile.{log_of, IsNext}
-use Rattle.snapshot_store.specs.SlotSteps.{KeepsNewest, IsKept, KeepsOrIsKept}
+use Rattle.snapshot_store.specs.SlotFile.{log_of, IsNext, NamesWithin}
+use Rattle.snapshot_store.specs.SlotSteps.{CheckpointDone, ComesBeside, IsKept, KeepsOrIsKept}
 use Rattle.recovery.specs.StoreSteps.{LogSteps}
+use Rattle.recovery.proofs.StoreSteps.{snapshot_next, snapshot_names, new_names}
 use Rattle.engine.specs.Cores.{Core}
 use Rattle.engine.specs.Replays.{replayed}
 use Rattle.store_meaning.specs.declared.position.Position.{Position}
-use Rattle.store_meaning.specs.Checkpoints.{IsSnapshotOf, next_epoch}
+use Rattle.store_meaning.specs.Checkpoints.{IsCheckpointOf, next_of}
 use Rattle.store_meaning.specs.Keeping.{KeepsCore, KeepsSome, KeepsOne, StandsForOne, KeepsBatch, LeavesBatch, KeepsCheckpoint, LeavesCheckpoint, StandsForSome, KeptSince}
 use Rattle.store_meaning.specs.LoggedBatches.{CanFollow, behind}
 use Rattle.store_meaning.specs.StandsFor.{Program, StandsFor}
@@ -61,12 +61,20 @@ module _ (p : Program) where
       let old = is_old p image core position (keeps.each image left) began in
       log_closed (of_file (log_of position.epoch) image) 0 old.batches position.at old.holds.log
 
-  pub is_next : (facts : DiskFacts) (core : Core) (position : Position) → KeepsCore p facts core position → (image : Image) → facts.may_leave image → IsNext (position.epoch + 1) image
-  is_next facts core position keeps image left = next_of (keeps.each image left)
-    where
-      next_of : StandsFor p image core position → IsNext (position.epoch + 1) image
-      next_of (inl a) = inl (a.0, ap (λ (x : Position). x.epoch + 1) a.2)
-      next_of (inr old) = inr (position.epoch, old.kept, old.holds.newest, refl)
+  module _ (facts : DiskFacts) (core : Core) (position : Position) (keeps : KeepsCore p facts core position) (image : Image) (left : facts.may_leave image) where
+    pub is_next : IsNext (position.epoch + 1) image
+    is_next = by (keeps.each image left)
+      where
+        by : StandsFor p image core position → IsNext (position.epoch + 1) image
+        by (inl a) = inl (a.0, ap (λ (x : Position). x.epoch + 1) a.2)
+        by (inr old) = snapshot_next image position.epoch old.kept position.bytes old.holds.newest
+
+    pub names_within : NamesWithin position.bytes image
+    names_within = by (keeps.each image left)
+      where
+        by : StandsFor p image core position → NamesWithin position.bytes image
+        by (inl a) = new_names image position.bytes a.0
+        by (inr old) = snapshot_names image position.epoch old.kept position.bytes old.holds.newest
 
   -- ---- a record in the log
 
@@ -94,23 +102,33 @@ module _ (p : Program) where
           has_record came.before image came.left (log_steps position.epoch (HasRecord position.at body) old image came);
     }
 
-  -- ---- a checkpoint
+-- ---- a checkpoint
 
-  module _ (old new : DiskFacts) (core : Core) (position : Position) (keeps : KeepsCore p old core position) (body : List ℕ) (kept : Snapshot) (is : IsSnapshotOf p core body kept) where
-    here_or_anew : (image : Image) → KeepsOrIsKept (position.epoch + 1) body old image → StandsForOne p core position core (next_epoch position) image
-    here_or_anew image came = by came.2
-      where
-        by : KeepsNewest came.0 image ⊎ IsKept (position.epoch + 1) body image → StandsForOne p core position core (next_epoch position) image
-        by (inl stays) = inl (checkpoint_stays p came.0 image core position (keeps.each came.0 came.1) stays)
-        by (inr done) = inr (checkpoint_stands p image core (position.epoch + 1) body kept is done)
+module _ (p q : Program) (old new : DiskFacts) (before core : Core) (position : Position) (keeps : KeepsCore p old before position) (more body : List ℕ) (is : IsCheckpointOf q before position core more body) where
+  abbrev next : Position
+  next = next_of position (length more) (length core.history)
 
-    -- at each moment of `checkpoint` an image stands for the core, where it did or at the start of the next epoch
-    pub checkpoint_leaves : LeavesOnly old new (KeepsOrIsKept (position.epoch + 1) body old) → LeavesOnly old new (StandsForOne p core position core (next_epoch position))
-    checkpoint_leaves moments = LeavesOnly-weaker old new (KeepsOrIsKept (position.epoch + 1) body old) (StandsForOne p core position core (next_epoch position)) moments here_or_anew
+  abbrev HereOrAnew : Image → Type 0
+  HereOrAnew image = StandsFor p image before position ⊎ StandsFor q image core next
 
-    -- and once it has answered, there
-    pub checkpoint_keeps : ((image : Image) → new.may_leave image → IsKept (position.epoch + 1) body image) → KeepsCore p new core (next_epoch position)
-    checkpoint_keeps now = record { each = λ image left. checkpoint_stands p image core (position.epoch + 1) body kept is (now image left) }
+  here_or_anew : (image : Image) → KeepsOrIsKept (position.epoch + 1) position.bytes more body old image → HereOrAnew image
+  here_or_anew image came = elim (came.2) [
+    | inl stays ↦ inl (checkpoint_stays p came.0 image before position (keeps.each came.0 came.1) stays)
+    | inr done ↦ inr (checkpoint_stands p q came.0 image before core position more body (keeps.each came.0 came.1) is done.0 done.1)
+  ]
+
+  -- at each moment of `checkpoint` an image stands for the core before, where it did, or for the new one at the start of the next epoch
+  pub checkpoint_leaves : LeavesOnly old new (KeepsOrIsKept (position.epoch + 1) position.bytes more body old) → LeavesOnly old new HereOrAnew
+  checkpoint_leaves moments = LeavesOnly-weaker old new (KeepsOrIsKept (position.epoch + 1) position.bytes more body old) HereOrAnew moments here_or_anew
+
+  -- and once it has answered, there
+  pub checkpoint_keeps : ((image : Image) → new.may_leave image → ComesBeside (position.epoch + 1) position.bytes (CheckpointDone (position.epoch + 1) position.bytes more body) old image)
+      → ((image : Image) → new.may_leave image → IsKept (position.epoch + 1) position.bytes more body image) → KeepsCore q new core next
+  checkpoint_keeps now kept = record {
+    each = λ image left.
+        let came = now image left in
+        checkpoint_stands p q came.before image before core position more body (keeps.each came.before came.left) is (kept image left) came.history;
+  }
 
 -- ---- calls that write
 
@@ -127,11 +145,16 @@ module _ (old new : DiskFacts) (position : Position) (body : List ℕ) where
     keeps_batch now = λ p core batch keeps follows.
         append_keeps p old new core position keeps began body batch follows (subst (λ f. (image : Image) → new.may_leave image → ComesBy f (HasRecord position.at body) old image) is_log now)
 
-  pub leaves_checkpoint : LeavesOnly old new (KeepsOrIsKept (position.epoch + 1) body old) → LeavesCheckpoint old new position body
-  leaves_checkpoint moments = λ p core kept keeps is. checkpoint_leaves p old new core position keeps body kept is moments
+module _ (old new : DiskFacts) (position : Position) (more body : List ℕ) where
+  pub needs_names : KeepsSome old position → (image : Image) → old.may_leave image → NamesWithin position.bytes image
+  needs_names some = names_within some.0 old some.1 position some.2
 
-  pub keeps_checkpoint : ((image : Image) → new.may_leave image → IsKept (position.epoch + 1) body image) → KeepsCheckpoint old new position body
-  keeps_checkpoint now = λ p core kept keeps is. checkpoint_keeps p old new core position keeps body kept is now
+  pub leaves_checkpoint : LeavesOnly old new (KeepsOrIsKept (position.epoch + 1) position.bytes more body old) → LeavesCheckpoint old new position more body
+  leaves_checkpoint moments = λ p q before core keeps is. checkpoint_leaves p q old new before core position keeps more body is moments
+
+  pub keeps_checkpoint : ((image : Image) → new.may_leave image → ComesBeside (position.epoch + 1) position.bytes (CheckpointDone (position.epoch + 1) position.bytes more body) old image)
+      → ((image : Image) → new.may_leave image → IsKept (position.epoch + 1) position.bytes more body image) → KeepsCheckpoint old new position more body
+  keeps_checkpoint now kept = λ p q before core keeps is. checkpoint_keeps p q old new before core position keeps more body is now kept
 
 module _ (p : Program) where
   -- ---- since a moment

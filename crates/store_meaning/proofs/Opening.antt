@@ -15,7 +15,7 @@ use Rattle.engine.specs.Replays.{replayed, BatchFits}
 use Rattle.store_meaning.specs.declared.position.Position.{Position}
 use Rattle.store_meaning.specs.Keeping.{KeepsCore}
 use Rattle.store_meaning.specs.Meanings.{IsOfOther, IsWrong}
-use Rattle.store_meaning.specs.StandsFor.{Program, tables_of, new_position, Replays, StandsFor}
+use Rattle.store_meaning.specs.StandsFor.{Program, tables_of, new_position, found_at, Replays, StandsFor}
 use Rattle.store_meaning.proofs.Replaying.{replays_more}
 
 module _ (p : Program) where
@@ -31,15 +31,16 @@ module _ (p : Program) where
       subst (λ batches. Replays p core batches (replayed p.source middle placed.batch)) (sym (map-append (λ (b : Placed). b.batch) before (placed ∷ [])))
       (replays_more p core (batches_of before) middle placed.batch so_far fits)
 
-  module _ (epoch : ℕ) (kept : Snapshot) (at : ℕ) where
-    pub of_other : (image : Image) (batches : List Placed) → IsOld image epoch kept batches at → kept.program ≢ p.text → IsOfOther p image kept.program
-    of_other image batches old differs = record { epoch = epoch; kept = kept; batches = batches; at = at; old = old; text_is = refl; differs = differs }
+  module _ (epoch : ℕ) (kept : Snapshot) (bytes at : ℕ) where
+    pub of_other : (image : Image) (batches : List Placed) → IsOld image epoch kept bytes batches at → kept.program ≢ p.text → IsOfOther p image kept.program
+    of_other image batches old differs = record { epoch = epoch; kept = kept; bytes = bytes; batches = batches; at = at; old = old; text_is = refl; differs = differs }
 
     module _ (text : kept.program ≡ p.text) where
-      pub wrong_snapshot : (image : Image) (batches : List Placed) → IsOld image epoch kept batches at → (SnapshotFits (tables_of p) kept → ⊥) → IsWrong p image (slot_of epoch) 0
+      pub wrong_snapshot : (image : Image) (batches : List Placed) → IsOld image epoch kept bytes batches at → (SnapshotFits (tables_of p) kept → ⊥) → IsWrong p image (slot_of epoch) 0
       wrong_snapshot image batches old wrong = inl (record {
         epoch = epoch;
         kept = kept;
+        bytes = bytes;
         batches = batches;
         last = at;
         old = old;
@@ -50,11 +51,12 @@ module _ (p : Program) where
       })
 
       module _ (fits : SnapshotFits (tables_of p) kept) where
-        pub wrong_batch : (image : Image) (before : List Placed) (placed : Placed) (after : List Placed) (core : Core) → IsOld image epoch kept (before ++ placed ∷ after) at
+        pub wrong_batch : (image : Image) (before : List Placed) (placed : Placed) (after : List Placed) (core : Core) → IsOld image epoch kept bytes (before ++ placed ∷ after) at
             → Replays p (core_of_snapshot kept) (batches_of before) core → (BatchFits (tables_of p) core placed.batch → ⊥) → IsWrong p image (log_of epoch) placed.at
         wrong_batch image before placed after core old so_far wrong = inr (record {
           epoch = epoch;
           kept = kept;
+          bytes = bytes;
           before = before;
           batch = placed.batch;
           after = after;
@@ -68,11 +70,12 @@ module _ (p : Program) where
           same_file = refl;
         })
 
-        pub old_stands : (image : Image) (batches : List Placed) (core : Core) → IsOld image epoch kept batches at → Replays p (core_of_snapshot kept) (batches_of batches) core → StandsFor p image core (record { epoch = epoch; at = at })
+        pub old_stands : (image : Image) (batches : List Placed) (core : Core) → IsOld image epoch kept bytes batches at → Replays p (core_of_snapshot kept) (batches_of batches) core → StandsFor p image core (found_at epoch kept bytes at)
         old_stands image batches core old replays = inr (record {
           kept = kept;
           batches = batches_of batches;
-          holds = old_holds image epoch kept batches at old;
+          holds = old_holds image epoch kept bytes batches at old;
+          count = refl;
           text = text;
           fits = fits;
           replays = replays;
@@ -84,24 +87,24 @@ module _ (p : Program) where
     pub seen_new : IfSome seen IsNew → IfSome seen (λ now. StandsFor p now empty_core new_position)
     seen_new found = if_one seen IsNew (λ now. StandsFor p now empty_core new_position) new_stands found
 
-    module _ (epoch : ℕ) (kept : Snapshot) (batches : List Placed) (at : ℕ) (found : IfSome seen (λ now. IsOld now epoch kept batches at)) where
+    module _ (epoch : ℕ) (kept : Snapshot) (bytes : ℕ) (batches : List Placed) (at : ℕ) (found : IfSome seen (λ now. IsOld now epoch kept bytes batches at)) where
       abbrev Found : Image → Type 0
-      Found now = IsOld now epoch kept batches at
+      Found now = IsOld now epoch kept bytes batches at
 
       pub seen_other : kept.program ≢ p.text → IfSome seen (λ now. IsOfOther p now kept.program)
-      seen_other differs = if_one seen Found (λ now. IsOfOther p now kept.program) (λ now old. of_other epoch kept at now batches old differs) found
+      seen_other differs = if_one seen Found (λ now. IsOfOther p now kept.program) (λ now old. of_other epoch kept bytes at now batches old differs) found
 
       pub seen_wrong_snapshot : kept.program ≡ p.text → (SnapshotFits (tables_of p) kept → ⊥) → IfSome seen (λ now. IsWrong p now (slot_of epoch) 0)
-      seen_wrong_snapshot text wrong = if_one seen Found (λ now. IsWrong p now (slot_of epoch) 0) (λ now old. wrong_snapshot epoch kept at text now batches old wrong) found
+      seen_wrong_snapshot text wrong = if_one seen Found (λ now. IsWrong p now (slot_of epoch) 0) (λ now old. wrong_snapshot epoch kept bytes at text now batches old wrong) found
 
       pub seen_wrong_batch : kept.program ≡ p.text → SnapshotFits (tables_of p) kept → (before : List Placed) (placed : Placed) (after : List Placed) (core : Core) → batches ≡ before ++ placed ∷ after
           → Replays p (core_of_snapshot kept) (batches_of before) core → (BatchFits (tables_of p) core placed.batch → ⊥) → IfSome seen (λ now. IsWrong p now (log_of epoch) placed.at)
       seen_wrong_batch text fits before placed after core split so_far wrong =
           if_one seen Found (λ now. IsWrong p now (log_of epoch) placed.at)
-          (λ now old. wrong_batch epoch kept at text fits now before placed after core (subst (λ bs. IsOld now epoch kept bs at) split old) so_far wrong) found
+          (λ now old. wrong_batch epoch kept bytes at text fits now before placed after core (subst (λ bs. IsOld now epoch kept bytes bs at) split old) so_far wrong) found
 
-      pub seen_stands : kept.program ≡ p.text → SnapshotFits (tables_of p) kept → (core : Core) → Replays p (core_of_snapshot kept) (batches_of batches) core → IfSome seen (λ now. StandsFor p now core (record { epoch = epoch; at = at }))
-      seen_stands text fits core replays = if_one seen Found (λ now. StandsFor p now core (record { epoch = epoch; at = at })) (λ now old. old_stands epoch kept at text fits now batches core old replays) found
+      pub seen_stands : kept.program ≡ p.text → SnapshotFits (tables_of p) kept → (core : Core) → Replays p (core_of_snapshot kept) (batches_of batches) core → IfSome seen (λ now. StandsFor p now core (found_at epoch kept bytes at))
+      seen_stands text fits core replays = if_one seen Found (λ now. StandsFor p now core (found_at epoch kept bytes at)) (λ now old. old_stands epoch kept bytes at text fits now batches core old replays) found
 
   -- where each crash leaves what a read gives, each image stands for what that does
   pub clean_keeps : (facts : DiskFacts) (core : Core) (position : Position) → IfSome facts.seen (λ now. StandsFor p now core position) → IsClean facts → KeepsCore p facts core position

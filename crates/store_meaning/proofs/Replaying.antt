@@ -1,10 +1,11 @@
 -- Cores that batches make, one after another.
-use Rattle.std.proofs.Common.{◌≡◌, List, [], ◌∷◌, ◌++◌, sym, ap, ◌∙◌, subst}
+use Rattle.std.proofs.Common.{◌≡◌, List, [], ◌∷◌, ◌++◌, length, take, sym, ap, ◌∙◌, subst, arith}
+use Rattle.std.proofs.lemmas.List.{take_all, take-take, take_at, length-append}
 use Rattle.sf_value.specs.declared.BatchRecord.{BatchRecord}
 use Rattle.recovery.specs.declared.opened.Placed.{Placed}
 use Rattle.recovery.specs.StoreImage.{batches_of}
 use Rattle.engine.specs.Cores.{Core}
-use Rattle.engine.specs.Replays.{replayed, BatchFits}
+use Rattle.engine.specs.Replays.{listed, serial_entries, replayed, BatchFits}
 use Rattle.store_meaning.specs.StandsFor.{Program, tables_of, Replays}
 
 module _ (p : Program) where
@@ -13,6 +14,15 @@ module _ (p : Program) where
       → Replays p core (batches ++ batch ∷ []) (replayed p.source middle batch)
   replays_more core [] middle batch so_far fits = (subst (λ c. BatchFits (tables_of p) c batch) so_far fits, ap (λ c. replayed p.source c batch) so_far)
   replays_more core (first ∷ batches) middle batch so_far fits = (so_far.0, replays_more (replayed p.source core first) batches middle batch so_far.1 fits)
+
+  -- they leave the history that was there, and go on behind it
+  pub replays_grow : (core : Core) (batches : List BatchRecord) (last : Core) → Replays p core batches last → take (length core.history) last.history ≡ core.history
+  replays_grow core [] last same = ap (λ (c : Core). take (length core.history) c.history) same ∙ take_all (length core.history) core.history (omega arith)
+  replays_grow core (batch ∷ batches) last replays =
+      let n = length core.history in
+      let new = serial_entries p.source core.state (listed core batch) in
+      let later = replays_grow (replayed p.source core batch) batches last replays.1 in
+      sym (take-take n (length (core.history ++ new)) last.history (omega (arith, length-append core.history new))) ∙ ap (take n) later ∙ take_at core.history new n (omega arith)
 
   -- they make one core
   pub one_replay : (core : Core) (batches : List BatchRecord) (last other : Core) → Replays p core batches last → Replays p core batches other → last ≡ other

@@ -1,24 +1,32 @@
 -- It can't be that an image means nothing. Whether a part fits isn't computed here, so nothing says which meaning it has.
-use Rattle.std.proofs.Common.{◌≡◌, ◌⊎◌, inl, inr, ℕ, zero, suc, ◌+◌, ◌≤◌, ◌<◌, List, [], ◌∷◌, ◌++◌, length, get_or, Some, None, Ok, refl, sym, subst, arith, append_assoc, append-nil}
+use Rattle.std.proofs.Common.{◌≡◌, ◌⊎◌, inl, inr, ℕ, zero, suc, ◌+◌, ◌≤◌, ◌<◌, List, [], ◌∷◌, ◌++◌, length, get_or, Some, None, Ok, refl, sym, subst, arith, append_assoc, append-nil, length-append}
 use Rattle.std.specs.declared.option.Option.{Option}
 use Rattle.std.proofs.lemmas.Bool.{cases_eq, cases_lt}
+use Rattle.sf_bytes.specs.ByteForms.{entry_bytes}
+use Rattle.sf_bytes.specs.Entries.{EntriesTo, HistoryIs, HistoryBreaks}
 use Rattle.sf_bytes.specs.Gates.{open_gate, StandsAt, ClosedAt, OpenAt}
+use Rattle.sf_bytes.specs.Spelt.{IsReadEntry}
+use Rattle.sf_bytes.proofs.Histories.{run_then}
 use Rattle.sf_bytes.proofs.Stands.{Stands-byte}
 use Rattle.sf_outside.specs.DiskModel.{Image, of_file}
+use Rattle.sf_outside.specs.declared.store_disk.StoreFile.TheVariants.{Hist}
+use Rattle.sf_value.specs.Heads.{snapshot_of}
 use Rattle.sf_value.specs.declared.BatchRecord.{BatchRecord}
+use Rattle.sf_value.specs.declared.Entry.{Entry}
 use Rattle.sf_value.specs.declared.Snapshot.{Snapshot}
+use Rattle.sf_value.specs.declared.heads.Head.{Head}
 use Rattle.request_log.specs.LogFile.{RecordAt, IsBadAt}
 use Rattle.snapshot_store.specs.declared.reading.Kept.{Kept}
 use Rattle.snapshot_store.specs.Answers.{Answers, AnswersSlot, newer_of}
 use Rattle.snapshot_store.specs.SlotFile.{slot_file, slot_of, log_of, IsOpenSlot, HoldsAt, IsBadSlot, IsGoodSlot, IsNewest}
 use Rattle.snapshot_store.proofs.Slots.{both_slots}
 use Rattle.recovery.specs.declared.opened.Placed.{Placed}
-use Rattle.recovery.specs.StoreImage.{batches_of, RecordsTo, IsOld}
+use Rattle.recovery.specs.StoreImage.{batches_of, RecordsTo, KeepsSnapshot, IsOld}
 use Rattle.recovery.proofs.Logs.{records_more}
 use Rattle.engine.specs.Cores.{Core, empty_core}
 use Rattle.engine.specs.Kept.{core_of_snapshot, SnapshotFits}
 use Rattle.engine.specs.Replays.{replayed, BatchFits}
-use Rattle.store_meaning.specs.StandsFor.{Program, tables_of, new_position, Replays}
+use Rattle.store_meaning.specs.StandsFor.{Program, tables_of, new_position, found_at, Replays}
 use Rattle.store_meaning.specs.Meanings.{Meaning, Means, Stands, Differs, Wrong, Bad, NotNoMeaning}
 use Rattle.store_meaning.proofs.Opening.{replays_placed, of_other, wrong_snapshot, wrong_batch, old_stands}
 
@@ -40,17 +48,17 @@ gate_there file at within = elim (cases_eq (get_or file at 0) open_gate) [
 -- ---- slots
 
 abbrev SlotHolds : ℕ → List ℕ → Type 0
-SlotHolds number file = (epoch : ℕ) × (kept : Snapshot) × HoldsAt number file epoch kept
+SlotHolds number file = (epoch : ℕ) × (head : Head) × HoldsAt number file epoch head
 
 good_slot : (number : ℕ) (file : List ℕ) (found : Option Kept) → AnswersSlot number file (Ok found) → IsGoodSlot number file
 good_slot number file None closed = inl closed
-good_slot number file (Some kept) holds = inr (kept.epoch, kept.kept, holds)
+good_slot number file (Some kept) holds = inr (kept.epoch, kept.head, holds)
 
 module _ (number : ℕ) (file : List ℕ) (good : (found : Option Kept) → AnswersSlot number file (Ok found) → ⊥) (bad : IsBadSlot number file → ⊥) where
   open_slot : IsOpenSlot file → ⊥
   open_slot is_open = either_way (SlotHolds number file)
-      (λ there. good (Some (record { epoch = there.0; kept = there.1 })) there.2)
-      (λ without. bad (is_open, λ epoch kept holds. without (epoch, kept, holds)))
+      (λ there. good (Some (record { epoch = there.0; head = there.1 })) there.2)
+      (λ without. bad (is_open, λ epoch head holds. without (epoch, head, holds)))
 
   slot_means : ⊥
   slot_means = elim (cases_lt 1 (length file)) [
@@ -64,30 +72,30 @@ module _ (number : ℕ) (file : List ℕ) (good : (found : Option Kept) → Answ
 module _ (p : Program) (image : Image) (none : (meaning : Meaning) → Means p image meaning → ⊥) where
   -- ---- old stores
 
-  module _ (epoch : ℕ) (kept : Snapshot) (at : ℕ) where
+  module _ (epoch : ℕ) (kept : Snapshot) (bytes at : ℕ) where
     module _ (text : kept.program ≡ p.text) (fits : SnapshotFits (tables_of p) kept) where
       -- with these batches before, which follow, and the rest of the log
-      follow : (before rest : List Placed) (core : Core) → IsOld image epoch kept (before ++ rest) at → Replays p (core_of_snapshot kept) (batches_of before) core → ⊥
+      follow : (before rest : List Placed) (core : Core) → IsOld image epoch kept bytes (before ++ rest) at → Replays p (core_of_snapshot kept) (batches_of before) core → ⊥
       follow before [] core old so_far =
-          let whole : IsOld image epoch kept before at = subst (λ bs. IsOld image epoch kept bs at) (append-nil before) old in
-          none (Stands core (record { epoch = epoch; at = at })) (old_stands p epoch kept at text fits image before core whole so_far)
+          let whole : IsOld image epoch kept bytes before at = subst (λ bs. IsOld image epoch kept bytes bs at) (append-nil before) old in
+          none (Stands core (found_at epoch kept bytes at)) (old_stands p epoch kept bytes at text fits image before core whole so_far)
       follow before (placed ∷ rest) core old so_far = either_way (BatchFits (tables_of p) core placed.batch)
           (λ can.
           let same = sym (append_assoc before (placed ∷ []) rest) in
-          follow (before ++ placed ∷ []) rest (replayed p.source core placed.batch) (subst (λ bs. IsOld image epoch kept bs at) same old)
+          follow (before ++ placed ∷ []) rest (replayed p.source core placed.batch) (subst (λ bs. IsOld image epoch kept bytes bs at) same old)
           (replays_placed p (core_of_snapshot kept) before core placed so_far can))
-          (λ cannot. none (Wrong (log_of epoch) placed.at) (wrong_batch p epoch kept at text fits image before placed rest core old so_far cannot))
+          (λ cannot. none (Wrong (log_of epoch) placed.at) (wrong_batch p epoch kept bytes at text fits image before placed rest core old so_far cannot))
 
-    old_means : (batches : List Placed) → IsOld image epoch kept batches at → ⊥
+    old_means : (batches : List Placed) → IsOld image epoch kept bytes batches at → ⊥
     old_means batches old = either_way (kept.program ≡ p.text)
         (λ same. either_way (SnapshotFits (tables_of p) kept)
         (λ can. follow same can [] batches (core_of_snapshot kept) old refl)
-        (λ cannot. none (Wrong (slot_of epoch) 0) (wrong_snapshot p epoch kept at same image batches old cannot)))
-        (λ other. none (Differs kept.program) (of_other p epoch kept at image batches old other))
+        (λ cannot. none (Wrong (slot_of epoch) 0) (wrong_snapshot p epoch kept bytes at same image batches old cannot)))
+        (λ other. none (Differs kept.program) (of_other p epoch kept bytes at image batches old other))
 
   -- ---- logs
 
-  module _ (epoch : ℕ) (kept : Snapshot) (newest : IsNewest image epoch kept) where
+  module _ (epoch : ℕ) (kept : Snapshot) (bytes : ℕ) (newest : KeepsSnapshot image epoch kept bytes) where
     abbrev log : List ℕ
     log = of_file (log_of epoch) image
 
@@ -96,7 +104,7 @@ module _ (p : Program) (image : Image) (none : (meaning : Meaning) → Means p i
 
     breaks : (before : List Placed) (at : ℕ) → RecordsTo log 0 before at → IsBadAt log at → ⊥
     breaks before at records bad = none (Bad (log_of epoch) at)
-        (inr (record { epoch = epoch; kept = kept; newest = newest; same_file = refl; breaks = (before, records, bad) }))
+        (inr (inr (record { epoch = epoch; kept = kept; bytes = bytes; newest = newest; same_file = refl; breaks = (before, records, bad) })))
 
     -- from a place on that so many bytes at most are behind
     log_means : (n : ℕ) (before : List Placed) (at : ℕ) → RecordsTo log 0 before at → length log ≤ at + n → ⊥
@@ -104,7 +112,7 @@ module _ (p : Program) (image : Image) (none : (meaning : Meaning) → Means p i
     log_means (suc n) before at records within = elim (cases_lt at (length log)) [
       | inr past ↦ breaks before at records (inl past)
       | inl there ↦ elim (gate_there log at there) [
-        | inl closed ↦ old_means epoch kept at before (record { newest = newest; log = record { records = records; closed = closed } })
+        | inl closed ↦ old_means epoch kept bytes at before (record { newest = newest; log = record { records = records; closed = closed } })
         | inr opened ↦ either_way (RecordThere at)
             (λ r.
             let placed : Placed = record { at = at; batch = r.0 } in
@@ -113,11 +121,49 @@ module _ (p : Program) (image : Image) (none : (meaning : Meaning) → Means p i
       ]
     ]
 
+    -- from its start on
+    snapshot_means : ⊥
+    snapshot_means = log_means (length log) [] 0 refl (omega arith)
+
+  -- ---- histories
+
+  module _ (epoch : ℕ) (head : Head) (newest : IsNewest image epoch head) where
+    abbrev EntryThere : ℕ → Type 0
+    EntryThere at = (entry : Entry) × IsReadEntry entry × StandsAt image.hist at (entry_bytes entry) × (at + length (entry_bytes entry) ≤ head.bytes)
+
+    broken : (at : ℕ) → HistoryBreaks image.hist head.kept head.bytes at → ⊥
+    broken at breaks = none (Bad Hist at) (inr (inl (record { epoch = epoch; head = head; newest = newest; same_file = refl; breaks = breaks })))
+
+    whole : (entries : List Entry) → HistoryIs image.hist head.kept head.bytes entries → ⊥
+    whole entries history =
+        snapshot_means epoch (snapshot_of head entries) head.bytes (record { head = head; newest = newest; named = refl; history = history; whole = refl })
+
+    -- from a place on behind which so many entries are named
+    history_means : (n : ℕ) (entries : List Entry) (at : ℕ) → EntriesTo image.hist 0 entries at → at ≤ head.bytes → length entries + n ≡ head.kept → ⊥
+    history_means zero entries at run within count = elim (cases_lt at head.bytes) [
+      | inl over ↦ broken at (inr (record { entries = entries; stand = run; count = omega (arith, count); over = over }))
+      | inr full ↦
+          let end : at ≡ head.bytes = omega (arith, within, full) in
+          whole entries (record { stand = subst (EntriesTo image.hist 0 entries) end run; count = omega (arith, count) })
+    ]
+    history_means (suc n) entries at run within count = either_way (EntryThere at)
+        (λ e.
+        let size = length (entry_bytes e.0) in
+        history_means n (entries ++ e.0 ∷ []) (at + size) (run_then image.hist 0 entries at (e.0 ∷ []) (at + size) run (e.1, e.2, refl)) e.3
+        (omega (arith, count, length-append entries (e.0 ∷ []))))
+        (λ without. broken at (inl (record {
+          entries = entries;
+          stand = run;
+          within = within;
+          fewer = omega (arith, count);
+          none = λ entry is stands reach. without (entry, is, stands, reach);
+        })))
+
   -- ---- both slots
 
   found_means : (found : Option Kept) → Answers image (Ok found) → ⊥
   found_means None is_new = none (Stands empty_core new_position) (inl (is_new, refl, refl))
-  found_means (Some kept) newest = log_means kept.epoch kept.kept newest (length (log kept.epoch kept.kept newest)) [] 0 refl (omega arith)
+  found_means (Some kept) newest = history_means kept.epoch kept.head newest kept.head.kept [] 0 refl (omega arith) (omega arith)
 
   second_bad : (first : Option Kept) → AnswersSlot 0 image.snap0 (Ok first) → IsBadSlot 1 image.snap1 → ⊥
   second_bad first good bad = none (Bad (slot_file 1) 0) (inl (record { slot = 1; first = (refl, good_slot 0 image.snap0 first good, bad); same_file = refl; start = refl }))

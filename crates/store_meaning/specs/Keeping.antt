@@ -1,13 +1,12 @@
 -- What a disk keeps of a core, whenever it may stop: what a session has to know of its store between two calls.
-use Rattle.std.specs.Prelude.{ℕ, ◌≡◌, ◌⊎◌, List, Some}
+use Rattle.std.specs.Prelude.{ℕ, ◌≡◌, ◌⊎◌, List, length, Some}
 use Rattle.std.specs.List.{slice_get}
 use Rattle.sf_outside.specs.DiskModel.{Image, DiskFacts, LeavesOnly}
 use Rattle.sf_value.specs.declared.BatchRecord.{BatchRecord}
-use Rattle.sf_value.specs.declared.Snapshot.{Snapshot}
 use Rattle.engine.specs.Cores.{Core}
 use Rattle.store_meaning.specs.declared.position.Position.{Position}
 use Rattle.engine.specs.Replays.{replayed}
-use Rattle.store_meaning.specs.Checkpoints.{IsSnapshotOf, next_epoch}
+use Rattle.store_meaning.specs.Checkpoints.{IsCheckpointOf, next_of}
 use Rattle.store_meaning.specs.LoggedBatches.{CanFollow, behind}
 use Rattle.store_meaning.specs.StandsFor.{Program, StandsFor}
 
@@ -39,15 +38,16 @@ abbrev pub LeavesBatch : DiskFacts → DiskFacts → Position → List ℕ → T
 LeavesBatch old new position body = (p : Program) (core : Core) (batch : BatchRecord) → KeepsCore p old core position → CanFollow p core body batch
     → LeavesOnly old new (StandsForOne p core position (replayed p.source core batch) (behind position body))
 
--- whatever core was kept, it is kept now at the start of the next epoch, where these are the bytes of a snapshot of it
-abbrev pub KeepsCheckpoint : DiskFacts → DiskFacts → Position → List ℕ → Type 0
-KeepsCheckpoint old new position body = (p : Program) (core : Core) (kept : Snapshot) → KeepsCore p old core position → IsSnapshotOf p core body kept
-    → KeepsCore p new core (next_epoch position)
+-- whatever core was kept, a core that a checkpoint of these bytes makes of it is kept now at the start of the next epoch
+abbrev pub KeepsCheckpoint : DiskFacts → DiskFacts → Position → List ℕ → List ℕ → Type 0
+KeepsCheckpoint old new position more body = (p q : Program) (before core : Core) → KeepsCore p old before position
+    → IsCheckpointOf q before position core more body → KeepsCore q new core (next_of position (length more) (length core.history))
 
--- at each moment since each image stands for it, where it did or there
-abbrev pub LeavesCheckpoint : DiskFacts → DiskFacts → Position → List ℕ → Type 0
-LeavesCheckpoint old new position body = (p : Program) (core : Core) (kept : Snapshot) → KeepsCore p old core position → IsSnapshotOf p core body kept
-    → LeavesOnly old new (StandsForOne p core position core (next_epoch position))
+-- at each moment since each image stands for the core before, where it did, or for that one there
+abbrev pub LeavesCheckpoint : DiskFacts → DiskFacts → Position → List ℕ → List ℕ → Type 0
+LeavesCheckpoint old new position more body = (p q : Program) (before core : Core) → KeepsCore p old before position
+    → IsCheckpointOf q before position core more body
+    → LeavesOnly old new (λ image. StandsFor p image before position ⊎ StandsFor q image core (next_of position (length more) (length core.history)))
 
 -- ---- many calls
 

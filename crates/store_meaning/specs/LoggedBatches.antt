@@ -17,7 +17,7 @@ pub record CanFollow (p : Program) (core : Core) (body : List ℕ) (batch : Batc
 
 -- the gate behind a record of so many bytes
 abbrev pub behind : Position → List ℕ → Position
-behind position body = record { epoch = position.epoch; at = gate_behind position.at (length body) }
+behind position body = record position { at = gate_behind position.at (length body) }
 
 -- A new store has no log yet.
 abbrev pub BatchStands : Type 0

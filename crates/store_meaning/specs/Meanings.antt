@@ -17,9 +17,10 @@ use Rattle.store_meaning.specs.StandsFor.{Program, tables_of, Replays, StandsFor
 pub record IsOfOther (p : Program) (image : Image) (text : List ℕ) : Type 0 where
   pub epoch : ℕ
   pub kept : Snapshot
+  pub bytes : ℕ
   pub batches : List Placed
   pub at : ℕ
-  pub old : IsOld image epoch kept batches at
+  pub old : IsOld image epoch kept bytes batches at
   pub text_is : kept.program ≡ text
   pub differs : text ≢ p.text
 
@@ -27,9 +28,10 @@ pub record IsOfOther (p : Program) (image : Image) (text : List ℕ) : Type 0 wh
 pub record HasWrongSnapshot (p : Program) (image : Image) (file : StoreFile) (at : ℕ) : Type 0 where
   pub epoch : ℕ
   pub kept : Snapshot
+  pub bytes : ℕ
   pub batches : List Placed
   pub last : ℕ
-  pub old : IsOld image epoch kept batches last
+  pub old : IsOld image epoch kept bytes batches last
   pub text : kept.program ≡ p.text
   pub wrong : SnapshotFits (tables_of p) kept → ⊥
   pub same_file : file ≡ slot_of epoch
@@ -39,12 +41,13 @@ pub record HasWrongSnapshot (p : Program) (image : Image) (file : StoreFile) (at
 pub record HasWrongBatch (p : Program) (image : Image) (file : StoreFile) (at : ℕ) : Type 0 where
   pub epoch : ℕ
   pub kept : Snapshot
+  pub bytes : ℕ
   pub before : List Placed
   pub batch : BatchRecord
   pub after : List Placed
   pub last : ℕ
   pub core : Core
-  pub old : IsOld image epoch kept (before ++ record { at = at; batch = batch } ∷ after) last
+  pub old : IsOld image epoch kept bytes (before ++ record { at = at; batch = batch } ∷ after) last
   pub text : kept.program ≡ p.text
   pub fits : SnapshotFits (tables_of p) kept
   pub replays : Replays p (core_of_snapshot kept) (batches_of before) core

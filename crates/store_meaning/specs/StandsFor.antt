@@ -1,6 +1,6 @@
 -- What the files of a store stand for under a program. A new store stands for the empty core. An old one of this
 -- program stands for the core that its snapshot and then each batch of its log make.
-use Rattle.std.specs.Prelude.{ℕ, ◌≡◌, ◌⊎◌, List, [], ◌∷◌}
+use Rattle.std.specs.Prelude.{ℕ, ◌≡◌, ◌⊎◌, List, [], ◌∷◌, length}
 use Rattle.py_tree.specs.ClassRules as rules
 use Rattle.py_tree.specs.ClassRules.{PlainTable}
 use Rattle.sf_outside.specs.DiskModel.{Image}
@@ -24,18 +24,23 @@ tables_of p = rules.tables_of p.source.names p.source.program
 
 -- where a new store is
 abbrev pub new_position : Position
-new_position = record { epoch = 0; at = 0 }
+new_position = record { epoch = 0; at = 0; bytes = 0; kept = 0 }
+
+-- where an old store is that has this snapshot, with so many bytes of its history, and whose log ends at this place
+abbrev pub found_at : ℕ → Snapshot → ℕ → ℕ → Position
+found_at epoch kept bytes at = record { epoch = epoch; at = at; bytes = bytes; kept = length kept.history }
 
 -- each batch in turn fits the core that the ones before it have made, and the last one makes this core
 abbrev pub Replays : Program → Core → List BatchRecord → Core → Type 0
 Replays p core [] last = last ≡ core
 Replays p core (batch ∷ batches) last = BatchFits (tables_of p) core batch × Replays p (replayed p.source core batch) batches last
 
--- an old store stands for the core that its batches make of that of its snapshot
+-- an old store stands for the core that its batches make of that of its snapshot, which has as many entries as the position says
 pub record OldStandsFor (p : Program) (image : Image) (core : Core) (position : Position) : Type 0 where
   pub kept : Snapshot
   pub batches : List BatchRecord
-  pub holds : HoldsBatches image position.epoch kept batches position.at
+  pub holds : HoldsBatches image position.epoch kept position.bytes batches position.at
+  pub count : position.kept ≡ length kept.history
   pub text : kept.program ≡ p.text
   pub fits : SnapshotFits (tables_of p) kept
   pub replays : Replays p (core_of_snapshot kept) batches core

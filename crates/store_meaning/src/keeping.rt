@@ -1,12 +1,12 @@
 //! Keeping a core on a disk: the record of a batch, and a checkpoint.
 
 ghost use Rattle.std.specs.Prelude.{◌≡◌, ◌⊎◌, ◌+◌, ◌^◌, ◌<◌, ◌≤◌, length, IfOk, OnOk, OnErr, IsErr};
+ghost use Rattle.sf_bytes.specs.Heads.{IsHead};
 ghost use Rattle.sf_outside.specs.Causes.{Rose};
 ghost use Rattle.sf_value.specs.declared.BatchRecord.{BatchRecord};
-ghost use Rattle.sf_value.specs.declared.Snapshot.{Snapshot};
+ghost use Rattle.sf_value.specs.declared.heads.Head.{Head};
 ghost use Rattle.request_log.specs.LogFile.{IsBatch};
-ghost use Rattle.snapshot_store.specs.SlotFile.{IsSnapshot};
-ghost use Rattle.store_meaning.specs.Checkpoints.{next_epoch};
+ghost use Rattle.store_meaning.specs.Checkpoints.{next_of};
 ghost use Rattle.store_meaning.specs.Keeping.{KeepsSome, KeepsBatch, LeavesBatch, KeepsCheckpoint, LeavesCheckpoint};
 ghost use Rattle.store_meaning.specs.LoggedBatches.{behind};
 
@@ -32,32 +32,39 @@ pub fn log_batch<D: Disk>(disk: &mut D, position: Position, body: &[u8]) -> Resu
     ensures mounts { D.mounts disk.new ≡ D.mounts disk.old }
 {
     let at = append(disk, log_of(position.epoch), position.at, body)?;
-    Ok(Position {
-        epoch: position.epoch,
-        at,
-    })
+    Ok(Position { at, ..position })
 }
 
-/// Keeps the snapshot whose bytes these are under the next epoch, and gives where the store is then.
+/// Keeps a head under the next epoch, behind so much more of the history, and gives where the store is then. These are the bytes of both, and
+/// the head has so many entries.
 ///
-/// After a fault the disk may go on to leave the core at either position.
-pub fn keep_snapshot<D: Disk>(
+/// After a fault the disk may go on to leave the core before or the new one.
+pub fn keep_head<D: Disk>(
     disk: &mut D,
     position: Position,
+    more: &[u8],
     body: &[u8],
+    kept: u32,
 ) -> Result<Position, Failed>
     requires some { KeepsSome (D.facts disk.old) position }
-    requires more { position.epoch + 1 < 2 ^ 63 }
-    requires body { (kept : Snapshot) × IsSnapshot body.now kept }
-    ensures next { IfOk result (λ next. next ≡ next_epoch position) }
-    ensures kept { OnOk result (KeepsCheckpoint (D.facts disk.old) (D.facts disk.new) position body.now) }
-    ensures moments { LeavesCheckpoint (D.facts disk.old) (D.facts disk.new) position body.now }
+    requires next { position.epoch + 1 < 2 ^ 63 }
+    requires body { (head : Head) × IsHead body.now head }
+    ensures next { IfOk result (λ next. next ≡ next_of position (length more.now) kept) }
+    ensures kept { OnOk result (KeepsCheckpoint (D.facts disk.old) (D.facts disk.new) position more.now body.now) }
+    ensures moments { LeavesCheckpoint (D.facts disk.old) (D.facts disk.new) position more.now body.now }
     ensures past_end { 2 ^ 62 < 17 + length body.now → IsErr result × (disk.new ≡ disk.old) }
+    ensures history_past_end { 2 ^ 62 < position.bytes + length more.now → IsErr result × (disk.new ≡ disk.old) }
     ensures later { D.faults disk.old ≤ D.faults disk.new }
-    ensures cause { OnErr result (Rose (D.faults disk.old) (D.faults disk.new) ⊎ (2 ^ 62 < 17 + length body.now)) }
+    ensures cause { OnErr result (Rose (D.faults disk.old) (D.faults disk.new)
+        ⊎ ((2 ^ 62 < 17 + length body.now) ⊎ (2 ^ 62 < position.bytes + length more.now))) }
     ensures mounts { D.mounts disk.new ≡ D.mounts disk.old }
 {
     let epoch = position.epoch + 1;
-    checkpoint(disk, epoch, body)?;
-    Ok(Position { epoch, at: 0 })
+    checkpoint(disk, epoch, position.bytes, more, body)?;
+    Ok(Position {
+        epoch,
+        at: 0,
+        bytes: position.bytes + more.len() as u64,
+        kept,
+    })
 }

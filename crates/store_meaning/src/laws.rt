@@ -20,8 +20,8 @@ pub fn logged_batch_is_kept()
     ensures closed { ClosedGateStands }
 {}
 
-/// With a checkpoint of its core a store stands for the same core, at the start of the next epoch. Until then it stands
-/// for it where it did.
+/// With a checkpoint a store stands for the core that its head and the entries make, at the start of the next epoch. Until then it
+/// stands for the core before, where it did.
 pub fn checkpoint_is_kept()
     ensures begun { CheckpointStands }
     ensures kept { CheckpointStays }

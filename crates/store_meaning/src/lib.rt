@@ -10,7 +10,7 @@ mod laws;
 mod position;
 
 pub use engine::{Engine, Planned};
-pub use keeping::{keep_snapshot, log_batch};
+pub use keeping::{keep_head, log_batch};
 pub use laws::{
     arrivals_are_not_logged, checkpoint_is_kept, image_has_one_meaning, logged_batch_is_kept,
 };

@@ -1,9 +1,12 @@
 -- What is told of a store that was found, and what is left of it.
-use Rattle.std.proofs.Common.{◌≡◌, ◌≤◌, length, inl, inr, Ok, Err, IfSome, refl, sym, ap, subst, arith}
+use Rattle.std.proofs.Common.{◌≡◌, ◌⊎◌, ℕ, ◌≤◌, List, [], length, drop, inl, inr, Ok, Err, IfSome, refl, sym, ap, subst, arith}
+use Rattle.std.specs.List.{sum_by}
+use Rattle.byte_sizes.specs.Sizes.{entry_size}
+use Rattle.sf_outside.specs.Causes.{Rose}
 use Rattle.std.specs.declared.option.Option.{Option}
 use Rattle.byte_sizes.specs.Spelt.{IsShortText}
-use Rattle.sf_outside.specs.DiskModel.{Image, DiskFacts, LeavesOnly, Stays, IsClean}
-use Rattle.sf_outside.proofs.DiskLaws.{LeavesOnly-start, LeavesOnly-weaker, LeavesOnly-stays}
+use Rattle.sf_outside.specs.DiskModel.{Image, DiskFacts, LeavesOnly, LeavesNoMore, IsClean}
+use Rattle.sf_outside.proofs.DiskLaws.{LeavesOnly-start, LeavesOnly-weaker, LeavesOnly-no_more}
 use Rattle.sf_outside.proofs.ImageSteps.{if_one}
 use Rattle.snapshot_store.specs.SlotFile.{IsEpoch, IsNew}
 use Rattle.block_step.specs.declared.compiled.Compiled.{Compiled}
@@ -16,7 +19,9 @@ use Rattle.store_meaning.specs.Checkpoints.{start_of}
 use Rattle.store_meaning.specs.Keeping.{KeepsCore}
 use Rattle.store_meaning.specs.StandsFor.{Program, new_position, OldStandsFor, StandsFor}
 use Rattle.store_meaning.proofs.Opening.{seen_new, clean_keeps}
-use Rattle.session_store.specs.Stores.{program_with, StandsSomewhere}
+use Rattle.session_store.specs.Stores.{program_with, StandsSomewhere, HasSnapshotPast, CheckpointEndsPast}
+use Rattle.session_store.specs.declared.checkpoints.KeepFault.{KeepFault}
+use Rattle.session_store.specs.declared.checkpoints.KeepFault.TheVariants as of_checkpoint
 use Rattle.session_store.proofs.NoStore.{none_storable}
 use Rattle.store_opening.specs.declared.finding.FoundStore.TheVariants.{Old}
 use Rattle.store_opening.specs.declared.opened_store.OpenSettings.{OpenSettings}
@@ -26,6 +31,7 @@ use Rattle.store_opening.specs.declared.stop.OpenStop.TheVariants.{DiskFault, Ba
 use Rattle.store_opening.specs.Findings.{Judges, IsFoundFor, IsAsFound}
 use Rattle.store_opening.specs.OpenedStores.{program_for, settings_at, IsReady, KeepsOpened}
 use Rattle.store_opening.specs.Openings.{AnswersFound, AnswersOld, LeavesAsFound, LeavesFound}
+use Rattle.store_opening.specs.Stops.{keep_stop}
 
 -- ---- an opened store
 
@@ -88,8 +94,8 @@ module _ (compiled : Compiled) (settings : OpenSettings) (made : OpenedStore) (g
 -- ---- where nothing is written
 
 -- calls that only read
-pub as_found : (old new : DiskFacts) → IsClean old → Stays old new → LeavesOnly old new (IsAsFound old.seen)
-as_found old new clean stays = LeavesOnly-weaker old new old.may_leave (IsAsFound old.seen) (LeavesOnly-stays old new stays) clean
+pub as_found : (old new : DiskFacts) → IsClean old → LeavesNoMore old new → LeavesOnly old new (IsAsFound old.seen)
+as_found old new clean fewer = LeavesOnly-weaker old new old.may_leave (IsAsFound old.seen) (LeavesOnly-no_more old new fewer) clean
 
 -- no call
 pub same_left : (p : Program) (facts : DiskFacts) → IsClean facts → LeavesOnly facts facts (LeavesFound p facts.seen)
@@ -112,6 +118,23 @@ module _ (p : Program) (facts : DiskFacts) (clean : IsClean facts) (is_new : IfS
   pub new_found : (made : OpenedStore) → core_of made.engine ≡ core → made.store.position ≡ start_of 1 → IfSome facts.seen (AnswersFound (Ok made) p)
   new_found made same place = if_one facts.seen (λ now. StandsFor p now core new_position) (AnswersFound (Ok made) p)
       (λ now stands. (new_position, inr (refl, place), subst (λ c. StandsFor p now c new_position) (sym same) stands)) new_seen
+
+-- of its first checkpoint only the head can end past a file's last place
+module _ (text : List ℕ) (core : Core) (empty : core ≡ empty_core) where
+  first_past : CheckpointEndsPast new_position text core → HasSnapshotPast text empty_core
+  first_past past = by (subst (CheckpointEndsPast new_position text) empty past)
+    where
+      by : CheckpointEndsPast new_position text empty_core → HasSnapshotPast text empty_core
+      by (inl head) = head
+      by (inr history) = let none : sum_by entry_size (drop 0 []) ≡ 0 = refl in absurd (omega (arith, history, none))
+
+  pub first_cause : (fault : KeepFault) (old new : ℕ) → (fault ≡ of_checkpoint.DiskFault → Rose old new ⊎ CheckpointEndsPast new_position text core) → keep_stop fault ≡ DiskFault
+      → Rose old new ⊎ HasSnapshotPast text empty_core
+  first_cause of_checkpoint.DiskFault old new cause same = elim (cause refl) [ inl rose ↦ inl rose | inr past ↦ inr (first_past past) ]
+  first_cause of_checkpoint.NoMemory old new cause same = absurd (other same)
+    where
+      other : NoMemory ≡ DiskFault → ⊥
+      other same = cc
 
 -- ---- an engine of a new store
 

@@ -1,5 +1,5 @@
 -- What an old store is told to be, from its snapshot and its batches.
-use Rattle.std.proofs.Common.{◌≡◌, ◌≤◌, ℕ, List, length, Ok, Err, IfOk, IfErr, IsErrOf, sym, subst}
+use Rattle.std.proofs.Common.{◌≡◌, ◌≤◌, ℕ, List, length, Ok, Err, IfOk, IfErr, IsErrOf, sym, ◌∙◌, subst}
 use Rattle.std.specs.declared.result.Result.{Result}
 use Rattle.byte_sizes.specs.Spelt.{IsReadSnapshot}
 use Rattle.sf_outside.specs.DiskModel.{Image}
@@ -21,7 +21,7 @@ use Rattle.engine.specs.Kept.{core_of_snapshot, SnapshotFits}
 use Rattle.store_meaning.specs.declared.position.Position.{Position}
 use Rattle.store_meaning.specs.Engines.{program_of}
 use Rattle.store_meaning.specs.Meanings.{IsWrong}
-use Rattle.store_meaning.specs.StandsFor.{Program, Replays, StandsFor}
+use Rattle.store_meaning.specs.StandsFor.{Program, found_at, Replays, StandsFor}
 use Rattle.store_meaning.proofs.Opening.{of_other, wrong_snapshot, wrong_batch, old_stands}
 use Rattle.storable_cores.specs.Storable.{IsStorable}
 use Rattle.storable_cores.proofs.KeptLaws.{snapshots_are_storable}
@@ -54,31 +54,35 @@ none_broken p core batches epoch (Err fault) stop is = let same : fault ≡ Disk
 
 -- ---- what it is
 
-module _ (compiled : Compiled) (text : List ℕ) (position : Position) (kept : Snapshot) (batches : List Placed) (image : Image) (old : IsOld image position.epoch kept batches position.at) where
+module _ (compiled : Compiled) (text : List ℕ) (position : Position) (kept : Snapshot) (batches : List Placed) (image : Image) (old : IsOld image position.epoch kept position.bytes batches position.at) where
   abbrev of_text : Program
   of_text = program_for compiled text
 
   pub other_told : (kept.program ≡ text → ⊥) → AnswersOld (Err OtherProgram) of_text image
-  other_told differs = (kept.program, of_other of_text position.epoch kept position.at image batches old differs)
+  other_told differs = (kept.program, of_other of_text position.epoch kept position.bytes position.at image batches old differs)
 
   module _ (same_text : kept.program ≡ text) where
     pub restore_told : (error : RestoreError) → IsCause (SnapshotFits (program_tables compiled) kept) error → AnswersOld (Err (restore_stop position.epoch error)) of_text image
-    restore_told of_snapshot.Wrong wrong = wrong_snapshot of_text position.epoch kept position.at same_text image batches old wrong
+    restore_told of_snapshot.Wrong wrong = wrong_snapshot of_text position.epoch kept position.bytes position.at same_text image batches old wrong
     restore_told of_snapshot.NoMemory cause = tt
 
-    module _ (fits : SnapshotFits (program_tables compiled) kept) where
+    module _ (fits : SnapshotFits (program_tables compiled) kept) (count : position.kept ≡ length kept.history) where
+      -- where it was found
+      at_its_place : found_at position.epoch kept position.bytes position.at ≡ position
+      at_its_place = λ i. record { epoch = position.epoch; at = position.at; bytes = position.bytes; kept = sym count i }
+
       broken_told : (file : StoreFile) (at : ℕ) → HasFirstWrong of_text (core_of_snapshot kept) batches at → file ≡ log_of position.epoch → IsWrong of_text image file at
       broken_told file at w is_log =
-          let split = subst (λ bs. IsOld image position.epoch kept bs position.at) w.split old in
+          let split = subst (λ bs. IsOld image position.epoch kept position.bytes bs position.at) w.split old in
           let here : IsWrong of_text image (log_of position.epoch) w.placed.at =
-          wrong_batch of_text position.epoch kept position.at same_text fits image w.before w.placed w.after w.middle split w.replays w.wrong in
+          wrong_batch of_text position.epoch kept position.bytes position.at same_text fits image w.before w.placed w.after w.middle split w.replays w.wrong in
           subst (λ f. IsWrong of_text image f at) (sym is_log) (subst (λ n. IsWrong of_text image (log_of position.epoch) n) (sym w.place) here)
 
       pub replays_told : (result : Result OpenedStore OpenStop) → IfOk result (λ made. Replays of_text (core_of_snapshot kept) (batches_of batches) (core_of made.engine))
           → IfOk result (λ made. made.store.position ≡ position) → IfErr result (IsBrokenOff of_text (core_of_snapshot kept) batches position.epoch) → AnswersOld result of_text image
       replays_told (Ok made) replays place stop =
-          subst (λ q. StandsFor of_text image (core_of made.engine) q) (sym place)
-          (old_stands of_text position.epoch kept position.at same_text fits image batches (core_of made.engine) old replays)
+          subst (λ q. StandsFor of_text image (core_of made.engine) q) (at_its_place ∙ sym place)
+          (old_stands of_text position.epoch kept position.bytes position.at same_text fits image batches (core_of made.engine) old replays)
       replays_told (Err (Bad file at)) replays place stop = broken_told file at stop.0 stop.1
       replays_told (Err DiskFault) replays place stop = stop
       replays_told (Err OtherProgram) replays place stop = absurd stop

@@ -1,6 +1,6 @@
 //! Finding the store of a program in a folder. Nothing is written.
 
-ghost use Rattle.std.specs.Prelude.{◌≡◌, ◌≤◌, ◌⊎◌, IfOk, IfSome, IsErrOf, Ok};
+ghost use Rattle.std.specs.Prelude.{◌≡◌, ◌≤◌, ◌<◌, ◌^◌, ◌⊎◌, length, IfOk, IfSome, IsErrOf, Ok};
 ghost use Rattle.sf_outside.specs.Causes.{Rose};
 ghost use Rattle.sf_outside.specs.DiskModel.{Image, IsClean, LeavesOnly};
 ghost use Rattle.block_step.specs.CompiledViews.{IsWhole};
@@ -15,6 +15,7 @@ use crate::stop::OpenStop;
 use block_step::Compiled;
 use recovery::{Opened, reopen};
 use sf_outside::Disk;
+use sf_value::Snapshot;
 use std::alloc::Global;
 use store_meaning::Position;
 
@@ -103,14 +104,29 @@ fn judge(
         Opened::Old {
             epoch,
             kept,
+            bytes,
             batches,
             at,
         } => {
-            let position = Position { epoch, at };
+            let entries = entries_in(&kept);
+            let position = Position {
+                epoch,
+                at,
+                bytes,
+                kept: entries,
+            };
             match go_on(alloc, compiled, settings, position, kept, batches) {
                 Ok(store) => Ok(FoundStore::Old(store)),
                 Err(stop) => Err(stop),
             }
         }
     }
+}
+
+/// How many entries a snapshot has.
+fn entries_in(kept: &Snapshot) -> u32
+    requires { length kept.now.history < 2 ^ 32 }
+    ensures { result ≡ length kept.now.history }
+{
+    kept.history.len() as u32
 }

@@ -38,10 +38,11 @@ pub fn go_on(
 ) -> Result<OpenedStore, OpenStop>
     requires whole { IsWhole compiled }
     requires kept { IsReadSnapshot kept }
+    requires count { position.kept ≡ length kept.history }
     requires read { AllByRecursion (λ placed. IsReadBatch placed.batch) batches }
     ensures ready { IfOk result (IsReady compiled settings) }
     ensures position { IfOk result (λ made. made.store.position ≡ position) }
-    ensures answer { (image : Image) → IsOld image position.epoch kept batches position.at → AnswersOld result (program_for compiled settings.program) image }
+    ensures answer { (image : Image) → IsOld image position.epoch kept position.bytes batches position.at → AnswersOld result (program_for compiled settings.program) image }
     ensures no_disk { IsErrOf result OpenStop.DiskFault → ⊥ }
 {
     if !kept.program.same(&settings.program) {

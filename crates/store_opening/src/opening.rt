@@ -107,7 +107,12 @@ fn keep_first<D: Disk>(
     ensures later { D.faults disk.old ≤ D.faults disk.new }
     ensures cause { IsErrOf result OpenStop.DiskFault → Rose (D.faults disk.old) (D.faults disk.new) ⊎ HasSnapshotPast settings.program empty_core }
 {
-    let nowhere = Position { epoch: 0, at: 0 };
+    let nowhere = Position {
+        epoch: 0,
+        at: 0,
+        bytes: 0,
+        kept: 0,
+    };
     match keep_core(alloc, disk, nowhere, &engine, &settings.program) {
         Ok(position) => Ok(OpenedStore {
             engine,

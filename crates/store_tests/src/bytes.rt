@@ -1,14 +1,19 @@
-//! The bytes of values, requests, outcomes, batches and snapshots.
+//! The bytes of values, requests, outcomes, entries, batches, snapshots and heads.
 
 use crate::kept::BATCH;
 use sf_bytes::{
-    read_batch, read_outcome, read_request, read_snapshot, read_value, write_batch, write_outcome,
-    write_request, write_snapshot, write_value,
+    read_batch, read_entry, read_head, read_outcome, read_request, read_snapshot, read_value,
+    write_batch, write_entry, write_head, write_outcome, write_request, write_snapshot,
+    write_value,
 };
+use sf_value::{Entry, Head};
 use std::alloc::{AllocError, Global};
 use std::test::Fail;
 use test_support::{hold_table, hold_text};
-use value_texts::{act_told, batch_told, bytes_of, outcome_told, value_told};
+use value_texts::{
+    act_told, batch_told, bytes_of, outcome_told, records_told, request_told, requests_told,
+    value_told,
+};
 
 /// That bytes are read as this, and whether these are the bytes behind it, and it is written so again.
 fn reading(
@@ -58,6 +63,24 @@ fn outcome_of(alloc: Global, bytes: &[u8]) -> Result<String, AllocError> {
     reading(alloc, bytes, told?.as_str(), written?.as_slice(), taken)
 }
 
+/// A request with what it came to.
+fn entry_told(alloc: Global, item: &Entry) -> Result<String, AllocError> {
+    let request = request_told(alloc, &item.request)?;
+    let outcome = outcome_told(alloc, &item.outcome)?;
+    format!(in alloc; "{request} = {outcome}")
+}
+
+/// The history's entry that bytes begin with.
+fn entry_of(alloc: Global, bytes: &[u8]) -> Result<String, AllocError> {
+    let Some((item, taken)) = read_entry(alloc, bytes)? else {
+        return String::from_str(alloc, "none");
+    };
+    let told = entry_told(alloc, &item);
+    let written = write_entry(alloc, &item);
+    drop(item);
+    reading(alloc, bytes, told?.as_str(), written?.as_slice(), taken)
+}
+
 /// The batch that bytes begin with.
 fn batch_of(alloc: Global, bytes: &[u8]) -> Result<String, AllocError> {
     let Some((item, taken)) = read_batch(alloc, bytes)? else {
@@ -86,6 +109,28 @@ fn snapshot_of(alloc: Global, bytes: &[u8]) -> Result<String, AllocError> {
     reading(alloc, bytes, told?.as_str(), written?.as_slice(), taken)
 }
 
+/// The program of a head, how far its history goes, and its records and the requests that wait, with `;` between them.
+fn head_told(alloc: Global, item: &Head) -> Result<String, AllocError> {
+    let records = records_told(alloc, item.records.as_slice())?;
+    let pending = requests_told(alloc, item.pending.as_slice())?;
+    let program = item.program.as_str();
+    format!(in alloc;
+        "'{program}' {} in {}; {records}; {pending}",
+        item.kept, item.bytes
+    )
+}
+
+/// The head that bytes begin with.
+fn head_of(alloc: Global, bytes: &[u8]) -> Result<String, AllocError> {
+    let Some((item, taken)) = read_head(alloc, bytes)? else {
+        return String::from_str(alloc, "none");
+    };
+    let told = head_told(alloc, &item);
+    let written = write_head(alloc, &item);
+    drop(item);
+    reading(alloc, bytes, told?.as_str(), written?.as_slice(), taken)
+}
+
 /// What bytes are that begin with the name of a thing.
 fn told(alloc: Global, text: &str) -> Result<String, Fail> {
     let (thing, digits) = text.split_once(' ').ok_or("no bytes")?;
@@ -94,8 +139,10 @@ fn told(alloc: Global, text: &str) -> Result<String, Fail> {
         "value" => value_of(alloc, bytes.as_slice()),
         "request" => request_of(alloc, bytes.as_slice()),
         "outcome" => outcome_of(alloc, bytes.as_slice()),
+        "entry" => entry_of(alloc, bytes.as_slice()),
         "batch" => batch_of(alloc, bytes.as_slice()),
         "snapshot" => snapshot_of(alloc, bytes.as_slice()),
+        "head" => head_of(alloc, bytes.as_slice()),
         _ => String::from_str(alloc, "no thing"),
     };
     drop(bytes);
@@ -112,12 +159,14 @@ const THINGS: &str = "
     an empty batch                        | batch 00000000 00000000                                 | commits [], 0 left
     a creation that is committed          | batch 00000001 00000001 61 01 00000000 00000002 04 00000005 6170706c65 03 00000000000000000000000000000003 00000001 00000000 | a: new 0('apple', 3), commits [0], 0 left
     an empty snapshot                     | snapshot 00000000 00000000 0000000000000000 00000000    | '' 0 0 0, 0 left
+    a creation with what it came to       | entry 00000001 61 01 00000000 00000002 04 00000005 6170706c65 03 00000000000000000000000000000003 00 06 00000000 00000005 6170706c65 | a: new 0('apple', 3) = 0:apple, 0 left
+    the head of a history of it           | head 00000001 70 00000001 0000000000000038 0000000000000001 00000000 00000005 6170706c65 00000003 04 00000005 6170706c65 03 00000000000000000000000000000003 03 00000000000000000000000000000000 00000000 | 'p' 1 in 56; 0:apple('apple', 3, 0); , 0 left
     bytes behind a value                  | value 02 09 09                                          | True, 2 left
 ";
 
 #[test]
 fn each_thing_is_read_and_written_again(rt: HostRuntime) -> Result<(), Fail> {
-    hold_table(rt.alloc(), THINGS, 10, told)
+    hold_table(rt.alloc(), THINGS, 12, told)
 }
 
 const NO_THINGS: &str = "
@@ -126,11 +175,13 @@ const NO_THINGS: &str = "
     a tag too high          | value 07               | none
     a failure of kind 13    | outcome 01 0d 00000000 | none
     a failure of kind 0     | outcome 01 00 00000000 | none
+    an entry cut by a byte  | entry 00000001 61 01 00000000 00000002 04 00000005 6170706c65 03 00000000000000000000000000000003 00 06 00000000 00000005 6170706c | none
+    a head cut by a byte    | head 00000001 70 00000001 0000000000000038 0000000000000000 000000 | none
 ";
 
 #[test]
 fn what_is_no_value_is_none(rt: HostRuntime) -> Result<(), Fail> {
-    hold_table(rt.alloc(), NO_THINGS, 5, told)
+    hold_table(rt.alloc(), NO_THINGS, 7, told)
 }
 
 #[test]

@@ -4,11 +4,11 @@ ghost use Rattle.std.specs.Prelude.{ℕ, ◌<◌, ◌^◌, IfOk, OnOk, length};
 ghost use Rattle.sf_bytes.specs.Gates.{ClosedAt};
 ghost use Rattle.sf_outside.specs.DiskModel.{Image, of_file};
 ghost use Rattle.sf_outside.specs.DiskState.{facts_of};
-ghost use Rattle.sf_value.specs.declared.Snapshot.{Snapshot};
-ghost use Rattle.snapshot_store.specs.SlotFile.{log_of, IsEpoch, IsNext, IsNewest, IsNew};
+ghost use Rattle.sf_value.specs.declared.heads.Head.{Head};
+ghost use Rattle.snapshot_store.specs.SlotFile.{log_of, IsEpoch, IsNext, IsNewest, IsNew, NamesWithin};
 
 use request_log::{LogFault, append};
-use sf_bytes::{read_batch, read_snapshot};
+use sf_bytes::{read_batch, read_head};
 use sf_outside::{Disk, Failed, MemDisk, StoreFile};
 use snapshot_store::{SnapFault, checkpoint};
 use std::alloc::Global;
@@ -26,13 +26,13 @@ pub const RECORD: [u8; 59] = [
     0, 0, 0, 0,
 ];
 
-/// The snapshot of the program `a` with nothing else.
-pub const PROGRAM_A: [u8; 21] = [
-    0, 0, 0, 1, b'a', 0, 0, 0, 0, 0, 0, 0, 0, 0, 0, 0, 0, 0, 0, 0, 0,
+/// The head of the program `a` with nothing else.
+pub const PROGRAM_A: [u8; 29] = [
+    0, 0, 0, 1, b'a', 0, 0, 0, 0, 0, 0, 0, 0, 0, 0, 0, 0, 0, 0, 0, 0, 0, 0, 0, 0, 0, 0, 0, 0,
 ];
 
-/// The snapshot of no program.
-pub const NO_PROGRAM: [u8; 20] = [0; 20];
+/// The head of no program.
+pub const NO_PROGRAM: [u8; 28] = [0; 28];
 
 /// A disk whose files are empty, and of which these calls are to fail.
 pub fn failing_disk(alloc: Global, fail_at: &[u64]) -> Result<MemDisk, SnapFault>
@@ -68,26 +68,32 @@ pub fn content<D: Disk>(
     Ok(Vec::from_slice(alloc, &buf[..count.min(64)])?)
 }
 
-/// Keeps a snapshot where these are the bytes of one.
+/// Keeps a snapshot where these are the bytes of a head that names nothing of the history.
 pub fn keep<D: Disk>(alloc: Global, disk: &mut D, epoch: u64, body: &[u8]) -> Result<(), SnapFault>
     requires epoch { IsEpoch epoch }
     requires next { (image : Image) → (D.facts disk.old).may_leave image → IsNext epoch image }
-    ensures newest { OnOk result ((image : Image) → (D.facts disk.new).may_leave image → (kept : Snapshot) × IsNewest image epoch kept) }
+    requires names { (image : Image) → (D.facts disk.old).may_leave image → NamesWithin 0 image }
+    ensures newest { OnOk result ((image : Image) → (D.facts disk.new).may_leave image → (head : Head) × IsNewest image epoch head) }
+    ensures names { OnOk result ((image : Image) → (D.facts disk.new).may_leave image → NamesWithin 0 image) }
     ensures log { OnOk result ((image : Image) → (D.facts disk.new).may_leave image → ClosedAt (of_file (log_of epoch) image) 0) }
 {
-    let Some((_kept, count)) = read_snapshot(alloc, body)? else {
+    let Some((head, count)) = read_head(alloc, body)? else {
         return Err(SnapFault::Bad { slot: 2 });
     };
     if count < body.len() {
         return Err(SnapFault::Bad { slot: 2 });
     }
-    Ok(checkpoint(disk, epoch, body)?)
+    if head.bytes > 0 {
+        return Err(SnapFault::Bad { slot: 2 });
+    }
+    Ok(checkpoint(disk, epoch, 0, &[], body)?)
 }
 
 /// Keeps the first snapshot.
 pub fn keep_first<D: Disk>(alloc: Global, disk: &mut D, body: &[u8]) -> Result<(), SnapFault>
     requires { (image : Image) → (D.facts disk.old).may_leave image → IsNew image }
-    ensures newest { OnOk result ((image : Image) → (D.facts disk.new).may_leave image → (kept : Snapshot) × IsNewest image 1 kept) }
+    ensures newest { OnOk result ((image : Image) → (D.facts disk.new).may_leave image → (head : Head) × IsNewest image 1 head) }
+    ensures names { OnOk result ((image : Image) → (D.facts disk.new).may_leave image → NamesWithin 0 image) }
     ensures log { OnOk result ((image : Image) → (D.facts disk.new).may_leave image → ClosedAt image.log1 0) }
 {
     keep(alloc, disk, 1, body)

@@ -6,6 +6,8 @@ mod bytes;
 #[cfg(test)]
 mod devices;
 #[cfg(test)]
+mod images;
+#[cfg(test)]
 mod kept;
 #[cfg(test)]
 mod logs;

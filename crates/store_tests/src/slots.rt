@@ -1,11 +1,11 @@
-//! The bytes of a snapshot that is kept, and which slot is read, on a disk in memory.
+//! The bytes of a snapshot that is kept, which slot is read, and what is added to the history, on a disk in memory.
 
 ghost use Rattle.sf_outside.specs.DiskModel.{Image};
 ghost use Rattle.snapshot_store.specs.SlotFile.{IsNew};
 
 use crate::kept::{NO_PROGRAM, PROGRAM_A, content, keep, keep_first, new_disk, put};
-use sf_outside::{Disk, StoreFile};
-use snapshot_store::{SnapFault, newest};
+use sf_outside::{Disk, Failed, StoreFile};
+use snapshot_store::{SnapFault, append_history, newest};
 use std::alloc::{AllocError, Global};
 use std::test::Fail;
 use test_support::{hold_table, hold_text};
@@ -40,9 +40,9 @@ fn first_kept(alloc: Global) -> Result<String, SnapFault> {
     Ok(format!(in alloc; "{slot}, {log}, {epoch:?}")?)
 }
 
-/// An open gate, epoch 1, the length 21, and a body with the program `a`.
-const FIRST_SLOT: &str =
-    "a5 0000000000000001 0000000000000015 00000001 61 00000000 0000000000000000 00000000";
+/// An open gate, epoch 1, the length 29, and a body with the program `a`.
+const FIRST_SLOT: &str = "a5 0000000000000001 000000000000001d \
+    00000001 61 00000000 0000000000000000 0000000000000000 00000000";
 
 #[test]
 fn the_first_snapshot_takes_slot_1(rt: HostRuntime) -> Result<(), Fail> {
@@ -71,7 +71,31 @@ fn two_kept(alloc: Global) -> Result<String, SnapFault> {
 
 #[test]
 fn the_second_takes_slot_0(rt: HostRuntime) -> Result<(), Fail> {
-    hold_text(two_kept(rt.alloc()), "Ok(37), Ok(Some(2))")
+    hold_text(two_kept(rt.alloc()), "Ok(45), Ok(Some(2))")
+}
+
+/// Adds bytes to the history of a new store.
+fn add<D: Disk>(disk: &mut D, at: u64, bytes: &[u8]) -> Result<(), Failed>
+    requires { (image : Image) → (D.facts disk.old).may_leave image → IsNew image }
+    ensures { (image : Image) → (D.facts disk.new).may_leave image → IsNew image }
+{
+    append_history(disk, at, bytes)
+}
+
+/// The history after three bytes are added to it, one in place of the second of them, and none.
+fn added(alloc: Global) -> Result<String, SnapFault> {
+    let mut disk = new_disk(alloc)?;
+    add(&mut disk, 0, &[1, 2, 3])?;
+    add(&mut disk, 1, &[7])?;
+    add(&mut disk, 9, &[])?;
+    let history = content(alloc, &mut disk, StoreFile::Hist);
+    drop(disk);
+    Ok(digits_of(alloc, history?.as_slice())?)
+}
+
+#[test]
+fn bytes_are_added_to_the_history(rt: HostRuntime) -> Result<(), Fail> {
+    hold_text(added(rt.alloc()), "010703")
 }
 
 /// What is found on a disk whose slots begin with these bytes.

@@ -137,7 +137,7 @@ fn is_found_after_a_fault(alloc: Global, call: u64) -> Result<bool, SnapFault> {
 
 #[test]
 fn a_call_that_fails_leaves_the_store_before_or_after(rt: HostRuntime) -> Result<(), Fail> {
-    for call in 2..24u64 {
+    for call in 2..26u64 {
         assert!(rt; is_found_after_a_fault(rt.alloc(), call)?, "{call}");
     }
     Ok(())

@@ -90,46 +90,92 @@ fn copy_first(
     put(to, file, &bytes[..count.min(most)])
 }
 
-/// Puts a store on another disk, but of the log its first 30 bytes alone.
-fn cut(whole: &mut MemDisk, part: &mut MemDisk) -> Result<(), Failed> {
-    for file in [StoreFile::Log0, StoreFile::Snap0, StoreFile::Snap1] {
-        copy_first(whole, part, file, 2_000)?;
-    }
-    copy_first(whole, part, StoreFile::Log1, 30)
+/// A file, and how many of its first bytes stand.
+#[derive(Clone, Copy)]
+struct Front {
+    file: StoreFile,
+    most: usize,
 }
 
-/// A run on a disk to which a store is copied, but of whose log its first 30 bytes alone.
+/// Puts a store on another disk, but of one file some first bytes alone.
+fn cut(whole: &mut MemDisk, part: &mut MemDisk, front: Front) -> Result<(), Failed> {
+    for file in [
+        StoreFile::Log0,
+        StoreFile::Log1,
+        StoreFile::Snap0,
+        StoreFile::Snap1,
+        StoreFile::Hist,
+    ] {
+        let most = if file == front.file {
+            front.most
+        } else {
+            2_000
+        };
+        copy_first(whole, part, file, most)?;
+    }
+    Ok(())
+}
+
+/// A run on a disk to which a store is copied, but of one file some first bytes alone.
 fn run_on_part(
     alloc: Global,
     whole: &mut MemDisk,
     part: &mut MemDisk,
+    front: Front,
     run: &Run,
 ) -> Result<(), Fail> {
-    match cut(whole, part) {
+    match cut(whole, part, front) {
         Ok(()) => run_on(alloc, part, run),
         Err(_) => Err(Fail::from("a file can't be copied")),
     }
 }
 
-/// An item is made on a disk, and then a run is made where the log is cut.
-fn run_on_cut(alloc: Global, whole: &mut MemDisk, run: &Run) -> Result<(), Fail> {
-    run_on(alloc, whole, &CREATION)?;
+/// A run on a store of whose file so many first bytes stand.
+fn run_on_cut(alloc: Global, whole: &mut MemDisk, front: Front, run: &Run) -> Result<(), Fail> {
     let mut part = disk(alloc, &[])?;
-    let ran = run_on_part(alloc, whole, &mut part, run);
+    let ran = run_on_part(alloc, whole, &mut part, front, run);
     drop(part);
     ran
 }
 
+/// The log has no whole record.
+const CUT: Run = Run {
+    label: "a log that is cut within its record",
+    status: 6,
+    out: "",
+    err: "stateflow: bad store: log1 at 0\n",
+    ..CREATION
+};
+
+/// The log has its record, and no gate behind it.
+const UNCLOSED: Run = Run {
+    label: "a log that is cut behind its record",
+    err: "stateflow: bad store: log1 at 58\n",
+    ..CUT
+};
+
+/// So many first bytes of the log.
+const fn log(most: usize) -> Front {
+    Front {
+        file: StoreFile::Log1,
+        most,
+    }
+}
+
+/// An item is made, and then the log is cut at each place in turn.
+fn cut_at_each(alloc: Global, whole: &mut MemDisk) -> Result<(), Fail> {
+    run_on(alloc, whole, &CREATION)?;
+    for most in 0..58 {
+        run_on_cut(alloc, whole, log(most), &CUT)?;
+    }
+    run_on_cut(alloc, whole, log(58), &UNCLOSED)?;
+    run_on_cut(alloc, whole, log(59), &CREATION)
+}
+
 #[test]
-fn a_log_that_is_cut_is_bad(rt: HostRuntime) -> Result<(), Fail> {
-    let refused = Run {
-        status: 6,
-        out: "",
-        err: "stateflow: bad store: log1 at 0\n",
-        ..CREATION
-    };
+fn a_log_that_is_cut_is_bad_up_to_its_closed_gate(rt: HostRuntime) -> Result<(), Fail> {
     let mut whole = disk(rt.alloc(), &[])?;
-    let ran = run_on_cut(rt.alloc(), &mut whole, &refused);
+    let ran = cut_at_each(rt.alloc(), &mut whole);
     drop(whole);
     ran
 }
@@ -146,4 +192,55 @@ fn a_store_of_another_program_is_told(rt: HostRuntime) -> Result<(), Fail> {
         ..CREATION
     };
     each_runs(rt.alloc(), &[CREATION, other, CREATION])
+}
+
+/// A checkpoint follows behind the batch.
+const KEPT: Run = Run {
+    label: "an item is made, and kept",
+    words: &[
+        "run", "a.py", "--store", "s", "--batch", "1", "--every", "1",
+    ],
+    ..CREATION
+};
+
+/// The history lacks a byte.
+const SHORT: Run = Run {
+    label: "a history without its last byte",
+    status: 6,
+    out: "",
+    err: "stateflow: bad store: hist at 0\n",
+    ..CREATION
+};
+
+/// So many first bytes of the history.
+const fn history(most: usize) -> Front {
+    Front {
+        file: StoreFile::Hist,
+        most,
+    }
+}
+
+/// Puts ten bytes behind a history of 56.
+fn lengthen(disk: &mut MemDisk) -> Result<(), Fail> {
+    match disk.write_at(StoreFile::Hist, 56, &[7; 10]) {
+        Ok(()) => Ok(()),
+        Err(_) => Err(Fail::from("the history can't be written")),
+    }
+}
+
+/// An item is made and kept, and then its history is cut by a byte, not at all, and made longer.
+fn history_cut_and_lengthened(alloc: Global, whole: &mut MemDisk) -> Result<(), Fail> {
+    run_on(alloc, whole, &KEPT)?;
+    run_on_cut(alloc, whole, history(55), &SHORT)?;
+    run_on_cut(alloc, whole, history(56), &CREATION)?;
+    lengthen(whole)?;
+    run_on(alloc, whole, &CREATION)
+}
+
+#[test]
+fn a_history_counts_as_far_as_it_is_named(rt: HostRuntime) -> Result<(), Fail> {
+    let mut whole = disk(rt.alloc(), &[])?;
+    let ran = history_cut_and_lengthened(rt.alloc(), &mut whole);
+    drop(whole);
+    ran
 }

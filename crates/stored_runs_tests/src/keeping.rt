@@ -31,19 +31,19 @@ const NOTHING: Run = Run {
 const RECORD: &str = "a5 00000035 00000001 00000001 61 01 00000000 00000002 04 00000005 6170706c65 \
     03 00000000000000000000000000000003 00000001 00000000 00";
 
-/// The log of epoch 1, in digits.
-fn log_told(alloc: Global, disk: &mut MemDisk) -> Result<String, Fail> {
+/// The bytes of a file, of which there are at most 2,000, in digits.
+fn bytes_told(alloc: Global, disk: &mut MemDisk, file: StoreFile) -> Result<String, Fail> {
     let mut bytes = [0; 2_000];
-    match disk.read_at(StoreFile::Log1, 0, &mut bytes) {
+    match disk.read_at(file, 0, &mut bytes) {
         Ok(count) => Ok(digits_of(alloc, &bytes[..count])?),
-        Err(_) => Err(Fail::from("the log can't be read")),
+        Err(_) => Err(Fail::from("a file can't be read")),
     }
 }
 
-/// The log behind a run on a disk.
+/// The log of epoch 1 behind a run on a disk.
 fn log_behind_on(alloc: Global, disk: &mut MemDisk, run: &Run) -> Result<String, Fail> {
     run_on(alloc, disk, run)?;
-    log_told(alloc, disk)
+    bytes_told(alloc, disk, StoreFile::Log1)
 }
 
 /// The same on a disk of its own.
@@ -58,6 +58,50 @@ fn log_behind(alloc: Global, run: &Run) -> Result<String, Fail> {
 fn a_batch_is_in_the_log_to_the_byte(rt: HostRuntime) -> Result<(), Fail> {
     let wanted = RECORD.replace(rt.alloc(), ' ', "")?;
     hold_text(log_behind(rt.alloc(), &CREATION), wanted.as_str())
+}
+
+/// The creation, which is kept by a checkpoint behind its batch.
+const KEPT: Run = Run {
+    label: "an item is made, and kept",
+    words: &[
+        "run", "a.py", "--store", "s", "--batch", "1", "--every", "1",
+    ],
+    ..CREATION
+};
+
+/// The request and its outcome.
+const ENTRY: &str = "00000001 61 01 00000000 00000002 04 00000005 6170706c65 \
+    03 00000000000000000000000000000003 00 06 00000000 00000005 6170706c65";
+
+/// One entry in 56 bytes, one record with its three fields, and no request that waits.
+const HEAD_END: &str = "00000001 0000000000000038 0000000000000001 00000000 00000005 6170706c65 \
+    00000003 04 00000005 6170706c65 03 00000000000000000000000000000003 \
+    03 00000000000000000000000000000000 00000000";
+
+/// The history and the log of epoch 2 behind a run on a disk, and whether its slot ends as it has to.
+fn kept_behind_on(alloc: Global, disk: &mut MemDisk) -> Result<String, Fail> {
+    run_on(alloc, disk, &KEPT)?;
+    let history = bytes_told(alloc, disk, StoreFile::Hist)?;
+    let log = bytes_told(alloc, disk, StoreFile::Log0)?;
+    let slot = bytes_told(alloc, disk, StoreFile::Snap0)?;
+    let end = HEAD_END.replace(alloc, ' ', "")?;
+    let ends = slot.ends_with(end.as_str());
+    Ok(format!(in alloc; "{history}, {log}, {ends}")?)
+}
+
+/// The same on a disk of its own.
+fn kept_behind(alloc: Global) -> Result<String, Fail> {
+    let mut disk = disk(alloc, &[])?;
+    let told = kept_behind_on(alloc, &mut disk);
+    drop(disk);
+    told
+}
+
+#[test]
+fn a_checkpoint_adds_to_the_history_to_the_byte(rt: HostRuntime) -> Result<(), Fail> {
+    let entry = ENTRY.replace(rt.alloc(), ' ', "")?;
+    let wanted = format!(in rt.alloc(); "{entry}, 00, true")?;
+    hold_text(kept_behind(rt.alloc()), wanted.as_str())
 }
 
 #[test]

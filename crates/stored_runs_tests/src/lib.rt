@@ -9,3 +9,5 @@ mod faults;
 mod keeping;
 #[cfg(test)]
 mod runs;
+#[cfg(test)]
+mod stops;

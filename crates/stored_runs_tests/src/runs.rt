@@ -26,17 +26,27 @@ pub fn disk(alloc: Global, fail_at: &[u64]) -> Result<MemDisk, AllocError> {
     MemDisk::new(alloc, 20_000, 2_000, fail_at)
 }
 
-/// What a run answers on a disk.
-pub fn answer_on(alloc: Global, disk: &mut MemDisk, run: &Run) -> Result<Answer, AllocError> {
-    let mut input = MemSource::new(alloc, run.input.as_bytes(), run.unread)?;
-    let faults = Faults {
-        input: run.unread,
-        ..NO_FAULTS
-    };
+/// What a run answers on a disk, beside devices with these faults.
+pub fn answer_with(
+    alloc: Global,
+    disk: &mut MemDisk,
+    run: &Run,
+    faults: Faults<'_>,
+) -> Result<Answer, AllocError> {
+    let mut input = MemSource::new(alloc, run.input.as_bytes(), faults.input)?;
     let file = ("a.py", run.program.as_bytes());
     let answer = call_on(alloc, run.words, file, &mut input, disk, faults);
     drop(input);
     answer
+}
+
+/// The same where none but the run's own reads fail.
+pub fn answer_on(alloc: Global, disk: &mut MemDisk, run: &Run) -> Result<Answer, AllocError> {
+    let faults = Faults {
+        input: run.unread,
+        ..NO_FAULTS
+    };
+    answer_with(alloc, disk, run, faults)
 }
 
 fn says(answer: &Answer, run: &Run) -> bool {

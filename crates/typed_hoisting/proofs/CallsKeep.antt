@@ -134,6 +134,7 @@ module _ (c : Context) (leaves : Leaving) (limit : ℕ) where
           takes = behind.0;
         },
         behind.1,
+        tt,
       )) (λ variables free typed. point_passes variables (a.stage.locals ++ temporary a.stage.next sig.result ∷ []) free.once typed)
 
   -- a receiver that is `self` stays

@@ -14,7 +14,7 @@ use Rattle.block_code.specs.PlainVars.{PlainVar}
 use Rattle.block_code.specs.GraphFits.{Asked, is_var}
 use Rattle.flat_tree.specs.PlainFlat.{PlainFlatStmt, FSet, FNoStmt}
 use Rattle.method_splitter.specs.Points.{PointsPass}
-use Rattle.flat_types.specs.FlatTypes.{is_point, LeafFits, stmt_fits, stmts_fit, test_fits}
+use Rattle.flat_types.specs.FlatTypes.{is_point, TestedFits, stmt_fits, stmts_fit, test_fits}
 use Rattle.hoisting.specs.Stages.{Stage, temporary}
 use Rattle.hoisting.specs.HoistExpressions.{Hoisted, Forms, still, built, in_turn, taken_into, settled, settled_unless, kept, leaf, by_value, forms_if}
 use Rattle.typed_hoisting.specs.KnownLocals.{Alike, Free, Stands}
@@ -85,7 +85,7 @@ module _ (c : Context) (leaves : Leaving) where
   pub code_both : (m : Around) (xs ys : List PlainFlatStmt) (goal : Asked) → code_fits c leaves m (xs ++ ys) goal ≡ code_fits c leaves m xs (code_fits c leaves m ys goal)
   unfolding stmts_fit
   code_both m [] ys goal = refl
-  code_both m (x ∷ xs) ys goal = ap (stmt_fits c leaves m.variables m.breaks m.continues x) (code_both m xs ys goal)
+  code_both m (x ∷ xs) ys goal = ap (stmt_fits c leaves m.variables [] m.breaks m.continues x) (code_both m xs ys goal)
 
   pub code_then : (m : Around) (xs ys : List PlainFlatStmt) (goal : Asked) (env : List PlainLocal) → code_fits c leaves m xs (code_fits c leaves m ys goal) env → code_fits c leaves m (xs ++ ys) goal env
   code_then m xs ys goal env h = subst (λ (f : Asked). f env) (sym (code_both m xs ys goal)) h
@@ -134,7 +134,7 @@ module _ (c : Context) (leaves : Leaving) where
   abbrev pub PutsNext : {R : Type 0} → PlainTy → Hoisted R → PlainFlatStmt → (List PlainLocal → R → Type 0) → Type 1
   PutsNext ty a x RA =
       (m : Around) (env : List PlainLocal) → Stands m.variables a.stage.next a.stage.locals env → IsVariable m.variables a.stage.next ty → RA env a.rest
-      → (goal : Asked) → ((after : List PlainLocal) → Stands m.variables (a.stage.next + 1) (a.stage.locals ++ temporary a.stage.next ty ∷ []) after → goal after) → stmt_fits c leaves m.variables m.breaks m.continues x goal env
+      → (goal : Asked) → ((after : List PlainLocal) → Stands m.variables (a.stage.next + 1) (a.stage.locals ++ temporary a.stage.next ty ∷ []) after → goal after) → stmt_fits c leaves m.variables [] m.breaks m.continues x goal env
 
   -- its point names variables, if the next temporary is one
   abbrev pub PassesNext : {R : Type 0} → PlainTy → Hoisted R → PlainFlatStmt → Type 0
@@ -156,7 +156,7 @@ module _ (c : Context) (leaves : Leaving) where
         before = λ m among env stands goal goes.
             code_then m a.before (f a.rest n ∷ []) goal env
             (g.before m (among_first m.variables g.made last among) env stands (code_fits c leaves m (f a.rest n ∷ []) goal)
-            (λ after there. puts m after there (among_rest m.variables g.made last among).0 (g.rest after there.alike) (stmts_fit c leaves m.variables m.breaks m.continues FNoStmt goal) goes));
+            (λ after there. puts m after there (among_rest m.variables g.made last among).0 (g.rest after there.alike) (stmts_fit c leaves m.variables [] m.breaks m.continues FNoStmt goal) goes));
         points = λ variables among typed.
             let first : AreAmong variables g.made = among_first variables g.made last among in
             passes_both variables a.before (f a.rest n ∷ []) (g.points variables first typed)
@@ -166,9 +166,12 @@ module _ (c : Context) (leaves : Leaving) where
   settled_good : (h : Stage) (a : Hoisted PlainExpr) (at : Place) (wanted : Option PlainTy) (ty : PlainTy) → Good c leaves h a (Typed c leaves wanted ty) → Good c leaves h (settled at ty a) (Typed c leaves wanted ty)
   unfolding stmts_fit PointsPass
   settled_good h a at wanted ty g = taken_good h a at ty wanted (λ r t. FSet t r) g (λ m env stands is rest goal goes. (
-    ty,
-    record { wanted = wanted; typed = rest.0; stays = rest.1 },
-    takes m.variables a.stage.next ty ty env stands.are is (assigned_itself ty) goal (goes _ (stored_stands m.variables a.stage.next ty env a.stage.locals g.free stands is)),
+    (
+      ty,
+      record { wanted = wanted; typed = rest.0; stays = rest.1 },
+      takes m.variables a.stage.next ty ty env stands.are is (assigned_itself ty) goal (goes _ (stored_stands m.variables a.stage.next ty env a.stage.locals g.free stands is)),
+    ),
+    tt,
   )) (λ variables free typed. tt)
 
   pub settled_unless_good : (lasting : Bool) (h : Stage) (a : Hoisted PlainExpr) (at : Place) (wanted : Option PlainTy) (s ty : PlainTy) → s ≡ ty → Good c leaves h a (Typed c leaves wanted ty) → Good c leaves h (settled_unless lasting at s a) (Typed c leaves wanted ty)
@@ -192,10 +195,13 @@ module _ (c : Context) (leaves : Leaving) where
     points = g.points;
     made = g.made;
     numbered = g.numbered;
-    sides = λ m among env stands yes' no' holds fails. g.before m among env stands (LeafFits c leaves a.rest yes' no') (λ after there. (
-      record { wanted = None; typed = (g.rest after there.alike).0; stays = (g.rest after there.alike).1 },
-      holds _ (narrowed_least m.variables h.next a.stage.next (shown true e) (shown true a.rest) h.locals a.stage.locals after (up h a g) (shows true) g.alike there),
-      fails _ (narrowed_least m.variables h.next a.stage.next (shown false e) (shown false a.rest) h.locals a.stage.locals after (up h a g) (shows false) g.alike there),
+    sides = λ m among env stands yes' no' holds fails. g.before m among env stands (TestedFits c leaves [] a.rest yes' no') (λ after there. (
+      (
+        record { wanted = None; typed = (g.rest after there.alike).0; stays = (g.rest after there.alike).1 },
+        holds _ (narrowed_least m.variables h.next a.stage.next (shown true e) (shown true a.rest) h.locals a.stage.locals after (up h a g) (shows true) g.alike there),
+        fails _ (narrowed_least m.variables h.next a.stage.next (shown false e) (shown false a.rest) h.locals a.stage.locals after (up h a g) (shows false) g.alike there),
+      ),
+      tt,
     ));
   }
 

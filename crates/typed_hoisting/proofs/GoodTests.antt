@@ -27,7 +27,7 @@ module _ (c : Context) (leaves : Leaving) where
   -- what is asked of operands
   abbrev pub asked_of_each : Bool → PlainOperands → AskedOfTest
   asked_of_each truth operands = record {
-    fits = λ m holds fails locals. each_fits c leaves m.variables truth m.breaks m.continues operands holds fails locals;
+    fits = λ m holds fails locals. each_fits c leaves m.variables truth [] m.breaks m.continues operands holds fails locals;
     passes = λ variables. PointsPassInOperands (is_point variables) operands;
   }
 
@@ -154,11 +154,14 @@ module _ (c : Context) (leaves : Leaving) where
       code_then c leaves m a.before (FSet n a.rest ∷ []) point start
       (g.before m among start (narrowed_behind m h names env free stands first) (code_fits c leaves m (FSet n a.rest ∷ []) point) (λ after there.
       let least : AtLeast m.variables h.next h.locals after = least_behind m.variables h.next first a.stage.next names h.locals a.stage.locals after below inside g.alike there in (
-        s,
-        record { wanted = wanted; typed = (g.rest after there.alike).0; stays = (g.rest after there.alike).1 },
-        takes m.variables n ty s after there.are is fit (stmts_fit c leaves m.variables m.breaks m.continues FNoStmt point)
-            (supplies m.variables (n + 1) (h.locals ++ temporary n ty ∷ []) (with_local n s s after) (more_free n h.locals ty (free_later h.next n h.locals later free))
-            (stored_least m.variables n ty s after there.are is h.next later h.locals free least)),
+        (
+          s,
+          record { wanted = wanted; typed = (g.rest after there.alike).0; stays = (g.rest after there.alike).1 },
+          takes m.variables n ty s after there.are is fit (stmts_fit c leaves m.variables [] m.breaks m.continues FNoStmt point)
+              (supplies m.variables (n + 1) (h.locals ++ temporary n ty ∷ []) (with_local n s s after) (more_free n h.locals ty (free_later h.next n h.locals later free))
+              (stored_least m.variables n ty s after there.are is h.next later h.locals free least)),
+        ),
+        tt,
       )))
 
   pub chosen_good : (h : Stage) (free : Free h.next h.locals) (at : Place) (ty : PlainTy) (test : PlainExpr) (t : Tested PlainFlatTest) (first second : Stage → Hoisted PlainExpr) (wanted : Option PlainTy) (s u : PlainTy)

@@ -83,6 +83,7 @@ module _ (c : Context) (leaves : Leaving) (limit : ℕ) where
             takes = behind.0;
           },
           behind.1,
+          tt,
         )) (λ variables free typed. point_passes variables (a.stage.locals ++ temporary a.stage.next (TEntity table.name) ∷ []) free.once typed) in
         subst (λ o. Good c leaves h (apply_of c true at ty name (parts c leaves limit (by_params (init_params o)) args h)) (Typed c leaves wanted ty)) (sym p.1)
         (subst (λ t. Good c leaves h (apply_of c true at t name a) (Typed c leaves wanted t)) result whole)

@@ -57,11 +57,11 @@ pub record AskedOfTest : Type 1 where
 
 module _ (c : Context) (leaves : Leaving) where
   abbrev pub code_fits : Around → List PlainFlatStmt → Asked → Asked
-  code_fits m code goal locals = stmts_fit c leaves m.variables m.breaks m.continues (flat_stmts_of code) goal locals
+  code_fits m code goal locals = stmts_fit c leaves m.variables [] m.breaks m.continues (flat_stmts_of code) goal locals
 
   abbrev pub asked_of : PlainFlatTest → AskedOfTest
   asked_of test = record {
-    fits = λ m holds fails locals. test_fits c leaves m.variables m.breaks m.continues test holds fails locals;
+    fits = λ m holds fails locals. test_fits c leaves m.variables [] m.breaks m.continues test holds fails locals;
     passes = λ variables. PointsPassInTest (is_point variables) test;
   }
 
@@ -118,7 +118,7 @@ module _ (c : Context) (leaves : Leaving) where
     pub made : List PlainVar
     pub numbered : Numbered h.next made a.stage.next
     pub fits : (variables : List PlainVar) → AreAmong variables made → (env : List PlainLocal) → Stands variables h.next h.locals env
-        → stmts_fit c leaves variables Nowhere Nowhere (flat_stmts_of a.before) (IsTyped a.rest ty) env
+        → stmts_fit c leaves variables [] Nowhere Nowhere (flat_stmts_of a.before) (IsTyped a.rest ty) env
     pub points : (variables : List PlainVar) → AreAmong variables made → AreTyped variables h.locals → CodePasses variables a.before
 
   -- a test keeps the rules, and leads where this is known; and its points name variables
@@ -126,7 +126,7 @@ module _ (c : Context) (leaves : Leaving) where
     pub made : List PlainVar
     pub numbered : Numbered h.next made t.next
     pub fits : (variables : List PlainVar) → AreAmong variables made → (env : List PlainLocal) → Stands variables h.next h.locals env
-        → test_fits c leaves variables Nowhere Nowhere t.test (Supplies (surely holds)) (Supplies (surely fails)) env
+        → test_fits c leaves variables [] Nowhere Nowhere t.test (Supplies (surely holds)) (Supplies (surely fails)) env
     pub points : (variables : List PlainVar) → AreAmong variables made → AreTyped variables h.locals → PointsPassInTest (is_point variables) t.test
 
   -- as a value, and as a test

@@ -54,7 +54,7 @@ module _ (c : Context) (leaves : Leaving) (own : Own leaves) (limit : ℕ) where
     pub points : (variables : List PlainVar) → AreAmong variables made → TypedAs variables w.locals → PointsPassInArms (is_point variables) arms
     pub fits : (m : Around) → AreAmong m.variables made → TypedAs m.variables w.locals → (env : List PlainLocal) → At m.variables w.locals env → WaysLead m floor looping left end → (goal other : Asked)
         → (goes ≡ true → (after : List PlainLocal) → AreVariables m.variables after → AllUnder end.locals after → goal after) → ((after : List PlainLocal) → At m.variables rest after → other after)
-        → arms_fit c leaves m.variables m.breaks m.continues arms goal other env
+        → arms_fit c leaves m.variables [] m.breaks m.continues arms goal other env
 
   abbrev pub Other : Type 0
   Other = Way → Result Way RuleFault
@@ -262,14 +262,17 @@ module _ (c : Context) (leaves : Leaving) (own : Own leaves) (limit : ℕ) where
             let ways2 : WaysLead m floor looping (break_in other) q.last = record { at_break = λ left after are met. ways.at_break (or_right (break_in_arm arms) (break_in other) left) after are (q.left after met); at_continue = ways.at_continue } in
             let behind : all_go_on other ≡ true → (after : List PlainLocal) → At m.variables q.last.locals after → Ends (point_behind c (PIf at arms other) w.locals) after = λ go after there.
             point after (or_right (an_arm_goes_on arms) (all_go_on other) go) there.are (q.behind after go (all_under q.last.locals after there.kept)) in (
-              ga.fits m (among_first m.variables ga.made go.made among) typed env at' ways1 (Ends (point_behind c (PIf at arms other) w.locals))
-                  (λ locals. stmts_fit c leaves m.variables m.breaks m.continues (flat_stmts_of (code rest).code) (Ends (point_behind c (PIf at arms other) w.locals)) locals)
-                  (λ go after are under. point after (or_left (an_arm_goes_on arms) (all_go_on other) go) are under)
-                  (λ after there.
-                  subst (λ ks. stmts_fit c leaves m.variables m.breaks m.continues (flat_stmts_of (code ks).code) (Ends (point_behind c (PIf at arms other) w.locals)) after) q.at
-                  (go.fits m (among_rest m.variables ga.made go.made among) (typed_same m.variables w.locals q.mid.locals same typed) after (at_as m.variables rest q.mid.locals after (sym q.at) there) ways2
-                  (Ends (point_behind c (PIf at arms other) w.locals)) behind)),
-              behind_end goes_here ls m.variables goal
-                  (λ go. go_on go (at_start m.variables (surely ls)) (subst (λ ks. At m.variables end.locals (at_start m.variables (surely ks))) (sym is) (point_at m.variables next end.locals free typed_end))),
+              (
+                ga.fits m (among_first m.variables ga.made go.made among) typed env at' ways1 (Ends (point_behind c (PIf at arms other) w.locals))
+                    (λ locals. stmts_fit c leaves m.variables [] m.breaks m.continues (flat_stmts_of (code rest).code) (Ends (point_behind c (PIf at arms other) w.locals)) locals)
+                    (λ go after are under. point after (or_left (an_arm_goes_on arms) (all_go_on other) go) are under)
+                    (λ after there.
+                    subst (λ ks. stmts_fit c leaves m.variables [] m.breaks m.continues (flat_stmts_of (code ks).code) (Ends (point_behind c (PIf at arms other) w.locals)) after) q.at
+                    (go.fits m (among_rest m.variables ga.made go.made among) (typed_same m.variables w.locals q.mid.locals same typed) after (at_as m.variables rest q.mid.locals after (sym q.at) there) ways2
+                    (Ends (point_behind c (PIf at arms other) w.locals)) behind)),
+                behind_end goes_here ls m.variables goal
+                    (λ go. go_on go (at_start m.variables (surely ls)) (subst (λ ks. At m.variables end.locals (at_start m.variables (surely ks))) (sym is) (point_at m.variables next end.locals free typed_end))),
+              ),
+              tt,
             );
       }

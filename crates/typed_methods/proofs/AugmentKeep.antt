@@ -142,9 +142,12 @@ module _ (c : Context) (leaves : Leaving) (own : Own leaves) (limit : ℕ) where
                 are = stored_variables m.variables x.name.0 has.0 q.before after before.are variable;
                 kept = stored_there x.name.0 q.before q.before q.before w.locals after (variable_typed m.variables after x.name.0 has.0 before.are variable ∙ sym (ap (λ o. Some (unwrap_or o q.before)) has.1)) before.kept;
               } in (
-                q.before,
-                record { wanted = None; typed = rest.0; stays = rest.1 },
-                takes m.variables x.name.0 has.0 q.before after before.are variable has.2 (no_more c leaves m goal) (no_more_is c leaves m goal after2 (goes refl after2 (at_as m.variables _ end.locals after2 is behind))),
+                (
+                  q.before,
+                  record { wanted = None; typed = rest.0; stays = rest.1 },
+                  takes m.variables x.name.0 has.0 q.before after before.are variable has.2 (no_more c leaves m goal) (no_more_is c leaves m goal after2 (goes refl after2 (at_as m.variables _ end.locals after2 is behind))),
+                ),
+                tt,
               ));
         }
       where
@@ -167,7 +170,10 @@ module _ (c : Context) (leaves : Leaving) (own : Own leaves) (limit : ℕ) where
           fits = λ m among typed env at' ways goal goes.
               marked_fits c leaves here a (store (Field f)) g m among env at' goal
               (λ after stands rest. (
-                record { ty = q.before; is = field_read w.locals at f q.before q.read; fits = record { ty = q.before; has = record { wanted = None; typed = rest.0; stays = rest.1 }; suits = assigned_itself q.before } },
-                no_more_is c leaves m goal after (goes refl after (at_as m.variables w.locals end.locals after is (behind_good c leaves here a m.variables after b.free g stands))),
+                (
+                  record { ty = q.before; is = field_read w.locals at f q.before q.read; fits = record { ty = q.before; has = record { wanted = None; typed = rest.0; stays = rest.1 }; suits = assigned_itself q.before } },
+                  no_more_is c leaves m goal after (goes refl after (at_as m.variables w.locals end.locals after is (behind_good c leaves here a m.variables after b.free g stands))),
+                ),
+                tt,
               ));
         }

@@ -1,5 +1,6 @@
 -- What is known behind a statement doesn't depend on the breaks before it, nor on whether it stands in a loop, unless it leaves one.
 use Rattle.std.proofs.Common.{◌≡◌, Bool, true, false, not, cond, Option, Some, None, Result, Ok, List, ◌∷◌, refl, ap, ◌∙◌}
+use Rattle.std.specs.Prelude.{◌&&◌}
 use Rattle.py_tree.specs.declared.names.Place.{Place}
 use Rattle.py_tree.specs.declared.rule.Rule.TheVariants.{LoopWord}
 use Rattle.py_tree.specs.declared.rule.RuleFault.{RuleFault}
@@ -18,7 +19,7 @@ use Rattle.program_meaning.proofs.FlowParts.{no_need}
 use Rattle.program_meaning.proofs.FlowGrows.{WhileParts, while_parts, ForParts, for_parts, all_parts, last_parts, ArmParts, arm_parts}
 use Rattle.flat_tree.specs.Flatness.{jumps, all_jump, arms_jump}
 use Rattle.typed_methods.proofs.KeptParts.{in_loop_if}
-use Rattle.typed_methods.proofs.FlowKept.{LoopsToo, or_left, or_right, is_condition, for_fault}
+use Rattle.typed_methods.proofs.FlowKept.{LoopsToo, or_left, or_right, both_of, is_condition, for_fault}
 
 abbrev pub way_at : List PlainLocal → Option (List Known) → Way
 way_at locals breaks = record { locals = locals; breaks = breaks }
@@ -132,14 +133,14 @@ module _ (c : Context) where
     all_anew PNoStmt a b w next o loops h = leads_as w next o (Ok (way_at w.locals o)) refl (same_ok w next h)
     all_anew (PStmt x xs) a b w next o loops h =
         let p : (mid : Way) × (flow (in_loop_if c a) w x ≡ Ok mid) × (cond (goes_on x) (flow_all (in_loop_if c a) mid xs) (done mid) ≡ Ok next) = all_parts (in_loop_if c a) w next x xs h in
-        let q : LeadsTo p.0 (flow (in_loop_if c b) (way_at w.locals o) x) = stmt_anew x a b w p.0 o (λ j. loops (or_left (jumps x) (all_jump xs) j)) p.1 in
+        let q : LeadsTo p.0 (flow (in_loop_if c b) (way_at w.locals o) x) = stmt_anew x a b w p.0 o (λ j. loops (or_left (jumps x) (goes_on x && all_jump xs) j)) p.1 in
         let then' : Way → Result Way RuleFault = λ mid. cond (goes_on x) (flow_all (in_loop_if c b) mid xs) (done mid) in
-        let r : LeadsTo next (then' (way_at p.0.locals q.0)) = by (goes_on x) p.0 q.0 p.2 (λ e. all_anew xs a b p.0 next q.0 (λ j. loops (or_right (jumps x) (all_jump xs) j)) e) in
+        let r : LeadsTo next (then' (way_at p.0.locals q.0)) = by (goes_on x) p.0 q.0 p.2 (λ go e. all_anew xs a b p.0 next q.0 (λ j. loops (or_right (jumps x) (goes_on x && all_jump xs) (both_of (goes_on x) (all_jump xs) go j))) e) in
         (r.0, ap (λ s. with_found s then') q.1 ∙ r.1)
       where
         by : (go : Bool) (mid : Way) (o2 : Option (List Known)) → cond go (flow_all (in_loop_if c a) mid xs) (done mid) ≡ Ok next
-            → (flow_all (in_loop_if c a) mid xs ≡ Ok next → LeadsTo next (flow_all (in_loop_if c b) (way_at mid.locals o2) xs)) → LeadsTo next (cond go (flow_all (in_loop_if c b) (way_at mid.locals o2) xs) (done (way_at mid.locals o2)))
-        by true mid o2 h k = k h
+            → (go ≡ true → flow_all (in_loop_if c a) mid xs ≡ Ok next → LeadsTo next (flow_all (in_loop_if c b) (way_at mid.locals o2) xs)) → LeadsTo next (cond go (flow_all (in_loop_if c b) (way_at mid.locals o2) xs) (done (way_at mid.locals o2)))
+        by true mid o2 h k = k refl h
         by false mid o2 h k = leads_as mid next o2 (Ok (way_at mid.locals o2)) refl (same_ok mid next h)
 
     arms_anew : (arms : PlainArms) (a b : Bool) (w next : Way) (o : Option (List Known)) → LoopsToo (arms_jump arms) a b → (ended : Option (List Known)) (go : Bool) (other : Bool → Way → Result Way RuleFault)

@@ -108,7 +108,7 @@ module _ (c : Context) (leaves : Leaving) where
 
   -- what is asked behind the last statement
   abbrev pub no_more : Around → Asked → Asked
-  no_more m goal locals = stmts_fit c leaves m.variables m.breaks m.continues FNoStmt goal locals
+  no_more m goal locals = stmts_fit c leaves m.variables [] m.breaks m.continues FNoStmt goal locals
 
   pub no_more_is : (m : Around) (goal : Asked) (env : List PlainLocal) → goal env → no_more m goal env
   unfolding stmts_fit
@@ -127,7 +127,7 @@ module _ (c : Context) (leaves : Leaving) where
 
   -- a step, what runs before an expression, and a statement over what is left
   pub marked_fits : {R : Type 0} (h : Stage) (a : Hoisted R) (f : R → PlainFlatStmt) {Rest : List PlainLocal → R → Type 0} → (g : Good c leaves h a Rest) → (m : Around) → AreAmong m.variables g.made → (env : List PlainLocal) → At m.variables h.locals env → (goal : Asked)
-      → ((after : List PlainLocal) → Stands m.variables a.stage.next a.stage.locals after → Rest after a.rest → stmt_fits c leaves m.variables m.breaks m.continues (f a.rest) (no_more m goal) after) → code_fits c leaves m (FMark ∷ a.before ++ f a.rest ∷ []) goal env
+      → ((after : List PlainLocal) → Stands m.variables a.stage.next a.stage.locals after → Rest after a.rest → stmt_fits c leaves m.variables [] m.breaks m.continues (f a.rest) (no_more m goal) after) → code_fits c leaves m (FMark ∷ a.before ++ f a.rest ∷ []) goal env
   unfolding stmts_fit
   marked_fits h a f g m among env at goal last =
-      code_then c leaves m a.before (f a.rest ∷ []) goal env (g.before m among env (to_stands m.variables h.next h.locals env at) (code_fits c leaves m (f a.rest ∷ []) goal) (λ after there. last after there (g.rest after there.alike)))
+      (code_then c leaves m a.before (f a.rest ∷ []) goal env (g.before m among env (to_stands m.variables h.next h.locals env at) (code_fits c leaves m (f a.rest ∷ []) goal) (λ after there. last after there (g.rest after there.alike))), tt)

@@ -1,7 +1,7 @@
 -- Statements that break no rule break none where all variables have their types beforehand and what is known is known so; and behind them what
 -- is known is known so again.
 use Rattle.std.proofs.Common.{◌≡◌, ℕ, Bool, true, false, not, cond, Option, Some, None, Result, Ok, List, ◌∷◌, ◌++◌, refl, sym, ap, ◌∙◌, subst}
-use Rattle.std.specs.Prelude.{◌||◌, is_some}
+use Rattle.std.specs.Prelude.{◌||◌, ◌&&◌, is_some}
 use Rattle.py_tree.specs.declared.names.Place.{Place}
 use Rattle.py_tree.specs.declared.rule.Rule.TheVariants.{LoopWord}
 use Rattle.py_tree.specs.declared.rule.RuleFault.{RuleFault}
@@ -73,6 +73,9 @@ or_left false q h = absurd cc
 pub or_right : (p q : Bool) → q ≡ true → (p || q) ≡ true
 or_right true q h = refl
 or_right false q h = h
+
+pub both_of : (p q : Bool) → p ≡ true → q ≡ true → (p && q) ≡ true
+both_of p q first second = ap (λ b. b && q) first ∙ second
 
 -- a loop word leaves a loop around, in both contexts if in one
 abbrev pub LoopsToo : Bool → Bool → Bool → Type 0
@@ -184,8 +187,8 @@ module _ (c : Context) (limit : ℕ) where
   rest_grows false d mid next xs h = subst (λ (n : Way). Grows mid.locals n.locals) (same_ok mid next h) (alike_grows mid.locals mid.locals refl)
 
   one_or_rest : (go : Bool) (mid mid2 next : Way) (xs : PlainStmts) (a b : Bool) → Ahead mid mid2 → cond go (flow_all (in_loop_if c a) mid xs) (done mid) ≡ Ok next
-      → (flow_all (in_loop_if c a) mid xs ≡ Ok next → GoesSo next mid2 (flow_all (in_loop_if c b) mid2 xs)) → GoesSo next mid2 (cond go (flow_all (in_loop_if c b) mid2 xs) (done mid2))
-  one_or_rest true mid mid2 next xs a b ahead h k = k h
+      → (go ≡ true → flow_all (in_loop_if c a) mid xs ≡ Ok next → GoesSo next mid2 (flow_all (in_loop_if c b) mid2 xs)) → GoesSo next mid2 (cond go (flow_all (in_loop_if c b) mid2 xs) (done mid2))
+  one_or_rest true mid mid2 next xs a b ahead h k = k refl h
   one_or_rest false mid mid2 next xs a b ahead h k = stays_so mid mid2 next ahead (same_ok mid next h)
 
   pub arms_grow : (arms : PlainArms) (d : Context) (w next : Way) (ended : Option (List Known)) (go : Bool) (other : Way → Result Way RuleFault) → flow_arms d w ended arms go other ≡ Ok next → ((w last : Way) → other w ≡ Ok last → Grows w.locals last.locals) → Grows w.locals next.locals
@@ -337,10 +340,10 @@ module _ (c : Context) (limit : ℕ) where
     all_kept (PStmt x xs) a b w v next named loops ahead typed h =
         let p : (mid : Way) × (flow (in_loop_if c a) w x ≡ Ok mid) × (cond (goes_on x) (flow_all (in_loop_if c a) mid xs) (done mid) ≡ Ok next) = all_parts (in_loop_if c a) w next x xs h in
         let mid_typed : TypedThere p.0.locals v.locals = typed_from p.0.locals next.locals v.locals (rest_grows (goes_on x) (in_loop_if c a) p.0 next xs p.2) typed in
-        let q : GoesSo p.0 v (flow (in_loop_if c b) v x) = stmt_kept x a b w v p.0 named.0 (λ j. loops (or_left (jumps x) (all_jump xs) j)) ahead mid_typed p.1 in
+        let q : GoesSo p.0 v (flow (in_loop_if c b) v x) = stmt_kept x a b w v p.0 named.0 (λ j. loops (or_left (jumps x) (goes_on x && all_jump xs) j)) ahead mid_typed p.1 in
         let then' : Way → Result Way RuleFault = λ mid. cond (goes_on x) (flow_all (in_loop_if c b) mid xs) (done mid) in
         let r : GoesSo next q.end (then' q.end) =
-        one_or_rest (goes_on x) p.0 q.end next xs a b q.ahead p.2 (λ e. all_kept xs a b p.0 q.end next named.1 (λ j. loops (or_right (jumps x) (all_jump xs) j)) q.ahead (typed_to next.locals v.locals q.end.locals q.same typed) e) in
+        one_or_rest (goes_on x) p.0 q.end next xs a b q.ahead p.2 (λ go e. all_kept xs a b p.0 q.end next named.1 (λ j. loops (or_right (jumps x) (goes_on x && all_jump xs) (both_of (goes_on x) (all_jump xs) go j))) q.ahead (typed_to next.locals v.locals q.end.locals q.same typed) e) in
         record { end = r.end; is = ap (λ o. with_found o then') q.is ∙ r.is; ahead = r.ahead; same = r.same ∙ q.same }
 
     arms_kept : (arms : PlainArms) (a b : Bool) (w v next : Way) → ArmsNames limit arms → LoopsToo (arms_jump arms) a b → (ended ended2 : Option (List Known)) (go : Bool) (other : Bool → Way → Result Way RuleFault)

@@ -199,7 +199,7 @@ module _ (c : Context) (leaves : Leaving) (own : Own leaves) (limit : ℕ) (at :
         → ((env : List PlainLocal) → At m.variables head env → HasType c leaves env e TBool)
         → ((inner : Around) → inner.variables ≡ m.variables → (env : List PlainLocal) → At inner.variables head env → (goal : Asked) → ((after : List PlainLocal) → At inner.variables start after → goal after) → code_fits c leaves inner turn goal env)
         → (goal : Asked) → ((after : List PlainLocal) → At m.variables end.locals after → goal after)
-        → stmt_fits c leaves m.variables m.breaks m.continues (FWhile (surely head) (FLeaf FNoStmt e) (surely head) (flat_stmts_of (turn ++ code.code)) (point_behind c statement w.locals)) goal env
+        → stmt_fits c leaves m.variables [] m.breaks m.continues (FWhile (surely head) (FLeaf FNoStmt e) (surely head) (flat_stmts_of (turn ++ code.code)) (point_behind c statement w.locals)) goal env
     unfolding stmt_fits made_inside goes_on
     loop_fits m among typed typed_ls env at' e turn literal test begins goal go_on =
         let ks : List PlainLocal = locals_behind c statement w.locals in
@@ -231,9 +231,12 @@ module _ (c : Context) (leaves : Leaving) (own : Own leaves) (limit : ℕ) (at :
           supplies_all m.variables k head env free_head at'.are (all_under_on head ls env (head_under all ls) (all_under ls env at'.kept)),
           tested m.variables (surely head) after _ _ (is_true e) literal (
             (
-              test env_h at_h,
-              supplies_all m.variables k head (narrowed (names true) env_h) free_head (variables_narrowed m.variables (names true) env_h at_h.are) (narrowed_above head (names true) env_h under_h),
-              ends (narrowed (names false) env_h) (variables_narrowed m.variables (names false) env_h at_h.are) failing,
+              (
+                test env_h at_h,
+                supplies_all m.variables k head (narrowed (names true) env_h) free_head (variables_narrowed m.variables (names true) env_h at_h.are) (narrowed_above head (names true) env_h under_h),
+                ends (narrowed (names false) env_h) (variables_narrowed m.variables (names false) env_h at_h.are) failing,
+              ),
+              tt,
             ),
             code_then c leaves inside turn code.code (Supplies (surely head)) env_h
                 (begins inside refl env_h at_h (code_fits c leaves inside code.code (Supplies (surely head)))
@@ -241,6 +244,8 @@ module _ (c : Context) (leaves : Leaving) (own : Own leaves) (limit : ℕ) (at :
                 (λ go last at_last. supplies_all m.variables k head last free_head at_last.are (all_under_on head turn_kept.end.locals last end_above (all_under turn_kept.end.locals last at_last.kept))))),
           ),
           behind_end true ks m.variables goal (λ go. go_on (at_start m.variables (surely ks)) (subst (λ ks. At m.variables end.locals (at_start m.variables (surely ks))) (sym is) (point_at m.variables k end.locals free_end typed_end))),
+          tt,
+          tt,
         )
 
     name_apart : name < limit → (s : ℕ) → limit ≤ s → (name == s) ≡ false

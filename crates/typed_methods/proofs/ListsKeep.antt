@@ -104,8 +104,8 @@ module _ (u : PlainTy) (t : ℕ) (before : List PlainLocal) (free : Free t befor
     is_second = subst (λ q. IsVariable m.variables q list_ty) second_is among.1.0
 
     -- the list is copied, and its first place is 0
-    starts : (env : List PlainLocal) → At m.variables with_list env → (rest : PlainFlatStmt) (goal : Asked) → ((after : List PlainLocal) → At m.variables with_both after → stmts_fit c leaves m.variables m.breaks m.continues (flat_stmts_of (rest ∷ [])) goal after)
-        → stmts_fit c leaves m.variables m.breaks m.continues
+    starts : (env : List PlainLocal) → At m.variables with_list env → (rest : PlainFlatStmt) (goal : Asked) → ((after : List PlainLocal) → At m.variables with_both after → stmts_fit c leaves m.variables [] m.breaks m.continues (flat_stmts_of (rest ∷ [])) goal after)
+        → stmts_fit c leaves m.variables [] m.breaks m.continues
         (flat_stmts_of (FSet (t + 2) (PList at PNoExpr) ∷ FSet t (plus at (PVar at (t + 2)) (PVar at t)) ∷ FSet (t + 1) (PInt at (pos 0)) ∷ rest ∷ [])) goal env
     unfolding stmts_fit
     starts env at1 rest goal goes =
@@ -186,23 +186,25 @@ module _ (c : Context) (leaves : Leaving) (own : Own leaves) (limit : ℕ) where
             let among_two : AreAmong m.variables two = among_first m.variables two inside_made among_r in
             let typed_s : TypedAs m.variables s.stage.locals = added_typed c leaves here s gs m.variables among_s typed in
             let typed_ls : TypedAs m.variables ls = λ x v f. (two_add u t before ga.free).only m.variables among_two (λ y z g. typed_s y z (as_ty s.stage.locals y z g)) x v (ty_as ls x v f) in
-            let is_list : IsVariable m.variables t (TList u) = typed_s t (TList u) (as_ty s.stage.locals t (TList u) (ap (option_map (λ (l : PlainLocal). l.ty)) (temporary_local t before (TList u) ga.free))) in
-            code_then c leaves m s.before _ goal env
-            (gs.before m among_s env (to_stands m.variables n w.locals env at') _
-            (λ env1 stands.
-            starts u t before ga.free c leaves at m among_two is_list env1 (from_stands m.variables (t + 1) s.stage.locals env1 gs.free stands) loop goal
-            (λ env2 at2.
-            loop_fits c leaves own limit at name name_at over body named.2 good_body looping floor w n end b variables h ls k up_k kept_w there free m (among_rest m.variables two inside_made among_r) typed typed_ls env2 at2 test
-            (FSet name element ∷ FSet (t + 1) (plus at (PVar at (t + 1)) (PInt at (pos 1))) ∷ []) refl
-            (λ env3 at3.
-            as_has c leaves None TBool env3 test
-            (less_typed c leaves env3 at (PVar at (t + 1)) (PApply at (reserved_number (codes "len")) (PExpr (PVar at t) PNoExpr)) (variable_reads c leaves env3 None at (t + 1) TInt (seen_at m.variables hs env3 (t + 1) TInt at3 (head_type _ ls (t + 1) TInt (place_there u t before ga.free))))
-            (length_typed c leaves env3 at (PVar at t) u (variable_reads c leaves env3 None at t (TList u) (seen_at m.variables hs env3 t (TList u) at3 (head_type _ ls t (TList u) (list_there u t before ga.free)))))))
-            (λ inner same env3 at3 goal2 goes2.
-            counted_turn c leaves own limit at name name_at over body named.2 good_body looping floor w n end b variables h ls k up_k kept_w there free named.0 inner (subst (λ vs. TypedAs vs ls) (sym same) typed_ls) env3 at3 element
-            (index_typed c leaves env3 None at (PVar at t) (PVar at (t + 1)) u (variable_reads c leaves env3 None at t (TList u) (seen_at inner.variables hs env3 t (TList u) at3 (head_type _ ls t (TList u) (list_there u t before ga.free))))
-            (variable_reads c leaves env3 None at (t + 1) TInt (seen_at inner.variables hs env3 (t + 1) TInt at3 (head_type _ ls (t + 1) TInt (place_there u t before ga.free)))))
-            (t + 1) (omega (arith, b.below, up_t)) (place_there u t before ga.free) (subst (λ vs. IsVariable vs (t + 1) TInt) (sym same) among_two.0) goal2 goes2)
-            _ (λ after at_end. goes refl after at_end))));
+            let is_list : IsVariable m.variables t (TList u) = typed_s t (TList u) (as_ty s.stage.locals t (TList u) (ap (option_map (λ (l : PlainLocal). l.ty)) (temporary_local t before (TList u) ga.free))) in (
+              code_then c leaves m s.before _ goal env
+                  (gs.before m among_s env (to_stands m.variables n w.locals env at') _
+                  (λ env1 stands.
+                  starts u t before ga.free c leaves at m among_two is_list env1 (from_stands m.variables (t + 1) s.stage.locals env1 gs.free stands) loop goal
+                  (λ env2 at2.
+                  loop_fits c leaves own limit at name name_at over body named.2 good_body looping floor w n end b variables h ls k up_k kept_w there free m (among_rest m.variables two inside_made among_r) typed typed_ls env2 at2 test
+                  (FSet name element ∷ FSet (t + 1) (plus at (PVar at (t + 1)) (PInt at (pos 1))) ∷ []) refl
+                  (λ env3 at3.
+                  as_has c leaves None TBool env3 test
+                  (less_typed c leaves env3 at (PVar at (t + 1)) (PApply at (reserved_number (codes "len")) (PExpr (PVar at t) PNoExpr)) (variable_reads c leaves env3 None at (t + 1) TInt (seen_at m.variables hs env3 (t + 1) TInt at3 (head_type _ ls (t + 1) TInt (place_there u t before ga.free))))
+                  (length_typed c leaves env3 at (PVar at t) u (variable_reads c leaves env3 None at t (TList u) (seen_at m.variables hs env3 t (TList u) at3 (head_type _ ls t (TList u) (list_there u t before ga.free)))))))
+                  (λ inner same env3 at3 goal2 goes2.
+                  counted_turn c leaves own limit at name name_at over body named.2 good_body looping floor w n end b variables h ls k up_k kept_w there free named.0 inner (subst (λ vs. TypedAs vs ls) (sym same) typed_ls) env3 at3 element
+                  (index_typed c leaves env3 None at (PVar at t) (PVar at (t + 1)) u (variable_reads c leaves env3 None at t (TList u) (seen_at inner.variables hs env3 t (TList u) at3 (head_type _ ls t (TList u) (list_there u t before ga.free))))
+                  (variable_reads c leaves env3 None at (t + 1) TInt (seen_at inner.variables hs env3 (t + 1) TInt at3 (head_type _ ls (t + 1) TInt (place_there u t before ga.free)))))
+                  (t + 1) (omega (arith, b.below, up_t)) (place_there u t before ga.free) (subst (λ vs. IsVariable vs (t + 1) TInt) (sym same) among_two.0) goal2 goes2)
+                  _ (λ after at_end. goes refl after at_end)))),
+              tt,
+            );
       } in
       subst (λ ty. GoodCode c leaves looping floor w n (all_code ty) (coded ty).next end true false) (sym (ap found_ty typed_e)) good

@@ -152,7 +152,7 @@ module _ (tables : List PlainTable) (class number : ℕ) (sig : PlainSig) (m : P
           once = all_once limit (behind locals) locals g.made free.free free.once g.numbered;
           params = subst (λ point. is_point variables point ≡ true) params_are (surely_passes variables limit locals free typed);
           points = g.points variables among typed;
-          types = subst (λ point. Behind variables point (stmts_fit c leaves variables Nowhere Nowhere (flat_stmts_of (flat_of locals).body) (EndsWithNone c))) params_are
+          types = subst (λ point. Behind variables point (stmts_fit c leaves variables [] Nowhere Nowhere (flat_stmts_of (flat_of locals).body) (EndsWithNone c))) params_are
               (g.fits around among typed start (point_at variables limit locals free typed) ways (EndsWithNone c)
               (λ go after there. none_assigned (result_at c) (ends_none (all_go_on (stmts_of m.body)) (has_none (result_at c)) flows.ends go)));
         }

@@ -124,19 +124,21 @@ module _ (c : Context) (leaves : Leaving) (own : Own leaves) (limit : ℕ) where
         fits = λ m among typed env at' ways goal goes.
             let among1 : AreAmong m.variables both.made = among_first m.variables both.made inside_made among in
             let typed_ls : TypedAs m.variables ls = added_typed c leaves here (in_turn (λ (x y : PlainExpr). x) a (λ g. whole at to g)) both m.variables among1 typed in
-            let is_t : IsVariable m.variables t TInt = typed_ls t TInt (added_there c leaves a.stage d gd t TInt (as_ty a.stage.locals t TInt seen_t.1)) in
-            code_then c leaves m (a.before ++ d.before) _ goal env
-            (both.before m among1 env (to_stands m.variables n w.locals env at') _
-            (λ env1 stands.
-            loop_fits c leaves own limit at name name_at over body named.2 good_body looping floor w n end b variables h ls k up_k kept_w there gd.free m (among_rest m.variables both.made inside_made among) typed typed_ls env1 (from_stands m.variables k ls env1 gd.free stands) test
-            (FSet name (PVar at t) ∷ FSet t (plus at (PVar at t) (PInt at (pos 1))) ∷ []) refl
-            (λ env2 at2.
-            as_has c leaves None TBool env2 test
-            (less_typed c leaves env2 at (PVar at t) (PVar at u) (variable_reads c leaves env2 None at t TInt (seen_at m.variables hs env2 t TInt at2 (head_type _ ls t TInt count_t))) (variable_reads c leaves env2 None at u TInt (seen_at m.variables hs env2 u TInt at2 (head_type _ ls u TInt seen_u.0)))))
-            (λ inner same env2 at2 goal2 goes2.
-            counted_turn c leaves own limit at name name_at over body named.2 good_body looping floor w n end b variables h ls k up_k kept_w there gd.free named.0 inner (subst (λ vs. TypedAs vs ls) (sym same) typed_ls) env2 at2 (PVar at t)
-            (subst (λ ty. Typed c leaves None ty env2 (PVar at t)) (sym item_is) (variable_reads c leaves env2 None at t TInt (seen_at inner.variables hs env2 t TInt at2 (head_type _ ls t TInt count_t))))
-            t (omega (arith, b.below, up_t)) count_t (subst (λ vs. IsVariable vs t TInt) (sym same) is_t) goal2 goes2)
-            _ (λ after at_end. goes refl after at_end)));
+            let is_t : IsVariable m.variables t TInt = typed_ls t TInt (added_there c leaves a.stage d gd t TInt (as_ty a.stage.locals t TInt seen_t.1)) in (
+              code_then c leaves m (a.before ++ d.before) _ goal env
+                  (both.before m among1 env (to_stands m.variables n w.locals env at') _
+                  (λ env1 stands.
+                  loop_fits c leaves own limit at name name_at over body named.2 good_body looping floor w n end b variables h ls k up_k kept_w there gd.free m (among_rest m.variables both.made inside_made among) typed typed_ls env1 (from_stands m.variables k ls env1 gd.free stands) test
+                  (FSet name (PVar at t) ∷ FSet t (plus at (PVar at t) (PInt at (pos 1))) ∷ []) refl
+                  (λ env2 at2.
+                  as_has c leaves None TBool env2 test
+                  (less_typed c leaves env2 at (PVar at t) (PVar at u) (variable_reads c leaves env2 None at t TInt (seen_at m.variables hs env2 t TInt at2 (head_type _ ls t TInt count_t))) (variable_reads c leaves env2 None at u TInt (seen_at m.variables hs env2 u TInt at2 (head_type _ ls u TInt seen_u.0)))))
+                  (λ inner same env2 at2 goal2 goes2.
+                  counted_turn c leaves own limit at name name_at over body named.2 good_body looping floor w n end b variables h ls k up_k kept_w there gd.free named.0 inner (subst (λ vs. TypedAs vs ls) (sym same) typed_ls) env2 at2 (PVar at t)
+                  (subst (λ ty. Typed c leaves None ty env2 (PVar at t)) (sym item_is) (variable_reads c leaves env2 None at t TInt (seen_at inner.variables hs env2 t TInt at2 (head_type _ ls t TInt count_t))))
+                  t (omega (arith, b.below, up_t)) count_t (subst (λ vs. IsVariable vs t TInt) (sym same) is_t) goal2 goes2)
+                  _ (λ after at_end. goes refl after at_end))),
+              tt,
+            );
       } in
       subst (λ ty. GoodCode c leaves looping floor w n (FMark ∷ (a.before ++ d.before) ++ range_loop at name t u (surely (head_locals name body ls)) (point_behind c (PFor at name name_at over body) w.locals) (coded ty).code) (coded ty).next end true false) item_is good

@@ -75,7 +75,7 @@ module _ (c : Context) (leaves : Leaving) (own : Own leaves) (limit : ℕ) where
 
     pub pass_good : (at : Place) → flow d w (PPass at) ≡ Ok end → GoodOpened (PPass at) looping floor w n end
     unfolding flow opened goes_on breaks stmts_fit PointsPass
-    pass_good at h = record { made = []; numbered = refl; points = λ variables among typed. (tt, tt); fits = λ m among typed env at' ways goal goes. goes refl env (goes_to m.variables env (same_ok w end h) at') }
+    pass_good at h = record { made = []; numbered = refl; points = λ variables among typed. (tt, tt); fits = λ m among typed env at' ways goal goes. (goes refl env (goes_to m.variables env (same_ok w end h) at'), tt) }
 
     pub break_good : (at : Place) → flow d w (PBreak at) ≡ Ok end → GoodOpened (PBreak at) looping floor w n end
     unfolding flow opened goes_on breaks stmts_fit PointsPass
@@ -85,9 +85,11 @@ module _ (c : Context) (leaves : Leaving) (own : Own leaves) (limit : ℕ) where
           made = [];
           numbered = refl;
           points = λ variables among typed. (tt, (tt, tt));
-          fits = λ m among typed env at' ways goal goes.
-              ways.at_break refl env at'.are
-              (subst (λ (v : Way). MetUnder (shapes v.locals) v.breaks env) is (met_right (shapes w.locals) env w.breaks (way true w.locals) (met_here w.locals env (all_under w.locals env at'.kept))));
+          fits = λ m among typed env at' ways goal goes. (
+            ways.at_break refl env at'.are
+                (subst (λ (v : Way). MetUnder (shapes v.locals) v.breaks env) is (met_right (shapes w.locals) env w.breaks (way true w.locals) (met_here w.locals env (all_under w.locals env at'.kept)))),
+            tt,
+          );
         }
 
     pub continue_good : (at : Place) → flow d w (PContinue at) ≡ Ok end → GoodOpened (PContinue at) looping floor w n end
@@ -96,7 +98,7 @@ module _ (c : Context) (leaves : Leaving) (own : Own leaves) (limit : ℕ) where
       made = [];
       numbered = refl;
       points = λ variables among typed. (tt, (tt, tt));
-      fits = λ m among typed env at' ways goal goes. ways.at_continue (in_a_loop looping (refuse_ok (not looping) LoopWord at (Ok w) end h).0) env at'.are (all_under_on floor w.locals env b.above (all_under w.locals env at'.kept));
+      fits = λ m among typed env at' ways goal goes. (ways.at_continue (in_a_loop looping (refuse_ok (not looping) LoopWord at (Ok w) end h).0) env at'.are (all_under_on floor w.locals env b.above (all_under w.locals env at'.kept)), tt);
     }
       where
         in_a_loop : (a : Bool) → not a ≡ false → a ≡ true
@@ -114,7 +116,7 @@ module _ (c : Context) (leaves : Leaving) (own : Own leaves) (limit : ℕ) where
           numbered = g.numbered;
           points = λ variables among typed. (tt, g.points variables among (are_typed variables w.locals typed));
           fits = λ m among typed env at' ways goal goes.
-              g.before m among env (to_stands m.variables n w.locals env at') goal (λ after there. goes refl after (goes_to m.variables after (same_ok w end p.2) (behind_good c leaves here a m.variables after b.free g there)));
+              (g.before m among env (to_stands m.variables n w.locals env at') goal (λ after there. goes refl after (goes_to m.variables after (same_ok w end p.2) (behind_good c leaves here a m.variables after b.free g there))), tt);
         }
 
     -- Returns
@@ -127,7 +129,7 @@ module _ (c : Context) (leaves : Leaving) (own : Own leaves) (limit : ℕ) where
     unfolding flow opened goes_on breaks stmts_fit PointsPass StmtNames
     return_good at None named h =
         let suits : assignable TNil (result_at c) ≡ true = ap (assignable TNil) (sym (result_here looping)) ∙ return_nothing_ok d w.locals at (no_need (return_fault d w.locals at None) (Ok w) end h).0 in
-        record { made = []; numbered = refl; points = λ variables among typed. (tt, (tt, tt)); fits = λ m among typed env at' ways goal goes. nil_suits env at suits }
+        record { made = []; numbered = refl; points = λ variables among typed. (tt, (tt, tt)); fits = λ m among typed env at' ways goal goes. ((nil_suits env at suits, tt), tt) }
     return_good at (Some e) named h =
         let p : (ty : PlainTy) × (type_at d w.locals (Some (result_at d)) e ≡ Ok ty) × (assignable ty (result_at d) ≡ true) = return_ok d w.locals at e (no_need (return_fault d w.locals at (Some e)) (Ok w) end h).0 in
         let wanted : Option PlainTy = Some (result_at c) in
@@ -139,7 +141,7 @@ module _ (c : Context) (leaves : Leaving) (own : Own leaves) (limit : ℕ) where
           points = λ variables among typed. marked_passes c leaves here a (FGive a.rest) g variables among typed tt;
           fits = λ m among typed env at' ways goal goes.
               marked_fits c leaves here a (λ r. FGive r) g m among env at' goal
-              (λ after there rest. record { ty = p.0; has = record { wanted = wanted; typed = rest.0; stays = rest.1 }; suits = ap (assignable p.0) (sym (result_here looping)) ∙ p.2 });
+              (λ after there rest. (record { ty = p.0; has = record { wanted = wanted; typed = rest.0; stays = rest.1 }; suits = ap (assignable p.0) (sym (result_here looping)) ∙ p.2 }, tt));
         }
 
     -- Failures
@@ -174,7 +176,7 @@ module _ (c : Context) (leaves : Leaving) (own : Own leaves) (limit : ℕ) where
           made = g.made;
           numbered = g.numbered;
           points = λ variables among typed. marked_passes c leaves here a (FFail kind a.rest) g variables among typed tt;
-          fits = λ m among typed env at' ways goal goes. marked_fits c leaves here a (FFail kind) g m among env at' goal (λ after there rest. (omega (arith, kinds.0), omega (arith, kinds.1), rest));
+          fits = λ m among typed env at' ways goal goes. marked_fits c leaves here a (FFail kind) g m among env at' goal (λ after there rest. ((omega (arith, kinds.0), omega (arith, kinds.1), rest), tt));
         }
 
     -- Asserts
@@ -218,15 +220,18 @@ module _ (c : Context) (leaves : Leaving) (own : Own leaves) (limit : ℕ) where
               let tail : Asked = code_fits c leaves m (FFail 3 a.rest ∷ []) (Supplies behind) in
               let start : List PlainLocal = at_start m.variables (surely w.locals) in (
                 (
-                  gt.sides m (among_first m.variables gt.made g.made among) env (to_stands m.variables n w.locals env at') (Supplies behind) (Supplies (surely w.locals))
-                      (λ after least. supplies m.variables n ls after (free_narrowed n n (shown true test) w.locals (omega arith) b.free) least)
-                      (λ after least. supplies m.variables n w.locals after b.free (forgotten_least m.variables n n (shown false test) w.locals after (omega arith) least)),
-                  supplies_all m.variables t.next ls (at_start m.variables behind) free_true at_true.are (all_under ls (at_start m.variables behind) at_true.kept),
-                  code_then c leaves m a.before (FFail 3 a.rest ∷ []) (Supplies behind) start
-                      (g.before m (among_rest m.variables gt.made g.made among) start (to_stands m.variables t.next w.locals start at_false) tail
-                      (λ after there. (omega arith, omega arith, g.rest after there.alike))),
+                  (
+                    gt.sides m (among_first m.variables gt.made g.made among) env (to_stands m.variables n w.locals env at') (Supplies behind) (Supplies (surely w.locals))
+                        (λ after least. supplies m.variables n ls after (free_narrowed n n (shown true test) w.locals (omega arith) b.free) least)
+                        (λ after least. supplies m.variables n w.locals after b.free (forgotten_least m.variables n n (shown false test) w.locals after (omega arith) least)),
+                    supplies_all m.variables t.next ls (at_start m.variables behind) free_true at_true.are (all_under ls (at_start m.variables behind) at_true.kept),
+                    code_then c leaves m a.before (FFail 3 a.rest ∷ []) (Supplies behind) start
+                        (g.before m (among_rest m.variables gt.made g.made among) start (to_stands m.variables t.next w.locals start at_false) tail
+                        (λ after there. ((omega arith, omega arith, g.rest after there.alike), tt))),
+                  ),
+                  goes refl (at_start m.variables behind) (at_as m.variables ls end.locals (at_start m.variables behind) (ap (λ (v : Way). v.locals) (same_ok (on w ls) end q.1)) at_true),
                 ),
-                goes refl (at_start m.variables behind) (at_as m.variables ls end.locals (at_start m.variables behind) (ap (λ (v : Way). v.locals) (same_ok (on w ls) end q.1)) at_true),
+                tt,
               );
         }
 
@@ -258,9 +263,12 @@ module _ (c : Context) (leaves : Leaving) (own : Own leaves) (limit : ℕ) where
                 are = stored_variables m.variables x.name.0 t q.ty after before.are variable;
                 kept = stored_there x.name.0 q.first q.ty q.ty w.locals after (variable_typed m.variables after x.name.0 t before.are variable) before.kept;
               } in (
-                q.ty,
-                record { wanted = wanted; typed = rest.0; stays = rest.1 },
-                takes m.variables x.name.0 t q.ty after before.are variable q.suits (no_more c leaves m goal) (no_more_is c leaves m goal after2 (goes refl after2 (at_as m.variables _ end.locals after2 is behind))),
+                (
+                  q.ty,
+                  record { wanted = wanted; typed = rest.0; stays = rest.1 },
+                  takes m.variables x.name.0 t q.ty after before.are variable q.suits (no_more c leaves m goal) (no_more_is c leaves m goal after2 (goes refl after2 (at_as m.variables _ end.locals after2 is behind))),
+                ),
+                tt,
               ));
         }
       where
@@ -285,7 +293,10 @@ module _ (c : Context) (leaves : Leaving) (own : Own leaves) (limit : ℕ) where
           fits = λ m among typed env at' ways goal goes.
               marked_fits c leaves here a (store (Field f)) g m among env at' goal
               (λ after stands rest. (
-                record { ty = q.0; is = q.2; fits = record { ty = q.1; has = record { wanted = wanted; typed = rest.0; stays = rest.1 }; suits = q.4 } },
-                no_more_is c leaves m goal after (goes refl after (at_as m.variables w.locals end.locals after is (behind_good c leaves here a m.variables after b.free g stands))),
+                (
+                  record { ty = q.0; is = q.2; fits = record { ty = q.1; has = record { wanted = wanted; typed = rest.0; stays = rest.1 }; suits = q.4 } },
+                  no_more_is c leaves m goal after (goes refl after (at_as m.variables w.locals end.locals after is (behind_good c leaves here a m.variables after b.free g stands))),
+                ),
+                tt,
               ));
         }

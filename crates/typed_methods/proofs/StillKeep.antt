@@ -80,7 +80,9 @@ module _ (c : Context) (leaves : Leaving) (limit : ℕ) (outside : c.in_loop ≡
         let there : TypedThere w.locals env = typed_env m.variables w.locals env typed at.are in
         let loops : LoopsToo (jumps x) looping false = λ j t. absurd (true≢false (sym j ∙ (either_false (stmt_suspends leaves x) (jumps x) stays).1)) in
         let kept : GoesSo (way_at end.locals anew.0) (begun env) (flow (in_loop_if c false) (begun env) x) =
-        stmt_kept c limit x looping false (begun w.locals) (begun env) (way_at end.locals anew.0) named loops (begun_ahead w.locals env at.kept) (typed_env m.variables end.locals env (typed_same m.variables w.locals end.locals same typed) at.are) anew.1 in
-        code_stays env kept.end (no_more c leaves m goal) kept.is (each_there w.locals env (assigns x) there variables)
-        (λ go. no_more_is c leaves m goal kept.end.locals (goes go kept.end.locals (record { are = are_same m.variables env kept.end.locals kept.same at.are; kept = kept.ahead.kept })));
+        stmt_kept c limit x looping false (begun w.locals) (begun env) (way_at end.locals anew.0) named loops (begun_ahead w.locals env at.kept) (typed_env m.variables end.locals env (typed_same m.variables w.locals end.locals same typed) at.are) anew.1 in (
+          code_stays env kept.end (no_more c leaves m goal) kept.is (each_there w.locals env (assigns x) there variables)
+              (λ go. no_more_is c leaves m goal kept.end.locals (goes go kept.end.locals (record { are = are_same m.variables env kept.end.locals kept.same at.are; kept = kept.ahead.kept }))),
+          tt,
+        );
   }

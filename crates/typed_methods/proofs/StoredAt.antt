@@ -76,9 +76,9 @@ head_type names locals x t h = head_seen names locals x ∙ ap (option_map (forg
 module _ (c : Context) (leaves : Leaving) where
   -- a variable takes a value
   pub set_fits : (m : Around) (x : ℕ) (e : PlainExpr) (s t : PlainTy) (env : List PlainLocal) → HasType c leaves env e s → AreVariables m.variables env → IsVariable m.variables x t → assignable s t ≡ true → (goal : Asked) → goal (with_local x s s env)
-      → stmt_fits c leaves m.variables m.breaks m.continues (FSet x e) goal env
+      → stmt_fits c leaves m.variables [] m.breaks m.continues (FSet x e) goal env
   unfolding stmt_fits
-  set_fits m x e s t env has are is suits goal goes = (s, has, takes m.variables x t s env are is suits goal goes)
+  set_fits m x e s t env has are is suits goal goes = ((s, has, takes m.variables x t s env are is suits goal goes), tt)
 
   pub as_has : (wanted : Option PlainTy) (t : PlainTy) (env : List PlainLocal) (e : PlainExpr) → Typed c leaves wanted t env e → HasType c leaves env e t
   as_has wanted t env e h = record { wanted = wanted; typed = h.0; stays = h.1 }

@@ -114,7 +114,7 @@ module _ (c : Context) (leaves : Leaving) where
   -- a test that always holds leads to where it holds
   always_leads : (m : Around) (test : PlainFlatTest) (yes' no' : Asked) (env : List PlainLocal) → always test ≡ true → (asked_of c leaves test).fits m yes' no' env → yes' (narrowed [] env)
   unfolding test_fits
-  always_leads m (FLeaf FNoStmt e) yes' no' env is h = holds_only e yes' no' env is h.1
+  always_leads m (FLeaf FNoStmt e) yes' no' env is h = holds_only e yes' no' env is h.0.1
   always_leads m (FLeaf (FStmt x xs) e) yes' no' env is h = absurd (true≢false (sym is))
   always_leads m (FNot test) yes' no' env is h = absurd (true≢false (sym is))
   always_leads m (FAnd operands) yes' no' env is h = absurd (true≢false (sym is))
@@ -218,17 +218,22 @@ module _ (c : Context) (leaves : Leaving) (own : Own leaves) (limit : ℕ) where
             let met : MetUnder (shapes p.end.locals) (way (not (is_true test)) ns) there =
             subst (λ ks. MetUnder ks (way (not (is_true test)) ns) there) (to_ns ∙ sym to_ss ∙ sym end_shapes) (subst (λ o. MetUnder (shapes ns) (way o ns) there) (sym open') (met_here ns there under)) in
             ends there (or_left (not (is_true test)) (break_in body) open') least.are (behind_met there (met_left (shapes p.end.locals) there (way (not (is_true test)) ns) p.end.breaks met)) in
-            let loop : (o : Bool) → always t.test ≡ o → LoopFits m.variables o head (surely ss) after (λ yes' no' locals. test_fits c leaves m.variables m.breaks m.continues t.test yes' no' locals)
-            (λ locals. stmts_fit c leaves m.variables (Ends after) (Supplies head) (flat_stmts_of f.code) (Supplies head) locals) =
+            let loop : (o : Bool) → always t.test ≡ o → LoopFits m.variables o head (surely ss) after (λ yes' no' locals. test_fits c leaves m.variables [] m.breaks m.continues t.test yes' no' locals)
+            (λ locals. stmts_fit c leaves m.variables [] (Ends after) (Supplies head) (flat_stmts_of f.code) (Supplies head) locals) =
             loops m.variables head (surely ss) after _ _ (always t.test) (λ yes'. body_fits env_h (always_fits yes'))
             (λ no'. (
               gt.sides m among1 env_h (to_stands m.variables n hs env_h at_h) (Supplies (surely ss)) (Ends after)
                   (λ there least. supplies m.variables n ss there (free_narrowed n n (shown true test) hs (omega arith) free_h) least) (failing no'),
               body_fits env_s at_s,
             )) in (
-              supplies_all m.variables n hs env free_h at'.are (all_under_on hs w.locals env (head_under (assigned_in body) w.locals) (all_under w.locals env at'.kept)),
-              loop (always t.test) refl,
-              behind_end goes_here ls m.variables goal
-                  (λ go. go_on go (at_start m.variables (surely ls)) (subst (λ ks. At m.variables end.locals (at_start m.variables (surely ks))) (sym is) (point_at m.variables f.next end.locals free typed_end))),
+              (
+                supplies_all m.variables n hs env free_h at'.are (all_under_on hs w.locals env (head_under (assigned_in body) w.locals) (all_under w.locals env at'.kept)),
+                loop (always t.test) refl,
+                behind_end goes_here ls m.variables goal
+                    (λ go. go_on go (at_start m.variables (surely ls)) (subst (λ ks. At m.variables end.locals (at_start m.variables (surely ks))) (sym is) (point_at m.variables f.next end.locals free typed_end))),
+                tt,
+                tt,
+              ),
+              tt,
             );
       }

@@ -2,7 +2,7 @@
 --
 -- The variables of a flat method are the locals that the rules find in the method, and the temporaries that are made where calls come out of
 -- its statements, numbered one after another behind the names.
-use Rattle.std.specs.Prelude.{◌≡◌, ℕ, Bool, true, List, ◌++◌, map, length}
+use Rattle.std.specs.Prelude.{◌≡◌, ℕ, Bool, true, List, [], ◌++◌, map, length}
 use Rattle.py_tree.specs.PlainProgram.{PlainMethod, PlainProgram}
 use Rattle.py_tree.specs.PlainStatements.{stmts_of}
 use Rattle.py_tree.specs.FlowEnvironment.{PlainLocal}
@@ -35,7 +35,7 @@ pub record KeepsTypes (c : Context) (leaves : Leaving) (first next : ℕ) (local
   pub params : is_point (variables_of locals made) flat.params ≡ true
   pub types :
       Behind (variables_of locals made) flat.params
-      (stmts_fit c leaves (variables_of locals made) Nowhere Nowhere (flat_stmts_of flat.body) (EndsWithNone c))
+      (stmts_fit c leaves (variables_of locals made) [] Nowhere Nowhere (flat_stmts_of flat.body) (EndsWithNone c))
   pub points : PointsPassInAll (is_point (variables_of locals made)) (flat_stmts_of flat.body)
 
 module _ (names : List (List ℕ)) (program : PlainProgram) (marks : List (List Bool)) (class number : ℕ) (m : PlainMethod) where

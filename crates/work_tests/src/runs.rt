@@ -1,6 +1,7 @@
 //! What runs on generated work come to, in their lines.
 
 ghost use Rattle.std.specs.Prelude.{◌≤◌};
+ghost use Rattle.operator_graph.specs.Partitions.{IsParts};
 
 use generated_run::{GenSettings, Summary, run_generated, write_summary};
 use operator_graph::NoWatch;
@@ -26,8 +27,7 @@ fn line_of(alloc: Global, settings: &GenSettings, picks: &[u32]) -> Result<Strin
     requires size { settings.now.size ≤ 100000 }
     requires some { 1 ≤ settings.now.batch }
     requires batch { settings.now.batch ≤ 256 }
-    requires least { 1 ≤ settings.now.parts }
-    requires most { settings.now.parts ≤ 64 }
+    requires parts { IsParts settings.now.parts }
 {
     let mut chooser = ListChooser::new(alloc, picks)?;
     let mut watch = NoWatch;

@@ -1,11 +1,10 @@
-use Rattle.std.proofs.Common.{ℕ, refl, ap, ◌∙◌, subst}
+use Rattle.std.proofs.Common.{refl, ap, ◌∙◌, subst}
 use Rattle.block_step.specs.CompiledViews.{compiled_tables, compiled_blocks}
 use Rattle.operator_graph.specs.Turns.{Outside}
-use Rattle.reservations.specs.BatchRule.{batch_rule}
 use Rattle.engine.specs.EngineViews.{core_of, compiled_of}
-use Rattle.batch_session.specs.Vocabulary.{service_of, limits_of, settings_of, logged_of}
-use Rattle.batch_session.specs.declared.settings.Settings.{Settings}
-use Rattle.batch_session.specs.Served.{View, Served, LogsServed}
+use Rattle.batch_session.specs.Vocabulary.{Settings, service_of, settings_of, logged_of}
+use Rattle.batch_session.specs.Served.{View, Served}
+use Rattle.batch_run.specs.RunViews.{rule_of}
 use Rattle.batch_run.specs.RunEvents.{Starts}
 use Rattle.batch_run.proofs.GraphLaws.{graph_told}
 use Rattle.batch_run.proofs.RunLaws.{runs_so}
@@ -13,7 +12,7 @@ use Rattle.batch_run.proofs.running.run_opened.Goals as goal
 
 pub returns-clause-runs : goal.returns-clause-runs
 returns-clause-runs g c =
-    let e = c.args.engine.now in
+    let e = c.args.stored.now.engine in
     let left = g.S.Source.left c.args.input.now in
     let held = g.K.Sink.held c.args.out.now in
     let said = g.E.Sink.held c.args.err.now in
@@ -35,18 +34,6 @@ returns-clause-runs g c =
           (c.graph.ensures.blocks ∙ ap compiled_blocks c.compiled.ensures) c.graph-2.ensures;
     } in
     runs_so (compiled_of e) c.requires.whole c.args.settings.now c.serve.result c.requires.serves.few e (record { compiled_is = refl; limit_is = c.requires.history })
-    c.requires.few left held said before started new starts
-    (subst (λ (t : Settings). Served (service_of e batch_rule t.batch t.parts) t.trace t.limit c.serve.result old new) c.session.ensures c.serve.ensures.served)
-
-pub returns-clause-logs : goal.returns-clause-logs
-returns-clause-logs g c =
-    let e = c.args.engine.now in
-    let s = c.args.settings.now in
-    let stored = settings_of c.args.store.now in
-    let left = g.S.Source.left c.args.input.now in
-    let left' = g.S.Source.left c.serve.new.input in
-    let last = logged_of c.serve.new.engine in
-    let old = g.D.Disk.facts c.args.disk.now in
-    let new = g.D.Disk.facts c.serve.new.disk in
-    subst (λ (n : ℕ). LogsServed (record { compiled = compiled_of e; parts = s.partitions; rule = batch_rule; limits = limits_of s.batch n }) stored s.limit (core_of e) left left' (logged_of e) last old new) c.requires.history
-    (subst (λ (t : Settings). LogsServed (service_of e batch_rule t.batch t.parts) stored t.limit (core_of e) left left' (logged_of e) last old new) c.session.ensures c.serve.ensures.logs)
+    c.requires.fits c.requires.few (settings_of c.args.stored.now.store) left held said before started new _ _ _ _ starts
+    (subst (λ (t : Settings). Served (service_of e (rule_of c.args.settings.now) t.batch t.parts) t.trace (settings_of c.args.stored.now.store) t.limit c.serve.result old new
+    (logged_of e) (logged_of c.serve.new.engine) (g.D.Disk.facts c.args.disk.now) (g.D.Disk.facts c.serve.new.disk)) c.session.ensures c.serve.ensures.served)

@@ -4,14 +4,14 @@ use Rattle.engine.specs.EngineViews.{core_of, source_of}
 use Rattle.session_store.specs.Stores.{settings_of}
 use Rattle.session_store.specs.Vocabulary.{logged_of}
 use Rattle.session_steps.specs.Vocabulary.{service_of}
-use Rattle.session_steps.proofs.Vocabulary.{same_service, Logs-still}
+use Rattle.session_steps.proofs.Vocabulary.{same_service, Logs-still, stays, then_goes}
 use Rattle.session_steps.proofs.LoggedSteps.{Logged-run}
 use Rattle.batch_session.proofs.LoggedLaws.{Logged-same, Logged-over, Logged-stop}
 use Rattle.session_steps.specs.Doings.{LogsSteps}
 use Rattle.session_steps.proofs.Composing.{Comes-passed, Comes-same}
 use Rattle.session_steps.proofs.Endings.{runs as run_steps, Ending-none, Ending-more, more_count, Ending-over, Ending-stop}
 use Rattle.batch_session.proofs.RunLaws.{some_wait}
-use Rattle.batch_session.proofs.StateLaws.{stays, then_goes, passed_on, unwritten, then_writes, passed_writes}
+use Rattle.batch_session.proofs.StateLaws.{passed_on, unwritten, then_writes, passed_writes}
 use Rattle.batch_session.proofs.ending.run_waiting.Goals as goal
 
 pub batches-init : goal.batches-init
@@ -19,10 +19,10 @@ batches-init g c = record {
   ending = λ lines. (
     Ending-none (service_of c.args.engine.now (g.R.CommitRule.choice c.args.terms.now.rule.now) c.args.terms.now.settings.now.batch c.args.terms.now.settings.now.parts) c.args.terms.now.settings.now.trace _,
     Logs-still (source_of c.args.engine.now) (g.R.CommitRule.choice c.args.terms.now.rule.now) c.args.store.now _ (logged_of c.args.engine.now) (logged_of c.args.engine.now) (g.D.Disk.facts c.args.disk.now) refl
-        c.requires.ready.kept,
+        c.requires.ready.can_go_on.kept,
   );
   ready = c.requires.ready;
-  goes_on = stays (g.R.CommitRule.choice c.args.terms.now.rule.now) _ _ c.requires.ready;
+  goes_on = stays (g.R.CommitRule.choice c.args.terms.now.rule.now) _ c.requires.ready.can_go_on;
   writes = unwritten _ _;
 }
 

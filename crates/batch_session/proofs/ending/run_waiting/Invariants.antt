@@ -2,11 +2,11 @@ use Rattle.std.proofs.Common.{ℕ, false, length}
 use Rattle.engine.specs.EngineViews.{core_of}
 use Rattle.session_store.specs.Vocabulary.{logged_of}
 use Rattle.session_store.specs.Stores.{settings_of}
-use Rattle.session_steps.specs.Vocabulary.{service_of}
+use Rattle.session_steps.specs.Vocabulary.{service_of, state_of, GoesOn}
 use Rattle.session_steps.specs.Doings.{LogsSteps}
 use Rattle.session_steps.proofs.Endings.{Ending, runs}
 use Rattle.batch_session.specs.Points.{point_of}
-use Rattle.batch_session.specs.SessionStates.{state_of, IsReady, GoesOn, WritesOn}
+use Rattle.batch_session.specs.SessionStates.{IsReady, WritesOn}
 use Rattle.batch_session.proofs.ending.run_waiting.Given as goal
 
 -- each batch commits a request

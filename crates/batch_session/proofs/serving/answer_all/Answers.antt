@@ -13,7 +13,7 @@ use Rattle.session_steps.specs.declared.tally.Tally.{Tally}
 use Rattle.session_steps.specs.Steps.{Answer, last_steps, open_at}
 use Rattle.session_steps.specs.Doings.{Point}
 use Rattle.session_steps.proofs.Composing.{same_point}
-use Rattle.session_steps.proofs.Vocabulary.{same_service, Logs-still}
+use Rattle.session_steps.proofs.Vocabulary.{same_service, Logs-still, stays, then_goes, fails_alike}
 use Rattle.batch_session.specs.declared.serving.SessionFault.{SessionFault}
 use Rattle.batch_session.specs.Faults.{is_disk_fault, disk_failed, write_failed}
 use Rattle.batch_session.specs.Points.{point_of}
@@ -21,7 +21,7 @@ use Rattle.batch_session.specs.Served.{View, view_of, first_point}
 use Rattle.batch_session.specs.SessionStates.{IsReady}
 use Rattle.batch_session.proofs.Reaching.{Reaches-by}
 use Rattle.batch_session.proofs.GoingLaws.{Going-new, Going-line, At-a-line, At-the-end, At-no-memory, At-a-fault, At-the-limit}
-use Rattle.batch_session.proofs.StateLaws.{stays, then_goes, fails_alike, unwritten, then_writes, writes_alike, fault_alike, write_alike, end_fails_alike, end_writes_alike, end_in_cycle}
+use Rattle.batch_session.proofs.StateLaws.{unwritten, then_writes, writes_alike, fault_alike, write_alike, end_fails_alike, end_writes_alike, end_in_cycle}
 use Rattle.batch_session.proofs.serving.answer_all.Goals as goal
 
 pub lines-init : goal.lines-init
@@ -38,11 +38,11 @@ lines-init g c =
     record {
       going = Going-new v traces (settings_of c.args.store.now) limit old.left (first_point old) first (logged_of e) (g.D.Disk.facts c.args.disk.now) new.reader
           (same_point (first_point old) first refl new.lines refl refl refl new.tally)
-          (Logs-still (source_of e) rule c.args.store.now _ (logged_of e) (logged_of e) (g.D.Disk.facts c.args.disk.now) refl c.requires.ready.kept);
+          (Logs-still (source_of e) rule c.args.store.now _ (logged_of e) (logged_of e) (g.D.Disk.facts c.args.disk.now) refl c.requires.ready.can_go_on.kept);
       lines = omega (arith, new.lines, new.reader.room, ap length new.reader.piece);
       read = omega arith;
       ready = subst (IsReady _) (sym (ap (λ (t : Tally). t.batches) new.tally)) c.requires.ready;
-      goes_on = stays rule _ _ c.requires.ready;
+      goes_on = stays rule _ c.requires.ready.can_go_on;
       writes = unwritten _ _;
     }
 

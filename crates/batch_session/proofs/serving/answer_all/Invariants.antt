@@ -1,10 +1,10 @@
 use Rattle.std.proofs.Common.{false, ◌≤◌, ◌+◌, length}
 use Rattle.session_store.specs.Vocabulary.{logged_of}
 use Rattle.session_store.specs.Stores.{settings_of}
-use Rattle.session_steps.specs.Vocabulary.{service_of}
+use Rattle.session_steps.specs.Vocabulary.{service_of, state_of, GoesOn}
 use Rattle.batch_session.specs.Points.{point_of}
 use Rattle.batch_session.specs.Served.{view_of, first_point}
-use Rattle.batch_session.specs.SessionStates.{state_of, IsReady, GoesOn, WritesOn}
+use Rattle.batch_session.specs.SessionStates.{IsReady, WritesOn}
 use Rattle.batch_session.proofs.GoingLaws.{Going}
 use Rattle.batch_session.proofs.serving.answer_all.Given as goal
 

@@ -1,8 +1,10 @@
 use Rattle.std.proofs.Common.{sym, arith}
+use Rattle.session_store.specs.Stores.{settings_of}
 use Rattle.session_steps.specs.Vocabulary.{service_of}
+use Rattle.session_steps.proofs.Vocabulary.{fails_alike}
 use Rattle.batch_session.specs.Served.{view_of}
 use Rattle.batch_session.proofs.ServeLaws.{Served-flushed}
-use Rattle.batch_session.proofs.StateLaws.{fails_alike, flushed_cause}
+use Rattle.batch_session.proofs.StateLaws.{flushed_cause}
 use Rattle.batch_session.proofs.serving.serve.Goals as goal
 
 pub returns-clause-served : goal.returns-clause-served
@@ -11,19 +13,16 @@ returns-clause-served g c =
     let old = view_of c.args.engine.now (g.S.Source.left c.args.input.now) (g.K.Sink.held c.args.out.now) (g.E.Sink.held c.args.err.now) (g.C.Chooser.choices c.args.chooser.now) (g.W.Watch.told c.args.watch.now) in
     let made = c.answer_all-served.new in
     let mid = view_of made.engine (g.S.Source.left made.input) (g.K.Sink.held made.out) (g.E.Sink.held made.err) (g.C.Chooser.choices made.chooser) (g.W.Watch.told made.watch) in
-    Served-flushed v c.args.settings.now.trace c.args.settings.now.limit c.answer_all-served.result c.flushed.result old mid (g.K.Sink.held c.flushed.new.out)
-    c.flushed.ensures.flushed c.flushed.ensures.kept c.answer_all-served.ensures.serves.served
+    Served-flushed v c.args.settings.now.trace (settings_of c.args.store.now) c.args.settings.now.limit old mid (g.K.Sink.held c.flushed.new.out) _ _ _ _
+    c.answer_all-served.result c.flushed.result c.flushed.ensures.flushed c.flushed.ensures.kept c.answer_all-served.ensures.serves
 
 pub answer_all-served-requires-clause-range : goal.answer_all-served-requires-clause-range
-answer_all-served-requires-clause-range g c = record { batch = c.requires.batch; least = c.requires.least; most = c.requires.most }
+answer_all-served-requires-clause-range g c = record { batch = c.requires.batch; parts = c.requires.parts }
 
 pub answer_all-served-requires-clause-ready : goal.answer_all-served-requires-clause-ready
 answer_all-served-requires-clause-ready g c = record {
-  whole = c.requires.whole;
   few = c.requires.few;
-  fits = c.requires.fits;
-  storable = c.requires.storable;
-  kept = c.requires.kept;
+  can_go_on = record { whole = c.requires.whole; fits = c.requires.fits; storable = c.requires.storable; kept = c.requires.kept };
   in_cycle = c.requires.in_cycle;
 }
 
@@ -63,6 +62,3 @@ returns-clause-kept g c = (fails_alike (g.R.CommitRule.choice c.args.rule.now) _
 
 pub returns-clause-disk_cause : goal.returns-clause-disk_cause
 returns-clause-disk_cause g c = (fails_alike (g.R.CommitRule.choice c.args.rule.now) _ _ _ _ (sym c.flushed.ensures.disk) c.answer_all-served.ensures.goes_on).cause
-
-pub returns-clause-logs : goal.returns-clause-logs
-returns-clause-logs g c = c.answer_all-served.ensures.serves.logs

@@ -1,4 +1,4 @@
-use Rattle.flat_tree.specs.PlainFlat.{plain_flat_stmt, plain_flat_arm, plain_operand}
+use Rattle.flat_tree.specs.PlainFlat.{plain_flat_stmt, plain_flat_arm, plain_flat_clause, plain_operand}
 use Rattle.py_tree.proofs.CopyLaws.{map_step}
 use Rattle.flat_tree.proofs.copy.+copy_flat.Goals as goal
 
@@ -10,3 +10,6 @@ copy_arms-loop-arm-preserved t c = map_step plain_flat_arm c.as_slice-arm-items.
 
 pub copy_operands-loop-operand-preserved : goal.copy_operands-loop-operand-preserved
 copy_operands-loop-operand-preserved t c = map_step plain_operand c.as_slice-operand-items.result.now c.loop-operand.made c.push.new.self c.loop-operand.operand-index c.operand-item.result c.in_ok-copy_operand.field-0 c.loop-operand.invariant c.loop-operand-test.true c.operand-item.is c.in_ok-copy_operand.ensures c.in_ok-push.ensures.ok
+
+pub copy_clauses-loop-clause-preserved : goal.copy_clauses-loop-clause-preserved
+copy_clauses-loop-clause-preserved t c = map_step plain_flat_clause c.as_slice-clause-items.result.now c.loop-clause.made c.push.new.self c.loop-clause.clause-index c.clause-item.result c.in_ok-copy_clause.field-0 c.loop-clause.invariant c.loop-clause-test.true c.clause-item.is c.in_ok-copy_clause.ensures c.in_ok-push.ensures.ok

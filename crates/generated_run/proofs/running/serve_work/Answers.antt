@@ -41,7 +41,7 @@ tally_of-requires g c =
     let undisked =
     never_failed batch_rule c.serve-served.new.store (source_of e) (core_of e) (fresh_of e) untold (disk_failed c.serve-served.result)
     c.serve-served.ensures.settings c.serve-served.ensures.disk_cause in
-    no_fault v c.args.input.now old new c.serve-served.new.input.left.now c.requires.empty refl refl (λ batch short. batch_rule_is_lawful batch)
+    no_fault v c.args.input.now old new c.serve-served.new.input.left.now c.requires.empty refl refl _ _ _ _ _ (λ batch short. batch_rule_is_lawful batch)
     c.requires.history (few c.args.settings.now c.args.input.now c.requires.size c.requires.input).lines c.serve-served.result
     c.serve-served.ensures.served (λ is. omega (arith, c.serve-served.ensures.read_cause is))
     (λ is. elim (c.serve-served.ensures.write_cause is) [ inl rose ↦ omega (arith, rose) | inr rose ↦ omega (arith, rose) ]) undisked
@@ -68,7 +68,7 @@ returns g c =
     let same : v ≡ service_by c.args.settings.now (compiled_of c.args.engine.now) = ap By c.requires.history in
     let Here : Service → Result Tally AllocError → Type 0 = λ w r. Serves w c.args.input.now r new.core old.outside new.outside in
     let served =
-    serves_work v c.args.input.now old new c.serve-served.new.input.left.now c.requires.empty refl refl (λ batch short. batch_rule_is_lawful batch)
+    serves_work v c.args.input.now old new c.serve-served.new.input.left.now c.requires.empty refl refl _ _ _ _ _ (λ batch short. batch_rule_is_lawful batch)
     c.requires.history (few c.args.settings.now c.args.input.now c.requires.size c.requires.input).lines c.steps_print.ensures c.comes_begin.ensures
     c.serve-served.result c.serve-served.ensures.served (λ is. omega (arith, c.serve-served.ensures.read_cause is))
     (λ is. elim (c.serve-served.ensures.write_cause is) [ inl rose ↦ omega (arith, rose) | inr rose ↦ omega (arith, rose) ]) undisked

@@ -6,16 +6,17 @@ use Rattle.engine.specs.EngineViews.{core_of, source_of, limit_of}
 use Rattle.batch_replies.specs.Vocabulary.{settings_of, logged_of}
 use Rattle.batch_replies.specs.BatchAnswers.{runs_on}
 use Rattle.batch_replies.specs.Moments.{Logs}
+use Rattle.batch_replies.proofs.GoingLaws.{stays, fails_alike}
 use Rattle.batch_replies.proofs.MomentLaws.{Logs-still}
-use Rattle.line_answers.specs.Services.{service_of}
+use Rattle.line_answers.specs.Services.{service_by}
 use Rattle.line_answers.specs.LineAnswers.{Move, Moment, moment_of, ran_by, Moves}
-use Rattle.line_answers.proofs.TakenLaws.{batch_moved, where_ok}
+use Rattle.line_answers.proofs.TakenLaws.{batch_moved, fails_so, where_ok}
 use Rattle.line_answers.proofs.answering.answer_taken.Goals as goal
 
 pub returns-clause-answers : goal.returns-clause-answers
-returns-clause-answers g c = λ size.
+returns-clause-answers g c =
     let e = c.args.engine.now in
-    let v = service_of e (g.R.CommitRule.choice c.args.rule.now) size c.args.parts in
+    let v = service_by e (g.R.CommitRule.choice c.args.terms.now.rule.now) c.args.terms.now.settings.now in
     let lines = cons_option c.args.taken.answer [] in
     let m : Move = record { answer = lines; core = core_of e; is_due = c.args.taken.is_due } in
     let old : Moment = moment_of e (g.K.Sink.held c.args.out.now) (g.C.Chooser.choices c.args.chooser.now) (g.W.Watch.told c.args.watch.now) in
@@ -23,25 +24,36 @@ returns-clause-answers g c = λ size.
     subst (λ r. Moves v r m old new) (sym c.line_result.ensures)
     (batch_moved v c.answer_batch.result m old new (g.K.Sink.held c.write_answer.new.out) c.if-not-is_due.false
     (where_ok c.write_answer.result (Appends (g.K.Sink.held c.args.out.now) (g.K.Sink.held c.write_answer.new.out) (joined lines)) c.if-is_err.ensures.value c.write_answer.ensures.whole)
-    (c.answer_batch.ensures.answers size) c.answer_batch.ensures.told)
+    (c.answer_batch.ensures.answers c.args.terms.now.settings.now.batch) c.answer_batch.ensures.told)
+
+pub returns-then-is_err-clause-goes_on : goal.returns-then-is_err-clause-goes_on
+returns-then-is_err-clause-goes_on g c = stays (g.R.CommitRule.choice c.args.terms.now.rule.now) _ c.requires.ready
+
+pub returns-then-not-is_due-clause-goes_on : goal.returns-then-not-is_due-clause-goes_on
+returns-then-not-is_due-clause-goes_on g c = stays (g.R.CommitRule.choice c.args.terms.now.rule.now) _ c.requires.ready
+
+pub returns-clause-goes_on : goal.returns-clause-goes_on
+returns-clause-goes_on g c =
+    fails_alike (g.R.CommitRule.choice c.args.terms.now.rule.now) _ _ _ _ (fails_so c.answer_batch.result c.line_result.result c.line_result.ensures) c.answer_batch.ensures.goes_on
 
 pub returns-then-is_err-clause-logs : goal.returns-then-is_err-clause-logs
-returns-then-is_err-clause-logs g c = λ size.
+returns-then-is_err-clause-logs g c =
     let e = c.args.engine.now in
-    let rule = g.R.CommitRule.choice c.args.rule.now in
-    Logs-still (source_of e) rule c.args.store.now (ran_by (service_of e rule size c.args.parts) (record { answer = cons_option c.args.taken.answer []; core = core_of e; is_due = c.args.taken.is_due }))
-    (logged_of e) (logged_of e) (g.D.Disk.facts c.args.disk.now) refl c.requires.kept
+    let rule = g.R.CommitRule.choice c.args.terms.now.rule.now in
+    Logs-still (source_of e) rule c.args.store.now (ran_by (service_by e rule c.args.terms.now.settings.now) (record { answer = cons_option c.args.taken.answer []; core = core_of e; is_due = c.args.taken.is_due }))
+    (logged_of e) (logged_of e) (g.D.Disk.facts c.args.disk.now) refl c.requires.ready.kept
 
 pub returns-then-not-is_due-clause-logs : goal.returns-then-not-is_due-clause-logs
-returns-then-not-is_due-clause-logs g c = λ size.
+returns-then-not-is_due-clause-logs g c =
     let e = c.args.engine.now in
-    let rule = g.R.CommitRule.choice c.args.rule.now in
-    Logs-still (source_of e) rule c.args.store.now (ran_by (service_of e rule size c.args.parts) (record { answer = cons_option c.args.taken.answer []; core = core_of e; is_due = c.args.taken.is_due }))
-    (logged_of e) (logged_of e) (g.D.Disk.facts c.args.disk.now) refl c.requires.kept
+    let rule = g.R.CommitRule.choice c.args.terms.now.rule.now in
+    Logs-still (source_of e) rule c.args.store.now (ran_by (service_by e rule c.args.terms.now.settings.now) (record { answer = cons_option c.args.taken.answer []; core = core_of e; is_due = c.args.taken.is_due }))
+    (logged_of e) (logged_of e) (g.D.Disk.facts c.args.disk.now) refl c.requires.ready.kept
 
 pub returns-clause-logs : goal.returns-clause-logs
-returns-clause-logs g c = λ size.
+returns-clause-logs g c =
     let e = c.args.engine.now in
-    let rule = g.R.CommitRule.choice c.args.rule.now in
+    let rule = g.R.CommitRule.choice c.args.terms.now.rule.now in
+    let size = c.args.terms.now.settings.now.batch in
     subst (λ due. Logs (source_of e) rule (settings_of c.args.store.now) (if due then runs_on (source_of e) rule (record { batch = size; history = limit_of e }) (core_of e) else []) (logged_of e)
     (logged_of c.answer_batch.new.engine) (g.D.Disk.facts c.args.disk.now) (g.D.Disk.facts c.answer_batch.new.disk)) (sym c.if-not-is_due.false) (c.answer_batch.ensures.logs size)

@@ -1,9 +1,9 @@
 use Rattle.std.proofs.Common.{◌≤◌, true, false, length, drop}
 use Rattle.block_code.specs.PlainBlocks.{plain_blocks}
-use Rattle.flat_tree.specs.PlainFlat.{flat_stmts_of, flat_arms_of, operands_of, plain_flat_stmts, plain_flat_arms, plain_operands}
-use Rattle.method_splitter.specs.Split.{split_all, split_arms, split_each, rank_of}
+use Rattle.flat_tree.specs.PlainFlat.{flat_stmts_of, flat_arms_of, flat_clauses_of, operands_of, plain_flat_stmts, plain_flat_arms, plain_flat_clauses, plain_operands}
+use Rattle.method_splitter.specs.Split.{split_all, split_arms, split_clauses, split_each, rank_of, floor}
 use Rattle.method_splitter.specs.SmallStatements.{reached_part}
-use Rattle.method_splitter.specs.Rests.{plain_target, plain_rest, plain_around}
+use Rattle.method_splitter.specs.Rests.{plain_target, plain_rest, plain_caughts, plain_around}
 use Rattle.method_splitter.specs.Numbering.{Made}
 use Rattle.method_splitter.proofs.walk.+split.Given as goal
 
@@ -42,3 +42,12 @@ invariant-split_or-loop-at l = record {
 
 abbrev pub decreases-split_or-loop-at : goal.decreases-split_or-loop-at
 decreases-split_or-loop-at l = l.at
+
+abbrev pub invariant-split_clauses-loop-at : goal.invariant-split_clauses-loop-at
+invariant-split_clauses-loop-at l = record {
+  within : l.at ≤ length l.clauses;
+  made : Made (split_clauses (flat_clauses_of (drop l.at (plain_flat_clauses l.clauses))) (plain_around l.around) (plain_rest l.join)) (plain_blocks l.initial.blocks) (plain_blocks l.blocks) (plain_caughts l.later) (floor (plain_caughts l.later));
+}
+
+abbrev pub decreases-split_clauses-loop-at : goal.decreases-split_clauses-loop-at
+decreases-split_clauses-loop-at l = l.at

@@ -5,7 +5,7 @@ use Rattle.operator_graph.proofs.taking_turns.turn_at.Goals as goal
 
 pub tell-requires-clause-room : goal.tell-requires-clause-room
 tell-requires-clause-room g c =
-    has_room c.args.on.now.compiled.now c.requires.whole c.args.on.now.parts c.requires.most c.args.on.now.state.now.contents c.args.flights.now c.args.place c.at_mut-flight.result.now c.at_mut-flight.ensures.value c.requires.can
+    has_room c.args.on.now.compiled.now c.requires.whole c.args.on.now.parts c.requires.parts c.args.on.now.state.now.contents c.args.flights.now c.args.place c.at_mut-flight.result.now c.at_mut-flight.ensures.value c.requires.can
 
 pub returns-clause-gone : goal.returns-clause-gone
 returns-clause-gone g c =

@@ -3,6 +3,7 @@ use Rattle.std.specs.Result.{OnOk}
 use Rattle.sf_outside.specs.DiskModel.{Image, of_file, LeavesOnly, SeenWritten, IsDurable}
 use Rattle.sf_outside.specs.ImageSteps.{ComesBy}
 use Rattle.sf_outside.specs.declared.store_disk.StoreFile.{StoreFile}
+use Rattle.sf_outside.proofs.DiskLaws.{LeavesNoMore-stays}
 use Rattle.sf_outside.proofs.ImageSteps.{on_ok, if_one}
 use Rattle.snapshot_store.specs.Answers.{SaysGate}
 use Rattle.snapshot_store.specs.SlotFile.{slot_of, IsShutSlot}
@@ -18,7 +19,7 @@ returns-in-Alone-clause-now g c =
     let slot = c.slot_of-slot.result in
     let Now = λ (file : StoreFile). (image : Image) → new.may_leave image → ComesBy file Closes old image in
     let here : OnOk c.close_gate.result (Now slot) =
-    on_ok c.close_gate.result ((image : Image) → new.may_leave image → ComesBy slot Closes mid image) (Now slot) (then_now slot old mid c.gate_of.ensures.stays new) c.close_gate.ensures.now in
+    on_ok c.close_gate.result ((image : Image) → new.may_leave image → ComesBy slot Closes mid image) (Now slot) (then_now slot old mid (LeavesNoMore-stays old mid c.gate_of.ensures.stays) new) c.close_gate.ensures.now in
     subst (λ file. OnOk c.close_gate.result (Now file)) c.slot_of-slot.ensures here
 
 pub returns-in-Alone-clause-moments : goal.returns-in-Alone-clause-moments
@@ -26,7 +27,7 @@ returns-in-Alone-clause-moments g c =
     let old = g.D.Disk.facts c.args.disk.now in
     let mid = g.D.Disk.facts c.gate_of.new.disk in
     let new = g.D.Disk.facts c.close_gate.new.disk in
-    subst (λ file. LeavesOnly old new (ComesBy file StaysOrCloses old)) c.slot_of-slot.ensures (then_moments c.slot_of-slot.result old mid c.gate_of.ensures.stays new c.close_gate.ensures.moments)
+    subst (λ file. LeavesOnly old new (ComesBy file StaysOrCloses old)) c.slot_of-slot.ensures (then_moments c.slot_of-slot.result old mid (LeavesNoMore-stays old mid c.gate_of.ensures.stays) new c.close_gate.ensures.moments)
 
 pub returns-in-Closed-clause-written : goal.returns-in-Closed-clause-written
 returns-in-Closed-clause-written g c =

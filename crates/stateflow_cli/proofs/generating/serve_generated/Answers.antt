@@ -1,4 +1,5 @@
 use Rattle.std.proofs.Common.{◌≤◌, subst, sym}
+use Rattle.operator_graph.specs.Partitions.{IsParts}
 use Rattle.command_words.specs.Commands.{work_by}
 use Rattle.generated_run.specs.declared.running.GenSettings.{GenSettings}
 use Rattle.stateflow_cli.specs.Devices.{sink, outside}
@@ -12,8 +13,7 @@ run_generated-requires g c =
       size = subst (λ (x : GenSettings). x.size ≤ 100000) same c.requires.size;
       some = subst (λ (x : GenSettings). 1 ≤ x.batch) same c.requires.some;
       batch = subst (λ (x : GenSettings). x.batch ≤ 256) same c.requires.few;
-      least = subst (λ (x : GenSettings). 1 ≤ x.parts) same c.requires.least;
-      most = subst (λ (x : GenSettings). x.parts ≤ 64) same c.requires.most;
+      parts = subst (λ (x : GenSettings). IsParts x.parts) same c.requires.partitions;
     }
 
 pub returns-in-Err : goal.returns-in-Err

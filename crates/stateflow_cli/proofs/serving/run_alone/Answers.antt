@@ -1,4 +1,4 @@
-use Rattle.std.proofs.Common.{subst}
+use Rattle.std.proofs.Common.{refl, subst}
 use Rattle.sf_outside.specs.DiskModel.{untold}
 use Rattle.command_words.specs.Commands.{settings_by}
 use Rattle.engine.specs.Cores.{empty_core}
@@ -7,8 +7,8 @@ use Rattle.batch_run.specs.Runs.{Runs}
 use Rattle.batch_run.specs.declared.running.RunSettings.{RunSettings}
 use Rattle.stateflow_cli.specs.Devices.{devices, source, sink, outside}
 use Rattle.stateflow_cli.specs.Endings.{longest_input}
-use Rattle.stateflow_cli.proofs.RunEndings.{run_ends, can_serve}
-use Rattle.stateflow_cli.proofs.ServedRuns.{unnamed, begins_alone, keeps_alone, moments_alone}
+use Rattle.stateflow_cli.proofs.RunEndings.{can_serve}
+use Rattle.stateflow_cli.proofs.ServedRuns.{unnamed, run_alone_ends}
 use Rattle.stateflow_cli.proofs.serving.run_alone.Goals as goal
 
 pub run_program-requires : goal.run_program-requires
@@ -16,26 +16,14 @@ run_program-requires g c = record { whole = c.in-Ok.ensures.gives.is.whole; serv
 
 pub returns : goal.returns
 returns g c = λ disk.
-    run_ends longest_input c.args.file.now (settings_by c.args.words)
+    run_alone_ends longest_input c.args.file.now (settings_by c.args.words)
     (devices (g.F.Files.content c.args.files.now) (g.F.Files.faults c.args.files.now) (source (g.S.Source.left c.args.input.now) (g.S.Source.faults c.args.input.now)) (sink (g.K.Sink.held c.args.out.now) (g.K.Sink.faults c.args.out.now))
     (sink (g.E.Sink.held c.args.err.now) (g.E.Sink.faults c.args.err.now)) (outside (g.C.Chooser.choices c.args.chooser.now) (g.W.Watch.told c.args.watch.now)) disk)
     (devices (g.F.Files.content c.load_compiled.new.files) (g.F.Files.faults c.load_compiled.new.files) (source (g.S.Source.left c.run_program.new.input) (g.S.Source.faults c.run_program.new.input)) (sink (g.K.Sink.held c.run_program.new.out) (g.K.Sink.faults c.run_program.new.out))
     (sink (g.E.Sink.held c.run_program.new.err) (g.E.Sink.faults c.run_program.new.err)) (outside (g.C.Chooser.choices c.run_program.new.chooser) (g.W.Watch.told c.run_program.new.watch)) disk)
-    untold untold c.run_program.result c.ending_of.result c.ending_of.ensures
-    (record {
-      compiled = c.in-Ok.compiled;
-      holds = c.in-Ok.ensures.gives;
-      start = empty_core;
-      is_start = begins_alone _ _ _ _ (unnamed c.args.words c.requires.alone);
-      last = c.run_program.ensures.runs.0;
-      runs =
-          subst (λ (s : RunSettings). Runs c.in-Ok.compiled s empty_core c.run_program.ensures.runs.0 c.run_program.result
-          (shown (g.S.Source.left c.args.input.now) (g.K.Sink.held c.args.out.now) (g.E.Sink.held c.args.err.now) (g.C.Chooser.choices c.args.chooser.now) (g.W.Watch.told c.args.watch.now))
-          (shown (g.S.Source.left c.run_program.new.input) (g.K.Sink.held c.run_program.new.out) (g.E.Sink.held c.run_program.new.err) (g.C.Chooser.choices c.run_program.new.chooser) (g.W.Watch.told c.run_program.new.watch)))
-          c.settings_of.ensures c.run_program.ensures.runs.1;
-      input_cause = c.run_program.ensures.read_cause;
-      write_cause = c.run_program.ensures.write_cause;
-      err_later = c.run_program.ensures.later_err;
-      keeps = keeps_alone _ (settings_by c.args.words) _ _ _ _ disk disk untold c.run_program.result (unnamed c.args.words c.requires.alone) c.run_program.ensures.no_disk;
-      moments = moments_alone _ _ _ _ _ _ _ _ _ _ (unnamed c.args.words c.requires.alone);
-    })
+    untold (unnamed c.args.words c.requires.alone) refl c.in-Ok.compiled c.in-Ok.ensures.gives c.run_program.ensures.runs.0 c.run_program.ensures.later_err c.run_program.result
+    c.ending_of.result c.ending_of.ensures c.run_program.ensures.read_cause c.run_program.ensures.write_cause c.run_program.ensures.no_disk
+    (subst (λ (s : RunSettings). Runs c.in-Ok.compiled s empty_core c.run_program.ensures.runs.0 c.run_program.result
+    (shown (g.S.Source.left c.args.input.now) (g.K.Sink.held c.args.out.now) (g.E.Sink.held c.args.err.now) (g.C.Chooser.choices c.args.chooser.now) (g.W.Watch.told c.args.watch.now))
+    (shown (g.S.Source.left c.run_program.new.input) (g.K.Sink.held c.run_program.new.out) (g.E.Sink.held c.run_program.new.err) (g.C.Chooser.choices c.run_program.new.chooser) (g.W.Watch.told c.run_program.new.watch)))
+    c.settings_of.ensures c.run_program.ensures.runs.1)

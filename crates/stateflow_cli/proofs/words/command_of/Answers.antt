@@ -1,6 +1,6 @@
 use Rattle.std.proofs.Common.{map, string_bytes}
 use Rattle.command_words.proofs.AskLaws.{read_so}
-use Rattle.stateflow_cli.proofs.WordLaws.{command_in_range}
+use Rattle.stateflow_cli.proofs.DeedLaws.{command_in_range}
 use Rattle.stateflow_cli.proofs.words.command_of.Goals as goal
 
 pub returns : goal.returns

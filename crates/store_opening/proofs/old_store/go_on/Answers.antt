@@ -14,5 +14,5 @@ with_batches-requires-clause-storable c =
 
 pub returns-in-Ok-clause-answer : goal.returns-in-Ok-clause-answer
 returns-in-Ok-clause-answer c = λ image old.
-    batches_told c.args.compiled c.args.settings.program c.args.position c.args.kept c.args.batches image old (c.if-not-same.ensures.0 refl) c.in-Ok.ensures.kept_fits
+    batches_told c.args.compiled c.args.settings.program c.args.position c.args.kept c.args.batches image old (c.if-not-same.ensures.0 refl) c.in-Ok.ensures.kept_fits c.requires.count
     c.in-Ok.engine c.in-Ok.ensures.runs.compiled_is c.in-Ok.ensures.core c.with_batches.result c.with_batches.ensures.replays c.with_batches.ensures.position c.with_batches.ensures.stop

@@ -1,9 +1,13 @@
-use Rattle.std.proofs.Common.{refl, sym, ap, ◌∙◌}
+use Rattle.std.proofs.Common.{◌≡◌, Err, refl, sym, ap, ◌∙◌}
 use Rattle.engine.specs.EngineViews.{core_of}
 use Rattle.store_meaning.specs.Engines.{program_of}
 use Rattle.session_store.proofs.NoStore.{none_storable}
+use Rattle.store_meaning.specs.StandsFor.{new_position}
+use Rattle.session_store.specs.Checkpoints.{kept_at}
 use Rattle.store_opening.specs.OpenedStores.{settings_at}
-use Rattle.store_opening.proofs.Found.{new_keeps, new_found, new_left, new_ready}
+use Rattle.store_opening.specs.Stops.{keep_stop}
+use Rattle.store_opening.specs.declared.stop.OpenStop.TheVariants.{DiskFault}
+use Rattle.store_opening.proofs.Found.{new_keeps, new_found, new_left, new_ready, first_cause}
 use Rattle.store_opening.proofs.opening.keep_first.Goals as goal
 
 pub keep_core-requires-clause-storable : goal.keep_core-requires-clause-storable
@@ -16,7 +20,7 @@ keep_core-requires-clause-kept g c =
 pub returns-in-Ok-clause-answer : goal.returns-in-Ok-clause-answer
 returns-in-Ok-clause-answer g c =
     new_found (program_of c.args.engine c.args.settings.program) (g.D.Disk.facts c.args.disk.now) c.requires.clean c.requires.new (core_of c.args.engine) c.requires.core
-    (record { engine = c.args.engine; store = c.store_at.result }) refl (c.store_at.ensures.position ∙ c.in-Ok.ensures.next)
+    (record { engine = c.args.engine; store = c.store_at.result }) refl (c.store_at.ensures.position ∙ c.in-Ok.ensures.next ∙ ap (kept_at new_position) c.requires.core)
 
 pub returns-in-Ok-clause-ready : goal.returns-in-Ok-clause-ready
 returns-in-Ok-clause-ready g c =
@@ -33,3 +37,9 @@ pub returns-in-Err-clause-moments : goal.returns-in-Err-clause-moments
 returns-in-Err-clause-moments g c =
     new_left (program_of c.args.engine c.args.settings.program) (g.D.Disk.facts c.args.disk.now) c.requires.clean c.requires.new (core_of c.args.engine) c.requires.core
     (g.D.Disk.facts c.keep_core.new.disk) c.keep_core.ensures.moments
+
+pub returns-in-Err-clause-cause : goal.returns-in-Err-clause-cause
+returns-in-Err-clause-cause g c = λ failed.
+    let stop : keep_stop c.in-Err.fault ≡ DiskFault = cc (c.from.ensures, failed) in
+    first_cause c.args.settings.program (core_of c.args.engine) c.requires.core c.in-Err.fault (g.D.Disk.faults c.args.disk.now) (g.D.Disk.faults c.keep_core.new.disk)
+    (λ same. c.in-Err.ensures.cause (ap Err same)) stop

@@ -1,20 +1,18 @@
-use Rattle.std.proofs.Common.{◌≡◌, ◌∙◌, refl, ap, sym, ◌+◌, true≢false, false, inl, inr, Ok, Err, Some, None, arith}
+use Rattle.std.proofs.Common.{◌≡◌, ◌∙◌, refl, ap, sym, ◌+◌, true≢false, inl, inr, Ok, Err, Some, None, arith}
 use Rattle.request_json.specs.Actions.{Line}
 use Rattle.engine.specs.EngineViews.{core_of, source_of}
 use Rattle.session_store.specs.Stores.{settings_of}
 use Rattle.session_store.specs.Vocabulary.{logged_of}
-use Rattle.session_store.proofs.CycleLaws.{settings_kept, cycle_kept}
-use Rattle.session_steps.specs.Vocabulary.{cut, before, move_at, ran_by, Service, service_of, disk_failed, is_disk_fault}
+use Rattle.session_steps.specs.Vocabulary.{cut, before, move_at, ran_by, Service, service_of}
 use Rattle.session_steps.specs.Steps.{Answer}
 use Rattle.session_steps.specs.Doings.{Point, moment}
 use Rattle.session_steps.proofs.Leaves.{Does-line, Stops-line, Comes-one}
-use Rattle.session_steps.proofs.Vocabulary.{Logs-end}
+use Rattle.session_steps.proofs.Vocabulary.{Logs-end, then_goes}
 use Rattle.batch_session.specs.Points.{point_of}
-use Rattle.batch_session.specs.SessionStates.{SessionState, state_of}
 use Rattle.batch_session.proofs.LineLaws.{start_answered}
 use Rattle.batch_session.proofs.LoggedLaws.{ended_logs, start_logged}
 use Rattle.batch_session.proofs.ReportLaws.{Line-ended}
-use Rattle.batch_session.proofs.StateLaws.{ran_on, then_ended, ready_behind, unwritten_is, stop_unwritten}
+use Rattle.batch_session.proofs.StateLaws.{ready_behind, unwritten_is, stop_unwritten}
 use Rattle.batch_session.proofs.intake.Intake.answer.Goals as goal
 
 pub returns-in-Some-clause-answers : goal.returns-in-Some-clause-answers
@@ -80,7 +78,7 @@ returns-in-Some-clause-logs g c = λ line start.
     let new = g.D.Disk.facts c.end_batch.new.disk in
     start_logged v settings (core_of e) self.lines shown self.reader.ended self.reader.line line (logged_of e) (logged_of now) old new is start
     (Logs-end (source_of e) rule settings (ran_by v (move_at v (before (core_of e) (self.lines + 1)) shown)) (logged_of e) (logged_of now) old between new c.answer_line.ensures.logs
-    (ended_logs e now c.answer_line.ensures.runs rule settings _ (logged_of now) between new (settings_kept _ _ c.answer_line.ensures.cycle) (c.end_batch.ensures.logs rule)))
+    (ended_logs e now c.answer_line.ensures.goes_on.runs rule settings _ (logged_of now) between new c.answer_line.ensures.goes_on.settings (c.end_batch.ensures.logs rule)))
 
 pub returns-in-None-clause-logs : goal.returns-in-None-clause-logs
 returns-in-None-clause-logs g c = λ line start.
@@ -102,25 +100,14 @@ returns-in-Err-clause-logs g c = λ line start.
     start_logged v (settings_of c.args.store.now) (core_of e) self.lines shown self.reader.ended self.reader.line line (logged_of e) (logged_of c.answer_line.new.engine)
     (g.D.Disk.facts c.args.disk.now) (g.D.Disk.facts c.answer_line.new.disk) is start c.answer_line.ensures.logs
 
+-- behind the batch its end can be made
+pub end_batch-requires-clause-ready : goal.end_batch-requires-clause-ready
+end_batch-requires-clause-ready g c =
+    ready_behind (g.R.CommitRule.choice c.args.terms.now.rule.now) _ _ _ c.requires.ready c.in-Ok.ensures.goes_on c.in-Ok.ensures.few c.answer_line.ensures.cycle
+
 pub returns-in-Some-clause-goes_on : goal.returns-in-Some-clause-goes_on
 returns-in-Some-clause-goes_on g c =
-    let rule = g.R.CommitRule.choice c.args.terms.now.rule.now in
-    let old : SessionState = state_of c.args.engine.now c.args.store.now (g.D.Disk.facts c.args.disk.now) (g.D.Disk.faults c.args.disk.now) (g.D.Disk.mounts c.args.disk.now) in
-    let mid : SessionState = state_of c.answer_line.new.engine c.answer_line.new.store (g.D.Disk.facts c.answer_line.new.disk) (g.D.Disk.faults c.answer_line.new.disk) (g.D.Disk.mounts c.answer_line.new.disk) in
-    let e = c.in-Ok.ensures in
-    let went = ran_on rule false old mid e.runs e.core_fits e.sound e.storable e.kept e.cycle e.later_disk e.disk_cause e.mounts in
-    let said = c.end_batch.ensures in
-    then_ended rule (disk_failed c.end_batch.result) old mid _ _ _ _ went (said.kept rule) said.settings said.later_disk (said.disk_cause rule) said.mounts
-
-pub returns-in-Some-clause-ready : goal.returns-in-Some-clause-ready
-returns-in-Some-clause-ready g c =
-    let rule = g.R.CommitRule.choice c.args.terms.now.rule.now in
-    let old : SessionState = state_of c.args.engine.now c.args.store.now (g.D.Disk.facts c.args.disk.now) (g.D.Disk.faults c.args.disk.now) (g.D.Disk.mounts c.args.disk.now) in
-    let mid : SessionState = state_of c.answer_line.new.engine c.answer_line.new.store (g.D.Disk.facts c.answer_line.new.disk) (g.D.Disk.faults c.answer_line.new.disk) (g.D.Disk.mounts c.answer_line.new.disk) in
-    let e = c.in-Ok.ensures in
-    let went = ran_on rule false old mid e.runs e.core_fits e.sound e.storable e.kept e.cycle e.later_disk e.disk_cause e.mounts in
-    let said = c.end_batch.ensures in
-    ready_behind rule c.end_batch.result old mid _ _ _ _ _ _ c.requires.ready went e.few (said.kept rule) said.in_cycle
+    let rule = g.R.CommitRule.choice c.args.terms.now.rule.now in then_goes rule _ _ _ _ c.in-Ok.ensures.goes_on (c.end_batch.ensures.goes_on rule)
 
 pub returns-in-Some-clause-writes : goal.returns-in-Some-clause-writes
 returns-in-Some-clause-writes g c = record {
@@ -130,35 +117,17 @@ returns-in-Some-clause-writes g c = record {
 }
 
 pub returns-in-None-clause-goes_on : goal.returns-in-None-clause-goes_on
-returns-in-None-clause-goes_on g c =
-    let rule = g.R.CommitRule.choice c.args.terms.now.rule.now in
-    let old : SessionState = state_of c.args.engine.now c.args.store.now (g.D.Disk.facts c.args.disk.now) (g.D.Disk.faults c.args.disk.now) (g.D.Disk.mounts c.args.disk.now) in
-    let mid : SessionState = state_of c.answer_line.new.engine c.answer_line.new.store (g.D.Disk.facts c.answer_line.new.disk) (g.D.Disk.faults c.answer_line.new.disk) (g.D.Disk.mounts c.answer_line.new.disk) in
-    let e = c.in-Ok.ensures in
-    let went = ran_on rule false old mid e.runs e.core_fits e.sound e.storable e.kept e.cycle e.later_disk e.disk_cause e.mounts in
-    went
+returns-in-None-clause-goes_on g c = c.in-Ok.ensures.goes_on
 
 pub returns-in-None-clause-ready : goal.returns-in-None-clause-ready
 returns-in-None-clause-ready g c =
-    let rule = g.R.CommitRule.choice c.args.terms.now.rule.now in
-    let old : SessionState = state_of c.args.engine.now c.args.store.now (g.D.Disk.facts c.args.disk.now) (g.D.Disk.faults c.args.disk.now) (g.D.Disk.mounts c.args.disk.now) in
-    let mid : SessionState = state_of c.answer_line.new.engine c.answer_line.new.store (g.D.Disk.facts c.answer_line.new.disk) (g.D.Disk.faults c.answer_line.new.disk) (g.D.Disk.mounts c.answer_line.new.disk) in
-    let e = c.in-Ok.ensures in
-    let went = ran_on rule false old mid e.runs e.core_fits e.sound e.storable e.kept e.cycle e.later_disk e.disk_cause e.mounts in
-    ready_behind rule {T = Unit {0}} (Ok (tt {0})) old mid mid.store mid.facts mid.faults mid.mounts _ _ c.requires.ready went e.few e.kept
-    (cycle_kept c.args.store.now c.answer_line.new.store _ e.cycle c.requires.ready.in_cycle)
+    ready_behind (g.R.CommitRule.choice c.args.terms.now.rule.now) _ _ _ c.requires.ready c.in-Ok.ensures.goes_on c.in-Ok.ensures.few c.answer_line.ensures.cycle
 
 pub returns-in-None-clause-writes : goal.returns-in-None-clause-writes
 returns-in-None-clause-writes g c = record { later = c.answer_line.ensures.later; later_err = omega arith; cause = λ is. absurd (true≢false (sym is)) }
 
 pub returns-in-Err-clause-goes_on : goal.returns-in-Err-clause-goes_on
-returns-in-Err-clause-goes_on g c =
-    let rule = g.R.CommitRule.choice c.args.terms.now.rule.now in
-    let old : SessionState = state_of c.args.engine.now c.args.store.now (g.D.Disk.facts c.args.disk.now) (g.D.Disk.faults c.args.disk.now) (g.D.Disk.mounts c.args.disk.now) in
-    let mid : SessionState = state_of c.answer_line.new.engine c.answer_line.new.store (g.D.Disk.facts c.answer_line.new.disk) (g.D.Disk.faults c.answer_line.new.disk) (g.D.Disk.mounts c.answer_line.new.disk) in
-    let e = c.in-Err.ensures in
-    let went = ran_on rule (is_disk_fault c.in-Err.stop) old mid e.runs e.core_fits e.sound e.storable e.kept e.cycle e.later_disk e.disk_cause e.mounts in
-    went
+returns-in-Err-clause-goes_on g c = c.in-Err.ensures.goes_on
 
 pub returns-in-Err-clause-writes : goal.returns-in-Err-clause-writes
 returns-in-Err-clause-writes g c = record {

@@ -5,9 +5,9 @@ use Rattle.engine.specs.EngineViews.{core_of, source_of}
 use Rattle.session_store.specs.Stores.{settings_of}
 use Rattle.session_store.specs.Vocabulary.{logged_of}
 use Rattle.session_steps.specs.Vocabulary.{service_of}
-use Rattle.session_steps.proofs.Vocabulary.{Logs-still}
+use Rattle.session_steps.proofs.Vocabulary.{Logs-still, stays}
 use Rattle.batch_session.proofs.LastLaws.{last-none, last-line, Logged-left}
-use Rattle.batch_session.proofs.StateLaws.{stays, unwritten}
+use Rattle.batch_session.proofs.StateLaws.{unwritten}
 use Rattle.batch_session.proofs.intake.Intake.answer_last.Goals as goal
 
 pub returns-then-is_empty-clause-answers : goal.returns-then-is_empty-clause-answers
@@ -26,7 +26,7 @@ returns-clause-answers g c = λ part start.
 pub returns-then-is_empty-clause-logs : goal.returns-then-is_empty-clause-logs
 returns-then-is_empty-clause-logs g c = λ part h.
     let e = c.args.engine.now in
-    Logs-still (source_of e) (g.R.CommitRule.choice c.args.terms.now.rule.now) c.args.store.now _ (logged_of e) (logged_of e) (g.D.Disk.facts c.args.disk.now) refl c.requires.ready.kept
+    Logs-still (source_of e) (g.R.CommitRule.choice c.args.terms.now.rule.now) c.args.store.now _ (logged_of e) (logged_of e) (g.D.Disk.facts c.args.disk.now) refl c.requires.ready.can_go_on.kept
 
 pub returns-clause-logs : goal.returns-clause-logs
 returns-clause-logs g c = λ part start.
@@ -37,7 +37,7 @@ returns-clause-logs g c = λ part start.
     (λ none. let short : length c.line.result.now ≡ 0 = ap length (c.line.ensures ∙ none) in grind (arith, nat_tests)) c.answer.ensures.logs
 
 pub returns-then-is_empty-clause-goes_on : goal.returns-then-is_empty-clause-goes_on
-returns-then-is_empty-clause-goes_on g c = stays (g.R.CommitRule.choice c.args.terms.now.rule.now) _ _ c.requires.ready
+returns-then-is_empty-clause-goes_on g c = stays (g.R.CommitRule.choice c.args.terms.now.rule.now) _ c.requires.ready.can_go_on
 
 pub returns-then-is_empty-clause-writes : goal.returns-then-is_empty-clause-writes
 returns-then-is_empty-clause-writes g c = unwritten _ _

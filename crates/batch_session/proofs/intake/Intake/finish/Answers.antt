@@ -4,13 +4,13 @@ use Rattle.request_json.specs.Actions.{last_line}
 use Rattle.engine.specs.EngineViews.{core_of}
 use Rattle.session_store.specs.Stores.{settings_of}
 use Rattle.session_steps.specs.Vocabulary.{service_of}
-use Rattle.session_steps.proofs.Vocabulary.{same_service}
+use Rattle.session_steps.proofs.Vocabulary.{same_service, then_goes}
 use Rattle.session_steps.specs.Steps.{answers, endings, standing_after, open_at}
 use Rattle.session_steps.proofs.LoggedSteps.{Logged-more, Logged-last}
 use Rattle.batch_session.proofs.LoggedLaws.{Logged-same}
 use Rattle.session_steps.proofs.Composing.{Comes-passed, Comes-same}
 use Rattle.session_steps.proofs.Endings.{Last-stop, Last-then}
-use Rattle.batch_session.proofs.StateLaws.{then_goes, passed_on, then_writes, passed_writes}
+use Rattle.batch_session.proofs.StateLaws.{passed_on, then_writes, passed_writes}
 use Rattle.batch_session.proofs.intake.Intake.finish.Goals as goal
 
 pub returns-in_err-answer_last-clause-finishes : goal.returns-in_err-answer_last-clause-finishes

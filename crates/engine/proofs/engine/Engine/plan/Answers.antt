@@ -23,6 +23,9 @@ planned-requires-clause-ran g c =
     is_run (source_of c.args.self.now) (core_of c.args.self.now) c.in_ok-ran.ran (g.R.CommitRule.choice c.args.rule.now (accesses_of c.in_ok-ran.ran.works)) works
     (g.met.R.CommitRule.lawful c.args.rule.now (accesses_of c.in_ok-ran.ran.works) few) c.in_ok-ran.ensures.committed c.in_ok-ran.ensures.carried c.in_ok-ran.ensures.outcomes c.in_ok-ran.ensures.serial
 
+pub make_room-requires : goal.make_room-requires
+make_room-requires g c = c.in_ok-planned.ensures.made.there
+
 pub returns-clause-chosen : goal.returns-clause-chosen
 returns-clause-chosen g c =
     c.in_ok-planned.ensures.committed

@@ -30,10 +30,14 @@ returns-clause-serial c =
     }
 
 pub returns-clause-made : goal.returns-clause-made
-returns-clause-made c = record {
-  once = c.requires.ran.once;
-  entries = c.in_ok-entries.ensures ∙ (λ i. entries_at c.args.self.now.pending (c.requires.ran.outcomes i) (c.as_slice.ensures i)) ∙ made_entries (source_of c.args.self.now) (core_of c.args.self.now).state c.args.self.now.pending c.args.ran.committed;
-  places = c.requires.ran.places;
-  writes = serial_writes (source_of c.args.self.now) (core_of c.args.self.now).state c.args.self.now.pending c.args.ran.works c.args.ran.committed c.requires.ran.serial;
-  carried = c.in_ok-carried.ensures ∙ ap (requests_at c.args.self.now.pending) (c.as_slice-4.ensures ∙ c.requires.ran.carried);
-}
+returns-clause-made c =
+    let core = core_of c.args.self.now in
+    let entries = c.in_ok-entries.ensures ∙ (λ i. entries_at core.pending (c.requires.ran.outcomes i) (c.as_slice.ensures i)) ∙ made_entries (source_of c.args.self.now) core.state core.pending c.args.ran.committed in
+    let writes = serial_writes (source_of c.args.self.now) core.state core.pending c.args.ran.works c.args.ran.committed c.requires.ran.serial in
+    let carried = c.in_ok-carried.ensures ∙ ap (requests_at core.pending) (c.as_slice-4.ensures ∙ c.requires.ran.carried) in
+    record {
+      once = c.requires.ran.once;
+      entries = entries;
+      there = c.requires.ran.places;
+      behind = λ i. record { history = core.history ++ entries i; state = writes i; pending = carried i };
+    }

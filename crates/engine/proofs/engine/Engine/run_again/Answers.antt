@@ -1,4 +1,4 @@
-use Rattle.std.proofs.Common.{length, ap, sym, ◌∙◌, subst, arith}
+use Rattle.std.proofs.Common.{length, ap, sym, ◌∙◌, ◌++◌, subst, arith}
 use Rattle.std.specs.List.{AllByRecursion, range_with_len}
 use Rattle.std.proofs.lemmas.List.{length-map}
 use Rattle.sf_value.specs.declared.Request.{Request}
@@ -35,17 +35,19 @@ run_in_order-requires-clause-fit c =
 pub returns : goal.returns
 returns c =
     let src = source_of c.args.self.now in
-    let s = (core_of c.args.self.now).state in
+    let core = core_of c.args.self.now in
     let listed = c.in_ok-listed.ensures ∙ ap (requests_at c.args.waiting.now) c.as_slice.ensures in
     let ran = c.in_ok-outcomes.ensures in
     let count = length-map c.in_ok-listed.listed (λ (r : Request). r.act) in
+    let entries =
+    c.in_ok-entries.ensures
+    ∙ (λ i. entries_at c.in_ok-listed.listed (ran.outcomes i) ((c.as_slice-3.ensures ∙ ran.places ∙ ap (range_with_len 0) count) i))
+    ∙ entries_in_order src c.in_ok-listed.listed core.state
+    ∙ ap (serial_entries src core.state) listed in
+    let writes = ran.state ∙ ap (λ rs. serial_state src core.state (acts_of rs)) listed in
+    let carried = c.in_ok-carried.ensures ∙ ap (λ ps. requests_at c.args.waiting.now (other_places (length c.args.waiting.now) ps)) c.as_slice-2.ensures in
     record {
-      entries =
-          c.in_ok-entries.ensures
-          ∙ (λ i. entries_at c.in_ok-listed.listed (ran.outcomes i) ((c.as_slice-3.ensures ∙ ran.places ∙ ap (range_with_len 0) count) i))
-          ∙ entries_in_order src c.in_ok-listed.listed s
-          ∙ ap (serial_entries src s) listed;
-      carried = c.in_ok-carried.ensures ∙ ap (λ ps. requests_at c.args.waiting.now (other_places (length c.args.waiting.now) ps)) c.as_slice-2.ensures;
-      places = (λ i. are_places (ran.works i) (ran.places i)) ∙ all_places (length (acts_of c.in_ok-listed.listed));
-      writes = ran.state ∙ ap (λ rs. serial_state src s (acts_of rs)) listed;
+      entries = entries;
+      there = (λ i. are_places (ran.works i) (ran.places i)) ∙ all_places (length (acts_of c.in_ok-listed.listed));
+      behind = λ i. record { history = core.history ++ entries i; state = writes i; pending = carried i };
     }

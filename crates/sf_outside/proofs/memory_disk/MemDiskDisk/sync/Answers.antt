@@ -3,12 +3,17 @@ use Rattle.sf_outside.specs.DiskCalls.{Sync, facts_after}
 use Rattle.sf_outside.specs.DiskFiles.{FitsIn}
 use Rattle.sf_outside.specs.DiskModel.{Stays, IsDurable}
 use Rattle.sf_outside.specs.DiskState.{facts_of}
+use Rattle.sf_outside.proofs.DiskLaws.{LeavesNoMore-stays}
 use Rattle.sf_outside.proofs.DiskSteps.{Stays-sync, IsDurable-sync, holds_sync}
 use Rattle.sf_outside.proofs.DiskStateLaws.{Stays-failed, noted, one_counted}
 use Rattle.sf_outside.proofs.memory_disk.MemDiskDisk.sync.Goals as goal
 
 pub returns-then-fails_next-clause-stays : goal.returns-then-fails_next-clause-stays
 returns-then-fails_next-clause-stays c = Stays-failed c.args.self.now c.fault.new.self c.fault.ensures.counted
+
+pub returns-then-fails_next-clause-no_more : goal.returns-then-fails_next-clause-no_more
+returns-then-fails_next-clause-no_more c =
+    LeavesNoMore-stays (facts_of c.args.self.now) (facts_of c.fault.new.self) (Stays-failed c.args.self.now c.fault.new.self c.fault.ensures.counted)
 
 pub invariant_of-self : goal.invariant_of-self
 invariant_of-self c = (
@@ -28,3 +33,6 @@ pub returns-clause-stays : goal.returns-clause-stays
 returns-clause-stays c =
     noted (λ start calls. Stays (facts_of c.args.self.now) (facts_after start calls)) c.args.self.now c.self.inside.start.image c.self.inside.log c.note_sync.new.self (Sync c.args.file) (ap (λ disk. disk.start) c.self.view_is) (ap (λ disk. disk.calls) c.self.view_is) c.note_sync.ensures
     (Stays-sync c.args.self.now.start c.args.file c.args.self.now.calls)
+
+pub returns-clause-no_more : goal.returns-clause-no_more
+returns-clause-no_more c = LeavesNoMore-stays _ _ (returns-clause-stays c)

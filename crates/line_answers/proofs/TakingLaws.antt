@@ -1,0 +1,25 @@
+-- What an engine leaves that takes what a line asks, or not.
+use Rattle.std.proofs.Common.{◌≡◌, false, List, sym, subst}
+use Rattle.serial_order.specs.ConflictFree.{Access}
+use Rattle.reservations.specs.CommitRules.{Chosen}
+use Rattle.engine.specs.declared.engine.Engine.{Engine}
+use Rattle.engine.specs.Cores.{CoreFits, IsSoundCore}
+use Rattle.engine.specs.EngineViews.{core_of, source_of, tables_of, compiled_of, limit_of, fresh_of, RunsProgram}
+use Rattle.batch_replies.specs.GoingOn.{SessionState, CanGoOn, GoesOn, state_of}
+use Rattle.batch_replies.proofs.GoingLaws.{same_storable, same_logged, moved}
+use Rattle.line_answers.specs.Takings.{Takes}
+
+-- contracts see no change
+pub Takes-same : (e now : Engine) → RunsProgram now (compiled_of e) (limit_of e) → core_of now ≡ core_of e → fresh_of now ≡ fresh_of e → Takes e now
+Takes-same e now runs core fresh = record {
+  runs = runs;
+  logged = same_logged e now core fresh;
+  fits = λ fits. subst (CoreFits (tables_of e)) (sym core) fits;
+  sound = λ sound. subst (IsSoundCore (source_of e)) (sym core) sound;
+  storable = λ storable. same_storable e now core fresh storable;
+}
+
+-- the session goes on from there
+pub takes_on : (rule : List Access → Chosen) (s : SessionState) (now : Engine) → CanGoOn s → Takes s.engine now → GoesOn rule false s (state_of now s.store s.facts s.faults s.mounts)
+takes_on rule s now ready took =
+    moved rule s.engine now took.runs (took.fits ready.fits) took.sound (took.storable ready.storable) took.logged s.store s.facts s.faults s.mounts ready

@@ -1,0 +1,13 @@
+//! The live variables of each block of a method, and blocks whose parameters are cut to them.
+#![tactic(auto)]
+
+mod cutting;
+mod expressions;
+mod items;
+mod live_sets;
+mod name_lists;
+mod paths;
+mod sets;
+
+pub use cutting::trim;
+pub use name_lists::{NameLists, saved};
