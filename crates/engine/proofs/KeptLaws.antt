@@ -1,5 +1,5 @@
 -- The core that a snapshot holds, and the snapshot of a core.
-use Rattle.std.proofs.Common.{◌≡◌, ◌≤◌, ◌<◌, ◌^◌, true, Option, Some, None, List, length, refl, sym, ap, ◌∙◌, subst}
+use Rattle.std.proofs.Common.{◌≡◌, ◌≤◌, ◌<◌, ◌^◌, true, Option, Some, None, List, length, refl, sym, subst}
 use Rattle.std.specs.Prelude.{bytes_eq}
 use Rattle.std.specs.List.{IsDistinct}
 use Rattle.py_tree.specs.ClassRules.{PlainTable}
@@ -41,12 +41,12 @@ module _ (tables : List PlainTable) (kept : Snapshot) where
 
 -- What was made of a snapshot's parts
 
-pub none_history : (entries all : List Entry) (o : Option History) → ((h : History) → o ≡ Some h → ⊥) → IsHistoryOf entries o → entries ≡ all → IsDistinct bytes_eq (entry_ids all) → ⊥
-none_history entries all None other is same differ = is (subst (λ es. IsDistinct bytes_eq (entry_ids es)) (sym same) differ)
-none_history entries all (Some h) other is same differ = other h refl
+pub none_history : (all : List Entry) (o : Option History) → ((h : History) → o ≡ Some h → ⊥) → IsHistoryOf all o → IsDistinct bytes_eq (entry_ids all) → ⊥
+none_history all None other is differ = is differ
+none_history all (Some h) other is differ = other h refl
 
-pub history_is : (entries all : List Entry) (o : Option History) (h : History) → o ≡ Some h → IsHistoryOf entries o → entries ≡ all → (h.entries ≡ all) × IsDistinct bytes_eq (entry_ids all)
-history_is entries all o h some is same = let made = subst (IsHistoryOf entries) some is in (made.0 ∙ same, subst (λ es. IsDistinct bytes_eq (entry_ids es)) same made.1)
+pub history_is : (all : List Entry) (o : Option History) (h : History) → o ≡ Some h → IsHistoryOf all o → (h.entries ≡ all) × IsDistinct bytes_eq (entry_ids all)
+history_is all o h some is = subst (IsHistoryOf all) some is
 
-pub state_is : (records all : List Held) (o : Option Keyed) (s : Keyed) → o ≡ Some s → IsStateOf records o → records ≡ all → (s.contents ≡ with_records no_state all) × (entities_differ all ≡ true)
-state_is records all o s some is same = let made = subst (IsStateOf records) some is in (made.0 ∙ ap (with_records no_state) same, ap entities_differ (sym same) ∙ made.1)
+pub state_is : (all : List Held) (o : Option Keyed) (s : Keyed) → o ≡ Some s → IsStateOf all o → (s.contents ≡ with_records no_state all) × (entities_differ all ≡ true)
+state_is all o s some is = subst (IsStateOf all) some is

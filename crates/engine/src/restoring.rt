@@ -46,7 +46,8 @@ fn parts_fit(tables: &[ClassTable], kept: &Snapshot) -> bool
 }
 
 impl Engine {
-    /// The engine whose core a snapshot holds. It is wrong exactly where it doesn't fit the program.
+    /// The engine whose core a snapshot holds. It is wrong exactly where it doesn't fit the program. What the snapshot has is
+    /// moved, and nothing of it is copied.
     pub fn restore(
         alloc: Global,
         compiled: Compiled,
@@ -64,13 +65,20 @@ impl Engine {
         if !parts_fit(tables_in(&compiled), &kept) {
             return Err(RestoreError::Wrong);
         }
-        let Some(history) = history_of(alloc, kept.history.as_slice())? else {
+        let Snapshot {
+            program,
+            history: entries,
+            records,
+            pending,
+        } = kept;
+        drop(program);
+        let Some(history) = history_of(alloc, entries)? else {
             return Err(RestoreError::Wrong);
         };
-        let Some(state) = state_of(alloc, kept.records.as_slice())? else {
+        let Some(state) = state_of(alloc, records)? else {
             return Err(RestoreError::Wrong);
         };
-        if !ids_differ(&history, kept.pending.as_slice()) {
+        if !ids_differ(&history, pending.as_slice()) {
             return Err(RestoreError::Wrong);
         }
         Ok(Engine {
@@ -78,7 +86,7 @@ impl Engine {
             limit,
             history,
             state,
-            pending: kept.pending,
+            pending,
             fresh: 0,
         })
     }

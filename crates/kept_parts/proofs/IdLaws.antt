@@ -1,5 +1,5 @@
 -- Ids that differ, along lists of entries and of requests.
-use Rattle.std.proofs.Common.{◌≡◌, ℕ, ◌+◌, ◌<◌, Bool, true, false, cond, ◌||◌, Some, List, [], ◌∷◌, ◌++◌, length, take, drop, get_or, map, refl, sym, ap, ◌∙◌, subst, true≢false, append_assoc}
+use Rattle.std.proofs.Common.{◌≡◌, ℕ, ◌+◌, ◌<◌, Bool, true, false, cond, ◌||◌, Some, None, List, [], ◌∷◌, ◌++◌, length, take, drop, get_or, map, refl, sym, ap, ◌∙◌, subst, true≢false, append_assoc}
 use Rattle.std.specs.Prelude.{bytes_eq, is_some}
 use Rattle.std.specs.List.{list_any, IsDistinct, AllByRecursion}
 use Rattle.std.proofs.lemmas.Bool.{or_from}
@@ -10,6 +10,7 @@ use Rattle.sf_value.specs.declared.Entry.{Entry}
 use Rattle.request_history.specs.Repeats.{placed, kept_from, kept_of}
 use Rattle.kept_parts.specs.Ids.{entry_ids}
 use Rattle.kept_parts.proofs.EachLaws.{one_more}
+use Rattle.kept_parts.proofs.RecordLaws.{none_of}
 
 -- an id has an entry exactly where it is among those of the entries
 found_from : (first : ℕ) (es : List Entry) (id : List ℕ) → is_some (kept_from first es id) ≡ list_any (bytes_eq id) (entry_ids es)
@@ -43,6 +44,18 @@ first_part (x ∷ xs) ys d = (part xs d.0, first_part xs ys d.1)
     part : (zs : List (List ℕ)) → AllByRecursion (λ z. bytes_eq x z ≡ false) (zs ++ ys) → AllByRecursion (λ z. bytes_eq x z ≡ false) zs
     part [] all = tt
     part (z ∷ zs) all = (all.0, part zs all.1)
+
+-- an entry with a new id comes behind those whose ids differ
+pub differ_behind : (es : List Entry) (e : Entry) → IsDistinct bytes_eq (entry_ids es) → kept_of es e.request.id ≡ None → IsDistinct bytes_eq (entry_ids (es ++ e ∷ []))
+differ_behind es e d none =
+    subst (IsDistinct bytes_eq) (sym (map-append (λ (f : Entry). f.request.id) es (e ∷ [])))
+    (IsDistinct-push nat_list_eq_equiv (entry_ids es) e.request.id d (sym (found es e.request.id) ∙ ap is_some none))
+
+-- where all differ, the id of an entry is new to those before it
+pub new_behind : (es : List Entry) (e : Entry) (more : List Entry) → IsDistinct bytes_eq (entry_ids (es ++ e ∷ more)) → kept_of es e.request.id ≡ None
+new_behind es e more d =
+    none_of (kept_of es e.request.id)
+    (found es e.request.id ∙ apart (entry_ids es) e.request.id (entry_ids more) (subst (IsDistinct bytes_eq) (map-append (λ (f : Entry). f.request.id) es (e ∷ more)) d))
 
 module _ {A : Type 0} (id : A → List ℕ) (before : List (List ℕ)) (xs : List A) (i : ℕ) (x : A) (within : i < length xs) (is : x ≡ get_or xs i x) where
   ids : List A → List (List ℕ)

@@ -1,12 +1,12 @@
 -- Records that are put into an empty state one after another.
-use Rattle.std.proofs.Common.{◌≡◌, ℕ, ◌+◌, ◌<◌, Bool, true, false, cond, not, ◌&&◌, ◌||◌, Option, None, Some, List, [], ◌∷◌, ◌++◌, length, take, drop, get_or, map as over, refl, sym, ap, ◌∙◌, true≢false}
+use Rattle.std.proofs.Common.{◌≡◌, Bool, true, false, cond, not, ◌&&◌, ◌||◌, Option, None, Some, List, [], ◌∷◌, ◌++◌, map as over, refl, sym, ap, ◌∙◌, true≢false}
 use Rattle.std.specs.Prelude.{is_some}
 use Rattle.std.specs.List.{list_any}
 use Rattle.std.specs.Ordering.{eq_by_cmp}
 use Rattle.std.specs.FinMap as finite
 use Rattle.std.specs.FinMap.{find, from_entries_push, get-from_entries}
 use Rattle.std.proofs.lemmas.Bool.{and_parts, or_parts, or_from, not-true, false_from_ne_true}
-use Rattle.std.proofs.lemmas.List.{map-append, drop_more, take-append-drop}
+use Rattle.std.proofs.lemmas.List.{map-append, append_assoc, append-nil}
 use Rattle.std.proofs.lemmas.List.Folds.{list_any-append}
 use Rattle.std.specs.Cmp.{eq_by_cmp_equiv}
 use Rattle.sf_value.specs.Keys.{Key, key_cmp, key_of}
@@ -14,9 +14,8 @@ use Rattle.sf_value.specs.declared.value.Value.{Value}
 use Rattle.sf_value.specs.declared.value.Ref.{Ref}
 use Rattle.sf_value.specs.declared.Held.{Held}
 use Rattle.sf_value.proofs.Maps.{ref_eq, ref_ties, key_total, key_exact}
-use Rattle.keyed_state.specs.Contents.{Contents}
+use Rattle.keyed_state.specs.declared.keyed.Keyed.{Keyed}
 use Rattle.keyed_state.specs.Works.{with_records, entities_differ}
-use Rattle.kept_parts.proofs.EachLaws.{one_more}
 
 abbrev entry : Held → Key × List Value
 entry h = (key_of h.at, h.fields.fields)
@@ -74,22 +73,38 @@ apart (x ∷ hs) h more differ =
     let other = or_parts (ref_eq x.at h.at) (list_any (λ y. ref_eq x.at y.at) more) parts.1 in
     or_from (ref_eq h.at x.at) (list_any (λ y. ref_eq h.at y.at) hs) (same_both h.at x.at ∙ other.0) (apart hs h more both.1)
 
-module _ (hs : List Held) (i : ℕ) (h : Held) (within : i < length hs) (is : h ≡ get_or hs i h) where
-  grown : take (i + 1) hs ≡ take i hs ++ h ∷ []
-  grown = one_more hs i h within is
+-- ---- a state that is made of records
+
+-- of all records those before these were put into a state, none of an entity that had one
+pub record HasPut (state : Keyed) (left all : List Held) : Type 0 where
+  pub before : List Held
+  pub split : all ≡ before ++ left
+  pub contents : state.contents ≡ with_records finite.empty before
+  pub differ : entities_differ before ≡ true
+
+module _ (state : Keyed) (h : Held) (more all : List Held) (so_far : HasPut state (h ∷ more) all) where
+  there_now : is_some (finite.get state.contents (key_of h.at)) ≡ list_any (λ x. ref_eq h.at x.at) so_far.before
+  there_now = ap (λ m. is_some (finite.get m (key_of h.at))) so_far.contents ∙ held_there h.at so_far.before
 
   -- the next entity is new
-  pub next_new : (s : Contents) → s ≡ with_records finite.empty (take i hs) → is_some (finite.get s (key_of h.at)) ≡ false → entities_differ (take i hs) ≡ true
-      → (finite.insert s (key_of h.at) h.fields.fields ≡ with_records finite.empty (take (i + 1) hs)) × (entities_differ (take (i + 1) hs) ≡ true)
-  next_new s same absent differ =
-      let none = sym (held_there h.at (take i hs)) ∙ ap (λ m. is_some (finite.get m (key_of h.at))) (sym same) ∙ absent in
-      (ap (λ m. finite.insert m (key_of h.at) h.fields.fields) same ∙ put_behind (take i hs) h none ∙ ap (with_records finite.empty) (sym grown), ap entities_differ grown ∙ one_behind (take i hs) h none differ)
+  pub next_put : (next : Keyed) → finite.get state.contents (key_of h.at) ≡ None → next.contents ≡ finite.insert state.contents (key_of h.at) h.fields.fields → HasPut next more all
+  next_put next none put =
+      let absent = sym there_now ∙ ap is_some none in
+      record {
+        before = so_far.before ++ h ∷ [];
+        split = so_far.split ∙ sym (append_assoc so_far.before (h ∷ []) more);
+        contents = put ∙ ap (λ m. finite.insert m (key_of h.at) h.fields.fields) so_far.contents ∙ put_behind so_far.before h absent;
+        differ = one_behind so_far.before h absent so_far.differ;
+      }
 
-  whole : hs ≡ take i hs ++ h ∷ drop (i + 1) hs
-  whole = sym (take-append-drop i hs) ∙ ap (λ ys. take i hs ++ ys) (drop_more hs i h within ∙ ap (λ y. y ∷ drop (i + 1) hs) (sym is))
+  -- or it stands twice
+  pub next_twice : (finite.get state.contents (key_of h.at) ≡ None → ⊥) → entities_differ all ≡ false
+  next_twice taken =
+      false_from_ne_true (entities_differ all)
+      (λ differ. taken (none_of (finite.get state.contents (key_of h.at)) (there_now ∙ apart so_far.before h more (ap entities_differ (sym so_far.split) ∙ differ))))
 
-  -- the next entity is there
-  pub next_taken : (s : Contents) → s ≡ with_records finite.empty (take i hs) → is_some (finite.get s (key_of h.at)) ≡ true → entities_differ hs ≡ false
-  next_taken s same there =
-      let taken = sym (held_there h.at (take i hs)) ∙ ap (λ m. is_some (finite.get m (key_of h.at))) (sym same) ∙ there in
-      false_from_ne_true (entities_differ hs) (λ differ. true≢false (sym taken ∙ apart (take i hs) h (drop (i + 1) hs) (ap entities_differ (sym whole) ∙ differ)))
+-- all were put
+pub all_put : (state : Keyed) (left all : List Held) → HasPut state left all → left ≡ [] → (state.contents ≡ with_records finite.empty all) × (entities_differ all ≡ true)
+all_put state left all so_far none =
+    let same : all ≡ so_far.before = so_far.split ∙ ap (λ l. so_far.before ++ l) none ∙ append-nil so_far.before in
+    (so_far.contents ∙ ap (with_records finite.empty) (sym same), ap entities_differ same ∙ so_far.differ)

@@ -5,37 +5,35 @@ ghost use Rattle.kept_parts.specs.Made.{IsHistoryOf, IsStateOf};
 
 use keyed_state::Keyed;
 use request_history::History;
-use sf_list::TryClone;
-use sf_value::{Entry, Held};
+use sf_value::{Entries, Records};
 use std::alloc::{AllocError, Global};
 
-/// The history of these entries, or none where an id stands twice.
-pub fn history_of(alloc: Global, entries: &[Entry]) -> Result<Option<History>, AllocError>
-    requires { length entries.now < 2 ^ 32 }
-    ensures { IfOk result (IsHistoryOf entries.now) }
+/// The history of these entries, or none where an id stands twice. The entries are moved, into room that is made for all of them.
+pub fn history_of(alloc: Global, entries: Entries) -> Result<Option<History>, AllocError>
+    requires { length entries < 2 ^ 32 }
+    ensures { IfOk result (IsHistoryOf entries) }
 {
     let mut history = History::new(alloc);
+    history.reserve(entries.len())?;
     for entry in entries {
-        if history.find(&entry.request.id).is_some() {
+        if !history.commit_new(entry.request, entry.outcome)? {
             return Ok(None);
         }
-        let copy = entry.try_clone(alloc)?;
-        history.commit(copy.request, copy.outcome)?;
     }
     Ok(Some(history))
 }
 
-/// The state of these records, which it holds in their order, or none where an entity stands twice.
-pub fn state_of(alloc: Global, records: &[Held]) -> Result<Option<Keyed>, AllocError>
-    ensures { IfOk result (IsStateOf records.now) }
+/// The state of these records, which it holds in their order, or none where an entity stands twice. The records are moved, into
+/// room that is made for all of them.
+pub fn state_of(alloc: Global, records: Records) -> Result<Option<Keyed>, AllocError>
+    ensures { IfOk result (IsStateOf records) }
 {
     let mut state = Keyed::new(alloc);
+    state.reserve(records.len())?;
     for held in records {
-        if state.get(&held.at).is_some() {
+        if !state.put(alloc, held.at, held.fields)? {
             return Ok(None);
         }
-        let copy = held.try_clone(alloc)?;
-        state.put(alloc, copy.at, copy.fields)?;
     }
     Ok(Some(state))
 }

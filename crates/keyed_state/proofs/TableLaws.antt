@@ -1,13 +1,13 @@
 -- The table of records, seen as a finite map of their fields, and its entries as a list.
-use Rattle.std.proofs.Common.{◌≡◌, ◌∙◌, ℕ, ◌+◌, Bool, true, false, cond, not, ◌&&◌, ◌||◌, List, [], ◌∷◌, ◌++◌, map as over, take, Some, refl, sym, ap}
-use Rattle.std.specs.Prelude.{slice_get}
+use Rattle.std.proofs.Common.{◌≡◌, ◌∙◌, ◌↔◌, ℕ, ◌+◌, Bool, true, false, true≢false, cond, not, ◌&&◌, ◌||◌, List, [], ◌∷◌, ◌++◌, map as over, take, Option, Some, None, refl, sym, ap}
+use Rattle.std.specs.Prelude.{slice_get, is_some, IsTrue}
 use Rattle.std.specs.List.{list_any, AllByRecursion, IsDistinct}
 use Rattle.std.specs.Map.{lookup}
 use Rattle.std.specs.Option.{option_map}
 use Rattle.std.specs.FinMap as finite
 use Rattle.std.proofs.lemmas.List.{take_more, map-append}
 use Rattle.std.proofs.lemmas.Map.Made.{lookup-map_values}
-use Rattle.std.proofs.lemmas.Option.{get_or_from_slice_get, slice_get_within}
+use Rattle.std.proofs.lemmas.Option.{get_or_from_slice_get, slice_get_within, none-some}
 use Rattle.indexmap.specs.IndexMap.{insert_entry}
 use Rattle.sf_value.specs.Keys.{key_of}
 use Rattle.sf_value.specs.declared.value.Value.{Value}
@@ -22,6 +22,16 @@ use Rattle.keyed_state.specs.Listing.{held_of}
 -- what the table answers is what the map holds
 pub get-contents : (entries : List (Ref × Record)) (at : Ref) → option_map (λ r. r.fields) (lookup (ref_eq at) entries) ≡ finite.get (contents_of entries) (key_of at)
 get-contents entries at = sym (lookup-map_values (λ (r : Record). r.fields) (ref_eq at) entries) ∙ sym (get-keyed (fields_of entries) at)
+
+-- the table has no record of an entity exactly where the map has none
+pub none_there : (entries : List (Ref × Record)) (at : Ref) (before : Option Record) (none : Bool) → before ≡ lookup (ref_eq at) entries → is_some before ≡ not none → IsTrue none ↔ (finite.get (contents_of entries) (key_of at) ≡ None)
+none_there entries at before none is tells = by before none tells (ap (option_map (λ (r : Record). r.fields)) is ∙ get-contents entries at)
+  where
+    by : (o : Option Record) (b : Bool) → is_some o ≡ not b → option_map (λ (r : Record). r.fields) o ≡ finite.get (contents_of entries) (key_of at) → IsTrue b ↔ (finite.get (contents_of entries) (key_of at) ≡ None)
+    by None true tells same = (λ _. sym same, λ _. refl)
+    by None false tells same = absurd (true≢false (sym tells))
+    by (Some r) true tells same = absurd (true≢false tells)
+    by (Some r) false tells same = (λ h. absurd (true≢false (sym h)), λ h. absurd (none-some r.fields (sym (same ∙ h))))
 
 fields-insert : (entries : List (Ref × Record)) (at : Ref) (new : Record) → fields_of (insert_entry ref_eq entries at new) ≡ insert_entry ref_eq (fields_of entries) at new.fields
 fields-insert [] at new = refl

@@ -1,6 +1,6 @@
 //! The state of a run: the record of each entity that there is.
 
-ghost use Rattle.std.specs.Prelude.{◌≡◌, ◌≤◌, true, length, IfOk, OnOk, OnErr};
+ghost use Rattle.std.specs.Prelude.{◌≡◌, ◌↔◌, ◌≤◌, None, true, length, IsTrue, IfOk, OnOk, OnErr};
 ghost use Rattle.std.specs.FinMap as finite;
 ghost use Rattle.std.specs.Option.{option_copied, option_map};
 ghost use Rattle.sf_value.specs.Keys.{key_of};
@@ -49,14 +49,24 @@ impl Keyed {
         self.records.get(at)
     }
 
-    /// Gives an entity its record, in place of the one that it had. The table keeps its own
+    /// Gives an entity its record, in place of the one that it had, and tells whether it had none. The table keeps its own
     /// allocator, so `alloc` is unused.
-    pub fn put(&mut self, _alloc: Global, at: Ref, held: Record) -> Result<(), AllocError>
+    pub fn put(&mut self, _alloc: Global, at: Ref, held: Record) -> Result<bool, AllocError>
+        ensures new { IfOk result (λ is_new. IsTrue is_new ↔ (finite.get self.old.contents (key_of at) ≡ None)) }
         ensures ok { OnOk result (self.new.contents ≡ finite.insert self.old.contents (key_of at) held.fields) }
         ensures err { OnErr result (self.new.contents ≡ self.old.contents) }
     {
-        self.records.insert(at, held)?;
-        Ok(())
+        let before = self.records.insert(at, held)?;
+        Ok(before.is_none())
+    }
+
+    /// Makes room for so many entities more.
+    pub fn reserve(&mut self, count: usize) -> Result<(), AllocError>
+        ensures contents { self.new.contents ≡ self.old.contents }
+        ensures kept { self.old.spare ≤ self.new.spare }
+        ensures room { OnOk result (count ≤ self.new.spare) }
+    {
+        self.records.reserve(count)
     }
 
     /// Each entity with its record, once, in the order in which the state first held them.

@@ -1,7 +1,7 @@
 -- The table of the history, seen as its entries.
-use Rattle.std.proofs.Common.{◌≡◌, ℕ, zero, suc, ◌+◌, Bool, true, false, cond, List, [], ◌∷◌, ◌++◌, Option, None, Some, refl, sym, ap, ◌∙◌, arith}
-use Rattle.std.specs.Prelude.{bytes_eq, position, slice_get}
-use Rattle.std.specs.Map.{keys_of}
+use Rattle.std.proofs.Common.{◌≡◌, ℕ, zero, suc, ◌+◌, Bool, true, false, true≢false, cond, not, List, [], ◌∷◌, ◌++◌, Option, None, Some, ◌↔◌, refl, sym, ap, ◌∙◌, arith}
+use Rattle.std.specs.Prelude.{bytes_eq, position, slice_get, is_some, IsTrue}
+use Rattle.std.specs.Map.{keys_of, lookup}
 use Rattle.std.specs.Option.{option_map}
 use Rattle.std.proofs.lemmas.Option.{same_Some, none-some}
 use Rattle.indexmap.specs.IndexMap.{insert_entry}
@@ -54,6 +54,26 @@ none_from first (x ∷ es) id none = by (bytes_eq id x.0) (sym (position_of_more
 pub none_at : (es : List (Text × Committed)) (id : List ℕ) → position (bytes_eq id) (keys_of es) ≡ None → kept_of (entries_of es) id ≡ None
 unfolding kept_of
 none_at es id none = none_from 1 es id none
+
+-- an id has no entry exactly where the table has nothing of it
+there_from : (first : ℕ) (es : List (Text × Committed)) (id : List ℕ) → is_some (kept_from first (entries_of es) id) ≡ is_some (lookup (bytes_eq id) es)
+there_from first [] id = refl
+there_from first (e ∷ es) id = by (bytes_eq id e.0) (there_from (first + 1) es id)
+  where
+    by : (b : Bool) → is_some (kept_from (first + 1) (entries_of es) id) ≡ is_some (lookup (bytes_eq id) es)
+        → is_some (cond b (Some (record { place = first; entry = kept_entry e })) (kept_from (first + 1) (entries_of es) id)) ≡ is_some (cond b (Some e.1) (lookup (bytes_eq id) es))
+    by true later = refl
+    by false later = later
+
+none_is : {A : Type 0} (o : Option A) (b : Bool) → is_some o ≡ not b → IsTrue b ↔ (o ≡ None)
+none_is None true tells = (λ _. refl, λ _. refl)
+none_is None false tells = absurd (true≢false (sym tells))
+none_is (Some x) true tells = absurd (true≢false tells)
+none_is (Some x) false tells = (λ h. absurd (true≢false (sym h)), λ h. absurd (none-some x (sym h)))
+
+pub none_kept : (es : List (Text × Committed)) (id : List ℕ) (before : Option Committed) (none : Bool) → before ≡ lookup (bytes_eq id) es → is_some before ≡ not none → IsTrue none ↔ (kept_of (entries_of es) id ≡ None)
+unfolding kept_of
+none_kept es id before none is tells = none_is (kept_from 1 (entries_of es) id) none (there_from 1 es id ∙ ap is_some (sym is) ∙ tells)
 
 -- a new id joins at the end
 new_from : (first : ℕ) (es : List (Text × Committed)) (id : Text) (c : Committed) → kept_from first (entries_of es) id ≡ None → entries_of (insert_entry bytes_eq es id c) ≡ entries_of es ++ kept_entry (id, c) ∷ []

@@ -1,6 +1,6 @@
 //! The requests that were committed, by their ids, in the order in which they were.
 
-ghost use Rattle.std.specs.Prelude.{◌≡◌, ◌+◌, ◌≤◌, ◌<◌, ◌^◌, ◌++◌, ◌∷◌, [], None, true, length, OnOk, OnErr};
+ghost use Rattle.std.specs.Prelude.{◌≡◌, ◌↔◌, ◌+◌, ◌≤◌, ◌<◌, ◌^◌, ◌++◌, ◌∷◌, [], None, true, length, IsTrue, IfOk, OnOk, OnErr};
 ghost use Rattle.std.specs.Option.{option_map};
 ghost use Rattle.program_meaning.specs.Serial.{ids_differ};
 ghost use Rattle.request_history.specs.Repeats.{kept_of, kept_in};
@@ -99,6 +99,18 @@ impl History {
         let Request { id, act } = request;
         self.table.insert(id, Committed { act, outcome })?;
         Ok(())
+    }
+
+    /// Commits a request where its id is new, and tells whether it is, with one look-up. Where it isn't, the history is of no
+    /// use any more: what it had of the id is gone. Without memory nothing changes.
+    pub fn commit_new(&mut self, request: Request, outcome: Outcome) -> Result<bool, AllocError>
+        ensures new { IfOk result (λ is_new. IsTrue is_new ↔ (kept_of self.old.entries request.id ≡ None)) }
+        ensures committed { IfOk result (λ is_new. IsTrue is_new → self.new.entries ≡ self.old.entries ++ record { request = request; outcome = outcome } ∷ []) }
+        ensures err { OnErr result (self.new.entries ≡ self.old.entries) }
+    {
+        let Request { id, act } = request;
+        let before = self.table.insert(id, Committed { act, outcome })?;
+        Ok(before.is_none())
     }
 
     /// Makes room for so many entries more.

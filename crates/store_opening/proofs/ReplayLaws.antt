@@ -1,7 +1,7 @@
 -- Batches of a log run again one after another.
-use Rattle.std.proofs.Common.{◌≡◌, ℕ, ◌+◌, ◌≤◌, ◌<◌, List, [], ◌∷◌, ◌++◌, length, take, drop, get_or, filter_map, Option, None, Some, refl, sym, ap, ◌∙◌, subst, arith}
+use Rattle.std.proofs.Common.{◌≡◌, ℕ, ◌≤◌, List, [], ◌∷◌, ◌++◌, length, filter_map, Option, None, Some, refl, sym, ap, ◌∙◌, subst, arith}
 use Rattle.std.specs.List.{AllByRecursion, slice_get, cons_option, range_with_len}
-use Rattle.std.proofs.lemmas.List.{length-append, take_more, take-append-drop, append_assoc}
+use Rattle.std.proofs.lemmas.List.{length-append, append_assoc, append-nil}
 use Rattle.std.proofs.lemmas.List.FromFn.{length-range_with_len}
 use Rattle.std.proofs.lemmas.List.Sorted.{length_permutation}
 use Rattle.byte_sizes.specs.Spelt.{IsReadBatch}
@@ -27,7 +27,7 @@ use Rattle.storable_cores.proofs.Accepted.{engine_accepted}
 use Rattle.storable_cores.proofs.CoreLaws.{replays_are_storable}
 use Rattle.store_opening.specs.declared.replaying.ReplayStop.{ReplayStop}
 use Rattle.store_opening.specs.declared.replaying.ReplayStop.TheVariants.{Wrong, NoMemory}
-use Rattle.store_opening.specs.Replayed.{IsWrongAt, HasFirstWrong, HasWrongAmong, IsBrokenOff}
+use Rattle.store_opening.specs.Replayed.{IsWrongAt, HasWrongAmong, IsBrokenOff}
 use Rattle.store_opening.specs.Stops.{replay_stop}
 
 -- ---- how many wait behind a batch
@@ -50,19 +50,13 @@ few_wait src core batch compiled fits =
 
 -- ---- one of them
 
-module _ (batches : List Placed) (i : ℕ) (placed : Placed) (within : i < length batches) (is : placed ≡ get_or batches i placed) where
-  pub more_taken : take (i + 1) batches ≡ take i batches ++ placed ∷ []
-  more_taken = take_more batches i placed within ∙ ap (λ b. take i batches ++ b ∷ []) (sym is)
-
-  pub split_here : batches ≡ take i batches ++ placed ∷ drop (i + 1) batches
-  split_here = sym (take-append-drop (i + 1) batches) ∙ ap (λ front. front ++ drop (i + 1) batches) more_taken ∙ append_assoc (take i batches) (placed ∷ []) (drop (i + 1) batches)
-
-  pub read_here : AllByRecursion (λ (b : Placed). IsReadBatch b.batch) batches → IsReadBatch placed.batch
-  read_here read = behind (take i batches) (subst (AllByRecursion (λ (b : Placed). IsReadBatch b.batch)) split_here read)
-    where
-      behind : (before : List Placed) → AllByRecursion (λ (b : Placed). IsReadBatch b.batch) (before ++ placed ∷ drop (i + 1) batches) → IsReadBatch placed.batch
-      behind [] all = all.0
-      behind (first ∷ before) all = behind before all.1
+-- a batch that stands among those of a log was read
+pub read_here : (before : List Placed) (placed : Placed) (after batches : List Placed) → batches ≡ before ++ placed ∷ after → AllByRecursion (λ (b : Placed). IsReadBatch b.batch) batches → IsReadBatch placed.batch
+read_here before placed after batches split read = behind before (subst (AllByRecursion (λ (b : Placed). IsReadBatch b.batch)) split read)
+  where
+    behind : (front : List Placed) → AllByRecursion (λ (b : Placed). IsReadBatch b.batch) (front ++ placed ∷ after) → IsReadBatch placed.batch
+    behind [] all = all.0
+    behind (first ∷ front) all = behind front all.1
 
 -- ---- so far
 
@@ -123,7 +117,31 @@ module _ (first now : Engine) (before : List Placed) (so_far : HasReplayed first
     place = told.1;
   }
 
+-- of all batches those before these were run again
+pub record HasReplayedFront (first now : Engine) (left all : List Placed) : Type 0 where
+  pub before : List Placed
+  pub split : all ≡ before ++ left
+  pub so_far : HasReplayed first now before
+
+module _ (first now : Engine) (placed : Placed) (after all : List Placed) (front : HasReplayedFront first now (placed ∷ after) all) where
+  -- the next one more
+  pub one_further : (next : Engine) → core_of next ≡ replayed (source_of now) (core_of now) placed.batch → BatchFits (tables_of now) (core_of now) placed.batch → fresh_of next ≡ 0
+      → RunsProgram next (compiled_of now) (limit_of now) → CoreFits (tables_of now) (core_of next) → AllByRecursion (λ (b : Placed). IsReadBatch b.batch) all → HasReplayedFront first next after all
+  one_further next core fits fresh runs core_fits read = record {
+    before = front.before ++ placed ∷ [];
+    split = front.split ∙ sym (append_assoc front.before (placed ∷ []) after);
+    so_far = one_more first now front.before front.so_far next placed core fits fresh runs core_fits (read_here front.before placed after all front.split read);
+  }
+
+  -- or it can't follow
+  pub wrong_next : (stop : ReplayStop) → IsWrongAt (BatchFits (tables_of now) (core_of now) placed.batch) placed.at stop → (text : List ℕ) → HasWrongAmong (program_of first text) (core_of first) all stop
+  wrong_next = wrong_here first now front.before front.so_far placed after all front.split
+
+-- all were
+pub all_replayed : (first now : Engine) (left all : List Placed) → HasReplayedFront first now left all → left ≡ [] → HasReplayed first now all
+all_replayed first now left all front none = subst (HasReplayed first now) (sym (front.split ∙ ap (λ l. front.before ++ l) none ∙ append-nil front.before)) front.so_far
+
 -- as the stop of an opening
-pub broken_off : (p : Program) (core : Core) (batches slice : List Placed) (epoch : ℕ) (stop : ReplayStop) → slice ≡ batches → HasWrongAmong p core slice stop → IsBrokenOff p core batches epoch (replay_stop epoch stop)
-broken_off p core batches slice epoch (Wrong at) same wrong = (subst (λ bs. HasFirstWrong p core bs at) same wrong, refl)
-broken_off p core batches slice epoch NoMemory same wrong = tt
+pub broken_off : (p : Program) (core : Core) (batches : List Placed) (epoch : ℕ) (stop : ReplayStop) → HasWrongAmong p core batches stop → IsBrokenOff p core batches epoch (replay_stop epoch stop)
+broken_off p core batches epoch (Wrong at) wrong = (wrong, refl)
+broken_off p core batches epoch NoMemory wrong = tt

@@ -82,9 +82,7 @@ fn with_batches(
     ensures replays { IfOk result (λ made. Replays (program_of engine settings.program) (core_of engine) (batches_of batches) (core_of made.engine)) }
     ensures stop { IfErr result (IsBrokenOff (program_of engine settings.program) (core_of engine) batches position.epoch) }
 {
-    let replayed = replay_all(alloc, &mut engine, batches.as_slice());
-    drop(batches);
-    match replayed {
+    match replay_all(alloc, &mut engine, batches) {
         Ok(()) => Ok(OpenedStore {
             engine,
             store: store_at(settings, position),

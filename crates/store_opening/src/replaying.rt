@@ -14,9 +14,8 @@ ghost use Rattle.storable_cores.specs.Storable.{IsStorable};
 ghost use Rattle.store_opening.specs.Replayed.{IsWrongAt, HasWrongAmong};
 
 use engine::{Engine, RestoreError};
-use recovery::Placed;
-use sf_list::TryClone;
-use std::alloc::{AllocError, Global};
+use recovery::{Batches, Placed};
+use std::alloc::Global;
 
 /// Why batches aren't run again.
 #[derive(Clone, Copy, PartialEq, Eq, Debug)]
@@ -26,27 +25,16 @@ pub enum ReplayStop {
     NoMemory,
 }
 
-impl From<AllocError> for ReplayStop {
-    ghost use Rattle.std.specs.Prelude.{◌≡◌};
-    ghost use Rattle.store_opening.specs.declared.replaying.ReplayStop.TheVariants.{NoMemory};
-
-    ghost from_gives = { λ _ stop. stop ≡ NoMemory };
-
-    fn from(_error: AllocError) -> ReplayStop {
-        ReplayStop::NoMemory
-    }
-}
-
 /// Runs batches again in their order, up to the first that can't follow.
-pub fn replay_all(alloc: Global, engine: &mut Engine, batches: &[Placed]) -> Result<(), ReplayStop>
+pub fn replay_all(alloc: Global, engine: &mut Engine, batches: Batches) -> Result<(), ReplayStop>
     requires whole { IsWhole (compiled_of engine.old) }
     requires fits { CoreFits (tables_of engine.old) (core_of engine.old) }
     requires storable { IsStorable (core_of engine.old) 0 }
     requires few { length (core_of engine.old).pending ≤ 255 }
     requires fresh { fresh_of engine.old ≡ 0 }
-    requires read { AllByRecursion (λ placed. IsReadBatch placed.batch) batches.now }
-    ensures replays { (text : List ℕ) → OnOk result (Replays (program_of engine.old text) (core_of engine.old) (batches_of batches.now) (core_of engine.new)) }
-    ensures wrong { (text : List ℕ) → IfErr result (HasWrongAmong (program_of engine.old text) (core_of engine.old) batches.now) }
+    requires read { AllByRecursion (λ placed. IsReadBatch placed.batch) batches }
+    ensures replays { (text : List ℕ) → OnOk result (Replays (program_of engine.old text) (core_of engine.old) (batches_of batches) (core_of engine.new)) }
+    ensures wrong { (text : List ℕ) → IfErr result (HasWrongAmong (program_of engine.old text) (core_of engine.old) batches) }
     ensures runs { RunsProgram engine.new (compiled_of engine.old) (limit_of engine.old) }
     ensures core_fits { OnOk result (CoreFits (tables_of engine.new) (core_of engine.new)) }
     ensures storable { OnOk result (IsStorable (core_of engine.new) 0) }
@@ -59,21 +47,21 @@ pub fn replay_all(alloc: Global, engine: &mut Engine, batches: &[Placed]) -> Res
     Ok(())
 }
 
-/// Runs a copy of a batch again.
-fn replay_one(alloc: Global, engine: &mut Engine, placed: &Placed) -> Result<(), ReplayStop>
+/// Runs a batch again.
+fn replay_one(alloc: Global, engine: &mut Engine, placed: Placed) -> Result<(), ReplayStop>
     requires whole { IsWhole (compiled_of engine.old) }
     requires fits { CoreFits (tables_of engine.old) (core_of engine.old) }
-    ensures core { OnOk result (core_of engine.new ≡ replayed (source_of engine.old) (core_of engine.old) placed.now.batch) }
-    ensures batch_fits { OnOk result (BatchFits (tables_of engine.old) (core_of engine.old) placed.now.batch) }
-    ensures wrong { IfErr result (IsWrongAt (BatchFits (tables_of engine.old) (core_of engine.old) placed.now.batch) placed.now.at) }
+    ensures core { OnOk result (core_of engine.new ≡ replayed (source_of engine.old) (core_of engine.old) placed.batch) }
+    ensures batch_fits { OnOk result (BatchFits (tables_of engine.old) (core_of engine.old) placed.batch) }
+    ensures wrong { IfErr result (IsWrongAt (BatchFits (tables_of engine.old) (core_of engine.old) placed.batch) placed.at) }
     ensures fresh { OnOk result (fresh_of engine.new ≡ 0) }
     ensures runs { RunsProgram engine.new (compiled_of engine.old) (limit_of engine.old) }
     ensures core_fits { CoreFits (tables_of engine.old) (core_of engine.new) }
 {
-    let batch = placed.batch.try_clone(alloc)?;
+    let Placed { at, batch } = placed;
     match engine.replay(alloc, batch) {
         Ok(()) => Ok(()),
-        Err(RestoreError::Wrong) => Err(ReplayStop::Wrong { at: placed.at }),
+        Err(RestoreError::Wrong) => Err(ReplayStop::Wrong { at }),
         Err(RestoreError::NoMemory) => Err(ReplayStop::NoMemory),
     }
 }

@@ -1,25 +1,29 @@
-use Rattle.std.proofs.Common.{ap, sym, ◌∙◌, ◌++◌, ◌∷◌, []}
+use Rattle.std.proofs.Common.{◌≡◌, ◌++◌, ◌∷◌, [], ap, sym, ◌∙◌, subst, true≢false, rules}
 use Rattle.std.specs.Prelude.{bytes_eq}
-use Rattle.std.specs.List.{list_any}
-use Rattle.sf_value.specs.declared.Entry.{Entry}
-use Rattle.request_history.specs.HistoryView.{kept_at}
-use Rattle.request_history.specs.Repeats.{kept_of}
+use Rattle.std.specs.List.{IsDistinct}
+use Rattle.std.specs.Vec.Iter.{into_iter_items}
+use Rattle.std.proofs.lemmas.List.{append_assoc}
 use Rattle.kept_parts.specs.Ids.{entry_ids}
-use Rattle.kept_parts.proofs.EachLaws.{is_there, one_more}
-use Rattle.kept_parts.proofs.IdLaws.{found, next_new, next_taken}
+use Rattle.kept_parts.proofs.IdLaws.{differ_behind, new_behind}
 use Rattle.kept_parts.proofs.making.history_of.Goals as goal
 
-pub returns-then-is_some : goal.returns-then-is_some
-returns-then-is_some c =
-    let there = sym (found c.loop-entry.history.entries c.entry-item.result.request.id) ∙ sym (is_there kept_at c.find.result (kept_of c.loop-entry.history.entries c.entry-item.result.request.id) c.find.ensures) ∙ sym c.is_some.ensures ∙ c.if-is_some.true in
-    next_taken (λ (e : Entry). e.request.id) [] c.args.entries.now c.loop-entry.entry-index c.entry-item.result c.loop-entry-test.true c.entry-item.is
-    (ap (λ es. list_any (bytes_eq c.entry-item.result.request.id) (entry_ids es)) (sym c.loop-entry.invariant.entries) ∙ there)
+pub returns-then-not-branch : goal.returns-then-not-branch
+returns-then-not-branch c = λ differ.
+    let before = c.loop-entry.history.entries in
+    let more = into_iter_items c.next.new.self in
+    let split : before ++ c.in-Some.entry ∷ more ≡ c.args.entries = ap (λ l. before ++ l) (sym c.in-Some.ensures.steps.0) ∙ c.loop-entry.invariant.entries in
+    let none = new_behind before c.in-Some.entry more (subst (λ es. IsDistinct bytes_eq (entry_ids es)) (sym split) differ) in
+    true≢false (sym (c.in_ok-commit_new.ensures.new.1 none) ∙ c.if-not-branch.true)
 
 pub loop-entry-preserved : goal.loop-entry-preserved
 loop-entry-preserved c =
-    let absent = sym (found c.loop-entry.history.entries c.entry-item.result.request.id) ∙ sym (is_there kept_at c.find.result (kept_of c.loop-entry.history.entries c.entry-item.result.request.id) c.find.ensures) ∙ sym c.is_some.ensures ∙ c.if-is_some.false in
+    let before = c.loop-entry.history.entries in
+    let more = into_iter_items c.next.new.self in
+    let split : before ++ c.in-Some.entry ∷ more ≡ c.args.entries = ap (λ l. before ++ l) (sym c.in-Some.ensures.steps.0) ∙ c.loop-entry.invariant.entries in
+    let grown = c.in_ok-commit_new.ensures.committed c.if-not-branch.false in
     record {
-      entries = c.in_ok-commit.ensures.ok ∙ (λ i. c.loop-entry.invariant.entries i ++ c.in_ok-copy.ensures i ∷ []) ∙ sym (one_more c.args.entries.now c.loop-entry.entry-index c.entry-item.result c.loop-entry-test.true c.entry-item.is);
-      differ = next_new (λ (e : Entry). e.request.id) [] c.args.entries.now c.loop-entry.entry-index c.entry-item.result c.loop-entry-test.true c.entry-item.is c.loop-entry.invariant.differ
-          (ap (λ es. list_any (bytes_eq c.entry-item.result.request.id) (entry_ids es)) (sym c.loop-entry.invariant.entries) ∙ absent);
+      entries = ap (λ l. l ++ more) grown ∙ append_assoc before (c.in-Some.entry ∷ []) more ∙ split;
+      differ = subst (λ es. IsDistinct bytes_eq (entry_ids es)) (sym grown)
+          (differ_behind before c.in-Some.entry c.loop-entry.invariant.differ (c.in_ok-commit_new.ensures.new.0 c.if-not-branch.false));
+      count = search rules;
     }

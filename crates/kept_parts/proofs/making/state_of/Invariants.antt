@@ -1,10 +1,10 @@
-use Rattle.std.proofs.Common.{◌≡◌, take, true}
-use Rattle.std.specs.FinMap as finite
-use Rattle.keyed_state.specs.Works.{with_records, entities_differ}
+use Rattle.std.proofs.Common.{◌≡◌, length}
+use Rattle.std.specs.Vec.Iter.{into_iter_items, into_iter_len}
+use Rattle.kept_parts.proofs.RecordLaws.{HasPut}
 use Rattle.kept_parts.proofs.making.state_of.Given as goal
 
 abbrev pub invariant-loop-held : goal.invariant-loop-held
 invariant-loop-held l = record {
-  contents : l.state.contents ≡ with_records finite.empty (take l.held-index l.records);
-  differ : entities_differ (take l.held-index l.records) ≡ true;
+  put : HasPut l.state (into_iter_items l.held-iterator) l.fn.records;
+  count : into_iter_len l.held-iterator ≡ length (into_iter_items l.held-iterator);
 }

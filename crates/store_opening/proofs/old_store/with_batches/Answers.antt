@@ -11,4 +11,4 @@ returns-in-Err-clause-stop c =
     let core = core_of c.args.engine in
     let epoch = c.args.position.epoch in
     subst (IsBrokenOff p core c.args.batches epoch) (sym c.replay_stop.ensures)
-    (broken_off p core c.args.batches c.as_slice.result.now epoch c.in-Err.stop c.as_slice.ensures (c.in-Err.ensures.wrong c.args.settings.program))
+    (broken_off p core c.args.batches epoch c.in-Err.stop (c.in-Err.ensures.wrong c.args.settings.program))

@@ -1,7 +1,11 @@
-use Rattle.std.proofs.Common.{take}
-use Rattle.store_opening.proofs.ReplayLaws.{HasReplayed}
+use Rattle.std.proofs.Common.{◌≡◌, length}
+use Rattle.std.specs.Vec.Iter.{into_iter_items, into_iter_len}
+use Rattle.store_opening.proofs.ReplayLaws.{HasReplayedFront}
 use Rattle.store_opening.proofs.replaying.replay_all.Given as goal
 
--- the batches before this one were run again
+-- the batches before these were run again
 abbrev pub invariant-loop-placed : goal.invariant-loop-placed
-invariant-loop-placed l = HasReplayed l.fn.engine l.engine (take l.placed-index l.batches)
+invariant-loop-placed l = record {
+  front : HasReplayedFront l.fn.engine l.engine (into_iter_items l.placed-iterator) l.fn.batches;
+  count : into_iter_len l.placed-iterator ≡ length (into_iter_items l.placed-iterator);
+}

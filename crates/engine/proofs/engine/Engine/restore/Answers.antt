@@ -13,17 +13,17 @@ use Rattle.engine.proofs.engine.Engine.restore.Goals as goal
 
 pub returns-in_default-clause-wrong : goal.returns-in_default-clause-wrong
 returns-in_default-clause-wrong c = λ fits.
-    none_history c.as_slice.result.now c.args.kept.history c.in_ok-history.field-0 c.in_default.not-Some c.in_ok-history.ensures c.as_slice.ensures (first_part (entry_ids c.args.kept.history) (request_ids c.args.kept.pending) fits.ids)
+    none_history c.args.kept.history c.in_ok-history.field-0 c.in_default.not-Some c.in_ok-history.ensures (first_part (entry_ids c.args.kept.history) (request_ids c.args.kept.pending) fits.ids)
 
 pub returns-then-not-ids_differ-clause-wrong : goal.returns-then-not-ids_differ-clause-wrong
 returns-then-not-ids_differ-clause-wrong c = λ fits.
-    let made = history_is c.as_slice.result.now c.args.kept.history c.in_ok-history.field-0 c.in-Some.history c.in-Some.is c.in_ok-history.ensures c.as_slice.ensures in
-    refuses c.ids_differ.result c.if-not-ids_differ.true c.ids_differ.ensures (subst (IsDistinct bytes_eq) (λ i. entry_ids (sym made.0 i) ++ request_ids (sym c.as_slice-3.ensures i)) fits.ids)
+    let made = history_is c.args.kept.history c.in_ok-history.field-0 c.in-Some.history c.in-Some.is c.in_ok-history.ensures in
+    refuses c.ids_differ.result c.if-not-ids_differ.true c.ids_differ.ensures (subst (IsDistinct bytes_eq) (λ i. entry_ids (sym made.0 i) ++ request_ids (sym c.as_slice.ensures i)) fits.ids)
 
 pub invariant_of-result : goal.invariant_of-result
 invariant_of-result c =
     let parts = c.parts_fit.ensures.0 c.if-not-parts_fit.false in
-    let made = history_is c.as_slice.result.now c.args.kept.history c.in_ok-history.field-0 c.in-Some.history c.in-Some.is c.in_ok-history.ensures c.as_slice.ensures in
+    let made = history_is c.args.kept.history c.in_ok-history.field-0 c.in-Some.history c.in-Some.is c.in_ok-history.ensures in
     record {
       placed = omega (arith, parts.4, ap length made.0);
       few = omega (arith, parts.3);
@@ -35,13 +35,13 @@ returns-clause-core_fits c =
     let tables = program_tables c.args.compiled in
     let kept = c.args.kept in
     let parts = c.parts_fit.ensures.0 c.if-not-parts_fit.false in
-    let history = history_is c.as_slice.result.now kept.history c.in_ok-history.field-0 c.in-Some.history c.in-Some.is c.in_ok-history.ensures c.as_slice.ensures in
-    let state = state_is c.as_slice-2.result.now kept.records c.in_ok-state.field-0 c.in-Some-2.state c.in-Some-2.is c.in_ok-state.ensures c.as_slice-2.ensures in
+    let history = history_is kept.history c.in_ok-history.field-0 c.in-Some.history c.in-Some.is c.in_ok-history.ensures in
+    let state = state_is kept.records c.in_ok-state.field-0 c.in-Some-2.state c.in-Some-2.is c.in_ok-state.ensures in
     let fits : SnapshotFits tables kept = record {
       entries = subst (λ ts. EntriesFit ts kept.history) c.tables_in.ensures parts.0;
       records = subst (λ ts. AllByRecursion (HeldFits ts) kept.records) c.tables_in.ensures parts.1;
       requests = subst (λ ts. AllByRecursion (RequestFits ts) kept.pending) c.tables_in.ensures parts.2;
-      ids = subst (IsDistinct bytes_eq) (λ i. entry_ids (history.0 i) ++ request_ids (c.as_slice-3.ensures i)) (c.ids_differ.ensures.0 c.if-not-ids_differ.false);
+      ids = subst (IsDistinct bytes_eq) (λ i. entry_ids (history.0 i) ++ request_ids (c.as_slice.ensures i)) (c.ids_differ.ensures.0 c.if-not-ids_differ.false);
       entities = state.1;
       few = parts.3;
       places = parts.4;
