@@ -31,7 +31,7 @@ pub fn state_of(alloc: Global, records: Records) -> Result<Option<Keyed>, AllocE
     let mut state = Keyed::new(alloc);
     state.reserve(records.len())?;
     for held in records {
-        if !state.put(alloc, held.at, held.fields)? {
+        if !state.put_new(held.at, held.fields)? {
             return Ok(None);
         }
     }

@@ -49,9 +49,18 @@ impl Keyed {
         self.records.get(at)
     }
 
-    /// Gives an entity its record, in place of the one that it had, and tells whether it had none. The table keeps its own
+    /// Gives an entity its record, in place of the one that it had. The table keeps its own
     /// allocator, so `alloc` is unused.
-    pub fn put(&mut self, _alloc: Global, at: Ref, held: Record) -> Result<bool, AllocError>
+    pub fn put(&mut self, _alloc: Global, at: Ref, held: Record) -> Result<(), AllocError>
+        ensures ok { OnOk result (self.new.contents ≡ finite.insert self.old.contents (key_of at) held.fields) }
+        ensures err { OnErr result (self.new.contents ≡ self.old.contents) }
+    {
+        self.put_new(at, held)?;
+        Ok(())
+    }
+
+    /// As `put`, with the same look-up: tells whether the entity had no record.
+    pub fn put_new(&mut self, at: Ref, held: Record) -> Result<bool, AllocError>
         ensures new { IfOk result (λ is_new. IsTrue is_new ↔ (finite.get self.old.contents (key_of at) ≡ None)) }
         ensures ok { OnOk result (self.new.contents ≡ finite.insert self.old.contents (key_of at) held.fields) }
         ensures err { OnErr result (self.new.contents ≡ self.old.contents) }

@@ -4,7 +4,7 @@ use Rattle.std.specs.FinMap as finite
 use Rattle.sf_value.specs.Keys.{key_of}
 use Rattle.keyed_state.specs.Contents.{contents_of}
 use Rattle.keyed_state.proofs.TableLaws.{insert-contents, none_there}
-use Rattle.keyed_state.proofs.keyed.Keyed.put.Goals as goal
+use Rattle.keyed_state.proofs.keyed.Keyed.put_new.Goals as goal
 
 pub returns-clause-ok : goal.returns-clause-ok
 returns-clause-ok c =
