@@ -12,7 +12,7 @@ pub(crate) fn copy_of_state(alloc: Global, state: &Keyed) -> Result<Keyed, Alloc
     ensures { IfOk result (λ made. made.contents ≡ state.now.contents) }
 {
     let records = state.records(alloc)?;
-    match state_of(alloc, records.as_slice())? {
+    match state_of(alloc, records)? {
         Some(copy) => Ok(copy),
         // a state lists each entity once
         None => unreachable!(),
