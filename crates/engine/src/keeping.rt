@@ -33,6 +33,13 @@ impl Engine {
         })
     }
 
+    /// How many entries the history has.
+    pub fn entries(&self) -> u32
+        ensures { result ≡ length (core_of self.now).history }
+    {
+        self.history.len() as u32
+    }
+
     /// Copies of the entries of the history behind the first so many.
     pub fn entries_behind(&self, alloc: Global, kept: u32) -> Result<Entries, AllocError>
         ensures { IfOk result (λ entries. entries ≡ drop kept (core_of self.now).history) }

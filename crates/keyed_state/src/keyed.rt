@@ -8,7 +8,7 @@ ghost use Rattle.keyed_state.specs.Works.{with_records, after_writes, written_co
 
 use crate::Works;
 use crate::commit::{put_all, room_of};
-use crate::listing::copies_of;
+use crate::listing::{Lent, copies_of};
 use indexmap::IndexMap;
 use sf_value::{Places, Record, Records, Ref};
 use std::alloc::{AllocError, Global};
@@ -76,6 +76,14 @@ impl Keyed {
         ensures room { OnOk result (count ≤ self.new.spare) }
     {
         self.records.reserve(count)
+    }
+
+    /// Each entity with its record, once, lent in the order in which the state first held them. It takes no memory.
+    pub fn lend(&self) -> Lent<'_>
+        ensures contents { with_records finite.empty result ≡ self.now.contents }
+        ensures once { entities_differ result ≡ true }
+    {
+        Lent::of(&self.records)
     }
 
     /// Each entity with its record, once, in the order in which the state first held them.

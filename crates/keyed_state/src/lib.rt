@@ -12,6 +12,7 @@ mod keyed;
 mod listing;
 
 pub use keyed::Keyed;
+pub use listing::Lent;
 use sf_list::Sequence;
 use sf_value::{Records, Ref};
 use std::alloc::Global;
