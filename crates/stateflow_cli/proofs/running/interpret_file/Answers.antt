@@ -16,6 +16,7 @@ returns g c = λ err outside disk.
       served = c.serve.ensures.served;
       input_cause = c.serve.ensures.cause;
       out_cause = c.serve.ensures.counts.rose;
+      handed = c.serve.ensures.handed;
       err = refl;
       outside = refl;
     })
