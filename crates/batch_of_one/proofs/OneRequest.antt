@@ -26,7 +26,7 @@ use Rattle.engine.specs.Batches.{batch_entries, after_batch}
 use Rattle.engine.specs.RanBatches.{accesses_on}
 use Rattle.session.specs.OutputText as local
 use Rattle.session.proofs.LineLaws.{after-full, replies-full}
-use Rattle.batch_output.specs.BatchOutput.{Limits, Standing, begun, waits, kept_line, entry_lines, answer_on, answer, taken, fills, is_due, committed, has_no_place, with_line, settled, settled_if, lines_if, batch_lines, step, reply, after, replies, last_replies, end_replies}
+use Rattle.batch_output.specs.BatchOutput.{Limits, Standing, begun, waits, kept_line, entry_lines, answer_on, answer, taken, fills, is_due, committed, has_no_place, with_line, settled, settled_if, lines_if, batch_lines, step, reply, after, replies, ended, at_end, last_replies, end_replies}
 use Rattle.batch_output.specs.SerialBatches.{IsLawfulRule}
 use Rattle.batch_of_one.specs.BatchOfOne.{committed_of, at_once, StandAlike, BatchOfOneIsLocal}
 
@@ -98,6 +98,18 @@ module _ (src : Source) (rule : List Access → Chosen) (limits : Limits) where
           let s : Standing = paired t (r ∷ rs) in
           ap (λ full. if full || not (waits s.core) then [] else batch_lines src rule limits s.core ++ last_replies src rule limits (length rs)
           (settled src rule limits s)) is
+      by false is = let empty : r ∷ rs ≡ [] = none is in absurd (omega (arith, ap length empty))
+
+  -- and nothing more is done
+  over_at_end : (t : local.Standing) (pending : List Request) → (t.is_full ≡ false → pending ≡ []) → at_end src rule limits (paired t pending) ≡ paired t pending
+  unfolding ended
+  over_at_end t [] none = refl
+  over_at_end t (r ∷ rs) none = by t.is_full refl
+    where
+      by : (full : Bool) → t.is_full ≡ full → at_end src rule limits (paired t (r ∷ rs)) ≡ paired t (r ∷ rs)
+      by true is =
+          let s : Standing = paired t (r ∷ rs) in
+          ap (λ full. if full || not (waits s.core) then s else ended src rule limits (length rs) (settled src rule limits s)) is
       by false is = let empty : r ∷ rs ≡ [] = none is in absurd (omega (arith, ap length empty))
 
 -- the core to which one request has come
@@ -234,7 +246,7 @@ module _ (src : Source) (rule : List Access → Chosen) (lawful : IsLawfulRule r
               ∙ sym (joined-append (local.reply src limits.history t line) (local.replies src limits.history next lines));
         }
 
-    stand_alike : (lines : List Line) → StandAlike src rule limits lines
+    pub stand_alike : (lines : List Line) → StandAlike src rule limits lines
     stand_alike lines =
         let same = all_same lines local.empty_core 0 in
         record {
@@ -243,6 +255,10 @@ module _ (src : Source) (rule : List Access → Chosen) (lawful : IsLawfulRule r
           text = same.printed;
           none = λ goes. ap (λ (s : Standing). s.core.pending) same.next_is ∙ same.none (sym (ap (λ (s : Standing). s.is_full) same.next_is) ∙ goes);
           end = ap (end_replies src rule limits) same.next_is ∙ none_at_end src rule limits (at_once src limits lines) same.pending same.none;
+          over =
+              ap (at_end src rule limits) same.next_is
+              ∙ over_at_end src rule limits (at_once src limits lines) same.pending same.none
+              ∙ sym same.next_is;
         }
 
 pub batch_of_one_is_local : BatchOfOneIsLocal

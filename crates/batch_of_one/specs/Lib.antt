@@ -1,1 +1,3 @@
 pub mod BatchOfOne
+pub mod WrittenAtOnce
+pub mod Vocabulary

@@ -5,4 +5,4 @@
 
 mod laws;
 
-pub use laws::batch_of_one_is_local;
+pub use laws::{batch_of_one_is_local, writes_as_batches_of_one};

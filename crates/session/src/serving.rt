@@ -3,6 +3,7 @@
 ghost use Rattle.std.specs.Prelude.{◌≡◌, ◌≤◌, ◌^◌, ◌⊎◌, Ok, Err};
 ghost use Rattle.std.specs.Io.KnownBytes.{Keeps};
 ghost use Rattle.sf_outside.specs.Causes.{Rose};
+ghost use Rattle.sf_outside.specs.Handing.{IsHandedOn};
 ghost use Rattle.program_meaning.specs.Sources.{source_of};
 ghost use Rattle.session.specs.Stops.{Counts};
 ghost use Rattle.session.specs.Served.{Served};
@@ -53,6 +54,7 @@ fn flushed<K: Sink>(
     ensures kept { Keeps (K.held out.old) (K.held out.new) }
     ensures later { K.faults out.old ≤ K.faults out.new }
     ensures flushed { (result ≡ served) ⊎ (result ≡ Err SessionStop.WriteFault) }
+    ensures handed { (result ≡ Err SessionStop.WriteFault → ⊥) → IsHandedOn (K.handed out.new) (K.held out.new) }
     ensures cause { result ≡ Err SessionStop.WriteFault → (served ≡ Err SessionStop.WriteFault) ⊎ Rose (K.faults out.old) (K.faults out.new) }
 {
     if let Err(SessionStop::WriteFault) = served {
@@ -80,6 +82,7 @@ pub fn serve<S: Source, K: Sink>(
     ensures read { S.faults input.old ≤ S.faults input.new }
     ensures cause { result ≡ Ok InputEnd.ReadFault → Rose (S.faults input.old) (S.faults input.new) }
     ensures served { Served (source_of program.now) limit history (S.left input.old) (S.left input.new) (K.held out.old) (K.held out.new) result }
+    ensures handed { (result ≡ Err SessionStop.WriteFault → ⊥) → IsHandedOn (K.handed out.new) (K.held out.new) }
 {
     let served = answer_all(alloc, limit, history, program, input, out);
     flushed(out, served)

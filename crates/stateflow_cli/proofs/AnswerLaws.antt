@@ -4,9 +4,9 @@ use Rattle.std.specs.declared.option.Option.{Option}
 use Rattle.std.specs.Io.KnownBytes.{Appends}
 use Rattle.sf_outside.specs.DiskModel.{DiskFacts}
 use Rattle.stateflow_cli.proofs.GainedLaws.{Rose-earlier}
-use Rattle.stateflow_cli.proofs.OneCause.{has_its_status, one_of_report, one_of_local, one_of_run}
+use Rattle.stateflow_cli.proofs.OneCause.{has_its_status, one_of_report, one_of_run}
 use Rattle.stateflow_cli.proofs.ReportEndings.{report_cause, report_err, report_prints, report_silent, report_done, report_told}
-use Rattle.stateflow_cli.proofs.LocalEndings.{local_cause, local_completes, local_unread, local_long, local_full, local_some, local_writes, local_told, local_refused, local_prints, local_takes, local_err, local_untold}
+use Rattle.stateflow_cli.proofs.LocalEndings.{local_cause, local_err, local_does}
 use Rattle.stateflow_cli.proofs.StoreEndings.{not_fewer, run_cause, run_later, run_does}
 use Rattle.stateflow_cli.proofs.GenEndings.{gen_cause, gen_status, gen_done, gen_prints, gen_silent, gen_unread, gen_tells}
 use Rattle.stateflow_cli.specs.Words.{Asked, Local, Run, Gen}
@@ -21,7 +21,7 @@ use Rattle.stateflow_cli.specs.GenClauses.{SumsUpByStatus}
 use Rattle.stateflow_cli.specs.StoreClauses.{DiskFails}
 use Rattle.stateflow_cli.specs.WordsPromise.{WordsPromise}
 use Rattle.stateflow_cli.specs.ReportPromise.{ReportPromise}
-use Rattle.stateflow_cli.specs.LocalPromise.{LocalCause, AnswersByStatus, LocalPromise}
+use Rattle.stateflow_cli.specs.LocalPromise.{at_once, LocalPromise}
 use Rattle.stateflow_cli.specs.RunPromise.{RunCause, RunPromise}
 use Rattle.stateflow_cli.specs.GenPromise.{GenPromise}
 use Rattle.stateflow_cli.specs.Promise.{Answers}
@@ -124,29 +124,18 @@ module _ (limit : ℕ) (before after : Devices) (was now : DiskFacts) (status : 
 
   -- ---- a session of the direct interpreter
 
-  local_text : (file : List ℕ) → Answers limit (Some (Local file)) before after was now status → AnswersByStatus limit file before after status
-  local_text file a = record {
-    front = local_takes limit before after a.behind file a.ending a.ends;
-    all = λ s. local_completes limit before after a.behind file a.ending a.ends (own (Some (Local file)) a 0 s (λ z. omega (arith, z)));
-    unread = λ s. local_unread limit before after a.behind file a.ending a.ends (own (Some (Local file)) a 3 s (λ z. omega (arith, z)));
-    too_long = λ s. local_long limit before after a.behind file a.ending a.ends (own (Some (Local file)) a 9 s (λ z. omega (arith, z)));
-    full = λ s. local_full limit before after a.behind file a.ending a.ends (own (Some (Local file)) a 10 s (λ z. omega (arith, z)));
-    some = λ s. local_some limit before after a.behind file a.ending a.ends (own (Some (Local file)) a 8 s (λ z. omega (arith, z)));
-    nothing = λ s. local_refused limit before after a.behind file a.ending a.ends (own (Some (Local file)) a 1 s (λ z. omega (arith, z)));
-  }
-
-  pub local_promise : (file : List ℕ) → Answers limit (Some (Local file)) before after was now status → LocalPromise limit file before after status
-  local_promise file a = record {
-    text = local_text file a;
-    whole = λ s. local_writes limit before after a.behind file (local_completes limit before after a.behind file a.ending a.ends (own (Some (Local file)) a 0 s (λ z. omega (arith, z))));
-    told = λ s. local_told limit before after a.behind file a.ending a.ends (line (Some (Local file)) a 1 s (λ z. omega (arith, z))) (own (Some (Local file)) a 1 s (λ z. omega (arith, z)));
-    serial = local_prints limit before after a.behind file a.ending a.ends;
-    untold = local_untold limit before after a.behind file a.ending a.ends;
-    line = line_alone file before.err a.behind after.err a.ending status (local_err limit before after a.behind file a.ending a.ends) a.told;
-    causes = has_its_status (LocalCause limit file before) (IsToldFor file None before) (IsFault (ServedRose file before after) ⊥ before after) status (one_of_local limit file before)
-        (told_cause (LocalCause limit file before status) (ServedRose file before after) ⊥ a.behind (line_of file a.ending) (status_of a.ending) a.told
-        (not_fewer before.err a.behind (local_err limit before after a.behind file a.ending a.ends)) (λ is. local_cause limit before after a.behind file status a.ending a.ends is));
-  }
+  pub local_promise : (file : List ℕ) → Answers limit (Some (Local file)) before after was now status → LocalPromise limit file before after was now status
+  local_promise file a =
+      let same : a.behind ≡ before.err = local_err limit before after a.behind file a.ending a.ends in
+      record {
+        did = local_does limit before after was now a.behind file status a.ending (own (Some (Local file)) a) (line (Some (Local file)) a)
+            (one_status _ _ a.behind.held after.err.held a.behind.faults after.err.faults status a.told) a.ends
+            (line_alone file before.err a.behind after.err a.ending status same a.told);
+        causes = has_its_status (RunCause limit file at_once before) (IsToldFor file None before) (IsFault (ServedRose file before after) ⊥ before after) status
+            (one_of_run limit file at_once before)
+            (told_cause (RunCause limit file at_once before status) (ServedRose file before after) ⊥ a.behind (line_of file a.ending) (status_of a.ending) a.told
+            (not_fewer before.err a.behind same) (λ is. local_cause limit before after a.behind file status a.ending a.ends is));
+      }
 
   -- ---- a run
 

@@ -8,6 +8,7 @@ pub mod WordLaws
 pub mod WordNames
 pub mod GraphTexts
 pub mod ReportEndings
+pub mod LocalSessions
 pub mod LocalEndings
 pub mod RunEndings
 pub mod SessionEndings

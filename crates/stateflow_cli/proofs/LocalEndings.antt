@@ -1,34 +1,31 @@
 -- How a session of the direct interpreter ends, by its status.
-use Rattle.std.proofs.Common.{◌≡◌, ℕ, ◌≤◌, ◌<◌, ◌⊎◌, inl, inr, Bool, true, false, List, [], ◌∷◌, ◌++◌, length, Some, Ok, Err, refl, sym, ap, ◌∙◌, subst, arith}
-use Rattle.std.specs.Prelude.{IfSome}
-use Rattle.std.proofs.KnownBytes.{Consumes-trans}
-use Rattle.std.specs.declared.option.Option.{Option}
+use Rattle.std.proofs.Common.{◌≡◌, ℕ, ◌≤◌, ◌<◌, ◌⊎◌, inl, inr, List, [], ◌∷◌, Some, Ok, Err, refl, sym, ap, ◌∙◌, subst, arith}
+use Rattle.std.proofs.lemmas.Option.{none-some}
 use Rattle.std.specs.declared.result.Result.{Result}
-use Rattle.std.specs.Io.KnownBytes.{Appends, Consumes, IsAtEnd, Keeps}
+use Rattle.std.specs.Io.KnownBytes.{Appends}
+use Rattle.sf_outside.specs.DiskModel.{DiskFacts}
 use Rattle.program_meaning.specs.ClassTables.{Source}
-use Rattle.request_json.specs.Actions.{Line, whole_lines, whole_from, rest_from, last_line, all_lines}
-use Rattle.input_lines.proofs.CutLaws.{whole-append}
+use Rattle.engine.specs.Cores.{empty_core}
 use Rattle.session.specs.declared.feeding.InputEnd.{InputEnd}
 use Rattle.session.specs.declared.feeding.InputEnd.TheVariants as input
 use Rattle.session.specs.declared.stopping.SessionStop.{SessionStop}
 use Rattle.session.specs.declared.stopping.SessionStop.TheVariants as local
-use Rattle.session.specs.OutputText.{Standing, after, start, output_text}
-use Rattle.session.specs.SerialOutput.{SerialRun}
-use Rattle.session.specs.Served.{Answered, AnsweredOver, AnsweredPart, OfWhole, OfAll, OfLimit, AnsweredTaken}
-use Rattle.session.proofs.LineLaws.{after-append, after-full}
-use Rattle.session.proofs.SerialOutputLaws.{Served-serial}
-use Rattle.session.proofs.TakenLaws.{Served-taken}
 use Rattle.batch_run.specs.Vocabulary.{SessionFault}
 use Rattle.batch_run.specs.SessionFaultVariants as stop
-use Rattle.batch_run.proofs.FullLaws.{all_taken, fits_whole, exceeds, full_at_line, full_at_end}
+use Rattle.batch_run.specs.RunTexts.{AnswersSome, fills_history}
+use Rattle.batch_run.proofs.FullLaws.{run_fits, run_exceeds, run_fills}
 use Rattle.stateflow_cli.proofs.ReportEndings.{still_idle}
-use Rattle.stateflow_cli.specs.Devices.{Devices, Output, with_err, IsIdle}
+use Rattle.stateflow_cli.proofs.LocalSessions.{PrintsAs, LocalRan, ran_serially, local_ran}
+use Rattle.stateflow_cli.specs.Devices.{Devices, Output, with_err, IsStill}
 use Rattle.stateflow_cli.specs.Loading.{source_in}
-use Rattle.stateflow_cli.specs.Endings.{LocalEnds, Interprets, local_history, local_ending}
+use Rattle.stateflow_cli.specs.Endings.{LocalEnds, Interprets, local_ending, settings_for}
 use Rattle.stateflow_cli.specs.StatusLines.{status_of, line_of}
-use Rattle.stateflow_cli.specs.Answers.{TellsFault}
-use Rattle.stateflow_cli.specs.Causes.{IsFault, WasUnread, WasUnwritten, WantedMemory, ServedRose, HasNoProgram, HasProgram, ServesAll, TakesNoMore, KeepsNoMore}
-use Rattle.stateflow_cli.specs.LocalPromise.{OfProgram, WritesText, fills_local, LocalCause, Came}
+use Rattle.stateflow_cli.specs.Answers.{TellsFault, TellsStatus}
+use Rattle.stateflow_cli.specs.Causes.{IsFault, WasUnread, WasUnwritten, WantedMemory, ServedRose, HasNoProgram, HasProgram, OfInput, ServesAll, TakesNoMore, KeepsNoMore}
+use Rattle.stateflow_cli.specs.Session.{IsOneOf}
+use Rattle.stateflow_cli.specs.SessionText.{PrintsText}
+use Rattle.stateflow_cli.specs.RunPromise.{RunCause, Begins, IsUnbegun}
+use Rattle.stateflow_cli.specs.LocalPromise.{at_once, LocalSession, LocalHeadline}
 use Rattle.stateflow_cli.specs.declared.ending.Ending.{Ending}
 use Rattle.stateflow_cli.specs.declared.ending.Ending.TheVariants.{Misused, Refused, FileFault, NoMemory, Printed, Unprinted, Served, Stopped, Unopened}
 
@@ -40,48 +37,6 @@ no_stop stop.WriteFault n small s = omega (arith, small, s)
 no_stop stop.InputTooLong n small s = omega (arith, small, s)
 no_stop stop.HistoryFull n small s = omega (arith, small, s)
 no_stop stop.NoMemory n small s = omega (arith, small, s)
-
--- A full history
-
-module _ (src : Source) where
-  abbrev local_behind : List ℕ → Bool
-  local_behind bytes = (after src local_history start (whole_lines bytes)).is_full
-
-  abbrev local_at_end : List ℕ → Bool
-  local_at_end bytes = (after src local_history start (all_lines bytes)).is_full
-
-  stays : (xs ys : List Line) → (after src local_history start xs).is_full ≡ true → (after src local_history start (xs ++ ys)).is_full ≡ true
-  stays xs ys full =
-      ap (λ (t : Standing). t.is_full) (after-append src local_history xs ys start ∙ after-full src local_history ys (after src local_history start xs) full) ∙ full
-
-  local_later : (taken more : List ℕ) → local_behind taken ≡ true → local_behind (taken ++ more) ≡ true
-  local_later taken more full = ap (λ lines. (after src local_history start lines).is_full) (whole-append taken more []) ∙ stays (whole_lines taken) (whole_from (rest_from [] taken) more) full
-
-  local_to_end : (all : List ℕ) → local_behind all ≡ true → local_at_end all ≡ true
-  local_to_end all full = stays (whole_lines all) (last_line (rest_from [] all)) full
-
-  module _ (limit : ℕ) (left left' held held' : Option (List ℕ)) where
-    local_fits : Answered src limit local_history {T = InputEnd} all_lines (Ok input.End) left left' held held' → IsAtEnd left'
-        → IfSome left (λ all. (length all ≤ limit) × (fills_local limit src all ≡ false))
-    local_fits a end = fits_whole limit local_behind local_at_end local_later local_to_end left left' a.taken a.consumed a.within end a.full
-
-    local_exceeds : AnsweredOver src limit local_history (Ok input.TooLong) left left' held held' → IfSome left (λ all. (limit < length all) × (fills_local limit src all ≡ false))
-    local_exceeds a =
-        exceeds limit local_behind local_at_end local_later local_to_end left left' a.answered.taken a.next
-        (Consumes-trans left a.before left' a.answered.taken (a.next ∷ []) a.answered.consumed a.beyond) a.full a.answered.full
-
-    not_written : local.HistoryFull ≡ local.WriteFault → ⊥
-    not_written e = cc
-
-    local_fills : AnsweredPart src limit local_history local.HistoryFull left left' held held' → IfSome left (λ all. fills_local limit src all ≡ true)
-    local_fills (OfWhole a) = full_at_line limit local_behind local_at_end local_later local_to_end left left' a.taken a.consumed a.within a.full
-    local_fills (OfAll a end) = full_at_end limit local_behind local_at_end local_later local_to_end left left' a.taken a.consumed a.within end a.full
-    local_fills (OfLimit fault a) = absurd (not_written fault)
-
-    -- all of the input was answered
-    whole_text : Answered src limit local_history {T = InputEnd} all_lines (Ok input.End) left left' held held' → IsAtEnd left' → (all : List ℕ) → left ≡ Some all → Appends held held' (output_text src local_history all)
-    whole_text a end all is =
-        subst (λ bytes. Appends held held' (output_text src local_history bytes)) (sym (all_taken all left' a.taken (subst (λ o. Consumes o left' a.taken) is a.consumed) end)) a.wrote
 
 -- a session's result is how it ends
 came_to : (limit : ℕ) (file : List ℕ) (before after : Devices) (result : Result InputEnd SessionStop) → Interprets limit file before after result → LocalEnds limit file before after (local_ending result)
@@ -100,67 +55,24 @@ module _ (limit : ℕ) (before after : Devices) (behind : Output) (file : List �
   abbrev mid : Devices
   mid = with_err behind after
 
-  -- By the status
+  abbrev LocalEnded : Ending → Type 0
+  LocalEnded e = LocalEnds limit file before mid e
 
-  abbrev CameTo : Result InputEnd SessionStop → Type 0
-  CameTo result = Came limit file before after result
+  abbrev pub Came : Result InputEnd SessionStop → Type 0
+  Came result = Interprets limit file before mid result
 
-  came_so : (result : Result InputEnd SessionStop) → Interprets limit file before mid result → CameTo result
-  came_so result i = record { holds = i.holds; served = i.served; input_cause = i.input_cause; out_cause = i.out_cause; err = refl; outside = i.outside }
+  abbrev pub source_for : (result : Result InputEnd SessionStop) → Came result → Source
+  source_for result i = source_in (before.content file) i.holds
 
-  pub local_completes : (e : Ending) → LocalEnds limit file before mid e → status_of e ≡ 0 → CameTo (Ok input.End)
-  local_completes Served ends s = came_so (Ok input.End) ends
-  local_completes Printed ends s = absurd ends
-  local_completes (Stopped stopped) ends s = absurd (no_stop stopped 0 (omega arith) s)
-  local_completes (Unopened stopped) ends s = absurd ends
-  local_completes e ends s = absurd (omega (arith, s))
+  abbrev pub Ran : (result : Result InputEnd SessionStop) → Came result → Type 0
+  Ran result i = LocalRan limit (source_for result i) before.input.left after.input.left before.out.held after.out.held result
 
-  pub local_unread : (e : Ending) → LocalEnds limit file before mid e → status_of e ≡ 3 → IsIdle before after ⊎ CameTo (Ok input.ReadFault)
-  local_unread FileFault ends s = inl (still_idle before after behind ends.still)
-  local_unread (Stopped stop.ReadFault) ends s = inr (came_so (Ok input.ReadFault) ends)
-  local_unread (Stopped stop.WriteFault) ends s = absurd (omega (arith, s))
-  local_unread (Stopped stop.DiskFault) ends s = absurd ends
-  local_unread (Stopped stop.NoMemory) ends s = absurd (omega (arith, s))
-  local_unread (Stopped stop.InputTooLong) ends s = absurd (omega (arith, s))
-  local_unread (Stopped stop.HistoryFull) ends s = absurd (omega (arith, s))
-  local_unread (Unopened stopped) ends s = absurd ends
-  local_unread e ends s = absurd (omega (arith, s))
+  pub ran : (result : Result InputEnd SessionStop) (i : Came result) → Ran result i
+  ran result i = local_ran limit (source_for result i) before.input.left after.input.left before.out.held after.out.held result i.served
 
-  pub local_long : (e : Ending) → LocalEnds limit file before mid e → status_of e ≡ 9 → CameTo (Ok input.TooLong)
-  local_long (Stopped stop.ReadFault) ends s = absurd (omega (arith, s))
-  local_long (Stopped stop.WriteFault) ends s = absurd (omega (arith, s))
-  local_long (Stopped stop.DiskFault) ends s = absurd ends
-  local_long (Stopped stop.NoMemory) ends s = absurd (omega (arith, s))
-  local_long (Stopped stop.InputTooLong) ends s = came_so (Ok input.TooLong) ends
-  local_long (Stopped stop.HistoryFull) ends s = absurd (omega (arith, s))
-  local_long (Unopened stopped) ends s = absurd ends
-  local_long e ends s = absurd (omega (arith, s))
+  -- Where no session began
 
-  pub local_full : (e : Ending) → LocalEnds limit file before mid e → status_of e ≡ 10 → CameTo (Err local.HistoryFull)
-  local_full (Stopped stop.ReadFault) ends s = absurd (omega (arith, s))
-  local_full (Stopped stop.WriteFault) ends s = absurd (omega (arith, s))
-  local_full (Stopped stop.DiskFault) ends s = absurd ends
-  local_full (Stopped stop.NoMemory) ends s = absurd (omega (arith, s))
-  local_full (Stopped stop.InputTooLong) ends s = absurd (omega (arith, s))
-  local_full (Stopped stop.HistoryFull) ends s = came_so (Err local.HistoryFull) ends
-  local_full (Unopened stopped) ends s = absurd ends
-  local_full e ends s = absurd (omega (arith, s))
-
-  pub local_some : (e : Ending) → LocalEnds limit file before mid e → status_of e ≡ 8 → IsIdle before after ⊎ CameTo (Err local.NoMemory)
-  local_some NoMemory ends s = inl (still_idle before after behind ends)
-  local_some (Stopped stop.ReadFault) ends s = absurd (omega (arith, s))
-  local_some (Stopped stop.WriteFault) ends s = absurd (omega (arith, s))
-  local_some (Stopped stop.DiskFault) ends s = absurd ends
-  local_some (Stopped stop.NoMemory) ends s = inr (came_so (Err local.NoMemory) ends)
-  local_some (Stopped stop.InputTooLong) ends s = absurd (omega (arith, s))
-  local_some (Stopped stop.HistoryFull) ends s = absurd (omega (arith, s))
-  local_some (Unopened stopped) ends s = absurd ends
-  local_some e ends s = absurd (omega (arith, s))
-
-  pub local_writes : CameTo (Ok input.End) → WritesText file before after
-  local_writes i = record { holds = i.holds; text = whole_text (source_in (before.content file) i.holds) limit before.input.left after.input.left before.out.held after.out.held i.served.0 i.served.1 }
-
-  pub local_told : (e : Ending) → LocalEnds limit file before mid e → Appends behind.held after.err.held (line_of file e) → status_of e ≡ 1 → TellsFault file before after
+  pub local_told : (e : Ending) → LocalEnded e → Appends behind.held after.err.held (line_of file e) → status_of e ≡ 1 → TellsFault file before after
   local_told (Refused f) ends wrote s = record {
     fault = f;
     refused = ends.refused;
@@ -170,73 +82,24 @@ module _ (limit : ℕ) (before after : Devices) (behind : Output) (file : List �
   local_told (Unopened stopped) ends wrote s = absurd ends
   local_told e ends wrote s = absurd (omega (arith, s))
 
-  pub local_refused : (e : Ending) → LocalEnds limit file before mid e → status_of e ≡ 1 → IsIdle before after
-  local_refused (Refused f) ends s = still_idle before after behind ends.still
-  local_refused (Stopped stopped) ends s = absurd (no_stop stopped 1 (omega arith) s)
-  local_refused (Unopened stopped) ends s = absurd ends
-  local_refused e ends s = absurd (omega (arith, s))
+  no_stop_at_six : (stopped : SessionFault) → status_of (Stopped stopped) ≡ 6 → ⊥
+  no_stop_at_six stop.ReadFault s = omega (arith, s)
+  no_stop_at_six stop.DiskFault s = omega (arith, s)
+  no_stop_at_six stop.WriteFault s = omega (arith, s)
+  no_stop_at_six stop.InputTooLong s = omega (arith, s)
+  no_stop_at_six stop.HistoryFull s = omega (arith, s)
+  no_stop_at_six stop.NoMemory s = omega (arith, s)
 
-  -- why it has its status
-  pub local_cause : (status : ℕ) (e : Ending) → LocalEnds limit file before mid e → status ≡ status_of e
-      → LocalCause limit file before status ⊎ IsFault (ServedRose file before after) ⊥ before after status
-  local_cause status Misused ends s = absurd ends
-  local_cause status (Refused f) ends s = inl (HasNoProgram f s ends.refused)
-  local_cause status FileFault ends s = inr (WasUnread s (inl ends.file_cause))
-  local_cause status NoMemory ends s = inr (WantedMemory s)
-  local_cause status Printed ends s = absurd ends
-  local_cause status Unprinted ends s = absurd ends
-  local_cause status Served ends s =
-      inl (HasProgram ends.holds (ServesAll s (local_fits (source_in (before.content file) ends.holds) limit before.input.left after.input.left before.out.held after.out.held ends.served.0 ends.served.1)))
-  local_cause status (Stopped stop.ReadFault) ends s = inr (WasUnread s (inr (ends.input_cause refl)))
-  local_cause status (Stopped stop.WriteFault) ends s = inr (WasUnwritten s (inl (ends.out_cause refl)))
-  local_cause status (Stopped stop.DiskFault) ends s = absurd ends
-  local_cause status (Stopped stop.NoMemory) ends s = inr (WantedMemory s)
-  local_cause status (Stopped stop.InputTooLong) ends s =
-      inl (HasProgram ends.holds (TakesNoMore s (local_exceeds (source_in (before.content file) ends.holds) limit before.input.left after.input.left before.out.held after.out.held ends.served)))
-  local_cause status (Stopped stop.HistoryFull) ends s =
-      inl (HasProgram ends.holds (KeepsNoMore s (local_fills (source_in (before.content file) ends.holds) limit before.input.left after.input.left before.out.held after.out.held ends.served)))
-  local_cause status (Unopened stopped) ends s = absurd ends
+  never_bad : (e : Ending) → LocalEnded e → status_of e ≡ 6 → ⊥
+  never_bad (Stopped stopped) ends s = no_stop_at_six stopped s
+  never_bad (Unopened stopped) ends s = absurd ends
+  never_bad e ends s = omega (arith, s)
 
-  -- Whatever the ending
+  -- no store is named
+  unnamed : {P : Type 0} (dir : List ℕ) → at_once.store ≡ Some dir → P
+  unnamed dir named = absurd (none-some dir named)
 
-  -- it did nothing, or a session came to a result
-  pub local_came : {P : Type 0} → (IsIdle before after → P) → ((result : Result InputEnd SessionStop) → Interprets limit file before mid result → P) → (e : Ending) → LocalEnds limit file before mid e → P
-  local_came idle served Misused ends = absurd ends
-  local_came idle served (Refused f) ends = idle (still_idle before after behind ends.still)
-  local_came idle served FileFault ends = idle (still_idle before after behind ends.still)
-  local_came idle served NoMemory ends = idle (still_idle before after behind ends)
-  local_came idle served Printed ends = absurd ends
-  local_came idle served Unprinted ends = absurd ends
-  local_came idle served Served ends = served (Ok input.End) ends
-  local_came idle served (Stopped stop.ReadFault) ends = served (Ok input.ReadFault) ends
-  local_came idle served (Stopped stop.InputTooLong) ends = served (Ok input.TooLong) ends
-  local_came idle served (Stopped stop.HistoryFull) ends = served (Err local.HistoryFull) ends
-  local_came idle served (Stopped stop.NoMemory) ends = served (Err local.NoMemory) ends
-  local_came idle served (Stopped stop.DiskFault) ends = absurd ends
-  local_came idle served (Stopped stop.WriteFault) ends = served (Err local.WriteFault) ends
-  local_came idle served (Unopened stopped) ends = absurd ends
-
-  pub local_prints : (e : Ending) → LocalEnds limit file before mid e
-      → Keeps before.out.held after.out.held ⊎ OfProgram file before (λ src. SerialRun src before.out.held after.out.held)
-  local_prints e ends =
-      local_came (λ idle. inl idle.held)
-      (λ result i. inr (record {
-        holds = i.holds;
-        is = Served-serial (source_in (before.content file) i.holds) limit local_history before.input.left after.input.left before.out.held after.out.held result i.served;
-      }))
-      e ends
-
-  pub local_takes : (e : Ending) → LocalEnds limit file before mid e
-      → IsIdle before after ⊎ OfProgram file before (λ src. AnsweredTaken src limit local_history before.input.left after.input.left before.out.held after.out.held)
-  local_takes e ends =
-      local_came (λ idle. inl idle)
-      (λ result i. inr (record {
-        holds = i.holds;
-        is = Served-taken (source_in (before.content file) i.holds) limit local_history before.input.left after.input.left before.out.held after.out.held result i.served;
-      }))
-      e ends
-
-  pub local_err : (e : Ending) → LocalEnds limit file before mid e → behind ≡ before.err
+  pub local_err : (e : Ending) → LocalEnded e → behind ≡ before.err
   local_err (Refused f) ends = ends.still.err
   local_err FileFault ends = ends.still.err
   local_err NoMemory ends = ends.err
@@ -252,18 +115,203 @@ module _ (limit : ℕ) (before after : Devices) (behind : Output) (file : List �
   local_err (Stopped stop.NoMemory) ends = ends.err
   local_err (Unopened stopped) ends = absurd ends
 
-  pub local_untold : (e : Ending) → LocalEnds limit file before mid e → after.outside ≡ before.outside
-  local_untold (Refused f) ends = ends.still.outside
-  local_untold FileFault ends = ends.still.outside
-  local_untold NoMemory ends = ends.outside
-  local_untold Misused ends = absurd ends
-  local_untold Printed ends = absurd ends
-  local_untold Unprinted ends = absurd ends
-  local_untold Served ends = ends.outside
-  local_untold (Stopped stop.ReadFault) ends = ends.outside
-  local_untold (Stopped stop.DiskFault) ends = absurd ends
-  local_untold (Stopped stop.WriteFault) ends = ends.outside
-  local_untold (Stopped stop.InputTooLong) ends = ends.outside
-  local_untold (Stopped stop.HistoryFull) ends = ends.outside
-  local_untold (Stopped stop.NoMemory) ends = ends.outside
-  local_untold (Unopened stopped) ends = absurd ends
+  -- Why it has its status
+
+  module _ (status : ℕ) where
+    abbrev Comes : Type 0
+    Comes = RunCause limit file at_once before status ⊎ IsFault (ServedRose file before after) ⊥ before after status
+
+    session_comes : (result : Result InputEnd SessionStop) (i : Came result)
+        → OfInput limit (fills_history (source_for result i) (settings_for limit at_once) empty_core) before status → Comes
+    session_comes result i input = inl (HasProgram i.holds (Begins empty_core refl input))
+
+    pub local_cause : (e : Ending) → LocalEnded e → status ≡ status_of e → Comes
+    local_cause Misused ends n = absurd ends
+    local_cause (Refused f) ends n = inl (HasNoProgram f n ends.refused)
+    local_cause FileFault ends n = inr (WasUnread n (inl ends.file_cause))
+    local_cause NoMemory ends n = inr (WantedMemory n)
+    local_cause Printed ends n = absurd ends
+    local_cause Unprinted ends n = absurd ends
+    local_cause Served ends n =
+        let r = ran (Ok input.End) ends in
+        session_comes (Ok input.End) ends (ServesAll n (run_fits (source_for (Ok input.End) ends) (settings_for limit at_once) empty_core before.input.left after.input.left before.out.held after.out.held r.taken r.wrote.last r.consumed r.prints))
+    local_cause (Stopped stop.ReadFault) ends n = inr (WasUnread n (inr (ends.input_cause refl)))
+    local_cause (Stopped stop.WriteFault) ends n = inr (WasUnwritten n (inl (ends.out_cause refl)))
+    local_cause (Stopped stop.DiskFault) ends n = absurd ends
+    local_cause (Stopped stop.NoMemory) ends n = inr (WantedMemory n)
+    local_cause (Stopped stop.InputTooLong) ends n =
+        let r = ran (Ok input.TooLong) ends in
+        session_comes (Ok input.TooLong) ends (TakesNoMore n (run_exceeds (source_for (Ok input.TooLong) ends) (settings_for limit at_once) empty_core before.input.left after.input.left before.out.held after.out.held r.taken r.wrote.last r.consumed r.prints))
+    local_cause (Stopped stop.HistoryFull) ends n =
+        let r = ran (Err local.HistoryFull) ends in
+        session_comes (Err local.HistoryFull) ends (KeepsNoMore n (run_fills (source_for (Err local.HistoryFull) ends) (settings_for limit at_once) empty_core before.input.left after.input.left before.out.held after.out.held r.taken r.wrote.last r.consumed r.prints))
+    local_cause (Unopened stopped) ends n = absurd ends
+
+  -- A session, by its result
+
+  module _ (status : ℕ) (result : Result InputEnd SessionStop) (own : (n : ℕ) → status ≡ n → (4 ≡ n → ⊥) → status_of (local_ending result) ≡ n)
+      (one : (status ≡ status_of (local_ending result)) ⊎ (status ≡ 4)) (i : Came result) where
+    abbrev src : Source
+    src = source_for result i
+
+    abbrev r : Ran result i
+    r = ran result i
+
+    abbrev PrintedAs : Result InputEnd SessionStop → Type 0
+    PrintedAs x = PrintsAs limit src before.input.left after.input.left before.out.held after.out.held x r.taken r.wrote.last
+
+    unwritten : result ≡ Err local.WriteFault → status ≡ 4
+    unwritten same = by one
+      where
+        by : (status ≡ status_of (local_ending result)) ⊎ (status ≡ 4) → status ≡ 4
+        by (inl n) = n ∙ ap (λ (x : Result InputEnd SessionStop). status_of (local_ending x)) same
+        by (inr n) = n
+
+    pub among : IsOneOf status (0 ∷ 3 ∷ 4 ∷ 8 ∷ 9 ∷ 10 ∷ [])
+    among = by one
+      where
+        of_result : (x : Result InputEnd SessionStop) → status ≡ status_of (local_ending x) → IsOneOf status (0 ∷ 3 ∷ 4 ∷ 8 ∷ 9 ∷ 10 ∷ [])
+        of_result (Ok input.End) n = inl n
+        of_result (Ok input.ReadFault) n = inr (inl n)
+        of_result (Ok input.TooLong) n = inr (inr (inr (inr (inl n))))
+        of_result (Err local.HistoryFull) n = inr (inr (inr (inr (inr (inl n)))))
+        of_result (Err local.NoMemory) n = inr (inr (inr (inl n)))
+        of_result (Err local.WriteFault) n = inr (inr (inl n))
+
+        by : (status ≡ status_of (local_ending result)) ⊎ (status ≡ 4) → IsOneOf status (0 ∷ 3 ∷ 4 ∷ 8 ∷ 9 ∷ 10 ∷ [])
+        by (inl n) = of_result result n
+        by (inr n) = inr (inr (inl n))
+
+    abbrev pub session : LocalSession limit file before after status
+    session = record {
+      one_of = among;
+      holds = i.holds;
+      taken = r.taken;
+      consumed = r.consumed;
+      lines = r.lines;
+      of_taken = r.of_taken;
+      answered = r.wrote.behind.count;
+      last = r.wrote.last;
+      reached = r.wrote.behind.core;
+    }
+
+    -- what it came to, by the status
+    end_is : (x : Result InputEnd SessionStop) → status_of (local_ending x) ≡ 0 → x ≡ Ok input.End
+    end_is (Ok input.End) n = refl
+    end_is (Ok input.ReadFault) n = absurd (omega (arith, n))
+    end_is (Ok input.TooLong) n = absurd (omega (arith, n))
+    end_is (Err local.HistoryFull) n = absurd (omega (arith, n))
+    end_is (Err local.NoMemory) n = absurd (omega (arith, n))
+    end_is (Err local.WriteFault) n = absurd (omega (arith, n))
+
+    unread_is : (x : Result InputEnd SessionStop) → status_of (local_ending x) ≡ 3 → x ≡ Ok input.ReadFault
+    unread_is (Ok input.End) n = absurd (omega (arith, n))
+    unread_is (Ok input.ReadFault) n = refl
+    unread_is (Ok input.TooLong) n = absurd (omega (arith, n))
+    unread_is (Err local.HistoryFull) n = absurd (omega (arith, n))
+    unread_is (Err local.NoMemory) n = absurd (omega (arith, n))
+    unread_is (Err local.WriteFault) n = absurd (omega (arith, n))
+
+    too_long_is : (x : Result InputEnd SessionStop) → status_of (local_ending x) ≡ 9 → x ≡ Ok input.TooLong
+    too_long_is (Ok input.End) n = absurd (omega (arith, n))
+    too_long_is (Ok input.ReadFault) n = absurd (omega (arith, n))
+    too_long_is (Ok input.TooLong) n = refl
+    too_long_is (Err local.HistoryFull) n = absurd (omega (arith, n))
+    too_long_is (Err local.NoMemory) n = absurd (omega (arith, n))
+    too_long_is (Err local.WriteFault) n = absurd (omega (arith, n))
+
+    full_is : (x : Result InputEnd SessionStop) → status_of (local_ending x) ≡ 10 → x ≡ Err local.HistoryFull
+    full_is (Ok input.End) n = absurd (omega (arith, n))
+    full_is (Ok input.ReadFault) n = absurd (omega (arith, n))
+    full_is (Ok input.TooLong) n = absurd (omega (arith, n))
+    full_is (Err local.HistoryFull) n = refl
+    full_is (Err local.NoMemory) n = absurd (omega (arith, n))
+    full_is (Err local.WriteFault) n = absurd (omega (arith, n))
+
+    wanting_is : (x : Result InputEnd SessionStop) → status_of (local_ending x) ≡ 8 → x ≡ Err local.NoMemory
+    wanting_is (Ok input.End) n = absurd (omega (arith, n))
+    wanting_is (Ok input.ReadFault) n = absurd (omega (arith, n))
+    wanting_is (Ok input.TooLong) n = absurd (omega (arith, n))
+    wanting_is (Err local.HistoryFull) n = absurd (omega (arith, n))
+    wanting_is (Err local.NoMemory) n = refl
+    wanting_is (Err local.WriteFault) n = absurd (omega (arith, n))
+
+    never_unlogged : (x : Result InputEnd SessionStop) → status_of (local_ending x) ≡ 5 → ⊥
+    never_unlogged (Ok input.End) n = omega (arith, n)
+    never_unlogged (Ok input.ReadFault) n = omega (arith, n)
+    never_unlogged (Ok input.TooLong) n = omega (arith, n)
+    never_unlogged (Err local.HistoryFull) n = omega (arith, n)
+    never_unlogged (Err local.NoMemory) n = omega (arith, n)
+    never_unlogged (Err local.WriteFault) n = omega (arith, n)
+
+    prints_so : (x : Result InputEnd SessionStop) → result ≡ x → PrintedAs x
+    prints_so x same = subst (λ y. PrintedAs y) same r.prints
+
+    some_text : IsOneOf status (5 ∷ 8 ∷ []) → AnswersSome src (settings_for limit at_once) empty_core after.input.left before.out.held after.out.held r.taken
+    some_text (inl n) = absurd (never_unlogged result (own 5 n (λ z. omega (arith, z))))
+    some_text (inr (inl n)) = prints_so (Err local.NoMemory) (wanting_is result (own 8 n (λ z. omega (arith, z))))
+    some_text (inr (inr none)) = absurd none
+
+    text : PrintsText src (settings_for limit at_once) empty_core r.wrote.last before.out.held after.out.held status after.input.left r.taken
+    text = record {
+      part = r.part;
+      all = λ n. prints_so (Ok input.End) (end_is result (own 0 n (λ z. omega (arith, z))));
+      unread = λ n. prints_so (Ok input.ReadFault) (unread_is result (own 3 n (λ z. omega (arith, z))));
+      too_long = λ n. prints_so (Ok input.TooLong) (too_long_is result (own 9 n (λ z. omega (arith, z))));
+      full = λ n. prints_so (Err local.HistoryFull) (full_is result (own 10 n (λ z. omega (arith, z))));
+      some = some_text;
+    }
+
+    pub headline : TellsStatus file before.err after.err status → LocalHeadline session
+    headline said = record {
+      serial = ran_serially limit src before.input.left after.input.left before.out.held after.out.held result (status ≡ 4) unwritten r.lines r.wrote;
+      text = text;
+      untold = i.outside;
+      line = said;
+      flushed = λ written. i.handed (λ same. written (unwritten same));
+    }
+
+-- Whatever the ending, no session began, or there is one, of which the headline holds
+
+module _ (limit : ℕ) (before after : Devices) (was now : DiskFacts) (behind : Output) (file : List ℕ) (status : ℕ) where
+  abbrev Did : Type 0
+  Did = IsUnbegun file at_once before after was now status ⊎ ((it : LocalSession limit file before after status) × LocalHeadline it)
+
+  abbrev IsOwn : Ending → Type 0
+  IsOwn e = (n : ℕ) → status ≡ n → (4 ≡ n → ⊥) → status_of e ≡ n
+
+  still_unbegun : (e : Ending) → IsOwn e → ((n : ℕ) → status ≡ n → (4 ≡ n → ⊥) → Appends behind.held after.err.held (line_of file e))
+      → LocalEnds limit file before (with_err behind after) e → TellsStatus file before.err after.err status → IsOneOf status (1 ∷ 3 ∷ 4 ∷ 5 ∷ 6 ∷ 7 ∷ 8 ∷ [])
+      → IsStill before (with_err behind after) → Did
+  still_unbegun e own line ends said among still = inl (record {
+    one_of = among;
+    idle = still_idle before after behind still;
+    outside = still.outside;
+    line = said;
+    told = λ n. local_told limit before after behind file e ends (line 1 n (λ z. omega (arith, z))) (own 1 n (λ z. omega (arith, z)));
+    bad = λ n. absurd (never_bad limit before after behind file e ends (own 6 n (λ z. omega (arith, z))));
+    store = λ dir named. unnamed limit before after behind file dir named;
+  })
+
+  served : (result : Result InputEnd SessionStop) → IsOwn (local_ending result) → (status ≡ status_of (local_ending result)) ⊎ (status ≡ 4)
+      → Interprets limit file before (with_err behind after) result → TellsStatus file before.err after.err status → Did
+  served result own one i said =
+      inr (session limit before after behind file status result own one i, headline limit before after behind file status result own one i said)
+
+  pub local_does : (e : Ending) → IsOwn e → ((n : ℕ) → status ≡ n → (4 ≡ n → ⊥) → Appends behind.held after.err.held (line_of file e))
+      → (status ≡ status_of e) ⊎ (status ≡ 4) → LocalEnds limit file before (with_err behind after) e → TellsStatus file before.err after.err status → Did
+  local_does Misused own line one ends said = absurd ends
+  local_does (Refused f) own line one ends said = still_unbegun (Refused f) own line ends said (elim one [ inl n ↦ inl n | inr n ↦ inr (inr (inl n)) ]) ends.still
+  local_does FileFault own line one ends said = still_unbegun FileFault own line ends said (elim one [ inl n ↦ inr (inl n) | inr n ↦ inr (inr (inl n)) ]) ends.still
+  local_does NoMemory own line one ends said =
+      still_unbegun NoMemory own line ends said (elim one [ inl n ↦ inr (inr (inr (inr (inr (inr (inl n)))))) | inr n ↦ inr (inr (inl n)) ]) ends
+  local_does Printed own line one ends said = absurd ends
+  local_does Unprinted own line one ends said = absurd ends
+  local_does Served own line one ends said = served (Ok input.End) own one ends said
+  local_does (Stopped stop.ReadFault) own line one ends said = served (Ok input.ReadFault) own one ends said
+  local_does (Stopped stop.InputTooLong) own line one ends said = served (Ok input.TooLong) own one ends said
+  local_does (Stopped stop.HistoryFull) own line one ends said = served (Err local.HistoryFull) own one ends said
+  local_does (Stopped stop.NoMemory) own line one ends said = served (Err local.NoMemory) own one ends said
+  local_does (Stopped stop.DiskFault) own line one ends said = absurd ends
+  local_does (Stopped stop.WriteFault) own line one ends said = served (Err local.WriteFault) own one ends said
+  local_does (Unopened stopped) own line one ends said = absurd ends

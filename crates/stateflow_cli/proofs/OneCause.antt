@@ -19,7 +19,6 @@ use Rattle.stateflow_cli.specs.Starts.{program_of, BeginsWith}
 use Rattle.stateflow_cli.specs.Endings.{settings_for}
 use Rattle.stateflow_cli.specs.StoreClauses.{IsBadAt, IsOfAnother}
 use Rattle.stateflow_cli.specs.Causes.{HasItsStatus, OfText, HasNoProgram, HasProgram, Fits, Exceeds, Fills, OfInput, ServesAll, TakesNoMore, KeepsNoMore, IsTold, IsToldFor}
-use Rattle.stateflow_cli.specs.LocalPromise.{fills_local, LocalCause}
 use Rattle.stateflow_cli.specs.RunPromise.{OfStart, FindsBad, FindsAnother, Begins, RunCause}
 use Rattle.stateflow_cli.proofs.OneReading.{never_both, one_text, one_source}
 
@@ -93,13 +92,6 @@ module _ (limit : ℕ) (fills : List ℕ → Bool) (before : Devices) where
     one_of_input k m (KeepsNoMore is full) (ServesAll same fits) = absurd (fits_not_full fits full)
     one_of_input k m (KeepsNoMore is full) (TakesNoMore same exceeds) = absurd (longer_not_full exceeds full)
     one_of_input k m (KeepsNoMore is full) (KeepsNoMore same other) = is ∙ sym same
-
-pub one_of_local : (limit : ℕ) (file : List ℕ) (before : Devices) (k m : ℕ) → IsToldFor file None before k → LocalCause limit file before k → LocalCause limit file before m → k ≡ m
-one_of_local limit file before k m known =
-    one_of_text (before.content file) (λ src text n. OfInput limit (fills_local limit src) before n) known.text k m
-    (λ src text cause other.
-    let apart : (n : ℕ) → 0 < n → n < 9 → k ≡ n → ⊥ = λ n low high. input_status limit (fills_local limit src) before k n low high cause in
-    one_of_input limit (fills_local limit src) before (known.input (apart 1 (omega arith) (omega arith)) (apart 6 (omega arith) (omega arith)) (apart 7 (omega arith) (omega arith))) k m cause other)
 
 -- ---- the store
 

@@ -19,6 +19,7 @@ use Rattle.batch_run.specs.SessionFaultVariants as stop
 use Rattle.batch_run.specs.RunViews.{run_service}
 use Rattle.batch_run.specs.RunTexts.{AnswersSome, Prints}
 use Rattle.batch_run.specs.RunEvents.{batches_of}
+use Rattle.batch_run.specs.GrownCores.{entries_of}
 use Rattle.batch_run.proofs.Vocabulary.{some_steps}
 use Rattle.batch_run.proofs.SerialLaws.{replies_by}
 use Rattle.command_words.specs.Commands as words
@@ -29,7 +30,8 @@ use Rattle.stateflow_cli.specs.Endings.{RunsFile, settings_for, run_ending}
 use Rattle.stateflow_cli.specs.StatusLines.{status_of, line_of}
 use Rattle.stateflow_cli.specs.Telling.{Told}
 use Rattle.stateflow_cli.specs.Session.{IsOneOf, AreStepsFor, Session}
-use Rattle.stateflow_cli.specs.Headline.{IsSerial, PrintsText, TracesBatches, RunsGraph, KeepsCommitted, KeepsAll, Headline}
+use Rattle.stateflow_cli.specs.SessionText.{IsSerial, PrintsText}
+use Rattle.stateflow_cli.specs.Headline.{TracesBatches, RunsGraph, KeepsCommitted, KeepsAll, Headline}
 use Rattle.stateflow_cli.specs.declared.ending.Ending.{Ending}
 use Rattle.stateflow_cli.proofs.LocalEndings.{no_stop}
 use Rattle.stateflow_cli.proofs.RunEndings.{all_told, most_told, begun_of, whole_of, part_traced, whole_traced, served_is, unread_is, unlogged_is, wanting_is, too_long_is, full_is}
@@ -179,7 +181,7 @@ module _ (limit : ℕ) (before after : Devices) (now : DiskFacts) (behind : Outp
       some_text (inr (inl n)) = prints_so (Err stop.NoMemory) (wanting_is result (own_result 8 n (λ z. omega (arith, z))))
       some_text (inr (inr none)) = absurd none
 
-      text : PrintsText session
+      text : PrintsText (batch.source_of r.compiled) (settings_for limit s) r.start r.last before.out.held after.out.held status after.input.left r.runs.taken
       text = record {
         part = r.runs.answers;
         all = λ n. let q = served_is result (own_result 0 n (λ z. omega (arith, z))) in prints_so (Ok q.0) q.1;
@@ -198,10 +200,11 @@ module _ (limit : ℕ) (before after : Devices) (now : DiskFacts) (behind : Outp
           by (inl n) = n ∙ ap (λ (x : Result Tally SessionFault). status_of (run_ending x)) same
           by (inr n) = n
 
-      serial : IsSerial session
+      serial : IsSerial (batch.source_of r.compiled) (settings_for limit s) r.start r.last before.out.held after.out.held
+          (entries_of (batch.source_of r.compiled) (rule_for s) (batches_of r.compiled (settings_for limit s) r.start r.runs.tells.ended.first))
+          ((disk_failed result ≡ false) × (status ≡ 4))
       serial = record {
         added = r.runs.goes_on;
-        writes = r.runs.writes;
         empty = λ same. subst (IsSoundCore (batch.source_of r.compiled)) (sym same) (empty_sound (batch.source_of r.compiled));
         sound = λ sound. (r.runs.serial sound).prints.serial.sound;
         lines = λ sound. (r.runs.serial sound).prints;
@@ -282,6 +285,7 @@ module _ (limit : ℕ) (before after : Devices) (now : DiskFacts) (behind : Outp
         → Told (line_of file e) (status_of e) behind.held after.err.held behind.faults after.err.faults status → Headline (session result r is) now
     headline result r is told = record {
       serial = serial result r is;
+      writes = r.runs.writes;
       text = text result r is;
       trace = trace result r is told;
       events = events result r is;

@@ -51,7 +51,7 @@ deed limit (Local file) = record {
   InRange = ⊤;
   Ends = λ before after was now ending. LocalEnds limit file before after ending;
   Spares = λ before after. ⊤;
-  Does = λ before after was now status. LocalPromise limit file before after status;
+  Does = λ before after was now status. LocalPromise limit file before after was now status;
 }
 deed limit (Run file s) = record {
   file = file;

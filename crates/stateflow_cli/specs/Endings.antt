@@ -5,6 +5,7 @@ use Rattle.std.specs.Io.KnownBytes.{Appends, Keeps}
 use Rattle.sf_outside.specs.Bytes.{AppendsPrefix}
 use Rattle.sf_outside.specs.Causes.{Rose}
 use Rattle.sf_outside.specs.DiskModel.{DiskFacts}
+use Rattle.sf_outside.specs.Handing.{IsHandedOn}
 use Rattle.aria_batch.specs.BatchRun.{source_of}
 use Rattle.block_step.specs.declared.compiled.Compiled.{Compiled}
 use Rattle.engine.specs.Cores.{Core}
@@ -71,6 +72,7 @@ pub record Interprets (limit : ℕ) (file : List ℕ) (before after : Devices) (
       result
   pub input_cause : result ≡ Ok input.ReadFault → Rose before.input.faults after.input.faults
   pub out_cause : result ≡ Err local.WriteFault → Rose before.out.faults after.out.faults
+  pub handed : (result ≡ Err local.WriteFault → ⊥) → IsHandedOn after.out.handed after.out.held
   pub err : after.err ≡ before.err
   pub outside : after.outside ≡ before.outside
 

@@ -12,12 +12,14 @@ pub mod Answers
 pub mod Causes
 pub mod GenClauses
 pub mod StoreClauses
+pub mod Flushed
 pub mod Session
+pub mod SessionText
 pub mod Headline
 pub mod WordsPromise
 pub mod ReportPromise
-pub mod LocalPromise
 pub mod RunPromise
+pub mod LocalPromise
 pub mod GenPromise
 pub mod Deeds
 pub mod Promise

@@ -1,73 +1,67 @@
--- What a call promises that was asked to serve the input by the direct interpreter.
-use Rattle.std.specs.Prelude.{ℕ, ◌≡◌, ◌⊎◌, Bool, nat_le, List, length, take, None, Some, Ok, Err, if◌then◌else◌}
-use Rattle.std.specs.declared.result.Result.{Result}
-use Rattle.std.specs.Io.KnownBytes.{Appends, Keeps}
+-- What a call promises that was asked to serve the input by the direct interpreter: what one does that serves it in batches of one request, without a store.
+use Rattle.std.specs.Prelude.{ℕ, ◌≡◌, ◌≤◌, ◌⊎◌, false, List, [], ◌∷◌, length, take, None}
+use Rattle.std.specs.declared.option.Option.{Option}
+use Rattle.std.specs.Io.KnownBytes.{Consumes, IsAtEnd}
+use Rattle.sf_outside.specs.DiskModel.{DiskFacts}
 use Rattle.program_meaning.specs.ClassTables.{Source}
-use Rattle.request_json.specs.Actions.{whole_lines, all_lines}
-use Rattle.session.specs.declared.feeding.InputEnd.{InputEnd}
-use Rattle.session.specs.declared.feeding.InputEnd.TheVariants as input
-use Rattle.session.specs.declared.stopping.SessionStop.{SessionStop}
-use Rattle.session.specs.declared.stopping.SessionStop.TheVariants as stop
-use Rattle.session.specs.OutputText as local
-use Rattle.session.specs.OutputText.{output_text, start}
-use Rattle.session.specs.SerialOutput.{SerialRun}
-use Rattle.session.specs.Served.{AnsweredTaken}
-use Rattle.stateflow_cli.specs.Devices.{Devices, with_err, IsIdle}
+use Rattle.request_json.specs.Actions.{Line, whole_lines, all_lines}
+use Rattle.engine.specs.Cores.{Core, empty_core}
+use Rattle.batch_run.specs.RunViews.{rule_of, run_limits}
+use Rattle.batch_run.specs.declared.running.RunSettings.{RunSettings}
+use Rattle.batch_of_one.specs.BatchOfOne.{in_batches}
+use Rattle.command_words.specs.Commands as words
+use Rattle.stateflow_cli.specs.Devices.{Devices}
 use Rattle.stateflow_cli.specs.Loading.{Holds, source_in}
-use Rattle.stateflow_cli.specs.Endings.{Interprets, local_history}
-use Rattle.stateflow_cli.specs.Answers.{TellsStatus, TellsFault}
-use Rattle.stateflow_cli.specs.Causes.{HasItsStatus, IsFault, ServedRose, OfText, OfInput, IsToldFor}
+use Rattle.stateflow_cli.specs.Endings.{settings_for, local_history}
+use Rattle.stateflow_cli.specs.Answers.{TellsStatus}
+use Rattle.stateflow_cli.specs.Causes.{HasItsStatus, IsFault, ServedRose, IsToldFor}
+use Rattle.stateflow_cli.specs.Flushed.{IsFlushed}
+use Rattle.stateflow_cli.specs.Session.{IsOneOf}
+use Rattle.stateflow_cli.specs.SessionText.{IsSerial, PrintsText}
+use Rattle.stateflow_cli.specs.RunPromise.{RunCause, IsUnbegun}
 
--- the file holds the text of a program of which this holds
-pub record OfProgram (file : List ℕ) (before : Devices) (P : Source → Type 0) : Type 0 where
+-- the words that would ask a run for the same: a batch is one request, and there is no store. On the others nothing of what is promised here depends.
+abbrev pub at_once : words.RunSettings
+at_once = record { batch = 1; partitions = 1; schedule = 0; store = None; every = 1; history = local_history; trace = false }
+
+-- these are lines of what was taken: the whole ones of its first bytes, as many as may come; or, where the input had ended and no more than that came, all
+abbrev pub AreLinesOf : ℕ → List ℕ → Option (List ℕ) → List Line → Type 0
+AreLinesOf limit taken left lines = (lines ≡ whole_lines (take limit taken)) ⊎ ((length taken ≤ limit) × IsAtEnd left × (lines ≡ all_lines taken))
+
+-- A session, from nothing committed on: the program of the file's text; what it took of the input, and the lines of that; how many of them were answered, or
+-- were begun to be; and the core behind these.
+pub record LocalSession (limit : ℕ) (file : List ℕ) (before after : Devices) (status : ℕ) : Type 0 where
+  pub one_of : IsOneOf status (0 ∷ 3 ∷ 4 ∷ 8 ∷ 9 ∷ 10 ∷ [])
   pub holds : Holds (before.content file)
-  pub is : P (source_in (before.content file) holds)
+  pub taken : List ℕ
+  pub consumed : Consumes before.input.left after.input.left taken
+  pub lines : List Line
+  pub of_taken : AreLinesOf limit taken after.input.left lines
+  pub answered : ℕ
+  pub last : Core
+  pub reached : (in_batches (source_in (before.content file) holds) (rule_of (settings_for limit at_once)) (run_limits (settings_for limit at_once))
+      (take answered lines)).core ≡ last
 
--- the output gained exactly the text that the file's program defines for the whole input, where that is told
-pub record WritesText (file : List ℕ) (before after : Devices) : Type 0 where
-  pub holds : Holds (before.content file)
-  pub text : (all : List ℕ) → before.input.left ≡ Some all
-      → Appends before.out.held after.out.held (output_text (source_in (before.content file) holds) local_history all)
+module _ {limit : ℕ} {file : List ℕ} {before after : Devices} {status : ℕ} (it : LocalSession limit file before after status) where
+  abbrev pub source_of : Source
+  source_of = source_in (before.content file) it.holds
 
--- whether the history comes to be full: at a line of the first bytes, as many as may come; or at one of an input that has no more
-abbrev pub fills_local : ℕ → Source → List ℕ → Bool
-fills_local limit src all =
-    if nat_le (length all) limit
-    then (local.after src local_history start (all_lines all)).is_full
-    else (local.after src local_history start (whole_lines (take limit all))).is_full
+  abbrev pub settings_of : RunSettings
+  settings_of = settings_for limit at_once
 
--- the text of the file has a fault; or all of the input is served; or there is more of it than is taken; or the history comes to be full
-abbrev pub LocalCause : ℕ → List ℕ → Devices → ℕ → Type 0
-LocalCause limit file before status = OfText (before.content file) (λ src text k. OfInput limit (fills_local limit src) before k) status
+  pub record LocalHeadline : Type 0 where
+    -- the entries and the last state are those of running the requests one after another, and each line is that of its entry
+    pub serial : IsSerial source_of settings_of empty_core it.last before.out.held after.out.held it.last.history (status ≡ 4)
+    -- what was printed
+    pub text : PrintsText source_of settings_of empty_core it.last before.out.held after.out.held status after.input.left it.taken
+    -- nothing was chosen and told, and the error stream gained the line of the status alone
+    pub untold : after.outside ≡ before.outside
+    pub line : TellsStatus file before.err after.err status
+    -- what was printed was handed on
+    pub flushed : IsFlushed status after.out
 
-module _ (limit : ℕ) (file : List ℕ) (before after : Devices) where
-  -- the file's program served the input, and that came to this result
-  abbrev pub Came : Result InputEnd SessionStop → Type 0
-  Came result = Interprets limit file before (with_err before.err after) result
-
-  -- Whatever the status, nothing was taken and printed, or what was printed answers what was taken. The first status says that all of the input was answered;
-  -- that of a read fault, and of too long an input, that exactly its whole lines were, as far as they were taken; that of a full history that all was up to
-  -- there; that of want of memory that some first lines were; and that of a text with a fault that nothing was taken and printed.
-  pub record AnswersByStatus (status : ℕ) : Type 0 where
-    pub front : IsIdle before after
-        ⊎ OfProgram file before (λ src. AnsweredTaken src limit local_history before.input.left after.input.left before.out.held after.out.held)
-    pub all : status ≡ 0 → Came (Ok input.End)
-    pub unread : status ≡ 3 → IsIdle before after ⊎ Came (Ok input.ReadFault)
-    pub too_long : status ≡ 9 → Came (Ok input.TooLong)
-    pub full : status ≡ 10 → Came (Err stop.HistoryFull)
-    pub some : status ≡ 8 → IsIdle before after ⊎ Came (Err stop.NoMemory)
-    pub nothing : status ≡ 1 → IsIdle before after
-
-pub record LocalPromise (limit : ℕ) (file : List ℕ) (before after : Devices) (status : ℕ) : Type 0 where
-  -- what was taken and printed, by the status; with 0 that is exactly the text that is defined for the whole input, and with 1 a fault of the text of the
-  -- file was told
-  pub text : AnswersByStatus limit file before after status
-  pub whole : status ≡ 0 → WritesText file before after
-  pub told : status ≡ 1 → TellsFault file before after
-  -- whatever the status, nothing was printed, or a prefix of what one serial run prints
-  pub serial : Keeps before.out.held after.out.held ⊎ OfProgram file before (λ src. SerialRun src before.out.held after.out.held)
-  -- nothing was chosen and told, and the error stream gained the line of the status
-  pub untold : after.outside ≡ before.outside
-  pub line : TellsStatus file before.err after.err status
-  -- the status is 0, 1, 9 or 10 exactly where its cause is
-  pub causes : HasItsStatus (LocalCause limit file before) (IsToldFor file None before) (IsFault (ServedRose file before after) ⊥ before after) status
+pub record LocalPromise (limit : ℕ) (file : List ℕ) (before after : Devices) (was now : DiskFacts) (status : ℕ) : Type 0 where
+  -- no session began, or there is one of which the headline holds
+  pub did : IsUnbegun file at_once before after was now status ⊎ ((it : LocalSession limit file before after status) × LocalHeadline it)
+  -- the status is 0, 1, 9 or 10 exactly where its cause is; no other tells a fault of a disk
+  pub causes : HasItsStatus (RunCause limit file at_once before) (IsToldFor file None before) (IsFault (ServedRose file before after) ⊥ before after) status
