@@ -46,7 +46,7 @@ COUNTS = {"lines": 10_000_000, "programs": 100_000, "spoiled": 100_000, "calls":
 
 
 def part_of(kind, program, first, count):
-    """What is wrong with a part of the seeds, or nothing, and what it counted."""
+    """What is wrong with a part, or nothing, and what it counted."""
     words = [sys.executable, os.path.join(TOOLS, kind.tool), program, "--first", str(first), "--count", str(count), *kind.words]
     try:
         done = subprocess.run(words, capture_output=True, text=True, errors="replace", timeout=LONGEST_PART)
