@@ -42,7 +42,7 @@ fn told(alloc: Global, long: &Long) -> Result<String, Fail> {
     Ok(String::from_str(alloc, refusal_in(answers?.as_str()))?)
 }
 
-const LINES: [Case<'static, Long>; 6] = [
+const ROWS: [Case<'static, Long>; 6] = [
     ("run, the longest", ("run", 1_048_576, "\n"), "not json"),
     (
         "run, a byte longer",
@@ -69,5 +69,5 @@ const LINES: [Case<'static, Long>; 6] = [
 
 #[test]
 fn a_line_has_1_mib_at_most(rt: HostRuntime) -> Result<(), Fail> {
-    hold_cases(rt.alloc(), &LINES, told)
+    hold_cases(rt.alloc(), &ROWS, told)
 }
