@@ -4,10 +4,11 @@
 usage: drawn_stores.py PROGRAM [--first SEED] [--count N]
 
 PROGRAM is the built program (./stateflow builds it). A seed gives two stores that runs of one program left, and a few damages: bits are turned, a file is cut,
-gets bytes at its end or is exchanged for one of the other store, ranges are zeroed or doubled, numbers are written anew. Then the program is run on the
-store, with all that stands committed there asked again, and some requests that are new. Its status and its line have to be those of the second reading; where the
-store is taken each reply asked again has to be the one that is committed, and what is new or waited what the program's methods give, one request after another in
-the order of the replies. Prints each difference, how many stores came to what, and at the end the sum. The status is 0 where nothing differs."""
+gets bytes at its end or is exchanged for one of the other store or for what it was before the last run, ranges are zeroed or doubled, numbers are written
+anew. Then the program is run on the store, with all that stands committed there asked again, and some requests that are new. Its status and its line have to
+be those of the second reading; where the store is taken each reply asked again has to be the one that is committed, and what is new or waited what the
+program's methods give, one request after another in the order of the replies. Prints each difference, how many stores came to what, and at the end the sum.
+The status is 0 where nothing differs."""
 import collections
 import json
 import os
@@ -86,15 +87,17 @@ def read_files(folder):
 
 
 def drawn_store(built, file, chance, folder, mark):
-    """The files that runs on drawn requests leave. A batch may carry some over, and a run that stops since its history is full leaves them waiting."""
+    """What is in the files behind each of one or two drawn runs. A batch may carry some requests over, and a run whose history is full leaves them waiting."""
     os.mkdir(folder)
+    left = []
     for number in range(chance.randint(1, 2)):
         requests = [drawn_request(chance, f"{mark}{number}{place}") for place in range(chance.randint(0, 12))]
         batch, every, history = chance.choice([1, 2, 3, 8]), chance.choice([1, 2, 5, 99]), chance.choice([4, 6, 8, 12, 99])
         call = ended(built, file, folder, batch, every, given(requests), history)
         if call.returncode not in (0, 10):
             sys.exit(f"drawn_stores: status {call.returncode}: {call.stderr.decode().strip()}")
-    return read_files(folder)
+        left.append(read_files(folder))
+    return left
 
 
 # Damages
@@ -181,7 +184,7 @@ def step_number(chance, files, name, _):
 
 
 def add_batch(chance, files, _, others):
-    """A batch of this store's log, or of the other one's, is put into the log."""
+    """A batch of this store's log, or of another one's, is put into the log."""
     to, source, kept = chance.choice(["log0", "log1"]), chance.choice(["log0", "log1"]), chance.choice([files, others])
     try:
         ends = [[at for at, _ in stores.batches(it, log)] for it, log in ((files, to), (kept, source))]
@@ -197,8 +200,9 @@ WAYS = [step_number] * 4 + [add_batch] * 3 + [turn_bit] * 4 + [write_byte] * 4 +
 
 
 def damaged(chance, files, others):
+    """others: the files of other stores, or of other moments of this one"""
     for _ in range(chance.choice(DAMAGES)):
-        chance.choice(WAYS)(chance, files, chance.choice(stores.FILES), others)
+        chance.choice(WAYS)(chance, files, chance.choice(stores.FILES), chance.choice(others))
 
 
 # What is looked at
@@ -242,8 +246,8 @@ def wrong_replies(core, asked, fresh, replies):
 def differences(built, file, seed, room):
     """What differs for a seed, and what its store is."""
     chance = random.Random(seed)
-    files, others = (drawn_store(built, file, chance, os.path.join(room, mark), mark) for mark in "xy")
-    damaged(chance, files, others)
+    (*before, files), (*_, other) = (drawn_store(built, file, chance, os.path.join(room, mark), mark) for mark in "xy")
+    damaged(chance, files, [*before, other])
     folder = os.path.join(room, "damaged")
     os.mkdir(folder)
     for name, content in files.items():

@@ -1,13 +1,14 @@
 #!/usr/bin/env python3
-"""Runs a session on a store with each growth of the program's memory refused in turn, and with each sync of its files.
+"""Runs sessions with each growth of the program's memory refused in turn, and with each sync of their files.
 
 usage: growth_of_a_run.py PROGRAM [--step N]
 
 PROGRAM is the built program (./stateflow builds it), which takes its memory from the C library; `refuse_calls.c` beside this file is built with cc and
-stands before that. For each number of a growth there are two calls on folders of their own: one where that growth alone is refused, and one where all
-behind it are too. Each has to end with status 8, or with 0 where the program does without. Each refused sync has to end with status 5, and no batch's lines
-come without a sync before them. What was written has to be whole lines, the first ones of the whole run's output; and the next run on the folder has to
-end with 0 and to write each of these lines again. Prints how many calls ended how. With --step only each Nth growth is tried."""
+stands before that. The sessions are the shop's: one without a store and with a trace, and two on a store, of one request and of batches with checkpoints. For
+each number of a growth there are two calls on folders of their own: one where that growth alone is refused, and one where all behind it are too. Each has to
+end with status 8, or with 0 where the program does without. Each refused sync has to end with status 5, and no batch's lines come without a sync before them.
+What was written has to be whole lines, the first ones of the whole run's output, and so has the trace; and the next run on the folder has to end with 0 and to
+write each of the lines again. Prints how many calls ended how. With --step only each Nth growth is tried."""
 import argparse
 import collections
 import os
@@ -18,23 +19,29 @@ import tempfile
 TOOLS = os.path.dirname(os.path.abspath(__file__))
 SHOP = os.path.join(os.path.dirname(TOOLS), "examples", "shop")
 SECONDS = 60
-BATCH = 2
 
 Kind = collections.namedtuple("Kind", "name setting statuses line")
 GROWTH = Kind("growth", {}, (0, 8), b"stateflow: out of memory\n")
 SYNC = Kind("sync", {"REFUSED_SYNCS": "1"}, (5,), b"stateflow: disk fault\n")
 
+Sitting = collections.namedtuple("Sitting", "name batch words requests is_stored")
+SITTINGS = [
+    Sitting("a session without a store", 1, ["--trace"], 8, False),
+    Sitting("one request on a store", 1, [], 1, True),
+    Sitting("batches and checkpoints on a store", 2, ["--every", "2"], 8, True),
+]
+
 
 class Session:
-    """The session of the shop on folders in a room, by a program whose calls of one kind may be refused."""
+    """A sitting of the shop on folders in a room, by a program whose calls of one kind may be refused."""
 
-    def __init__(self, program, room, kind):
-        self.program, self.room, self.kind, self.folders = program, room, kind, 0
+    def __init__(self, program, room, kind, sitting):
+        self.program, self.room, self.kind, self.sitting, self.folders = program, room, kind, sitting, 0
         self.shim, self.count = os.path.join(room, "refuse_calls.so"), os.path.join(room, "count")
         source = os.path.join(TOOLS, "refuse_calls.c")
         subprocess.run(["cc", "-shared", "-fPIC", "-O1", "-fno-builtin", "-o", self.shim, source], check=True)
         with open(os.path.join(SHOP, "requests.jsonl"), "rb") as file:
-            self.lines = file.read()
+            self.lines = b"".join(file.readlines()[: sitting.requests])
 
     def folder(self):
         self.folders += 1
@@ -44,7 +51,8 @@ class Session:
 
     def run(self, folder, **refusal):
         """The status of a run on a folder, and what it wrote on its two outputs."""
-        words = [self.program, "run", os.path.join(SHOP, "shop.py"), "--batch", str(BATCH), "--every", "2", "--store", folder]
+        words = [self.program, "run", os.path.join(SHOP, "shop.py"), "--batch", str(self.sitting.batch), *self.sitting.words]
+        words += ["--store", folder] if self.sitting.is_stored else []
         with_shim = dict(os.environ, LD_PRELOAD=self.shim, COUNT_FILE=self.count, **self.kind.setting, **refusal)
         done = subprocess.run(words, input=self.lines, capture_output=True, env=with_shim, timeout=SECONDS)
         return done.returncode, done.stdout, done.stderr
@@ -55,15 +63,24 @@ class Session:
             return int(file.read())
 
 
+def is_front(part, whole):
+    """Whether these are whole lines, the first ones of the whole."""
+    return whole.startswith(part) and part[-1:] in (b"", b"\n")
+
+
 def fault_in(session, whole, refused, folder):
-    """What is wrong with a run that ended so, if anything."""
+    """What is wrong with a run that ended so, if anything. whole: the two outputs of a whole run"""
     status, out, err = refused
     if status not in session.kind.statuses:
         return f"{err!r}"
-    if err not in (b"", session.kind.line) or (status == 0 and (err or out != whole)):
+    if status == 0 and (out, err) != whole:
         return f"it wrote {out!r} and {err!r}"
-    if not whole.startswith(out) or out[-1:] not in (b"", b"\n"):
+    if not is_front(out, whole[0]):
         return f"what it wrote is no first part of the whole: {out!r}"
+    if not is_front(err.removesuffix(session.kind.line), whole[1]):
+        return f"it told {err!r}"
+    if not session.sitting.is_stored:
+        return None
     behind, again, said = session.run(folder)
     missing = set(out.splitlines()) - set(again.splitlines())
     if behind != 0 or missing:
@@ -90,20 +107,20 @@ def refuse_in_turn(session, whole, numbers, goes_on):
 
 def refuse_each(session, step):
     """Refuses each call of the session's kind in turn, and answers whether all ended as they have to."""
-    name = session.kind.name
-    status, whole, said = session.run(session.folder())
-    calls, lines = session.calls(), whole.count(b"\n")
+    name, batch = session.kind.name, session.sitting.batch
+    status, *whole = session.run(session.folder())
+    calls, lines = session.calls(), whole[0].count(b"\n")
     if status != 0 or calls == 0:
-        sys.exit(f"growth_of_a_run: the whole run ended with {status} {said!r}, and has {calls} calls of the kind {name}")
-    print(f"{name}: the whole run has {calls}, and writes {lines} lines", flush=True)
+        sys.exit(f"growth_of_a_run: the whole run ended with {status} {whole[1]!r}, and has {calls} calls of the kind {name}")
+    print(f"{session.sitting.name}: {name}: the whole run has {calls}, and writes {lines} lines", flush=True)
     are_right = True
     for goes_on in (False, True):
-        written, is_right = refuse_in_turn(session, whole, range(1, calls + 1, step), goes_on)
+        written, is_right = refuse_in_turn(session, tuple(whole), range(1, calls + 1, step), goes_on)
         are_right = are_right and is_right
         ends = sorted(written | {0, lines})
-        if session.kind is SYNC and any(later - ended > BATCH for ended, later in zip(ends, ends[1:])):
+        if session.kind is SYNC and any(later - ended > batch for ended, later in zip(ends, ends[1:])):
             are_right = False
-            print(f"FAILED: more than {BATCH} lines were written without a sync before them: runs ended behind {ends} lines", flush=True)
+            print(f"FAILED: more than {batch} lines were written without a sync before them: runs ended behind {ends} lines", flush=True)
     return are_right
 
 
@@ -113,9 +130,12 @@ def main():
     words.add_argument("--step", type=int, default=1)
     asked = words.parse_args()
     program = os.path.abspath(asked.program)
-    with tempfile.TemporaryDirectory() as room:
-        are_right = [refuse_each(Session(program, room, SYNC), 1), refuse_each(Session(program, room, GROWTH), asked.step)]
-    return 0 if all(are_right) else 1
+    are_right = True
+    for sitting in SITTINGS:
+        for kind, step in [(SYNC, 1)] * sitting.is_stored + [(GROWTH, asked.step)]:
+            with tempfile.TemporaryDirectory() as room:
+                are_right = refuse_each(Session(program, room, kind, sitting), step) and are_right
+    return 0 if are_right else 1
 
 
 if __name__ == "__main__":

@@ -191,6 +191,7 @@ NUMBERS = (
 NUMERALS = ["7", "-7", "-007", "-0", "1" * 38, "0" * 63 + "7", "0" * 64 + "7", "-" + "0" * 64, str(2**127 - 1), str(2**127), str(-(2**127)), str(-(2**127) - 1)]
 TEXTS = [*NUMERALS, "a", "b", "", '"7', "+7", " 7", "7 ", "٣", "é€😀", "\n\t\x00\x1f\x7f", "a/b\\", "E", "-"]
 ODD_LINES = [b"", b" ", b"\r", b"{}", b"[]", b"null", b"1", b'"a"', b"\t", b"[" * 127 + b"]" * 127, b"[" * 128 + b"]" * 128]
+LONG_REQUEST = b'{"id":"long","class":"E","new":["long",1]}'
 ODD_BYTES = [b"\xff", b"\xc3", b"\x80", b"\x00", b"\t", b"\x1f", b"\x7f", b"\xed", b"\\ud83d", b"\xef\xbb\xbf", b",", b'"']
 
 
@@ -243,8 +244,15 @@ class LineDrawer:
         named = self.one_of([method] * 12 + ["__init__", "__key__", "other"])
         return {**head, "key": self.text(self.one_of("aab")), "method": self.text(named), "args": f"[{','.join(given)}]"}
 
+    def long_line(self):
+        """A line of the greatest length, or of a byte less or more: a request and blanks, or letters alone."""
+        end, (front, rest) = self.one_of([b"", b"\r"]), self.one_of([(LONG_REQUEST, b" "), (b"", b"a")])
+        return front.ljust(LONGEST_LINE + self.one_of([-1, 0, 1]) - len(end), rest) + end
+
     def line(self, number):
         """A line without its end."""
+        if self.may(0.0005):
+            return self.long_line()
         if self.may(0.02):
             return self.one_of(ODD_LINES)
         pairs = [*self.fields(number).items()]

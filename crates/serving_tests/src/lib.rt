@@ -16,6 +16,8 @@ mod limits;
 #[cfg(test)]
 mod lists;
 #[cfg(test)]
+mod long_lines;
+#[cfg(test)]
 mod order;
 #[cfg(test)]
 mod refusals;

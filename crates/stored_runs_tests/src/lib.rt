@@ -4,6 +4,8 @@
 #[cfg(test)]
 mod bad_stores;
 #[cfg(test)]
+mod changed_bytes;
+#[cfg(test)]
 mod faults;
 #[cfg(test)]
 mod keeping;
