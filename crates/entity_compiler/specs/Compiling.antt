@@ -1,5 +1,5 @@
 -- What a text is compiled to: an accepted program with its compiled graph, or the text's first fault.
-use Rattle.std.specs.Prelude.{◌≡◌, ℕ, Bool, List, Result, Ok, Err, ⊤}
+use Rattle.std.specs.Prelude.{ℕ, Bool, List, Result, Ok, Err, ⊤}
 use Rattle.py_tree.specs.PlainProgram.{PlainProgram}
 use Rattle.py_tree.specs.ClassRules.{PlainTable}
 use Rattle.call_graph.specs.Marks.{IsGraph}
