@@ -1,5 +1,5 @@
 -- Equations of a value's bytes and of which values have bytes, one for each case.
-use Rattle.std.proofs.Common.{◌≡◌, ℕ, ◌<◌, ◌^◌, List as Items, [], ◌∷◌, ◌++◌, length, refl, sym, ap, subst, ◌∙◌, append_assoc, Result, Ok, Err, OnOk}
+use Rattle.std.proofs.Common.{◌≡◌, ℕ, ◌<◌, ◌^◌, List as Items, [], ◌∷◌, ◌++◌, length, refl, sym, ap, subst, ◌∙◌, Result, Ok, Err, OnOk}
 use Rattle.std.proofs.Math.Path.{transport}
 use Rattle.std.specs.List.{flat_map, AllByRecursion}
 use Rattle.sf_value.specs.declared.value.Value.{Value, List, Row_of-Value, end_of-Value, more_of-Value}
@@ -27,14 +27,9 @@ bytes-List values =
 pub short_values : (value : Value) (values shown-values : Items Value) → value ≡ List values → shown-values ≡ values → IsShort value → (length shown-values < 2 ^ 32) × AllByRecursion IsShort shown-values
 short_values value values shown-values is same h = subst AreShort (sym same) (transport (short-List values) (subst IsShort is h))
 
-on_ok : {X E P Q : Type 0} (r : Result X E) → (P → Q) → OnOk r P → OnOk r Q
+pub on_ok : {X E P Q : Type 0} (r : Result X E) → (P → Q) → OnOk r P → OnOk r Q
 on_ok (Ok x) f h = f h
 on_ok (Err e) f h = tt
-
-pub list_written : {X E : Type 0} (r : Result X E) (old before after : Items ℕ) (value : Value) (values shown-values : Items Value) → value ≡ List values → shown-values ≡ values → before ≡ old ++ 5 ∷ [] → OnOk r (after ≡ before ++ values_bytes shown-values) → OnOk r (after ≡ old ++ value_bytes value)
-list_written r old before after value values shown-values is same tag h =
-    let whole : value_bytes value ≡ 5 ∷ values_bytes values = ap value_bytes is ∙ bytes-List values in
-    on_ok r (λ e. e ∙ (λ i. tag i ++ values_bytes (same i)) ∙ append_assoc old (5 ∷ []) (values_bytes values) ∙ ap (λ bytes. old ++ bytes) (sym whole)) h
 
 pub list_real : {X E : Type 0} (r : Result X E) (value : Value) (values shown-values : Items Value) → value ≡ List values → shown-values ≡ values → OnOk r (AreReal shown-values) → OnOk r (IsReal value)
 list_real r value values shown-values is same h = on_ok r (λ real. subst IsReal (sym is) (transport (sym (real-List values)) (subst AreReal same real))) h

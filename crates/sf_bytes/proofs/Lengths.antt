@@ -7,8 +7,8 @@ use Rattle.std.proofs.lemmas.List.Sums.{sum_by-cons}
 use Rattle.sf_value.specs.declared.Act.TheVariants.{Call, New}
 use Rattle.sf_value.specs.declared.Outcome.TheVariants as outcomes
 use Rattle.sf_value.specs.declared.value.Value.{Value, Int, Bool as Truth, Str, Nil, List', Entity, Row_of-Value, end_of-Value, more_of-Value}
-use Rattle.byte_sizes.specs.Sizes.{text_size, list_size, long_list_size, ref_size, value_size, row_size, row_len, values_size, act_size, request_size, failure_size, outcome_size, entry_size, held_size, batch_size, snapshot_size, head_size}
-use Rattle.sf_bytes.specs.ByteForms.{number_bytes, long_bytes, int_bytes, text_bytes, list_bytes, long_list_bytes, ref_bytes, value_bytes, row_bytes, values_bytes, act_bytes, request_bytes, failure_bytes, outcome_bytes, entry_bytes, held_bytes, batch_bytes, snapshot_bytes, extent_bytes, head_bytes}
+use Rattle.byte_sizes.specs.Sizes.{text_size, list_size, long_list_size, ref_size, value_size, row_size, row_len, values_size, act_size, request_size, failure_size, outcome_size, entry_size, held_size, batch_size, head_size}
+use Rattle.sf_bytes.specs.ByteForms.{number_bytes, long_bytes, int_bytes, text_bytes, list_bytes, long_list_bytes, ref_bytes, value_bytes, row_bytes, values_bytes, act_bytes, request_bytes, failure_bytes, outcome_bytes, entry_bytes, held_bytes, batch_bytes, extent_bytes, head_bytes}
 use Rattle.sf_bytes.specs.Lengths.{HasSizes}
 
 number-size : (n : ℕ) → length (number_bytes n) ≡ 4
@@ -89,24 +89,6 @@ pub batch-sizes : HasSizes batch_bytes batch_size
 unfolding batch_bytes batch_size
 batch-sizes batch =
     omega (arith, length-append (list_bytes request_bytes batch.news) (list_bytes number_bytes batch.committed), list-sizes request_bytes request_size request-sizes batch.news, list-sizes number_bytes (λ place. 4) number-size batch.committed)
-
-pub snapshot-sizes : HasSizes snapshot_bytes snapshot_size
-unfolding snapshot_bytes snapshot_size
-snapshot-sizes snapshot =
-    let program = text_bytes snapshot.program in
-    let history = list_bytes entry_bytes snapshot.history in
-    let records = long_list_bytes held_bytes snapshot.records in
-    let pending = list_bytes request_bytes snapshot.pending in
-    omega (
-      arith,
-      length-append (program ++ history ++ records) pending,
-      length-append (program ++ history) records,
-      length-append program history,
-      text-sizes snapshot.program,
-      list-sizes entry_bytes entry_size entry-sizes snapshot.history,
-      long_list-sizes held_bytes held_size held-sizes snapshot.records,
-      list-sizes request_bytes request_size request-sizes snapshot.pending,
-    )
 
 pub head-sizes : HasSizes head_bytes head_size
 unfolding head_bytes head_size extent_bytes

@@ -1,4 +1,4 @@
--- Requests, outcomes, batches, snapshots and heads are read as they are spelt.
+-- Requests, outcomes, batches and heads are read as they are spelt.
 use Rattle.std.proofs.Common.{◌≡◌, ℕ, zero, suc, ◌^◌, ◌<◌, true, List as Items, [], ◌∷◌, ◌++◌, length, Some, refl, ap, arith}
 use Rattle.std.specs.Int.{is_in_range, IsInRange}
 use Rattle.std.specs.List.{AllByRecursion}
@@ -12,12 +12,11 @@ use Rattle.sf_value.specs.declared.Held.{Held}
 use Rattle.sf_value.specs.declared.Outcome.{Outcome}
 use Rattle.sf_value.specs.declared.Outcome.TheVariants as outcomes
 use Rattle.sf_value.specs.declared.Request.{Request}
-use Rattle.sf_value.specs.declared.Snapshot.{Snapshot}
 use Rattle.sf_value.specs.declared.heads.Head.{Head}
 use Rattle.sf_value.specs.declared.value.Ref.{Ref}
-use Rattle.sf_bytes.specs.ByteForms.{number_bytes, text_bytes, list_bytes, long_list_bytes, ref_bytes, value_bytes, act_bytes, request_bytes, failure_bytes, outcome_bytes, entry_bytes, held_bytes, batch_bytes, snapshot_bytes, extent_bytes, head_bytes}
-use Rattle.sf_bytes.specs.Reading.{Reader, number_at, text_at, list_at, long_list_at, value_within, act_at, request_at, failure_at, outcome_at, entry_at, held_at, batch_at, snapshot_at, extent_at, head_at}
-use Rattle.sf_bytes.specs.Spelt.{IsShortText, IsRealText, IsSpeltList, IsSpeltAct, IsRealAct, IsSpeltFailure, IsSpeltHeld, IsRealHeld, IsReadValue, IsReadRequest, IsReadOutcome, IsReadEntry, IsReadBatch, IsReadSnapshot, IsReadHead}
+use Rattle.sf_bytes.specs.ByteForms.{number_bytes, text_bytes, list_bytes, long_list_bytes, ref_bytes, value_bytes, act_bytes, request_bytes, failure_bytes, outcome_bytes, entry_bytes, held_bytes, batch_bytes, extent_bytes, head_bytes}
+use Rattle.sf_bytes.specs.Reading.{Reader, number_at, text_at, list_at, long_list_at, value_within, act_at, request_at, failure_at, outcome_at, entry_at, held_at, batch_at, extent_at, head_at}
+use Rattle.sf_bytes.specs.Spelt.{IsShortText, IsRealText, IsSpeltList, IsSpeltAct, IsRealAct, IsSpeltFailure, IsSpeltHeld, IsRealHeld, IsReadValue, IsReadRequest, IsReadOutcome, IsReadEntry, IsReadBatch, IsReadHead}
 use Rattle.sf_bytes.proofs.Wide.{IsBytes, IsBytes-rest}
 use Rattle.sf_bytes.proofs.Laws.{Spells, said, guard_true, number_spells, long_spells, text_spells, list_spells, long_list_spells}
 use Rattle.sf_bytes.proofs.ValueLaws.{one_at, one_takes, one_again, ref_spells, value_spells, values_spells}
@@ -132,26 +131,13 @@ module _ {A : Type 0} {item_at : Reader A} {item_bytes : A → Items ℕ} {IsSpe
   long_listed_spells = said (long_list_spells item_at item_bytes (λ x. IsSpelt x × IsReal x) item)
       (λ xs h. let r = parted IsSpelt IsReal xs h.1 in (r.0, (h.0, r.1))) (λ xs h. (h.1.0, paired IsSpelt IsReal xs h.0 h.1.1))
 
--- ---- batches and snapshots
+-- ---- batches
 
 pub batch_spells : Spells batch_at batch_bytes IsReadBatch
 unfolding batch_at batch_bytes
 batch_spells =
     said (two_spells (listed_spells request_spells) (list_spells number_at number_bytes (λ n. n < 2 ^ 32) number_spells) (λ news committed. record { news = news; committed = committed }) (λ (batch : BatchRecord). batch.news) (λ (batch : BatchRecord). batch.committed) (λ x y. refl) (λ x y. refl) (λ made. refl))
     (λ batch h. ((h.0.0, h.1.0), (h.0.1, h.1.1))) (λ batch h. ((h.0.0, h.1.0), (h.0.1, h.1.1)))
-
-made_snapshot : Items ℕ → Items Entry → Items Held → Items Request → Snapshot
-made_snapshot program history records pending = record { program = program; history = history; records = records; pending = pending }
-
-pub snapshot_spells : Spells snapshot_at snapshot_bytes IsReadSnapshot
-unfolding snapshot_at snapshot_bytes made_snapshot
-snapshot_spells = record {
-  takes = λ bytes snapshot rest fits e. four_takes text_spells (listed_spells entry_spells) (long_listed_spells held_spells) (listed_spells request_spells) made_snapshot bytes (λ snapshot rest. (bytes ≡ snapshot_bytes snapshot ++ rest) × IsReadSnapshot snapshot)
-      (λ program history records pending rest parts fp fh fr fw. (parts, ((fp.0, (fh.0, (fr.0, fw.0))), (fp.1, (fh.1, (fr.1, fw.1))))))
-      snapshot rest fits e;
-  again = λ snapshot rest h. four_again text_spells (listed_spells entry_spells) (long_listed_spells held_spells) (listed_spells request_spells) made_snapshot snapshot.program snapshot.history snapshot.records snapshot.pending rest
-      (h.0.0, h.1.0) (h.0.1.0, h.1.1.0) (h.0.1.1.0, h.1.1.1.0) (h.0.1.1.1, h.1.1.1.1);
-}
 
 -- ---- heads
 

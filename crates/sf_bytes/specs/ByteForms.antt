@@ -13,7 +13,6 @@ use Rattle.sf_value.specs.declared.Held.{Held}
 use Rattle.sf_value.specs.declared.Outcome.{Outcome}
 use Rattle.sf_value.specs.declared.Outcome.TheVariants as outcomes
 use Rattle.sf_value.specs.declared.Request.{Request}
-use Rattle.sf_value.specs.declared.Snapshot.{Snapshot}
 use Rattle.sf_value.specs.declared.heads.Head.{Head}
 use Rattle.sf_value.specs.declared.value.Ref.{Ref}
 use Rattle.sf_value.specs.declared.value.Value.{Value, Int, Bool as Truth, Str, Nil, List', Entity, Row_of-Value, end_of-Value, more_of-Value}
@@ -95,10 +94,6 @@ held_bytes held = ref_bytes held.at ++ values_bytes held.fields.fields
 -- the new requests, and the places that are committed
 unfoldable pub batch_bytes : BatchRecord → Items ℕ
 batch_bytes batch = list_bytes request_bytes batch.news ++ list_bytes number_bytes batch.committed
-
--- the program, the history, the records and the pending requests
-unfoldable pub snapshot_bytes : Snapshot → Items ℕ
-snapshot_bytes snapshot = text_bytes snapshot.program ++ list_bytes entry_bytes snapshot.history ++ long_list_bytes held_bytes snapshot.records ++ list_bytes request_bytes snapshot.pending
 
 -- how many entries a history has, and how many bytes these take, in eight bytes
 unfoldable pub extent_bytes : ℕ × ℕ → Items ℕ

@@ -14,7 +14,6 @@ use Rattle.sf_value.specs.declared.Held.{Held}
 use Rattle.sf_value.specs.declared.Outcome.{Outcome}
 use Rattle.sf_value.specs.declared.Outcome.TheVariants as outcomes
 use Rattle.sf_value.specs.declared.Request.{Request}
-use Rattle.sf_value.specs.declared.Snapshot.{Snapshot}
 use Rattle.sf_value.specs.declared.heads.Head.{Head}
 use Rattle.sf_value.specs.declared.value.Ref.{Ref}
 use Rattle.sf_value.specs.declared.value.Value.{Value, Int, Bool as Truth, Str, Nil, List, Entity}
@@ -178,14 +177,6 @@ batch_at bytes = do
   news ← list_at request_at bytes
   committed ← list_at number_at news.1
   Some (record { news = news.0; committed = committed.0 }, committed.1)
-
-unfoldable pub snapshot_at : Reader Snapshot
-snapshot_at bytes = do
-  program ← text_at bytes
-  history ← list_at entry_at program.1
-  records ← long_list_at held_at history.1
-  pending ← list_at request_at records.1
-  Some (record { program = program.0; history = history.0; records = records.0; pending = pending.0 }, pending.1)
 
 unfoldable pub extent_at : Reader (ℕ × ℕ)
 extent_at bytes = do

@@ -1,5 +1,5 @@
 -- Which things have bytes: those that have a spelling.
 unfoldable pub use Rattle.byte_sizes.specs.Spelt.{IsShort, IsShortRow, NestsWithin, RowNestsWithin, IsReal, IsRealRow}
-pub use Rattle.byte_sizes.specs.Spelt.{IsShortText, AreShort, NestWithin, IsRealText, IsRealRef, AreReal, IsRealAct, IsRealRequest, IsRealOutcome, IsRealEntry, IsRealHeld, IsRealBatch, IsRealSnapshot, IsRealHead}
-pub use Rattle.byte_sizes.specs.Spelt.{IsSpeltValue, AreSpelt, IsSpeltList, IsSpeltAct, IsSpeltRequest, IsSpeltFailure, IsSpeltOutcome, IsSpeltEntry, IsSpeltHeld, IsSpeltBatch, IsSpeltSnapshot, IsSpeltHead}
-pub use Rattle.byte_sizes.specs.Spelt.{IsReadValue, IsReadRequest, IsReadOutcome, IsReadEntry, IsReadBatch, IsReadSnapshot, IsReadHead}
+pub use Rattle.byte_sizes.specs.Spelt.{IsShortText, AreShort, NestWithin, IsRealText, IsRealRef, AreReal, IsRealAct, IsRealRequest, IsRealOutcome, IsRealEntry, IsRealHeld, IsRealBatch, IsRealHead}
+pub use Rattle.byte_sizes.specs.Spelt.{IsSpeltValue, AreSpelt, IsSpeltList, IsSpeltAct, IsSpeltRequest, IsSpeltFailure, IsSpeltOutcome, IsSpeltEntry, IsSpeltHeld, IsSpeltBatch, IsSpeltHead}
+pub use Rattle.byte_sizes.specs.Spelt.{IsReadValue, IsReadRequest, IsReadOutcome, IsReadEntry, IsReadBatch, IsReadHead}

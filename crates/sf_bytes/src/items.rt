@@ -1,17 +1,17 @@
 //! Things that stand in lists, and the bytes of their lists.
 
-ghost use Rattle.std.specs.Prelude.{◌≡◌, ◌++◌, ◌<◌, ◌^◌, ℕ, List, length, Option, OnOk};
+ghost use Rattle.std.specs.Prelude.{ℕ, List, length, Option, OnOk, OnErr};
 ghost use Rattle.std.specs.List.{flat_map, AllByRecursion};
-ghost use Rattle.sf_bytes.specs.ByteForms.{number_bytes, list_bytes, long_list_bytes};
+ghost use Rattle.sf_bytes.specs.ByteForms.{number_bytes, list_bytes};
 ghost use Rattle.sf_bytes.specs.Reading.{Gives, number_at, items_at, list_at, long_list_at};
 ghost use Rattle.sf_bytes.specs.Spelt.{IsSpeltList};
 
 use crate::fault::Unread;
+use crate::out::Out;
 use crate::reading::{long_of, number_of};
-use crate::writing::{put_long, put_number};
+use crate::writing::put_number;
 use sf_list::Sequence;
-use sf_value::Bytes;
-use std::alloc::{AllocError, Global};
+use std::alloc::Global;
 
 /// A thing that stands in lists.
 pub(crate) trait Item: Sized + Drop {
@@ -30,9 +30,10 @@ pub(crate) trait Item: Sized + Drop {
     fn read(alloc: Global, bytes: &[u8]) -> Result<(Self, &[u8]), Unread>
         ensures { Gives (λ x. (x.0, x.1.now)) result (reads bytes.now) };
 
-    fn put(&self, out: &mut Bytes, alloc: Global) -> Result<(), AllocError>
+    fn put<D, O: Out<D>>(&self, out: &mut O, on: &mut D) -> Result<(), O::Stop>
         requires { is_spelt self.now }
-        ensures bytes { OnOk result (out.new ≡ out.old ++ bytes_of self.now) }
+        ensures all { OnOk result (O.puts out.old on.old out.new on.new (bytes_of self.now)) }
+        ensures part { OnErr result (O.stops out.old on.old out.new on.new) }
         ensures real { OnOk result (is_real self.now) };
 }
 
@@ -72,39 +73,28 @@ pub(crate) fn long_list_of<T: Item>(
     items_of(alloc, count, rest)
 }
 
-fn put_items<T: Item>(out: &mut Bytes, alloc: Global, items: &[T]) -> Result<(), AllocError>
+fn put_items<D, O: Out<D>, T: Item>(out: &mut O, on: &mut D, items: &[T]) -> Result<(), O::Stop>
     requires { AllByRecursion T.is_spelt items.now }
-    ensures bytes { OnOk result (out.new ≡ out.old ++ flat_map T.bytes_of items.now) }
+    ensures all { OnOk result (O.puts out.old on.old out.new on.new (flat_map T.bytes_of items.now)) }
+    ensures part { OnErr result (O.stops out.old on.old out.new on.new) }
     ensures real { OnOk result (AllByRecursion T.is_real items.now) }
 {
     for item in items {
-        item.put(out, alloc)?;
+        item.put(out, on)?;
     }
     Ok(())
 }
 
-pub(crate) fn put_list<T: Item>(
-    out: &mut Bytes,
-    alloc: Global,
+pub(crate) fn put_list<D, O: Out<D>, T: Item>(
+    out: &mut O,
+    on: &mut D,
     items: &Sequence<T>,
-) -> Result<(), AllocError>
+) -> Result<(), O::Stop>
     requires { IsSpeltList T.is_spelt items.now }
-    ensures bytes { OnOk result (out.new ≡ out.old ++ list_bytes T.bytes_of items.now) }
+    ensures all { OnOk result (O.puts out.old on.old out.new on.new (list_bytes T.bytes_of items.now)) }
+    ensures part { OnErr result (O.stops out.old on.old out.new on.new) }
     ensures real { OnOk result (AllByRecursion T.is_real items.now) }
 {
-    put_number(out, alloc, items.len() as u32)?;
-    put_items(out, alloc, items.as_slice())
-}
-
-pub(crate) fn put_long_list<T: Item>(
-    out: &mut Bytes,
-    alloc: Global,
-    items: &Sequence<T>,
-) -> Result<(), AllocError>
-    requires { AllByRecursion T.is_spelt items.now }
-    ensures bytes { OnOk result (out.new ≡ out.old ++ long_list_bytes T.bytes_of items.now) }
-    ensures real { OnOk result ((length items.now < 2 ^ 64) × AllByRecursion T.is_real items.now) }
-{
-    put_long(out, alloc, items.len() as u64)?;
-    put_items(out, alloc, items.as_slice())
+    put_number(out, on, items.len() as u32)?;
+    put_items(out, on, items.as_slice())
 }

@@ -1,4 +1,4 @@
-//! The bytes of values, requests, outcomes, entries, batches, snapshots and heads, as a store keeps them.
+//! The bytes of values, requests, outcomes, entries, batches and heads, as a store keeps them.
 //!
 //! Each thing has one spelling, and no spelling begins another, so that what was written is read
 //! again whatever follows it. Reading takes memory and time by the bytes that are there, never by a
@@ -6,17 +6,19 @@
 #![tactic(auto)]
 
 ghost use Rattle.std.specs.Prelude.{◌≡◌, IfOk, OnOk};
-ghost use Rattle.byte_sizes.specs.Sizes.{value_size, request_size, outcome_size, entry_size, batch_size, snapshot_size, head_size};
-ghost use Rattle.sf_bytes.specs.ByteForms.{value_bytes, request_bytes, outcome_bytes, entry_bytes, batch_bytes, snapshot_bytes, head_bytes};
-ghost use Rattle.sf_bytes.specs.Spelt.{IsSpeltValue, IsSpeltRequest, IsSpeltOutcome, IsSpeltEntry, IsSpeltBatch, IsSpeltSnapshot, IsSpeltHead};
-ghost use Rattle.sf_bytes.specs.Spelt.{IsReal, IsRealRequest, IsRealOutcome, IsRealEntry, IsRealBatch, IsRealSnapshot, IsRealHead};
-ghost use Rattle.sf_bytes.specs.Spelt.{IsReadValue, IsReadRequest, IsReadOutcome, IsReadEntry, IsReadBatch, IsReadSnapshot, IsReadHead};
+ghost use Rattle.byte_sizes.specs.Sizes.{value_size, request_size, outcome_size, entry_size, batch_size, head_size};
+ghost use Rattle.sf_bytes.specs.ByteForms.{value_bytes, request_bytes, outcome_bytes, entry_bytes, batch_bytes, head_bytes};
+ghost use Rattle.sf_bytes.specs.Spelt.{IsSpeltValue, IsSpeltRequest, IsSpeltOutcome, IsSpeltEntry, IsSpeltBatch, IsSpeltHead};
+ghost use Rattle.sf_bytes.specs.Spelt.{IsReal, IsRealRequest, IsRealOutcome, IsRealEntry, IsRealBatch, IsRealHead};
+ghost use Rattle.sf_bytes.specs.Spelt.{IsReadValue, IsReadRequest, IsReadOutcome, IsReadEntry, IsReadBatch, IsReadHead};
 ghost use Rattle.sf_bytes.specs.Lengths.{HasSizes};
 ghost use Rattle.sf_bytes.specs.OneHistory.{HistoryIsOne, HistoryIsWhole, BreakIsOne, HistoryStays, HistoryGrows};
 ghost use Rattle.sf_bytes.specs.Reads.{Reads, NoneBeginsAnother};
 
 mod fault;
 mod items;
+mod lent;
+mod out;
 mod reading;
 mod records;
 mod requests;
@@ -24,8 +26,10 @@ mod writing;
 
 use fault::answer;
 use items::Item;
+pub use lent::{Given, LentHead, LentRecords, Measured, Spelled, measure, put_entry};
+pub use out::{Count, Out};
 use sf_list::Sequence;
-use sf_value::{BatchRecord, Bytes, Entry, Head, Outcome, Request, Snapshot, Value};
+use sf_value::{BatchRecord, Bytes, Entry, Head, Outcome, Request, Value};
 use std::alloc::{AllocError, Global};
 
 /// How deep lists of values may nest. The list of a request's arguments and that of a record's fields
@@ -38,8 +42,8 @@ pub fn write_value(alloc: Global, value: &Value) -> Result<Bytes, AllocError>
     ensures bytes { IfOk result (λ made. made ≡ value_bytes value.now) }
     ensures real { OnOk result (IsReal value.now) }
 {
-    let mut out = Sequence::new(alloc);
-    writing::put_value(&mut out, alloc, value)?;
+    let (mut out, mut on) = (Sequence::new(alloc), alloc);
+    writing::put_value(&mut out, &mut on, value)?;
     Ok(out)
 }
 
@@ -49,8 +53,8 @@ pub fn write_request(alloc: Global, request: &Request) -> Result<Bytes, AllocErr
     ensures bytes { IfOk result (λ made. made ≡ request_bytes request.now) }
     ensures real { OnOk result (IsRealRequest request.now) }
 {
-    let mut out = Sequence::new(alloc);
-    requests::put_request(&mut out, alloc, request)?;
+    let (mut out, mut on) = (Sequence::new(alloc), alloc);
+    requests::put_request(&mut out, &mut on, request)?;
     Ok(out)
 }
 
@@ -60,8 +64,8 @@ pub fn write_outcome(alloc: Global, outcome: &Outcome) -> Result<Bytes, AllocErr
     ensures bytes { IfOk result (λ made. made ≡ outcome_bytes outcome.now) }
     ensures real { OnOk result (IsRealOutcome outcome.now) }
 {
-    let mut out = Sequence::new(alloc);
-    requests::put_outcome(&mut out, alloc, outcome)?;
+    let (mut out, mut on) = (Sequence::new(alloc), alloc);
+    requests::put_outcome(&mut out, &mut on, outcome)?;
     Ok(out)
 }
 
@@ -71,19 +75,8 @@ pub fn write_batch(alloc: Global, batch: &BatchRecord) -> Result<Bytes, AllocErr
     ensures bytes { IfOk result (λ made. made ≡ batch_bytes batch.now) }
     ensures real { OnOk result (IsRealBatch batch.now) }
 {
-    let mut out = Sequence::new(alloc);
-    records::put_batch(&mut out, alloc, batch)?;
-    Ok(out)
-}
-
-/// The bytes of a snapshot.
-pub fn write_snapshot(alloc: Global, snapshot: &Snapshot) -> Result<Bytes, AllocError>
-    requires { IsSpeltSnapshot snapshot.now }
-    ensures bytes { IfOk result (λ made. made ≡ snapshot_bytes snapshot.now) }
-    ensures real { OnOk result (IsRealSnapshot snapshot.now) }
-{
-    let mut out = Sequence::new(alloc);
-    records::put_snapshot(&mut out, alloc, snapshot)?;
+    let (mut out, mut on) = (Sequence::new(alloc), alloc);
+    records::put_batch(&mut out, &mut on, batch)?;
     Ok(out)
 }
 
@@ -93,8 +86,8 @@ pub fn write_entry(alloc: Global, entry: &Entry) -> Result<Bytes, AllocError>
     ensures bytes { IfOk result (λ made. made ≡ entry_bytes entry.now) }
     ensures real { OnOk result (IsRealEntry entry.now) }
 {
-    let mut out = Sequence::new(alloc);
-    entry.put(&mut out, alloc)?;
+    let (mut out, mut on) = (Sequence::new(alloc), alloc);
+    entry.put(&mut out, &mut on)?;
     Ok(out)
 }
 
@@ -104,8 +97,15 @@ pub fn write_head(alloc: Global, head: &Head) -> Result<Bytes, AllocError>
     ensures bytes { IfOk result (λ made. made ≡ head_bytes head.now) }
     ensures real { OnOk result (IsRealHead head.now) }
 {
-    let mut out = Sequence::new(alloc);
-    records::put_head(&mut out, alloc, head)?;
+    let (mut out, mut on) = (Sequence::new(alloc), alloc);
+    let lent = LentHead {
+        program: &head.program,
+        kept: head.kept,
+        bytes: head.bytes,
+        records: &head.records,
+        pending: &head.pending,
+    };
+    lent.put(&mut out, &mut on)?;
     Ok(out)
 }
 
@@ -137,13 +137,6 @@ pub fn read_batch(alloc: Global, bytes: &[u8]) -> Result<Option<(BatchRecord, us
     answer(bytes, records::batch_of(alloc, bytes))
 }
 
-/// The snapshot that the bytes begin with, and how many bytes it takes.
-pub fn read_snapshot(alloc: Global, bytes: &[u8]) -> Result<Option<(Snapshot, usize)>, AllocError>
-    ensures { Reads snapshot_bytes IsReadSnapshot bytes.now result }
-{
-    answer(bytes, records::snapshot_of(alloc, bytes))
-}
-
 /// The history's entry that the bytes begin with, and how many bytes it takes.
 pub fn read_entry(alloc: Global, bytes: &[u8]) -> Result<Option<(Entry, usize)>, AllocError>
     ensures { Reads entry_bytes IsReadEntry bytes.now result }
@@ -165,7 +158,6 @@ pub fn spellings_stand_apart()
     ensures outcomes { NoneBeginsAnother outcome_bytes IsReadOutcome }
     ensures entries { NoneBeginsAnother entry_bytes IsReadEntry }
     ensures batches { NoneBeginsAnother batch_bytes IsReadBatch }
-    ensures snapshots { NoneBeginsAnother snapshot_bytes IsReadSnapshot }
     ensures heads { NoneBeginsAnother head_bytes IsReadHead }
 {}
 
@@ -176,7 +168,6 @@ pub fn spellings_have_sizes()
     ensures outcomes { HasSizes outcome_bytes outcome_size }
     ensures entries { HasSizes entry_bytes entry_size }
     ensures batches { HasSizes batch_bytes batch_size }
-    ensures snapshots { HasSizes snapshot_bytes snapshot_size }
     ensures heads { HasSizes head_bytes head_size }
 {}
 

@@ -1,18 +1,20 @@
-//! Batches, snapshots, heads, and what these list.
+//! Batches, heads, and what these list.
 
-ghost use Rattle.std.specs.Prelude.{◌≡◌, ◌++◌, ◌<◌, ◌^◌, OnOk};
-ghost use Rattle.sf_bytes.specs.ByteForms.{number_bytes, entry_bytes, held_bytes, batch_bytes, snapshot_bytes, head_bytes};
-ghost use Rattle.sf_bytes.specs.Reading.{Gives, number_at, entry_at, held_at, batch_at, snapshot_at, extent_at, head_at};
-ghost use Rattle.sf_bytes.specs.Spelt.{IsSpeltEntry, IsSpeltHeld, IsSpeltBatch, IsSpeltSnapshot, IsSpeltHead, IsRealEntry, IsRealHeld, IsRealBatch, IsRealSnapshot, IsRealHead};
+ghost use Rattle.std.specs.Prelude.{◌<◌, ◌^◌, OnOk, OnErr};
+ghost use Rattle.sf_bytes.specs.ByteForms.{number_bytes, entry_bytes, held_bytes, batch_bytes};
+ghost use Rattle.sf_bytes.specs.Reading.{Gives, number_at, entry_at, held_at, batch_at, extent_at, head_at};
+ghost use Rattle.sf_bytes.specs.Spelt.{IsSpeltEntry, IsSpeltHeld, IsSpeltBatch, IsRealEntry, IsRealHeld, IsRealBatch};
 
 use crate::LEVELS;
 use crate::fault::Unread;
-use crate::items::{Item, list_of, long_list_of, put_list, put_long_list};
+use crate::items::{Item, list_of, long_list_of, put_list};
+use crate::lent::{put_entry, put_held};
+use crate::out::Out;
 use crate::reading::{long_of, number_of, ref_of, text_of, values_of};
-use crate::requests::{outcome_of, put_outcome, put_request, request_of};
-use crate::writing::{put_long, put_number, put_ref, put_text, put_values};
-use sf_value::{BatchRecord, Bytes, Entry, Head, Held, Record, Snapshot};
-use std::alloc::{AllocError, Global};
+use crate::requests::{outcome_of, request_of};
+use crate::writing::put_number;
+use sf_value::{BatchRecord, Entry, Head, Held, Record};
+use std::alloc::Global;
 
 impl Item for u32 {
     ghost reads = { number_at };
@@ -27,8 +29,8 @@ impl Item for u32 {
         number_of(bytes)
     }
 
-    fn put(&self, out: &mut Bytes, alloc: Global) -> Result<(), AllocError> {
-        put_number(out, alloc, *self)
+    fn put<D, O: Out<D>>(&self, out: &mut O, on: &mut D) -> Result<(), O::Stop> {
+        put_number(out, on, *self)
     }
 }
 
@@ -45,10 +47,9 @@ impl Item for Entry {
         entry_of(alloc, bytes)
     }
 
-    #[tactic(auto, unfolding(crate::specs::ByteForms::entry_bytes))]
-    fn put(&self, out: &mut Bytes, alloc: Global) -> Result<(), AllocError> {
-        put_request(out, alloc, &self.request)?;
-        put_outcome(out, alloc, &self.outcome)
+    fn put<D, O: Out<D>>(&self, out: &mut O, on: &mut D) -> Result<(), O::Stop> {
+        let request = &self.request;
+        put_entry(out, on, &request.id, &request.act, &self.outcome)
     }
 }
 
@@ -69,10 +70,8 @@ impl Item for Held {
         Ok((Held { at, fields }, rest))
     }
 
-    #[tactic(auto, unfolding(crate::specs::ByteForms::held_bytes))]
-    fn put(&self, out: &mut Bytes, alloc: Global) -> Result<(), AllocError> {
-        put_ref(out, alloc, &self.at)?;
-        put_values(out, alloc, self.fields.fields.as_slice())
+    fn put<D, O: Out<D>>(&self, out: &mut O, on: &mut D) -> Result<(), O::Stop> {
+        put_held(out, on, &self.at, &self.fields)
     }
 }
 
@@ -92,23 +91,6 @@ pub(crate) fn batch_of(alloc: Global, bytes: &[u8]) -> Result<(BatchRecord, &[u8
     let (news, rest) = list_of(alloc, bytes)?;
     let (committed, rest) = list_of(alloc, rest)?;
     Ok((BatchRecord { news, committed }, rest))
-}
-
-#[tactic(auto, unfolding(crate::specs::Reading::snapshot_at))]
-pub(crate) fn snapshot_of(alloc: Global, bytes: &[u8]) -> Result<(Snapshot, &[u8]), Unread>
-    ensures { Gives (λ x. (x.0, x.1.now)) result (snapshot_at bytes.now) }
-{
-    let (program, rest) = text_of(alloc, bytes)?;
-    let (history, rest) = list_of(alloc, rest)?;
-    let (records, rest) = long_list_of(alloc, rest)?;
-    let (pending, rest) = list_of(alloc, rest)?;
-    let snapshot = Snapshot {
-        program,
-        history,
-        records,
-        pending,
-    };
-    Ok((snapshot, rest))
 }
 
 /// How many entries a history has, and how many bytes these take.
@@ -140,44 +122,16 @@ pub(crate) fn head_of(alloc: Global, bytes: &[u8]) -> Result<(Head, &[u8]), Unre
 }
 
 #[tactic(auto, using(crate::proofs::Lists::all_free), unfolding(crate::specs::ByteForms::batch_bytes))]
-pub(crate) fn put_batch(
-    out: &mut Bytes,
-    alloc: Global,
+pub(crate) fn put_batch<D, O: Out<D>>(
+    out: &mut O,
+    on: &mut D,
     batch: &BatchRecord,
-) -> Result<(), AllocError>
+) -> Result<(), O::Stop>
     requires { IsSpeltBatch batch.now }
-    ensures bytes { OnOk result (out.new ≡ out.old ++ batch_bytes batch.now) }
+    ensures all { OnOk result (O.puts out.old on.old out.new on.new (batch_bytes batch.now)) }
+    ensures part { OnErr result (O.stops out.old on.old out.new on.new) }
     ensures real { OnOk result (IsRealBatch batch.now) }
 {
-    put_list(out, alloc, &batch.news)?;
-    put_list(out, alloc, &batch.committed)
-}
-
-#[tactic(auto, unfolding(crate::specs::ByteForms::snapshot_bytes))]
-pub(crate) fn put_snapshot(
-    out: &mut Bytes,
-    alloc: Global,
-    snapshot: &Snapshot,
-) -> Result<(), AllocError>
-    requires { IsSpeltSnapshot snapshot.now }
-    ensures bytes { OnOk result (out.new ≡ out.old ++ snapshot_bytes snapshot.now) }
-    ensures real { OnOk result (IsRealSnapshot snapshot.now) }
-{
-    put_text(out, alloc, &snapshot.program)?;
-    put_list(out, alloc, &snapshot.history)?;
-    put_long_list(out, alloc, &snapshot.records)?;
-    put_list(out, alloc, &snapshot.pending)
-}
-
-#[tactic(auto, unfolding(crate::specs::ByteForms::head_bytes, crate::specs::ByteForms::extent_bytes))]
-pub(crate) fn put_head(out: &mut Bytes, alloc: Global, head: &Head) -> Result<(), AllocError>
-    requires { IsSpeltHead head.now }
-    ensures bytes { OnOk result (out.new ≡ out.old ++ head_bytes head.now) }
-    ensures real { OnOk result (IsRealHead head.now) }
-{
-    put_text(out, alloc, &head.program)?;
-    put_number(out, alloc, head.kept)?;
-    put_long(out, alloc, head.bytes)?;
-    put_long_list(out, alloc, &head.records)?;
-    put_list(out, alloc, &head.pending)
+    put_list(out, on, &batch.news)?;
+    put_list(out, on, &batch.committed)
 }

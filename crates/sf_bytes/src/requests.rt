@@ -1,17 +1,19 @@
 //! Requests, and what they come to.
 
-ghost use Rattle.std.specs.Prelude.{◌≡◌, ◌++◌, OnOk};
-ghost use Rattle.sf_bytes.specs.ByteForms.{act_bytes, request_bytes, failure_bytes, outcome_bytes};
+ghost use Rattle.std.specs.Prelude.{◌++◌, OnOk, OnErr};
+ghost use Rattle.sf_bytes.specs.ByteForms.{number_bytes, text_bytes, values_bytes, act_bytes, request_bytes, failure_bytes, outcome_bytes};
+ghost use Rattle.sf_value.specs.declared.Act.TheVariants.{Call, New};
 ghost use Rattle.sf_bytes.specs.Reading.{Gives, act_at, request_at, failure_at, outcome_at};
 ghost use Rattle.sf_bytes.specs.Spelt.{IsSpeltAct, IsSpeltRequest, IsSpeltFailure, IsSpeltOutcome, IsRealAct, IsRealRequest, IsRealText, IsRealOutcome};
 
 use crate::LEVELS;
 use crate::fault::Unread;
 use crate::items::Item;
+use crate::out::Out;
 use crate::reading::{number_of, ref_of, text_of, value_of, values_of};
 use crate::writing::{put_number, put_text, put_value, put_values};
-use sf_value::{Act, Bytes, Failure, Outcome, Request};
-use std::alloc::{AllocError, Global};
+use sf_value::{Act, Failure, Outcome, Request, Text, Values};
+use std::alloc::Global;
 
 #[tactic(auto, unfolding(crate::specs::Reading::act_at))]
 fn act_of(alloc: Global, bytes: &[u8]) -> Result<(Act, &[u8]), Unread>
@@ -87,10 +89,47 @@ pub(crate) fn outcome_of(alloc: Global, bytes: &[u8]) -> Result<(Outcome, &[u8])
     }
 }
 
+/// What follows the first byte of a call.
+fn put_called<D, O: Out<D>>(
+    out: &mut O,
+    on: &mut D,
+    class: u32,
+    key: &Text,
+    method: u32,
+    args: &Values,
+) -> Result<(), O::Stop>
+    requires { IsSpeltAct (Call class key.now method args.now) }
+    ensures all { OnOk result (O.puts out.old on.old out.new on.new (number_bytes class ++ text_bytes key.now ++ number_bytes method ++ values_bytes args.now)) }
+    ensures part { OnErr result (O.stops out.old on.old out.new on.new) }
+    ensures real { OnOk result (IsRealAct (Call class key.now method args.now)) }
+{
+    put_number(out, on, class)?;
+    put_text(out, on, key)?;
+    put_number(out, on, method)?;
+    put_values(out, on, args.as_slice())
+}
+
+/// What follows the first byte of a creation.
+fn put_created<D, O: Out<D>>(
+    out: &mut O,
+    on: &mut D,
+    class: u32,
+    args: &Values,
+) -> Result<(), O::Stop>
+    requires { IsSpeltAct (New class args.now) }
+    ensures all { OnOk result (O.puts out.old on.old out.new on.new (number_bytes class ++ values_bytes args.now)) }
+    ensures part { OnErr result (O.stops out.old on.old out.new on.new) }
+    ensures real { OnOk result (IsRealAct (New class args.now)) }
+{
+    put_number(out, on, class)?;
+    put_values(out, on, args.as_slice())
+}
+
 #[tactic(auto, unfolding(crate::specs::ByteForms::act_bytes))]
-fn put_act(out: &mut Bytes, alloc: Global, act: &Act) -> Result<(), AllocError>
+fn put_act<D, O: Out<D>>(out: &mut O, on: &mut D, act: &Act) -> Result<(), O::Stop>
     requires { IsSpeltAct act.now }
-    ensures bytes { OnOk result (out.new ≡ out.old ++ act_bytes act.now) }
+    ensures all { OnOk result (O.puts out.old on.old out.new on.new (act_bytes act.now)) }
+    ensures part { OnErr result (O.stops out.old on.old out.new on.new) }
     ensures real { OnOk result (IsRealAct act.now) }
 {
     match act {
@@ -100,62 +139,76 @@ fn put_act(out: &mut Bytes, alloc: Global, act: &Act) -> Result<(), AllocError>
             method,
             args,
         } => {
-            out.push(alloc, 0)?;
-            put_number(out, alloc, *class)?;
-            put_text(out, alloc, key)?;
-            put_number(out, alloc, *method)?;
-            put_values(out, alloc, args.as_slice())
+            out.put(on, &[0])?;
+            put_called(out, on, *class, key, *method, args)
         }
         Act::New { class, args } => {
-            out.push(alloc, 1)?;
-            put_number(out, alloc, *class)?;
-            put_values(out, alloc, args.as_slice())
+            out.put(on, &[1])?;
+            put_created(out, on, *class, args)
         }
     }
 }
 
+/// A request, of which id and act may stand in two places.
 #[tactic(auto, unfolding(crate::specs::ByteForms::request_bytes))]
-pub(crate) fn put_request(
-    out: &mut Bytes,
-    alloc: Global,
+pub(crate) fn put_asked<D, O: Out<D>>(
+    out: &mut O,
+    on: &mut D,
+    id: &Text,
+    act: &Act,
+) -> Result<(), O::Stop>
+    requires { IsSpeltRequest (record { id = id.now; act = act.now }) }
+    ensures all { OnOk result (O.puts out.old on.old out.new on.new (request_bytes (record { id = id.now; act = act.now }))) }
+    ensures part { OnErr result (O.stops out.old on.old out.new on.new) }
+    ensures real { OnOk result (IsRealRequest (record { id = id.now; act = act.now })) }
+{
+    put_text(out, on, id)?;
+    put_act(out, on, act)
+}
+
+pub(crate) fn put_request<D, O: Out<D>>(
+    out: &mut O,
+    on: &mut D,
     request: &Request,
-) -> Result<(), AllocError>
+) -> Result<(), O::Stop>
     requires { IsSpeltRequest request.now }
-    ensures bytes { OnOk result (out.new ≡ out.old ++ request_bytes request.now) }
+    ensures all { OnOk result (O.puts out.old on.old out.new on.new (request_bytes request.now)) }
+    ensures part { OnErr result (O.stops out.old on.old out.new on.new) }
     ensures real { OnOk result (IsRealRequest request.now) }
 {
-    put_text(out, alloc, &request.id)?;
-    put_act(out, alloc, &request.act)
+    put_asked(out, on, &request.id, &request.act)
 }
 
 #[tactic(auto, unfolding(crate::specs::ByteForms::failure_bytes))]
-fn put_failure(out: &mut Bytes, alloc: Global, failure: &Failure) -> Result<(), AllocError>
+fn put_failure<D, O: Out<D>>(out: &mut O, on: &mut D, failure: &Failure) -> Result<(), O::Stop>
     requires { IsSpeltFailure failure.now }
-    ensures bytes { OnOk result (out.new ≡ out.old ++ failure_bytes failure.now) }
+    ensures all { OnOk result (O.puts out.old on.old out.new on.new (failure_bytes failure.now)) }
+    ensures part { OnErr result (O.stops out.old on.old out.new on.new) }
     ensures real { OnOk result (IsRealText failure.now.message) }
 {
-    out.push(alloc, failure.kind)?;
-    put_text(out, alloc, &failure.message)
+    out.put(on, &[failure.kind])?;
+    put_text(out, on, &failure.message)
 }
 
 #[tactic(auto, unfolding(crate::specs::ByteForms::outcome_bytes))]
-pub(crate) fn put_outcome(
-    out: &mut Bytes,
-    alloc: Global,
+pub(crate) fn put_outcome<D, O: Out<D>>(
+    out: &mut O,
+    on: &mut D,
     outcome: &Outcome,
-) -> Result<(), AllocError>
+) -> Result<(), O::Stop>
     requires { IsSpeltOutcome outcome.now }
-    ensures bytes { OnOk result (out.new ≡ out.old ++ outcome_bytes outcome.now) }
+    ensures all { OnOk result (O.puts out.old on.old out.new on.new (outcome_bytes outcome.now)) }
+    ensures part { OnErr result (O.stops out.old on.old out.new on.new) }
     ensures real { OnOk result (IsRealOutcome outcome.now) }
 {
     match outcome {
         Outcome::Value(value) => {
-            out.push(alloc, 0)?;
-            put_value(out, alloc, value)
+            out.put(on, &[0])?;
+            put_value(out, on, value)
         }
         Outcome::Failed(failure) => {
-            out.push(alloc, 1)?;
-            put_failure(out, alloc, failure)
+            out.put(on, &[1])?;
+            put_failure(out, on, failure)
         }
     }
 }
@@ -177,7 +230,7 @@ impl Item for Request {
         request_of(alloc, bytes)
     }
 
-    fn put(&self, out: &mut Bytes, alloc: Global) -> Result<(), AllocError> {
-        put_request(out, alloc, self)
+    fn put<D, O: Out<D>>(&self, out: &mut O, on: &mut D) -> Result<(), O::Stop> {
+        put_request(out, on, self)
     }
 }

@@ -1,10 +1,9 @@
-//! The bytes of values, requests, outcomes, entries, batches, snapshots and heads.
+//! The bytes of values, requests, outcomes, entries, batches and heads.
 
 use crate::kept::BATCH;
 use sf_bytes::{
-    read_batch, read_entry, read_head, read_outcome, read_request, read_snapshot, read_value,
-    write_batch, write_entry, write_head, write_outcome, write_request, write_snapshot,
-    write_value,
+    read_batch, read_entry, read_head, read_outcome, read_request, read_value, write_batch,
+    write_entry, write_head, write_outcome, write_request, write_value,
 };
 use sf_value::{Entry, Head};
 use std::alloc::{AllocError, Global};
@@ -92,23 +91,6 @@ fn batch_of(alloc: Global, bytes: &[u8]) -> Result<String, AllocError> {
     reading(alloc, bytes, told?.as_str(), written?.as_slice(), taken)
 }
 
-/// The snapshot that bytes begin with, as the numbers of what it has.
-fn snapshot_of(alloc: Global, bytes: &[u8]) -> Result<String, AllocError> {
-    let Some((item, taken)) = read_snapshot(alloc, bytes)? else {
-        return String::from_str(alloc, "none");
-    };
-    let told = format!(in alloc;
-        "'{}' {} {} {}",
-        item.program.as_str(),
-        item.history.len(),
-        item.records.len(),
-        item.pending.len()
-    );
-    let written = write_snapshot(alloc, &item);
-    drop(item);
-    reading(alloc, bytes, told?.as_str(), written?.as_slice(), taken)
-}
-
 /// The program of a head, how far its history goes, and its records and the requests that wait, with `;` between them.
 fn head_told(alloc: Global, item: &Head) -> Result<String, AllocError> {
     let records = records_told(alloc, item.records.as_slice())?;
@@ -141,7 +123,6 @@ fn told(alloc: Global, text: &str) -> Result<String, Fail> {
         "outcome" => outcome_of(alloc, bytes.as_slice()),
         "entry" => entry_of(alloc, bytes.as_slice()),
         "batch" => batch_of(alloc, bytes.as_slice()),
-        "snapshot" => snapshot_of(alloc, bytes.as_slice()),
         "head" => head_of(alloc, bytes.as_slice()),
         _ => String::from_str(alloc, "no thing"),
     };
@@ -158,7 +139,6 @@ const THINGS: &str = "
     a failure of kind 12                  | outcome 01 0c 00000000                                  | StepLimit, 0 left
     an empty batch                        | batch 00000000 00000000                                 | commits [], 0 left
     a creation that is committed          | batch 00000001 00000001 61 01 00000000 00000002 04 00000005 6170706c65 03 00000000000000000000000000000003 00000001 00000000 | a: new 0('apple', 3), commits [0], 0 left
-    an empty snapshot                     | snapshot 00000000 00000000 0000000000000000 00000000    | '' 0 0 0, 0 left
     a creation with what it came to       | entry 00000001 61 01 00000000 00000002 04 00000005 6170706c65 03 00000000000000000000000000000003 00 06 00000000 00000005 6170706c65 | a: new 0('apple', 3) = 0:apple, 0 left
     the head of a history of it           | head 00000001 70 00000001 0000000000000038 0000000000000001 00000000 00000005 6170706c65 00000003 04 00000005 6170706c65 03 00000000000000000000000000000003 03 00000000000000000000000000000000 00000000 | 'p' 1 in 56; 0:apple('apple', 3, 0); , 0 left
     bytes behind a value                  | value 02 09 09                                          | True, 2 left
@@ -166,7 +146,7 @@ const THINGS: &str = "
 
 #[test]
 fn each_thing_is_read_and_written_again(rt: HostRuntime) -> Result<(), Fail> {
-    hold_table(rt.alloc(), THINGS, 12, told)
+    hold_table(rt.alloc(), THINGS, 11, told)
 }
 
 const NO_THINGS: &str = "

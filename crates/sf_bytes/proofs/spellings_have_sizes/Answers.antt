@@ -1,4 +1,4 @@
-use Rattle.sf_bytes.proofs.Lengths.{value-sizes, request-sizes, outcome-sizes, entry-sizes, batch-sizes, snapshot-sizes, head-sizes}
+use Rattle.sf_bytes.proofs.Lengths.{value-sizes, request-sizes, outcome-sizes, entry-sizes, batch-sizes, head-sizes}
 use Rattle.sf_bytes.proofs.spellings_have_sizes.Goals as goal
 
 pub returns : goal.returns
@@ -8,6 +8,5 @@ returns c = record {
   outcomes = outcome-sizes;
   entries = entry-sizes;
   batches = batch-sizes;
-  snapshots = snapshot-sizes;
   heads = head-sizes;
 }
