@@ -12,9 +12,10 @@ pub record Input : Type 0 where
   pub left : Option (List ℕ)
   pub faults : ℕ
 
--- what an output holds, and its count of faults
+-- what an output holds, what of that it handed on, and its count of faults
 pub record Output : Type 0 where
   pub held : Option (List ℕ)
+  pub handed : Option (List ℕ)
   pub faults : ℕ
 
 -- what a read of a disk gives after a mount of each name, where that is told; its count of faults; and its mounts
@@ -36,8 +37,8 @@ pub record Devices : Type 0 where
 abbrev pub source : Option (List ℕ) → ℕ → Input
 source left faults = record { left = left; faults = faults }
 
-abbrev pub sink : Option (List ℕ) → ℕ → Output
-sink held faults = record { held = held; faults = faults }
+abbrev pub sink : Option (List ℕ) → Option (List ℕ) → ℕ → Output
+sink held handed faults = record { held = held; handed = handed; faults = faults }
 
 abbrev pub outside : Option Choices → Option (List Told) → Outside
 outside choices told = record { choices = choices; told = told }

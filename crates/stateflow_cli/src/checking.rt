@@ -20,8 +20,8 @@ pub(crate) fn check_file<F: Files, K: Sink>(
     out: &mut K,
 ) -> Ending
     ensures { (input : Input) (err : Output) (outside : Outside) (disk : StoreDisk) → ReportEnds IsCheckLine file.now
-        (devices (F.content files.old) (F.faults files.old) input (sink (K.held out.old) (K.faults out.old)) err outside disk)
-        (devices (F.content files.new) (F.faults files.new) input (sink (K.held out.new) (K.faults out.new)) err outside disk)
+        (devices (F.content files.old) (F.faults files.old) input (sink (K.held out.old) (K.handed out.old) (K.faults out.old)) err outside disk)
+        (devices (F.content files.new) (F.faults files.new) input (sink (K.held out.new) (K.handed out.new) (K.faults out.new)) err outside disk)
         result }
 {
     let counts = match count(alloc, files, file) {

@@ -55,8 +55,10 @@ pub(crate) fn compile_file<F: Files, K: Sink, W: Watch>(
     watch: &mut W,
 ) -> Ending
     ensures { (input : Input) (err : Output) (choices : Option Choices) (disk : StoreDisk) → ReportEnds IsCompiledText file.now
-        (devices (F.content files.old) (F.faults files.old) input (sink (K.held out.old) (K.faults out.old)) err (outside choices (W.told watch.old)) disk)
-        (devices (F.content files.new) (F.faults files.new) input (sink (K.held out.new) (K.faults out.new)) err (outside choices (W.told watch.new)) disk)
+        (devices (F.content files.old) (F.faults files.old) input (sink (K.held out.old) (K.handed out.old) (K.faults out.old))
+        err (outside choices (W.told watch.old)) disk)
+        (devices (F.content files.new) (F.faults files.new) input (sink (K.held out.new) (K.handed out.new) (K.faults out.new))
+        err (outside choices (W.told watch.new)) disk)
         result }
 {
     let compiled = match load_compiled(alloc, files, file) {

@@ -51,10 +51,10 @@ pub(crate) fn serve_generated<K: Sink, C: Chooser, W: Watch>(
     requires { IsWorkInRange (work_by words) }
     ensures { (content : List ℕ → Option (List ℕ)) (file_faults : List ℕ → ℕ) (input : Input) (err : Output) (disk : StoreDisk)
         → GenEnds (work_by words)
-        (devices content file_faults input (sink (K.held out.old) (K.faults out.old)) err (outside (C.choices chooser.old) (W.told watch.old))
-        disk)
-        (devices content file_faults input (sink (K.held out.new) (K.faults out.new)) err (outside (C.choices chooser.new) (W.told watch.new))
-        disk)
+        (devices content file_faults input (sink (K.held out.old) (K.handed out.old) (K.faults out.old))
+        err (outside (C.choices chooser.old) (W.told watch.old)) disk)
+        (devices content file_faults input (sink (K.held out.new) (K.handed out.new) (K.faults out.new))
+        err (outside (C.choices chooser.new) (W.told watch.new)) disk)
         result }
 {
     let summary = match run_generated(alloc, &work_of(words), chooser, watch) {

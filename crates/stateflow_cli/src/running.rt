@@ -42,10 +42,10 @@ pub(crate) fn interpret_file<F: Files, S: Source, K: Sink>(
     out: &mut K,
 ) -> Ending
     ensures { (err : Output) (outside : Outside) (disk : StoreDisk) → LocalEnds longest_input file.now
-        (devices (F.content files.old) (F.faults files.old) (source (S.left input.old) (S.faults input.old)) (sink (K.held out.old) (K.faults out.old))
-        err outside disk)
-        (devices (F.content files.new) (F.faults files.new) (source (S.left input.new) (S.faults input.new)) (sink (K.held out.new) (K.faults out.new))
-        err outside disk)
+        (devices (F.content files.old) (F.faults files.old) (source (S.left input.old) (S.faults input.old))
+        (sink (K.held out.old) (K.handed out.old) (K.faults out.old)) err outside disk)
+        (devices (F.content files.new) (F.faults files.new) (source (S.left input.new) (S.faults input.new))
+        (sink (K.held out.new) (K.handed out.new) (K.faults out.new)) err outside disk)
         result }
 {
     let program = match load(alloc, files, file) {

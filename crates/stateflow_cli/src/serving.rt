@@ -65,10 +65,12 @@ fn run_alone<F: Files, S: Source, K: Sink, E: Sink, C: Chooser, W: Watch>(
     requires in_range { AreInRange (settings_by words) }
     requires alone { words.store ≡ None }
     ensures { (disk : StoreDisk) → RunEnds longest_input file.now (settings_by words.entry)
-        (devices (F.content files.old) (F.faults files.old) (source (S.left input.old) (S.faults input.old)) (sink (K.held out.old) (K.faults out.old))
-        (sink (E.held err.old) (E.faults err.old)) (outside (C.choices chooser.old) (W.told watch.old)) disk)
-        (devices (F.content files.new) (F.faults files.new) (source (S.left input.new) (S.faults input.new)) (sink (K.held out.new) (K.faults out.new))
-        (sink (E.held err.new) (E.faults err.new)) (outside (C.choices chooser.new) (W.told watch.new)) disk)
+        (devices (F.content files.old) (F.faults files.old) (source (S.left input.old) (S.faults input.old))
+        (sink (K.held out.old) (K.handed out.old) (K.faults out.old)) (sink (E.held err.old) (E.handed err.old) (E.faults err.old))
+        (outside (C.choices chooser.old) (W.told watch.old)) disk)
+        (devices (F.content files.new) (F.faults files.new) (source (S.left input.new) (S.faults input.new))
+        (sink (K.held out.new) (K.handed out.new) (K.faults out.new)) (sink (E.held err.new) (E.handed err.new) (E.faults err.new))
+        (outside (C.choices chooser.new) (W.told watch.new)) disk)
         untold untold result }
 {
     let compiled = match load_compiled(alloc, files, file) {

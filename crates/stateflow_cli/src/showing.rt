@@ -23,6 +23,6 @@ impl<F: Files, S: Source, K: Sink, E: Sink, D: Disk, C: Chooser, W: Watch> Shows
     W,
 > for Call {
     ghost shown = { λ files input out err disk chooser watch. devices (F.content files) (F.faults files)
-        (source (S.left input) (S.faults input)) (sink (K.held out) (K.faults out)) (sink (E.held err) (E.faults err))
+        (source (S.left input) (S.faults input)) (sink (K.held out) (K.handed out) (K.faults out)) (sink (E.held err) (E.handed err) (E.faults err))
         (outside (C.choices chooser) (W.told watch)) (store_disk (D.found disk) (D.faults disk) (D.mounts disk)) };
 }

@@ -12,7 +12,7 @@ returns-in-Ok-print_text g c = λ input err choices disk.
     prints IsCompiledText (g.F.Files.content c.args.files.now) c.args.file.now (holds_compiled _ c.in-Ok.compiled c.in-Ok.ensures.gives) c.as_bytes.result.now
     (outside choices (g.W.Watch.told c.args.watch.now)) (outside choices (g.W.Watch.told c.tell_graph.new.watch))
     (compiled_is _ c.in-Ok.compiled c.in-Ok.ensures.gives c.in-Ok-text_of.text c.as_bytes.result.now c.in-Ok-text_of.ensures (c.as_bytes.ensures.value ∙ c.as_str.ensures.bytes) choices _ _ told) _ _ _ input
-    (sink (g.K.Sink.held c.args.out.now) (g.K.Sink.faults c.args.out.now)) (sink (g.K.Sink.held c.print_text.new.out) (g.K.Sink.faults c.print_text.new.out)) err disk c.in-Ok-print_text.ensures.whole
+    (sink (g.K.Sink.held c.args.out.now) (g.K.Sink.handed c.args.out.now) (g.K.Sink.faults c.args.out.now)) (sink (g.K.Sink.held c.print_text.new.out) (g.K.Sink.handed c.print_text.new.out) (g.K.Sink.faults c.print_text.new.out)) err disk c.in-Ok-print_text.ensures.whole
 
 pub returns : goal.returns
 returns g c = λ input err choices disk.
@@ -20,4 +20,4 @@ returns g c = λ input err choices disk.
     prints_in_part IsCompiledText (g.F.Files.content c.args.files.now) c.args.file.now (holds_compiled _ c.in-Ok.compiled c.in-Ok.ensures.gives) c.as_bytes.result.now
     (outside choices (g.W.Watch.told c.args.watch.now)) (outside choices (g.W.Watch.told c.tell_graph.new.watch))
     (compiled_is _ c.in-Ok.compiled c.in-Ok.ensures.gives c.in-Ok-text_of.text c.as_bytes.result.now c.in-Ok-text_of.ensures (c.as_bytes.ensures.value ∙ c.as_str.ensures.bytes) choices _ _ told) _ _ _ input
-    (sink (g.K.Sink.held c.args.out.now) (g.K.Sink.faults c.args.out.now)) (sink (g.K.Sink.held c.print_text.new.out) (g.K.Sink.faults c.print_text.new.out)) err disk c.in-Err.ensures.part c.in-Err.ensures.cause.failed
+    (sink (g.K.Sink.held c.args.out.now) (g.K.Sink.handed c.args.out.now) (g.K.Sink.faults c.args.out.now)) (sink (g.K.Sink.held c.print_text.new.out) (g.K.Sink.handed c.print_text.new.out) (g.K.Sink.faults c.print_text.new.out)) err disk c.in-Err.ensures.part c.in-Err.ensures.cause.failed

@@ -21,14 +21,14 @@ returns-in-Err g c = λ content file_faults input err disk.
     work_given_up (work_by c.args.words) c.work_of.result c.work_of.ensures content file_faults input err disk
     (outside (g.C.Chooser.choices c.args.chooser.now) (g.W.Watch.told c.args.watch.now))
     (outside (g.C.Chooser.choices c.run_generated.new.chooser) (g.W.Watch.told c.run_generated.new.watch))
-    (sink (g.K.Sink.held c.args.out.now) (g.K.Sink.faults c.args.out.now)) c.in-Err.ensures
+    (sink (g.K.Sink.held c.args.out.now) (g.K.Sink.handed c.args.out.now) (g.K.Sink.faults c.args.out.now)) c.in-Err.ensures
 
 pub returns-in-Ok-print_summary : goal.returns-in-Ok-print_summary
 returns-in-Ok-print_summary g c = λ content file_faults input err disk.
     work_printed (work_by c.args.words) c.work_of.result c.work_of.ensures content file_faults input err disk
     (outside (g.C.Chooser.choices c.args.chooser.now) (g.W.Watch.told c.args.watch.now))
     (outside (g.C.Chooser.choices c.run_generated.new.chooser) (g.W.Watch.told c.run_generated.new.watch))
-    (sink (g.K.Sink.held c.args.out.now) (g.K.Sink.faults c.args.out.now)) (sink (g.K.Sink.held c.print_summary.new.out) (g.K.Sink.faults c.print_summary.new.out))
+    (sink (g.K.Sink.held c.args.out.now) (g.K.Sink.handed c.args.out.now) (g.K.Sink.faults c.args.out.now)) (sink (g.K.Sink.held c.print_summary.new.out) (g.K.Sink.handed c.print_summary.new.out) (g.K.Sink.faults c.print_summary.new.out))
     c.in-Ok.summary c.in-Ok.ensures c.in-Ok-print_summary.ensures.whole
 
 pub returns-in-Err-print_summary : goal.returns-in-Err-print_summary
@@ -36,5 +36,5 @@ returns-in-Err-print_summary g c = λ content file_faults input err disk.
     work_printed_in_part (work_by c.args.words) c.work_of.result c.work_of.ensures content file_faults input err disk
     (outside (g.C.Chooser.choices c.args.chooser.now) (g.W.Watch.told c.args.watch.now))
     (outside (g.C.Chooser.choices c.run_generated.new.chooser) (g.W.Watch.told c.run_generated.new.watch))
-    (sink (g.K.Sink.held c.args.out.now) (g.K.Sink.faults c.args.out.now)) (sink (g.K.Sink.held c.print_summary.new.out) (g.K.Sink.faults c.print_summary.new.out))
+    (sink (g.K.Sink.held c.args.out.now) (g.K.Sink.handed c.args.out.now) (g.K.Sink.faults c.args.out.now)) (sink (g.K.Sink.held c.print_summary.new.out) (g.K.Sink.handed c.print_summary.new.out) (g.K.Sink.faults c.print_summary.new.out))
     c.in-Ok.summary c.in-Ok.ensures c.in-Err-print_summary.ensures.part c.in-Err-print_summary.ensures.cause.failed

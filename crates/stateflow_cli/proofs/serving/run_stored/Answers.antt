@@ -44,11 +44,11 @@ returns-in-Err g c =
 pub returns-in-Ok-open_store : goal.returns-in-Ok-open_store
 returns-in-Ok-open_store g c =
     let w = settings_by c.args.words in
-    let old = devices (g.F.Files.content c.args.files.now) (g.F.Files.faults c.args.files.now) (source (g.S.Source.left c.args.input.now) (g.S.Source.faults c.args.input.now)) (sink (g.K.Sink.held c.args.out.now) (g.K.Sink.faults c.args.out.now))
-    (sink (g.E.Sink.held c.args.err.now) (g.E.Sink.faults c.args.err.now)) (outside (g.C.Chooser.choices c.args.chooser.now) (g.W.Watch.told c.args.watch.now))
+    let old = devices (g.F.Files.content c.args.files.now) (g.F.Files.faults c.args.files.now) (source (g.S.Source.left c.args.input.now) (g.S.Source.faults c.args.input.now)) (sink (g.K.Sink.held c.args.out.now) (g.K.Sink.handed c.args.out.now) (g.K.Sink.faults c.args.out.now))
+    (sink (g.E.Sink.held c.args.err.now) (g.E.Sink.handed c.args.err.now) (g.E.Sink.faults c.args.err.now)) (outside (g.C.Chooser.choices c.args.chooser.now) (g.W.Watch.told c.args.watch.now))
     (store_disk (g.D.Disk.found c.args.disk.now) (g.D.Disk.faults c.args.disk.now) (g.D.Disk.mounts c.args.disk.now)) in
-    let new = devices (g.F.Files.content c.load_with_text.new.files) (g.F.Files.faults c.load_with_text.new.files) (source (g.S.Source.left c.run_on.new.input) (g.S.Source.faults c.run_on.new.input)) (sink (g.K.Sink.held c.run_on.new.out) (g.K.Sink.faults c.run_on.new.out))
-    (sink (g.E.Sink.held c.run_on.new.err) (g.E.Sink.faults c.run_on.new.err)) (outside (g.C.Chooser.choices c.run_on.new.chooser) (g.W.Watch.told c.run_on.new.watch))
+    let new = devices (g.F.Files.content c.load_with_text.new.files) (g.F.Files.faults c.load_with_text.new.files) (source (g.S.Source.left c.run_on.new.input) (g.S.Source.faults c.run_on.new.input)) (sink (g.K.Sink.held c.run_on.new.out) (g.K.Sink.handed c.run_on.new.out) (g.K.Sink.faults c.run_on.new.out))
+    (sink (g.E.Sink.held c.run_on.new.err) (g.E.Sink.handed c.run_on.new.err) (g.E.Sink.faults c.run_on.new.err)) (outside (g.C.Chooser.choices c.run_on.new.chooser) (g.W.Watch.told c.run_on.new.watch))
     (store_disk (g.D.Disk.found c.run_on.new.disk) (g.D.Disk.faults c.run_on.new.disk) (g.D.Disk.mounts c.run_on.new.disk)) in
     let was = g.D.Disk.facts c.args.disk.now in
     let now = g.D.Disk.facts c.run_on.new.disk in
