@@ -10,3 +10,4 @@ pub use Rattle.session_store.specs.Cycles.{IsInCycle}
 pub use Rattle.session_store.specs.Endings.{KeepsWhere, next_core}
 pub use Rattle.session_store.specs.Stores.{EndsPast, Keeps, settings_of}
 pub use Rattle.session_store.specs.Vocabulary.{IsStorable, logged_of}
+pub use Rattle.session_store.specs.declared.store.Store.{Store}

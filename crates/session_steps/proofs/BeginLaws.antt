@@ -14,12 +14,12 @@ use Rattle.line_answers.specs.StopVariants.{HistoryFull, NoMemory, DiskFault, Wr
 use Rattle.line_answers.specs.Services.{Service, program_of}
 use Rattle.line_answers.specs.LineAnswers.{Move, IsUntaken, FindsFull, IsUnplanned, IsUnlogged, IsUnanswered, IsUnreplied, batch_on, whole_text}
 use Rattle.session_steps.specs.Steps.{Step, move_of, behind, standing_after, printed, ran_on}
-use Rattle.session_steps.specs.Traces.{trace_text}
+use Rattle.session_steps.specs.Traces.{tally_after, trace_text}
 use Rattle.session_steps.specs.Doings.{Point, going, moment, IsUncounted, RunBatches, BeginBatches, Does, IsUntraced, StopsAt, StopsWithin, Comes}
 use Rattle.session_steps.specs.StepLaws.{WroteAs, WholeAs, ToldAs, TracedAs, StandsAs, IsAtNext, AreCounted, EndsAmong, HasBegun, ComesBegin}
 use Rattle.session_steps.proofs.PieceLaws.{prefix_whole, prefix_none, prefix_after}
 use Rattle.session_steps.proofs.StepFacts.{printed_is, printed_placed, printed_full, behind_full, behind_placed, ran_placed, ran_full, standing_over, all_printed_over, all_ran_over, standing-append, standing-one, printed-append, ran-append, printed-cons, ran-cons}
-use Rattle.session_steps.proofs.Composing.{trace-append, trace-nil, Ran-then, Begin-then, Begin-none}
+use Rattle.session_steps.proofs.Composing.{tally-nil, tally-one, tally-append, trace-append, trace-nil, Ran-then, Begin-then, Begin-none}
 
 -- a whole run of a batch is a beginning of one
 run_begins : (batch : Batch) (parts events : ℕ) (old new : Outside) → IsToldAlong batch parts (Some events) old new → IsToldAlong batch parts None old new
@@ -139,6 +139,7 @@ module _ (v : Service) (traces : Bool) where
         traced =
             subst (TracedAs r p.traced z.traced) (sym trace)
             (traced_after r p.traced q.traced z.traced (trace_text traces p.tally d.counts) (trace_text traces q.tally h.counts) d.traced h.traced);
+        tally = h.tally ∙ ap (λ t. tally_after t h.counts) d.tally ∙ sym (tally-append d.counts h.counts p.tally);
         ended = ended_after r xs ys p q z d h.counts h.ended;
       }
 
@@ -155,6 +156,7 @@ module _ (v : Service) (traces : Bool) where
     counts = h.counts;
     told = h.told;
     traced = h.traced;
+    tally = h.tally;
     ended = record { first = h.ended.first; rest = h.ended.rest; split = h.ended.split; core = h.ended.core; ran = h.ended.ran };
   }
 
@@ -173,6 +175,7 @@ module _ (v : Service) (traces : Bool) where
     counts = [];
     told = Begin-none v (ran_on v (going p) steps) p.outside p.outside refl;
     traced = none_traced p p refl;
+    tally = sym (tally-nil p.tally);
     ended = ended_before (Err NoMemory) refl steps p p (inl refl);
   }
 
@@ -242,6 +245,9 @@ module _ (v : Service) (traces : Bool) where
 
     -- The stops
 
+    uncounted : IsUncounted p q → q.tally ≡ tally_after p.tally []
+    uncounted u = u.tally ∙ sym (tally-nil p.tally)
+
     untraced : IsUncounted p q → Appends p.traced q.traced (trace_text traces p.tally [])
     untraced u = none_traced p q u.traced
 
@@ -268,6 +274,7 @@ module _ (v : Service) (traces : Bool) where
           counts = [];
           told = subst (λ l. RunBatches v l [] p.outside q.outside) (sym none) a.untold;
           traced = untraced u;
+          tally = uncounted u;
           ended = ended_before (Err HistoryFull) refl (step ∷ rest) p q (inr a.core);
         }
 
@@ -279,6 +286,7 @@ module _ (v : Service) (traces : Bool) where
       counts = [];
       told = Begin-none v cores p.outside q.outside a.untold;
       traced = untraced u;
+      tally = uncounted u;
       ended = ended_before (Err NoMemory) refl (step ∷ rest) p q a.core;
     }
 
@@ -290,6 +298,7 @@ module _ (v : Service) (traces : Bool) where
       counts = [];
       told = batch_begun a.due a.place a.begun;
       traced = untraced u;
+      tally = uncounted u;
       ended = ended_before (Err NoMemory) refl (step ∷ rest) p q (inr a.core);
     }
 
@@ -307,6 +316,7 @@ module _ (v : Service) (traces : Bool) where
       counts = [];
       told = Begin-none v cores p.outside q.outside a.untold;
       traced = untraced_part u;
+      tally = uncounted u;
       ended = ended_before (Err WriteFault) (inl refl) (step ∷ rest) p q (inr a.core);
     }
 
@@ -318,6 +328,7 @@ module _ (v : Service) (traces : Bool) where
       counts = [];
       told = batch_begun a.due a.place (run_begins (batch_on v.compiled move.core) v.parts a.events p.outside q.outside a.told);
       traced = untraced_part u;
+      tally = uncounted u;
       ended = ended_behind 0 (inr refl) a.due a.place a.core;
     }
 
@@ -333,6 +344,7 @@ module _ (v : Service) (traces : Bool) where
               subst (λ l. BeginBatches v l (a.counts ∷ []) p.outside q.outside) (sym (cores_are c.due c.place))
               (q.outside, c.ran, Begin-none v (ran_on v (behind v (going p) step) rest) q.outside q.outside refl);
           traced = a.part;
+          tally = a.tally ∙ sym (tally-one p.tally a.counts);
           ended = ended_behind 1 (inl refl) c.due c.place c.core;
         }
 
@@ -364,6 +376,7 @@ module _ (v : Service) (traces : Bool) where
     counts = d.counts;
     told = d.ran;
     traced = d.traced;
+    tally = d.tally;
     ended = record {
       first = steps;
       rest = [];
