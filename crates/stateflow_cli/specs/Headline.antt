@@ -3,6 +3,8 @@ use Rattle.std.specs.Prelude.{ℕ, ◌≡◌, ◌⊎◌, true, false, List, [], 
 use Rattle.std.specs.List.{AllByRecursion}
 use Rattle.std.specs.Io.KnownBytes.{Appends}
 use Rattle.sf_outside.specs.Bytes.{AppendsPrefix}
+use Rattle.sf_outside.specs.Causes.{Rose}
+use Rattle.sf_outside.specs.Handing.{IsHandedOn}
 use Rattle.sf_outside.specs.DiskModel.{Image, DiskFacts}
 use Rattle.block_step.specs.CompiledViews.{compiled_program, compiled_names, compiled_tables, compiled_blocks}
 use Rattle.block_step.specs.Compilation.{IsCompilation}
@@ -56,6 +58,11 @@ module _ {limit : ℕ} {file : List ℕ} {s : words.RunSettings} {before after :
         ⊎ FillsAtEnd (source_of it) (settings_of it) it.start after.input.left before.out.held after.out.held it.taken it.last
     pub some : IsOneOf status (5 ∷ 8 ∷ []) → AnswersSome (source_of it) (settings_of it) it.start after.input.left before.out.held after.out.held it.taken
 
+  -- But with the status of a write fault all that the output holds was handed on, as far as that is told; or with that of a fault of the disk the output failed too.
+  pub record FlushesOutput : Type 0 where
+    pub all : IsOneOf status (0 ∷ 3 ∷ 8 ∷ 9 ∷ 10 ∷ []) → IsHandedOn after.out.handed after.out.held
+    pub unstored : status ≡ 5 → IsHandedOn after.out.handed after.out.held ⊎ Rose before.out.faults after.out.faults
+
   -- The error stream gained the lines of the batches that were told to their ends, where they are to be traced, and then a line of the status. With that of a
   -- write fault a part of those lines.
   pub record TracesBatches : Type 0 where
@@ -93,17 +100,29 @@ module _ {limit : ℕ} {file : List ℕ} {s : words.RunSettings} {before after :
         (λ image. (place : Position) × WasAt place opened × StandsFor (program_of (source_of it) it.holds.text) image it.start place)
     pub keeps : KeepsLast (program_of (source_of it) it.holds.text) it.last now opened.epoch s.every (tally_after no_batch it.counts).batches
 
+  -- So it is of the core but for the requests that came since the last batch, where the input couldn't be read or was too long, or the history came to be full.
+  pub record KeepsInTurn (dir : List ℕ) (now : DiskFacts) : Type 0 where
+    pub opened : Position
+    pub found : IfSome (before.disk.found dir)
+        (λ image. (place : Position) × WasAt place opened × StandsFor (program_of (source_of it) it.holds.text) image it.start place)
+    pub fresh : ℕ
+    pub storable : IsStorable it.last fresh
+    pub keeps : KeepsLast (program_of (source_of it) it.holds.text) (settled it.last fresh) now opened.epoch s.every (tally_after no_batch it.counts).batches
+
   pub record Headline (now : DiskFacts) : Type 0 where
     -- the entries and the last state are those of running the requests one after another, and each line is that of its entry
     pub serial : IsSerial
-    -- what was printed and traced
+    -- what was printed, handed on and traced
     pub text : PrintsText
+    pub flushed : FlushesOutput
     pub trace : TracesBatches
     -- what was chosen and told
     pub events : RunsGraph
-    -- Where the words name a store: it was mounted once; what a crash may have left since; what one may leave now; and where all is served
+    -- Where the words name a store: it was mounted once; what a crash may have left since; what one may leave now, and where checkpoints came in their turn; and
+    -- where all is served
     pub mounted : (dir : List ℕ) → s.store ≡ Some dir → MountsOnce dir before after now
     pub since : (dir : List ℕ) → s.store ≡ Some dir
         → RunMoments it.compiled (settings_of it) it.holds.text it.start it.steps (before.disk.found dir) after.disk.mounts.moment now
     pub kept : (dir : List ℕ) → s.store ≡ Some dir → KeepsCommitted now
+    pub in_turn : (dir : List ℕ) → s.store ≡ Some dir → IsOneOf status (3 ∷ 9 ∷ 10 ∷ []) → KeepsInTurn dir now
     pub final : (dir : List ℕ) → s.store ≡ Some dir → status ≡ 0 → KeepsAll dir now
