@@ -1,5 +1,5 @@
 -- From what a session in batches came to, to what a run told and traced.
-use Rattle.std.proofs.Common.{◌≡◌, ℕ, ◌+◌, ◌≤◌, ◌<◌, ◌⊎◌, length, inl, inr, List, [], ◌∷◌, Ok, Err, refl, sym, ap, ◌∙◌, subst, append-nil}
+use Rattle.std.proofs.Common.{◌≡◌, ℕ, ◌+◌, ◌^◌, ◌≤◌, ◌<◌, ◌⊎◌, length, inl, inr, List, [], ◌∷◌, Ok, Err, refl, sym, ap, ◌∙◌, subst, append-nil, arith}
 use Rattle.std.specs.List.{AllByRecursion}
 use Rattle.std.specs.declared.option.Option.{Option}
 use Rattle.std.specs.declared.result.Result.{Result}
@@ -20,8 +20,9 @@ use Rattle.batch_run.specs.RunEvents.{Starts, AreTold, TellsBatches, TracesBatch
 use Rattle.batch_run.specs.BatchOutcomes.{CommitsWhatEnded}
 use Rattle.batch_run.specs.declared.running.RunSettings.{RunSettings}
 use Rattle.batch_session.proofs.Vocabulary.{comes_begin, counts_of_each}
-use Rattle.batch_session.proofs.ServeLaws.{EndedAt, ended_at}
+use Rattle.batch_session.proofs.ServeLaws.{EndedAt, ended_at, some_steps}
 use Rattle.batch_run.proofs.StandingLaws.{tables, each_fitting}
+use Rattle.batch_run.proofs.FewBatches.{few_batches, few_told}
 use Rattle.batch_run.proofs.OutcomeLaws.{fitting_commits}
 use Rattle.batch_run.proofs.TextLaws.{whole_is_prefix, at_begin}
 
@@ -53,8 +54,15 @@ told_in_part (Err stop.NoMemory) told ran h = inl h
 told_in_part (Err stop.DiskFault) told ran h = inl h
 told_in_part (Err stop.WriteFault) told ran h = h
 
+told_within : (r : Result (Unit {0}) Stop) (told ran : ℕ) → AreCounted r told ran → told ≤ ran
+told_within r told ran h = by (told_in_part r told ran h)
+  where
+    by : (told ≡ ran) ⊎ (told + 1 ≡ ran) → told ≤ ran
+    by (inl same) = omega (arith, same)
+    by (inr less) = omega (arith, less)
+
 module _ (compiled : Compiled) (whole : IsWhole compiled) (s : RunSettings) (few : s.batch ≤ 256) (start : Core) (fits : CoreFits (tables compiled s few) start)
-    (waiting : length start.pending < 256) (store : Option StoreSettings) (left held said : Option (List ℕ)) (before started : Outside) (starts : Starts compiled s before started)
+    (waiting : length start.pending < 256) (limit : s.limit ≤ 2 ^ 62) (store : Option StoreSettings) (left held said : Option (List ℕ)) (before started : Outside) (starts : Starts compiled s before started)
     (new : View) (logged logged' : Core) (f g : DiskFacts) where
   abbrev v : Service
   v = run_service compiled s
@@ -80,6 +88,10 @@ module _ (compiled : Compiled) (whole : IsWhole compiled) (s : RunSettings) (few
   outcomes_so steps =
       each_fitting compiled s few start fits waiting (CommitsWhatEnded compiled s.partitions) (λ core there. fitting_commits compiled whole core there s.partitions) steps
 
+  few_so : (result : Result Tally SessionFault) (t : ServedBy result) → length (batches_of compiled s start t.steps) < 2 ^ 63
+  few_so result t =
+      few_batches compiled s few start fits waiting t.taken new.left t.steps limit (some_steps v s.limit t.ended start t.taken new.left t.steps t.of_taken)
+
   -- where it came to this
   tells : (fault : SessionFault) (t : ServedBy (Err fault)) (r : Result (Unit {0}) Stop) → t.stop ≡ r
       → ((counts : List BatchCounts) → ToldAs v r (batches_of compiled s start t.steps) counts started new.outside
@@ -95,6 +107,8 @@ module _ (compiled : Compiled) (whole : IsWhole compiled) (s : RunSettings) (few
           started = started;
           starts = starts;
           counts = h.counts;
+          few = few_told compiled s few start fits waiting (length h.counts) t.steps h.ended.first h.ended.rest h.ended.split (few_so (Err fault) t)
+              (told_within r (length h.counts) (length (batches_of compiled s start h.ended.first)) h.ended.ran);
           told = told h.counts h.told;
           traced = traced h.counts h.traced;
           counted = tt;
@@ -121,6 +135,11 @@ module _ (compiled : Compiled) (whole : IsWhole compiled) (s : RunSettings) (few
           started = started;
           starts = starts;
           counts = did.counts;
+          few =
+              let each : length did.counts ≡ length (batches_of compiled s start t.steps) =
+              counts_of_each v (batches_of compiled s start t.steps) did.counts started new.outside did.ran in
+              let most = few_so (Ok tally) t in
+              omega (arith, each, most);
           told = did.ran;
           traced = did.traced;
           counted = sym t.counted ∙ did.tally;

@@ -6,5 +6,6 @@ pub mod Endings
 pub mod PrintLaws
 pub mod BeginLaws
 pub mod TraceExamples
+pub mod PlainCounts
 pub mod Vocabulary
 pub mod LoggedSteps

@@ -39,3 +39,12 @@ trace_lines t (counts ∷ more) = trace_line (with_batch t counts).batches count
 -- their text, where batches are traced
 abbrev pub trace_text : Bool → Tally → List BatchCounts → List ℕ
 trace_text traces t counts = if traces then joined (trace_lines t counts) else []
+
+-- The lines of batches that are numbered from the one behind so many on; and their text, where batches are traced. These number without an end: the lines above are the same
+-- as long as a count can hold the number.
+unfoldable pub lines_from : ℕ → List BatchCounts → List (List ℕ)
+lines_from before [] = []
+lines_from before (counts ∷ more) = trace_line (before + 1) counts ∷ lines_from (before + 1) more
+
+abbrev pub numbered_text : Bool → List BatchCounts → List ℕ
+numbered_text traces counts = if traces then joined (lines_from 0 counts) else []

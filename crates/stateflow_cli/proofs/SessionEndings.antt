@@ -3,6 +3,8 @@ use Rattle.std.proofs.Common.{◌≡◌, ℕ, ◌+◌, ◌-◌, ◌^◌, ◌<◌
 use Rattle.std.proofs.Math.Seq.{take-nil}
 use Rattle.std.specs.Str.{chars}
 use Rattle.std.specs.declared.result.Result.{Result}
+use Rattle.std.specs.Io.KnownBytes.{Appends}
+use Rattle.sf_outside.specs.Bytes.{AppendsPrefix}
 use Rattle.sf_outside.specs.DiskModel.{Image, DiskFacts}
 use Rattle.sf_outside.specs.Handing.{IsHandedOn}
 use Rattle.program_meaning.specs.ClassTables.{Source}
@@ -16,12 +18,12 @@ use Rattle.session_store.specs.declared.store.StoreSettings.{StoreSettings}
 use Rattle.session_store.specs.Endings.{KeepsWhere, next_core}
 use Rattle.session_store.specs.Cycles.{IsInCycle}
 use Rattle.session_store.specs.Stores.{Keeps, StandsSomewhere}
-use Rattle.batch_run.specs.Vocabulary.{Tally, Service, no_batch, tally_after, SessionFault, IsFlushedBy, disk_failed, AreStepsBy, EndsWith, AreWhole, AreAll}
+use Rattle.batch_run.specs.Vocabulary.{Tally, Service, no_batch, numbered_text, tally_after, trace_text, SessionFault, IsFlushedBy, disk_failed, AreStepsBy, EndsWith, AreWhole, AreAll}
 use Rattle.batch_run.specs.SessionFaultVariants as stop
 use Rattle.batch_run.specs.RunViews.{run_service}
 use Rattle.batch_run.specs.RunTexts.{AnswersSome, Prints}
 use Rattle.batch_run.specs.RunEvents.{batches_of}
-use Rattle.batch_run.proofs.Vocabulary.{some_steps}
+use Rattle.batch_run.proofs.Vocabulary.{batches_plain, some_steps, text_plain}
 use Rattle.batch_run.proofs.SerialLaws.{replies_by}
 use Rattle.command_words.specs.Commands as words
 use Rattle.stateflow_cli.specs.Devices.{Devices, Output, with_err}
@@ -248,11 +250,26 @@ module _ (limit : ℕ) (before after : Devices) (now : DiskFacts) (behind : Outp
         outcomes = r.runs.tells.outcomes;
       }
 
+      -- the batches that were told are fewer than a count can hold
+      few_told : length r.runs.tells.counts < 2 ^ 64
+      few_told = let few : length r.runs.tells.counts < 2 ^ 64 - 1 = r.runs.tells.few in omega (arith, few)
+
+      numbered : trace_text s.trace no_batch r.runs.tells.counts ≡ numbered_text s.trace r.runs.tells.counts
+      numbered = text_plain s.trace r.runs.tells.counts few_told
+
+      counted : (tally_after no_batch r.runs.tells.counts).batches ≡ length r.runs.tells.counts
+      counted = batches_plain r.runs.tells.counts few_told
+
+      below_most : (tally_after no_batch r.runs.tells.counts).batches < 2 ^ 64 - 1
+      below_most = let few : length r.runs.tells.counts < 2 ^ 64 - 1 = r.runs.tells.few in omega (arith, few, counted)
+
       trace : Told (line_of file e) (status_of e) behind.held after.err.held behind.faults after.err.faults status → TracesBatches session
       trace told = record {
         behind = behind;
-        part = part_traced r.compiled (settings_for limit s) r.runs.tells.counts before.err.held behind.held result r.runs.tells.traced;
-        whole = λ p. whole_traced r.compiled (settings_for limit s) r.runs.tells.counts before.err.held behind.held result (not_unwritten p) r.runs.tells.traced;
+        part = subst (AppendsPrefix before.err.held behind.held) numbered
+            (part_traced r.compiled (settings_for limit s) r.runs.tells.counts before.err.held behind.held result r.runs.tells.traced);
+        whole = λ p. subst (Appends before.err.held behind.held) numbered
+            (whole_traced r.compiled (settings_for limit s) r.runs.tells.counts before.err.held behind.held result (not_unwritten p) r.runs.tells.traced);
         line = record { ending = e; told = told };
       }
 
@@ -295,9 +312,10 @@ module _ (limit : ℕ) (before after : Devices) (now : DiskFacts) (behind : Outp
             each = λ image leaves.
                 subst (λ t. StandsFor (record { source = batch.source_of r.compiled; text = t }) image (settled r.last k.fresh) k.store.position)
                 (ap (λ (x : StoreSettings). x.program) k.settings) (kept.keeps.each image leaves);
-            epoch = λ few.
-                subst (λ (x : StoreSettings). k.store.position.epoch ≡ min (x.opened + (tally_after no_batch r.runs.tells.counts).batches / x.every) (2 ^ 63 - 1)) k.settings
-                (turn few).epoch;
+            epoch =
+                subst (λ n. k.store.position.epoch ≡ min (k.opened.epoch + n / s.every) (2 ^ 63 - 1)) counted
+                (subst (λ (x : StoreSettings). k.store.position.epoch ≡ min (x.opened + (tally_after no_batch r.runs.tells.counts).batches / x.every) (2 ^ 63 - 1)) k.settings
+                (turn below_most).epoch);
           };
         }
 
@@ -344,7 +362,7 @@ module _ (limit : ℕ) (before after : Devices) (now : DiskFacts) (behind : Outp
       final_served = record {
         opened = k.opened;
         found = k.found;
-        keeps = record { position = k.store.position; each = last_each; epoch = epoch_told (tally_after no_batch r.runs.tells.counts) r.runs.tells.counted };
+        keeps = record { position = k.store.position; each = last_each; epoch = subst (λ n. k.store.position.epoch ≡ min (k.opened.epoch + n / s.every) (2 ^ 63 - 1)) (counted (Ok tally) r is) (epoch_told (tally_after no_batch r.runs.tells.counts) r.runs.tells.counted (below_most (Ok tally) r is)) };
       }
 
     final : (result : Result Tally SessionFault) (r : Came result) (is : status_of e ≡ status_of (run_ending result)) (dir : List ℕ) → s.store ≡ Some dir → status ≡ 0

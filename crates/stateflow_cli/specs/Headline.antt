@@ -1,5 +1,5 @@
 -- What a run promises of its session: the replies are those of the source methods, run one request after another, and what is left of a store stands for them.
-use Rattle.std.specs.Prelude.{ℕ, ◌≡◌, ◌⊎◌, true, false, List, [], ◌∷◌, Some, IfSome}
+use Rattle.std.specs.Prelude.{ℕ, ◌≡◌, ◌⊎◌, true, false, List, [], ◌∷◌, length, Some, IfSome}
 use Rattle.std.specs.List.{AllByRecursion}
 use Rattle.std.specs.Io.KnownBytes.{Appends}
 use Rattle.sf_outside.specs.Bytes.{AppendsPrefix}
@@ -17,7 +17,7 @@ use Rattle.session_store.specs.Endings.{next_core}
 use Rattle.session_store.specs.Stores.{StandsSomewhere}
 use Rattle.session_store.specs.Vocabulary.{IsStorable}
 use Rattle.store_opening.specs.Openings.{WasAt}
-use Rattle.batch_run.specs.Vocabulary.{no_batch, tally_after, trace_text, RunBatches, BeginBatches}
+use Rattle.batch_run.specs.Vocabulary.{numbered_text, RunBatches, BeginBatches}
 use Rattle.batch_run.specs.RunViews.{run_service}
 use Rattle.batch_run.specs.RunTexts.{AnswersAll, AnswersWhole, AnswersFirst, FillsAtLine, FillsAtEnd, AnswersSome, AnswersInPart, PrintsOneRun, RepliesAllButOne}
 use Rattle.batch_run.specs.RunEvents.{Starts}
@@ -67,8 +67,8 @@ module _ {limit : ℕ} {file : List ℕ} {s : words.RunSettings} {before after :
   -- write fault a part of those lines.
   pub record TracesBatches : Type 0 where
     pub behind : Output
-    pub part : AppendsPrefix before.err.held behind.held (trace_text s.trace no_batch it.counts)
-    pub whole : (status ≡ 4 → ⊥) → Appends before.err.held behind.held (trace_text s.trace no_batch it.counts)
+    pub part : AppendsPrefix before.err.held behind.held (numbered_text s.trace it.counts)
+    pub whole : (status ≡ 4 → ⊥) → Appends before.err.held behind.held (numbered_text s.trace it.counts)
     pub line : TellsStatus file behind after.err status
 
   -- The chooser was started once, and the watch was told one graph, which fits the file's program and means it; then the batches of what was taken were told, each along
@@ -98,7 +98,7 @@ module _ {limit : ℕ} {file : List ℕ} {s : words.RunSettings} {before after :
     pub opened : Position
     pub found : IfSome (before.disk.found dir)
         (λ image. (place : Position) × WasAt place opened × StandsFor (program_of (source_of it) it.holds.text) image it.start place)
-    pub keeps : KeepsLast (program_of (source_of it) it.holds.text) it.last now opened.epoch s.every (tally_after no_batch it.counts).batches
+    pub keeps : KeepsLast (program_of (source_of it) it.holds.text) it.last now opened.epoch s.every (length it.counts)
 
   -- So it is of the core but for the requests that came since the last batch, where the input couldn't be read or was too long, or the history came to be full.
   pub record KeepsInTurn (dir : List ℕ) (now : DiskFacts) : Type 0 where
@@ -107,7 +107,7 @@ module _ {limit : ℕ} {file : List ℕ} {s : words.RunSettings} {before after :
         (λ image. (place : Position) × WasAt place opened × StandsFor (program_of (source_of it) it.holds.text) image it.start place)
     pub fresh : ℕ
     pub storable : IsStorable it.last fresh
-    pub keeps : KeepsLast (program_of (source_of it) it.holds.text) (settled it.last fresh) now opened.epoch s.every (tally_after no_batch it.counts).batches
+    pub keeps : KeepsLast (program_of (source_of it) it.holds.text) (settled it.last fresh) now opened.epoch s.every (length it.counts)
 
   pub record Headline (now : DiskFacts) : Type 0 where
     -- the entries and the last state are those of running the requests one after another, and each line is that of its entry
