@@ -4,6 +4,7 @@ pub mod SerialLaws
 pub mod GrowthLaws
 pub mod CommittedLaws
 pub mod StandingLaws
+pub mod FewBatches
 pub mod OutcomeLaws
 pub mod EventLaws
 pub mod FullLaws

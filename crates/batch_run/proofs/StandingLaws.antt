@@ -252,7 +252,7 @@ module _ (compiled : Compiled) (s : RunSettings) (few : s.batch ≤ 256) where
   -- From a core that fits, of which fewer than 256 requests wait
 
   module _ (start : Core) (fits : CoreFits tables start) (wait : length start.pending < 256) where
-    from_start : (steps : List Step) → Leads start (standing_after v (begun start) steps) (ran_on v (begun start) steps)
+    pub from_start : (steps : List Step) → Leads start (standing_after v (begun start) steps) (ran_on v (begun start) steps)
     from_start steps = leads_all steps (begun start) (record { fits = fits; wait = λ goes. wait })
 
     each_of : (P : Core → Type 0) → ((core : Core) → Runs core → P core) → (cores : List Core) → AllByRecursion Runs cores → AllByRecursion P cores

@@ -1,5 +1,5 @@
 -- What a run chooses and tells: its start, and then its batches, one after another; what it traces of them; and the core that it ends with.
-use Rattle.std.specs.Prelude.{◌≡◌, ℕ, ◌+◌, ◌⊎◌, List, [], ◌∷◌, length, ⊤, Ok, Err}
+use Rattle.std.specs.Prelude.{◌≡◌, ℕ, ◌+◌, ◌-◌, ◌^◌, ◌<◌, ◌⊎◌, List, [], ◌∷◌, length, ⊤, Ok, Err}
 use Rattle.std.specs.List.{AllByRecursion}
 use Rattle.std.specs.declared.option.Option.{Option}
 use Rattle.std.specs.declared.result.Result.{Result}
@@ -60,11 +60,13 @@ module _ (compiled : Compiled) (s : RunSettings) where
   CountsBatches (Err fault) counts = ⊤
 
   -- It started, and then the batches of these steps were told, along the picks made, traced and counted, each of which commits what its events ended with;
-  -- and it ended behind the first of the steps, of which the batches were told.
+  -- and it ended behind the first of the steps, of which the batches were told,
+  -- fewer than a count can hold.
   pub record TellsRun (start last : Core) (steps : List Step) (result : Result Tally SessionFault) (old new : Shown) : Type 0 where
     pub started : Outside
     pub starts : Starts old.outside started
     pub counts : List BatchCounts
+    pub few : length counts < 2 ^ 64 - 1
     pub told : TellsBatches result (batches_of start steps) counts started new.outside
     pub traced : TracesBatches result counts old.said new.said
     pub counted : CountsBatches result counts

@@ -8,7 +8,8 @@ use Rattle.sf_outside.specs.DiskModel.{DiskFacts}
 use Rattle.block_step.specs.declared.compiled.Compiled.{Compiled}
 use Rattle.aria_batch.specs.BatchRun.{source_of}
 use Rattle.engine.specs.Cores.{Core, IsSoundCore}
-use Rattle.batch_session.specs.Vocabulary.{Tally, Step, StoreSettings, LogsSteps}
+use Rattle.batch_session.specs.Vocabulary.{Tally, Step, Store, StoreSettings, LogsSteps, no_batch, tally_after}
+use Rattle.batch_session.specs.InTurn.{IsInTurn}
 use Rattle.batch_session.specs.Served.{AreStepsBy, EndsWith}
 use Rattle.batch_session.specs.declared.serving.SessionFault.{SessionFault}
 use Rattle.batch_session.specs.declared.serving.SessionFault.TheVariants.{NoMemory, WriteFault}
@@ -40,15 +41,18 @@ pub record Ran (compiled : Compiled) (s : RunSettings) (start last : Core) (resu
   pub writes : AllByRecursion (TakesWrites (source_of compiled) (rule_of s)) (batches_of compiled s start steps)
   pub serial : IsSoundCore (source_of compiled) start → IsSerialRun compiled s start last result old new
 
--- and this was logged of its steps, and may be left in the store by each moment since
+-- And this was logged of its steps, and may be left in the store by each moment since; and behind the batches that were told the store is where checkpoints in their
+-- turn leave it.
 pub record RanLogged (compiled : Compiled) (s : RunSettings) (store : Option StoreSettings) (start last : Core) (result : Result Tally SessionFault) (old new : Shown)
-    (logged logged' : Core) (facts facts' : DiskFacts) : Type 0 where
+    (logged logged' : Core) (facts facts' : DiskFacts) (kept : Option Store) : Type 0 where
   pub ran : Ran compiled s start last result old new
   pub logs : LogsSteps (run_service compiled s) store start 0 ran.steps logged logged' facts facts'
+  pub in_turn : IsInTurn result kept (tally_after no_batch ran.tells.counts).batches
 
 -- memory was wanted before it began
 abbrev pub IsUnbegun : Core → Core → Result Tally SessionFault → Shown → Shown → Type 0
 IsUnbegun start last result old new = (result ≡ Err NoMemory) × (new ≡ old) × (last ≡ start)
 
-abbrev pub Runs : Compiled → RunSettings → Core → Core → Result Tally SessionFault → Shown → Shown → Type 0
-Runs compiled s start last result old new = IsUnbegun start last result old new ⊎ Ran compiled s start last result old new
+-- or it did, and its output was flushed at the end
+abbrev pub Runs : Compiled → RunSettings → Core → Core → Result Tally SessionFault → Shown → Shown → Type 0 → Type 0
+Runs compiled s start last result old new IsFlushed = IsUnbegun start last result old new ⊎ (Ran compiled s start last result old new × IsFlushed)

@@ -7,6 +7,7 @@ ghost use Rattle.engine.specs.Cores.{Core, CoreFits, IsSoundCore, empty_core};
 ghost use Rattle.engine.specs.EngineViews.{core_of, source_of, tables_of, compiled_of, limit_of, fresh_of, RunsProgram};
 ghost use Rattle.batch_session.specs.Vocabulary.{logged_of, IsStorable, IsInCycle, KeepsWhere, next_core, settings_of, Keeps, EndsPast};
 ghost use Rattle.batch_session.specs.Faults.{disk_failed};
+ghost use Rattle.batch_session.specs.InTurn.{IsFlushedBy};
 ghost use Rattle.batch_run.specs.RunViews.{rule_of, shown, CanServe};
 ghost use Rattle.batch_run.specs.Runs.{RanLogged, Runs};
 
@@ -76,7 +77,8 @@ pub fn run_program<S: Source, K: Sink, E: Sink, C: Chooser, W: Watch>(
     requires serves { CanServe settings.now }
     ensures runs { (last : Core) × Runs compiled settings.now empty_core last result
         (shown (S.left input.old) (K.held out.old) (E.held err.old) (C.choices chooser.old) (W.told watch.old))
-        (shown (S.left input.new) (K.held out.new) (E.held err.new) (C.choices chooser.new) (W.told watch.new)) }
+        (shown (S.left input.new) (K.held out.new) (E.held err.new) (C.choices chooser.new) (W.told watch.new))
+        (IsFlushedBy result (K.handed out.new) (K.held out.new) (K.faults out.old) (K.faults out.new)) }
     ensures later_err { E.faults err.old ≤ E.faults err.new }
     ensures read_cause { result ≡ Err SessionFault.ReadFault → Rose (S.faults input.old) (S.faults input.new) }
     ensures write_cause { result ≡ Err SessionFault.WriteFault → Rose (K.faults out.old) (K.faults out.new) ⊎ Rose (E.faults err.old) (E.faults err.new) }
@@ -130,7 +132,8 @@ pub fn run_opened<S: Source, K: Sink, E: Sink, D: Disk, C: Chooser, W: Watch>(
     ensures runs { RanLogged (compiled_of stored.old.engine) settings.now (settings_of stored.old.store) (core_of stored.old.engine) (core_of stored.new.engine) result
         (shown (S.left input.old) (K.held out.old) (E.held err.old) (C.choices chooser.old) (W.told watch.old))
         (shown (S.left input.new) (K.held out.new) (E.held err.new) (C.choices chooser.new) (W.told watch.new))
-        (logged_of stored.old.engine) (logged_of stored.new.engine) (D.facts disk.old) (D.facts disk.new) }
+        (logged_of stored.old.engine) (logged_of stored.new.engine) (D.facts disk.old) (D.facts disk.new) stored.new.store }
+    ensures handed { IsFlushedBy result (K.handed out.new) (K.held out.new) (K.faults out.old) (K.faults out.new) }
     ensures later_err { E.faults err.old ≤ E.faults err.new }
     ensures read_cause { result ≡ Err SessionFault.ReadFault → Rose (S.faults input.old) (S.faults input.new) }
     ensures write_cause { result ≡ Err SessionFault.WriteFault → Rose (K.faults out.old) (K.faults out.new) ⊎ Rose (E.faults err.old) (E.faults err.new) }

@@ -13,6 +13,8 @@ use Rattle.input_lines.specs.Reads.{IsStart, IsNew, Joins, EndsLine, JoinsAll, G
 use Rattle.input_lines.specs.Given.{Given}
 use Rattle.input_lines.proofs.GivenLaws.{Given-new, Given-line, Given-none, Given-stop, Given-all}
 use Rattle.engine.specs.Cores.{Core}
+use Rattle.session_store.specs.declared.store.Store.{Store}
+use Rattle.session_store.specs.Cycles.{IsInCycle}
 use Rattle.session_steps.specs.Vocabulary.{Stop, cut, Service, StoreSettings}
 use Rattle.session_steps.specs.StopVariants as stops
 use Rattle.session_steps.specs.declared.tally.Tally.{Tally}
@@ -24,7 +26,9 @@ use Rattle.session_steps.proofs.LoggedSteps.{Logged-all}
 use Rattle.batch_session.specs.declared.serving.SessionFault.{SessionFault}
 use Rattle.batch_session.specs.declared.serving.SessionFault.TheVariants as fault
 use Rattle.batch_session.specs.Faults.{fault_of, finished}
-use Rattle.batch_session.specs.Served.{View, point_at, first_point, AreWhole, AreAll, AreStepsBy, CameTo, EndsWith, Served}
+use Rattle.batch_session.specs.InTurn.{IsInTurnAt}
+use Rattle.batch_session.specs.Served.{View, point_at, first_point, AreWhole, AreAll, AreStepsBy, CameTo, EndsWith, Served, ServedInTurn}
+use Rattle.batch_session.proofs.TurnLaws.{in_turn_stopped, in_turn_finished}
 use Rattle.batch_session.proofs.Reaching.{Reaches, Reaches-of, Reaches-then, Reaches-cut, Reaches-wanted}
 
 -- all lines that the reader gave were answered, and it goes on
@@ -150,13 +154,13 @@ module _ (v : Service) (traces : Bool) (settings : Option StoreSettings) (limit 
   none_ended (Err stop) core none = tt
 
   module _ (old new : View) {l₁ : Option (List ℕ)} {reader next : Lines} {q : Point} {a b c : Core} {f g h : DiskFacts}
-      (w : Going v traces settings limit old.left l₁ reader (first_point old) q a b f g) (count : ℕ) (tally : Tally) where
+      (w : Going v traces settings limit old.left l₁ reader (first_point old) q a b f g) (count : ℕ) (tally : Tally) (store : Option Store) where
     -- it stopped at a line
     pub At-a-line : (e : EndsLine reader next l₁ new.left) (stop : Stop) (result : Result Tally SessionFault) → result ≡ Err (fault_of stop)
         → ((whole : List ℕ) → IsStart longest next.line whole
         → Reaches v traces settings {T = Unit {0}} (Err stop) (Answer (cut next.ended whole) ∷ []) q (point_at new count tally) b c g h)
-        → Served v traces settings limit result old new a c f h
-    At-a-line e stop result same answered =
+        → IsInTurnAt {T = Unit {0}} (Err stop) store tally.batches → ServedInTurn v traces settings limit result old new a c f h store
+    At-a-line e stop result same answered turn =
         let taken = Given-stop (Given-line w.read e).now in
         let m = line_stopped w stop e (point_at new count tally) c h answered in
         let s : Served v traces settings limit (Err (fault_of stop)) old new a c f h = record {
@@ -175,14 +179,18 @@ module _ (v : Service) (traces : Bool) (settings : Option StoreSettings) (limit 
           none_waits = tt;
           logs = m.logs;
         } in
-        subst (λ x. Served v traces settings limit x old new a c f h) (sym same) s
+        let t : ServedInTurn v traces settings limit (Err (fault_of stop)) old new a c f h store = record {
+          served = s;
+          in_turn = in_turn_stopped stop store tally.batches turn;
+        } in
+        subst (λ x. ServedInTurn v traces settings limit x old new a c f h store) (sym same) t
 
     -- the input ended: a last line was answered, and then batches ran
     pub At-the-end : (j : JoinsAll reader next l₁ new.left × IsAtEnd new.left) (r : Result (Unit {0}) Stop) (result : Result Tally SessionFault) → result ≡ finished r tally
         → OnOk r (new.core.pending ≡ [])
         → ((whole : List ℕ) → IsStart longest next.line whole → Reaches v traces settings r (last_steps v (going q) (last_line whole)) q (point_at new count tally) b c g h)
-        → Served v traces settings limit result old new a c f h
-    At-the-end j r result same none ended =
+        → IsInTurnAt r store tally.batches → ServedInTurn v traces settings limit result old new a c f h store
+    At-the-end j r result same none ended turn =
         let all = Given-all w.read j.0 in
         let whole = no_more w j.0 in
         let end = ended (rest_from [] all.taken) all.start in
@@ -203,16 +211,20 @@ module _ (v : Service) (traces : Bool) (settings : Option StoreSettings) (limit 
           none_waits = none_ended r new.core none;
           logs = Logged-all v settings traces all.taken (first_point old) q a b c f g h refl whole.came whole.logs end.logs;
         } in
-        subst (λ x. Served v traces settings limit x old new a c f h) (sym same) s
+        let t : ServedInTurn v traces settings limit (finished r tally) old new a c f h store = record {
+          served = s;
+          in_turn = in_turn_finished r tally store tally.batches turn;
+        } in
+        subst (λ x. ServedInTurn v traces settings limit x old new a c f h store) (sym same) t
 
   module _ (old new : View) {l₁ : Option (List ℕ)} {reader next : Lines} (count : ℕ) (tally : Tally) {a b : Core} {f g : DiskFacts}
-      (w : Going v traces settings limit old.left l₁ reader (first_point old) (point_at new count tally) a b f g) where
+      (w : Going v traces settings limit old.left l₁ reader (first_point old) (point_at new count tally) a b f g) (store : Option Store) where
     -- memory was wanted for a line
-    pub At-no-memory : Joins reader next l₁ new.left → Served v traces settings limit (Err fault.NoMemory) old new a b f g
+    pub At-no-memory : Joins reader next l₁ new.left → ServedInTurn v traces settings limit (Err fault.NoMemory) old new a b f g store
     At-no-memory j =
         let taken = Given-stop (Given-none w.read j) in
         let m = line_wanted w j in
-        record {
+        let s : Served v traces settings limit (Err fault.NoMemory) old new a b f g = record {
           taken = taken.taken;
           consumed = taken.consumed;
           ended = Err fault.NoMemory;
@@ -227,14 +239,15 @@ module _ (v : Service) (traces : Bool) (settings : Option StoreSettings) (limit 
           counted = tt;
           none_waits = tt;
           logs = m.logs;
-        }
+        } in
+        record { served = s; in_turn = tt }
 
     -- the input couldn't be read
-    pub At-a-fault : JoinsAll reader next l₁ new.left → Served v traces settings limit (Err fault.ReadFault) old new a b f g
-    At-a-fault j =
+    pub At-a-fault : JoinsAll reader next l₁ new.left → IsInCycle store tally.batches → ServedInTurn v traces settings limit (Err fault.ReadFault) old new a b f g store
+    At-a-fault j in_cycle =
         let all = Given-all w.read j in
         let within : length all.taken ≤ limit = omega (arith, all.counted) in
-        record {
+        let s : Served v traces settings limit (Err fault.ReadFault) old new a b f g = record {
           taken = all.taken;
           consumed = all.consumed;
           ended = Err fault.ReadFault;
@@ -249,15 +262,16 @@ module _ (v : Service) (traces : Bool) (settings : Option StoreSettings) (limit 
           counted = tt;
           none_waits = tt;
           logs = (no_more w j).logs;
-        }
+        } in
+        record { served = s; in_turn = in_cycle }
 
     -- it was too long
-    pub At-the-limit : GoesPast reader next l₁ new.left → Served v traces settings limit (Err fault.InputTooLong) old new a b f g
-    At-the-limit past =
+    pub At-the-limit : GoesPast reader next l₁ new.left → IsInCycle store tally.batches → ServedInTurn v traces settings limit (Err fault.InputTooLong) old new a b f g store
+    At-the-limit past in_cycle =
         let all = Given-all w.read past.all in
         let full : length all.taken ≡ limit = omega (arith, all.counted, past.full) in
         let one_more : length (all.taken ++ past.next ∷ []) ≡ limit + 1 = omega (arith, full, length-append all.taken (past.next ∷ [])) in
-        record {
+        let s : Served v traces settings limit (Err fault.InputTooLong) old new a b f g = record {
           taken = all.taken ++ past.next ∷ [];
           consumed = Consumes-trans old.left past.before new.left all.taken (past.next ∷ []) all.consumed past.beyond;
           ended = Err fault.InputTooLong;
@@ -272,4 +286,5 @@ module _ (v : Service) (traces : Bool) (settings : Option StoreSettings) (limit 
           counted = tt;
           none_waits = tt;
           logs = (no_more w past.all).logs;
-        }
+        } in
+        record { served = s; in_turn = in_cycle }

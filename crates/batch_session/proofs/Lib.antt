@@ -5,6 +5,7 @@ pub mod RunLaws
 pub mod ReportLaws
 pub mod LastLaws
 pub mod Reaching
+pub mod TurnLaws
 pub mod GoingLaws
 pub mod FlushLaws
 pub mod ServeLaws

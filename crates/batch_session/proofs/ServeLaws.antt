@@ -5,6 +5,7 @@ use Rattle.std.specs.declared.result.Result.{Result}
 use Rattle.std.specs.Io.KnownBytes.{Keeps}
 use Rattle.sf_outside.specs.DiskModel.{DiskFacts}
 use Rattle.engine.specs.Cores.{Core}
+use Rattle.session_store.specs.declared.store.Store.{Store}
 use Rattle.session_steps.specs.Vocabulary.{Service, Stop, StoreSettings}
 use Rattle.session_steps.specs.StopVariants as stops
 use Rattle.session_steps.specs.Steps.{Step}
@@ -12,7 +13,7 @@ use Rattle.session_steps.specs.declared.tally.Tally.{Tally}
 use Rattle.batch_session.specs.declared.serving.SessionFault.{SessionFault}
 use Rattle.batch_session.specs.declared.serving.SessionFault.TheVariants as fault
 use Rattle.batch_session.specs.Faults.{IsFlushed}
-use Rattle.batch_session.specs.Served.{View, point_at, first_point, AreWhole, AreAll, AreFirst, AreStepsBy, CameTo, EndsWith, Served}
+use Rattle.batch_session.specs.Served.{View, point_at, first_point, AreWhole, AreAll, AreFirst, AreStepsBy, CameTo, EndsWith, Served, ServedInTurn}
 use Rattle.batch_session.proofs.FlushLaws.{Comes-flushed}
 
 module _ (v : Service) (traces : Bool) (settings : Option StoreSettings) (limit : ℕ) where
@@ -24,7 +25,7 @@ module _ (v : Service) (traces : Bool) (settings : Option StoreSettings) (limit 
     Serves result new = Served v traces settings limit result old new first last f g
 
     -- nothing more is written
-    same_flushed : (served : Result Tally SessionFault) → Keeps mid.held held → Serves served mid → Serves served (view_with mid held)
+    abbrev same_flushed : (served : Result Tally SessionFault) → Keeps mid.held held → Serves served mid → Serves served (view_with mid held)
     same_flushed served kept s = record {
       taken = s.taken;
       consumed = s.consumed;
@@ -61,10 +62,19 @@ module _ (v : Service) (traces : Bool) (settings : Option StoreSettings) (limit 
       logs = s.logs;
     }
 
-    pub Served-flushed : (served result : Result Tally SessionFault) → IsFlushed served result → Keeps mid.held held → Serves served mid → Serves result (view_with mid held)
-    Served-flushed served result (inl is) kept s = subst (λ x. Serves x (view_with mid held)) (sym is) (same_flushed served kept s)
-    Served-flushed served result (inr is) kept s =
-        subst (λ x. Serves x (view_with mid held)) (sym is) (served_unflushed served (view_with mid held) (same_flushed served kept s))
+    module _ (store : Option Store) where
+      abbrev InTurn : Result Tally SessionFault → View → Type 0
+      InTurn result new = ServedInTurn v traces settings limit result old new first last f g store
+
+      turn_flushed : (served : Result Tally SessionFault) → Keeps mid.held held → InTurn served mid → InTurn served (view_with mid held)
+      turn_flushed served kept t = record { served = same_flushed served kept t.served; in_turn = t.in_turn }
+
+      turn_unflushed : (served : Result Tally SessionFault) → Keeps mid.held held → InTurn served mid → InTurn (Err fault.WriteFault) (view_with mid held)
+      turn_unflushed served kept t = record { served = served_unflushed served (view_with mid held) (same_flushed served kept t.served); in_turn = tt }
+
+      pub Served-flushed : (served result : Result Tally SessionFault) → IsFlushed served result → Keeps mid.held held → InTurn served mid → InTurn result (view_with mid held)
+      Served-flushed served result (inl is) kept t = subst (λ x. InTurn x (view_with mid held)) (sym is) (turn_flushed served kept t)
+      Served-flushed served result (inr is) kept t = subst (λ x. InTurn x (view_with mid held)) (sym is) (turn_unflushed served kept t)
 
   -- what is known of a session by what it came to before the last flush
   module _ (result : Result Tally SessionFault) (old new : View) (first last : Core) (f g : DiskFacts) (s : Served v traces settings limit result old new first last f g) where

@@ -10,6 +10,7 @@ use Rattle.operator_graph.specs.Turns.{Outside}
 use Rattle.engine.specs.declared.engine.Engine.{Engine}
 use Rattle.engine.specs.Cores.{Core}
 use Rattle.engine.specs.EngineViews.{core_of}
+use Rattle.session_store.specs.declared.store.Store.{Store}
 use Rattle.session_steps.specs.Vocabulary.{Stop, Service, StoreSettings}
 use Rattle.session_steps.specs.StopVariants as stops
 use Rattle.session_steps.specs.declared.tally.Tally.{Tally}
@@ -18,6 +19,7 @@ use Rattle.session_steps.specs.Traces.{no_batch}
 use Rattle.session_steps.specs.Doings.{Point, Comes, LogsSteps}
 use Rattle.batch_session.specs.declared.serving.SessionFault.{SessionFault}
 use Rattle.batch_session.specs.declared.serving.SessionFault.TheVariants.{ReadFault, WriteFault, DiskFault, InputTooLong, HistoryFull, NoMemory}
+use Rattle.batch_session.specs.InTurn.{IsInTurn}
 
 -- a session from outside: its core, what its input has left, what its output and its trace hold, and what was chosen and told
 pub record View : Type 0 where
@@ -102,3 +104,9 @@ pub record Served (v : Service) (traces : Bool) (settings : Option StoreSettings
   pub counted : IfOk result (λ count. tally ≡ count)
   pub none_waits : IfOk ended (λ value. new.core.pending ≡ [])
   pub logs : LogsSteps v settings old.core 0 steps first last facts facts'
+
+-- and behind the batches that it counted the store is where checkpoints in their turn leave it
+pub record ServedInTurn (v : Service) (traces : Bool) (settings : Option StoreSettings) (limit : ℕ) (result : Result Tally SessionFault) (old new : View)
+    (first last : Core) (facts facts' : DiskFacts) (store : Option Store) : Type 0 where
+  pub served : Served v traces settings limit result old new first last facts facts'
+  pub in_turn : IsInTurn result store served.tally.batches

@@ -15,6 +15,7 @@ ghost use Rattle.batch_session.specs.Points.{point_of};
 ghost use Rattle.batch_session.specs.Answering.{AnswersKept, AnswersLast, Finishes};
 ghost use Rattle.batch_session.specs.SessionStates.{IsReady, WritesOn};
 ghost use Rattle.batch_session.specs.Faults.{line_unwritten};
+ghost use Rattle.batch_session.specs.InTurn.{IsInTurnAt};
 
 use crate::ending::run_waiting;
 use crate::reporting::end_batch;
@@ -77,6 +78,7 @@ impl Intake {
             (logged_of engine.old) (logged_of engine.new) (D.facts disk.old) (D.facts disk.new) }
         ensures ready { OnOk result (IsReady
             (state_of engine.new store.new (D.facts disk.new) (D.faults disk.new) (D.mounts disk.new)) self.new.tally.batches) }
+        ensures in_turn { IsInTurnAt result store.new self.new.tally.batches }
         ensures goes_on { GoesOn (R.choice terms.now.rule.now) (disk_failed result)
             (state_of engine.old store.old (D.facts disk.old) (D.faults disk.old) (D.mounts disk.old))
             (state_of engine.new store.new (D.facts disk.new) (D.faults disk.new) (D.mounts disk.new)) }
@@ -134,6 +136,7 @@ impl Intake {
             (logged_of engine.old) (logged_of engine.new) (D.facts disk.old) (D.facts disk.new) }
         ensures ready { OnOk result (IsReady
             (state_of engine.new store.new (D.facts disk.new) (D.faults disk.new) (D.mounts disk.new)) self.new.tally.batches) }
+        ensures in_turn { IsInTurnAt result store.new self.new.tally.batches }
         ensures goes_on { GoesOn (R.choice terms.now.rule.now) (disk_failed result)
             (state_of engine.old store.old (D.facts disk.old) (D.faults disk.old) (D.mounts disk.old))
             (state_of engine.new store.new (D.facts disk.new) (D.faults disk.new) (D.mounts disk.new)) }
@@ -174,6 +177,7 @@ impl Intake {
             (logged_of engine.old) (logged_of engine.new) (D.facts disk.old) (D.facts disk.new) }
         ensures ready { OnOk result (IsReady
             (state_of engine.new store.new (D.facts disk.new) (D.faults disk.new) (D.mounts disk.new)) self.new.tally.batches) }
+        ensures in_turn { IsInTurnAt result store.new self.new.tally.batches }
         ensures goes_on { GoesOn (R.choice terms.now.rule.now) (disk_failed result)
             (state_of engine.old store.old (D.facts disk.old) (D.faults disk.old) (D.mounts disk.old))
             (state_of engine.new store.new (D.facts disk.new) (D.faults disk.new) (D.mounts disk.new)) }

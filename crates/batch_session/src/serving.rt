@@ -12,7 +12,8 @@ ghost use Rattle.session_store.specs.Cycles.{IsInCycle};
 ghost use Rattle.session_store.specs.Endings.{KeepsWhere, next_core};
 ghost use Rattle.session_store.specs.Stores.{settings_of, Keeps, EndsPast};
 ghost use Rattle.session_steps.specs.Vocabulary.{service_of, service_by, state_of, IsInRange, GoesOn};
-ghost use Rattle.batch_session.specs.Served.{view_of, Served};
+ghost use Rattle.batch_session.specs.InTurn.{IsFlushedBy};
+ghost use Rattle.batch_session.specs.Served.{view_of, ServedInTurn};
 ghost use Rattle.batch_session.specs.SessionStates.{IsReady, WritesOn};
 ghost use Rattle.batch_session.specs.Faults.{fault_of, finished, disk_failed, write_failed, unflushed, IsFlushed};
 
@@ -71,11 +72,12 @@ pub fn serve<R: CommitRule, S: Source, K: Sink, E: Sink, D: Disk, C: Chooser, W:
     requires kept { Keeps store.old (source_of engine.old) (logged_of engine.old) (D.facts disk.old) }
     requires in_cycle { IsInCycle store.old 0 }
     requires limit { settings.now.limit ≤ 2 ^ 62 }
-    ensures served { Served (service_of engine.old (R.choice rule.now) settings.now.batch settings.now.parts) settings.now.trace
+    ensures served { ServedInTurn (service_of engine.old (R.choice rule.now) settings.now.batch settings.now.parts) settings.now.trace
         (settings_of store.old) settings.now.limit result
         (view_of engine.old (S.left input.old) (K.held out.old) (E.held err.old) (C.choices chooser.old) (W.told watch.old))
         (view_of engine.new (S.left input.new) (K.held out.new) (E.held err.new) (C.choices chooser.new) (W.told watch.new))
-        (logged_of engine.old) (logged_of engine.new) (D.facts disk.old) (D.facts disk.new) }
+        (logged_of engine.old) (logged_of engine.new) (D.facts disk.old) (D.facts disk.new) store.new }
+    ensures handed { IsFlushedBy result (K.handed out.new) (K.held out.new) (K.faults out.old) (K.faults out.new) }
     ensures read { S.faults input.old ≤ S.faults input.new }
     ensures later { K.faults out.old ≤ K.faults out.new }
     ensures later_err { E.faults err.old ≤ E.faults err.new }
@@ -118,11 +120,11 @@ fn answer_all<R: CommitRule, S: Source, K: Sink, E: Sink, D: Disk, C: Chooser, W
     requires range { IsInRange terms.now.settings.now }
     requires ready { IsReady (state_of engine.old store.old (D.facts disk.old) (D.faults disk.old) (D.mounts disk.old)) 0 }
     requires limit { terms.now.settings.now.limit ≤ 2 ^ 62 }
-    ensures serves { Served (service_by engine.old (R.choice terms.now.rule.now) terms.now.settings.now) terms.now.settings.now.trace
+    ensures serves { ServedInTurn (service_by engine.old (R.choice terms.now.rule.now) terms.now.settings.now) terms.now.settings.now.trace
         (settings_of store.old) terms.now.settings.now.limit result
         (view_of engine.old (S.left input.old) (K.held out.old) (E.held err.old) (C.choices chooser.old) (W.told watch.old))
         (view_of engine.new (S.left input.new) (K.held out.new) (E.held err.new) (C.choices chooser.new) (W.told watch.new))
-        (logged_of engine.old) (logged_of engine.new) (D.facts disk.old) (D.facts disk.new) }
+        (logged_of engine.old) (logged_of engine.new) (D.facts disk.old) (D.facts disk.new) store.new }
     ensures read { S.faults input.old ≤ S.faults input.new }
     ensures read_cause { result ≡ Err SessionFault.ReadFault → Rose (S.faults input.old) (S.faults input.new) }
     ensures in_cycle { IfOk result (λ tally. IsInCycle store.new tally.batches) }
@@ -177,6 +179,7 @@ fn fault_of(stop: Stop) -> SessionFault
 fn flushed<K: Sink>(out: &mut K, served: Result<Tally, SessionFault>) -> Result<Tally, SessionFault>
     ensures kept { KeepsBytes (K.held out.old) (K.held out.new) }
     ensures flushed { IsFlushed served result }
+    ensures handed { IsFlushedBy result (K.handed out.new) (K.held out.new) (K.faults out.old) (K.faults out.new) }
     ensures disk { disk_failed result ≡ disk_failed served }
     ensures later { K.faults out.old ≤ K.faults out.new }
     ensures cause { result ≡ Err SessionFault.WriteFault → (served ≡ Err SessionFault.WriteFault) ⊎ Rose (K.faults out.old) (K.faults out.new) }

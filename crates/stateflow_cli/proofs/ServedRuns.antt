@@ -28,7 +28,7 @@ use Rattle.session_store.specs.Cycles.{IsInCycle}
 use Rattle.session_store.specs.Endings.{KeepsWhere, next_core}
 use Rattle.session_store.specs.Stores.{settings_of, HasSnapshotPast, EndsPast}
 use Rattle.session_store.specs.Vocabulary.{IsStorable}
-use Rattle.batch_run.specs.Vocabulary.{Tally, Step, SessionFault, disk_failed}
+use Rattle.batch_run.specs.Vocabulary.{Tally, BatchCounts, Step, SessionFault, IsFlushedBy, disk_failed}
 use Rattle.batch_run.specs.SessionFaultVariants.{ReadFault, WriteFault}
 use Rattle.batch_run.specs.SessionFaultVariants as cause
 use Rattle.batch_run.specs.declared.running.RunSettings.{RunSettings}
@@ -100,9 +100,9 @@ begins_alone (Some dir) src text found alone = absurd (named alone)
 
 -- and no disk fails
 pub keeps_alone : (store : Option (List ℕ)) (s : words.RunSettings) (src : Source) (text : List ℕ) (start last : Core) (before after : StoreDisk) (now : DiskFacts)
-    (result : Result Tally SessionFault) → store ≡ None → disk_failed result ≡ false → KeepsIn store s src text start last before after now result
-keeps_alone None s src text start last before after now result alone fine = λ failed. true≢false (sym failed ∙ fine)
-keeps_alone (Some dir) s src text start last before after now result alone fine = absurd (named alone)
+    (result : Result Tally SessionFault) (counts : List BatchCounts) → store ≡ None → disk_failed result ≡ false → KeepsIn store s src text start last before after now result counts
+keeps_alone None s src text start last before after now result counts alone fine = λ failed. true≢false (sym failed ∙ fine)
+keeps_alone (Some dir) s src text start last before after now result counts alone fine = absurd (named alone)
   where
     named : Some dir ≡ None → ⊥
     named same = cc
@@ -131,13 +131,14 @@ module _ (limit : ℕ) (file : List ℕ) (s : words.RunSettings) (before after :
     runs = r.runs;
     input_cause = r.input_cause;
     write_cause = r.write_cause;
+    handed = r.handed;
     err_later = r.err_later;
     keeps = kept s.store alone r.keeps;
     moments = moments_alone s.store r.compiled (settings_for limit s) r.holds.text r.start r.runs.steps before.disk after.disk facts alone;
   }
     where
-      kept : (store : Option (List ℕ)) → store ≡ None → KeepsIn store s (source_of r.compiled) r.holds.text r.start r.last before.disk after.disk untold result
-          → KeepsIn store s (source_of r.compiled) r.holds.text r.start r.last before.disk after.disk facts result
+      kept : (store : Option (List ℕ)) → store ≡ None → KeepsIn store s (source_of r.compiled) r.holds.text r.start r.last before.disk after.disk untold result r.runs.tells.counts
+          → KeepsIn store s (source_of r.compiled) r.holds.text r.start r.last before.disk after.disk facts result r.runs.tells.counts
       kept None none keeps = keeps
       kept (Some dir) none keeps = absurd (named none)
         where
@@ -169,8 +170,9 @@ module _ (limit : ℕ) (file : List ℕ) (w : words.RunSettings) (before after :
     (input_cause : result ≡ Err ReadFault → Rose before.input.faults after.input.faults)
     (write_cause : result ≡ Err WriteFault → Rose before.out.faults after.out.faults ⊎ Rose before.err.faults after.err.faults)
     (err_later : before.err.faults ≤ after.err.faults) (fine : disk_failed result ≡ false) where
-  ran_so : Ran compiled (settings_for limit w) empty_core last result (shown_of before) (shown_of after) → RunsFile limit file w before after facts result
-  ran_so ran = record {
+  ran_so : Ran compiled (settings_for limit w) empty_core last result (shown_of before) (shown_of after)
+      → IsFlushedBy result after.out.handed after.out.held before.out.faults after.out.faults → RunsFile limit file w before after facts result
+  ran_so ran handed = record {
     compiled = compiled;
     holds = holds;
     start = empty_core;
@@ -179,8 +181,9 @@ module _ (limit : ℕ) (file : List ℕ) (w : words.RunSettings) (before after :
     runs = ran;
     input_cause = input_cause;
     write_cause = write_cause;
+    handed = handed;
     err_later = err_later;
-    keeps = keeps_alone w.store w (source_of compiled) holds.text empty_core last before.disk after.disk facts result alone fine;
+    keeps = keeps_alone w.store w (source_of compiled) holds.text empty_core last before.disk after.disk facts result ran.tells.counts alone fine;
     moments = moments_alone w.store compiled (settings_for limit w) holds.text empty_core ran.steps before.disk after.disk facts alone;
   }
 
@@ -202,7 +205,8 @@ module _ (limit : ℕ) (file : List ℕ) (w : words.RunSettings) (before after :
     (holds : HoldsOne (λ text. IsCompiledOf text compiled) (before.content file)) (last : Core) (err_later : before.err.faults ≤ after.err.faults) where
   ended_alone : (result : Result Tally SessionFault) → (result ≡ Err ReadFault → Rose before.input.faults after.input.faults)
       → (result ≡ Err WriteFault → Rose before.out.faults after.out.faults ⊎ Rose before.err.faults after.err.faults) → disk_failed result ≡ false
-      → Runs compiled (settings_for limit w) empty_core last result (shown_of before) (shown_of after) → RunEnds limit file w before after facts facts (run_ending result)
+      → Runs compiled (settings_for limit w) empty_core last result (shown_of before) (shown_of after) (IsFlushedBy result after.out.handed after.out.held before.out.faults after.out.faults)
+      → RunEnds limit file w before after facts facts (run_ending result)
   ended_alone (Ok tally) read write fine (inl u) = absurd (began u.0)
     where
       began : Ok tally ≡ Err cause.NoMemory → ⊥
@@ -212,12 +216,13 @@ module _ (limit : ℕ) (file : List ℕ) (w : words.RunSettings) (before after :
     where
       is : (x : Result Tally SessionFault) → x ≡ Err fault → x ≡ Err cause.NoMemory → fault ≡ cause.NoMemory
       is x this that = cc
-  ended_alone (Ok tally) read write fine (inr ran) = (tally, ran_so limit file w before after facts alone same compiled holds (Ok tally) last read write err_later fine ran)
-  ended_alone (Err fault) read write fine (inr ran) = inr (ran_so limit file w before after facts alone same compiled holds (Err fault) last read write err_later fine ran)
+  ended_alone (Ok tally) read write fine (inr ran) = (tally, ran_so limit file w before after facts alone same compiled holds (Ok tally) last read write err_later fine ran.0 ran.1)
+  ended_alone (Err fault) read write fine (inr ran) = inr (ran_so limit file w before after facts alone same compiled holds (Err fault) last read write err_later fine ran.0 ran.1)
 
   pub run_alone_ends : (result : Result Tally SessionFault) (e : Ending) → e ≡ run_ending result → (result ≡ Err ReadFault → Rose before.input.faults after.input.faults)
       → (result ≡ Err WriteFault → Rose before.out.faults after.out.faults ⊎ Rose before.err.faults after.err.faults) → disk_failed result ≡ false
-      → Runs compiled (settings_for limit w) empty_core last result (shown_of before) (shown_of after) → RunEnds limit file w before after facts facts e
+      → Runs compiled (settings_for limit w) empty_core last result (shown_of before) (shown_of after) (IsFlushedBy result after.out.handed after.out.held before.out.faults after.out.faults)
+      → RunEnds limit file w before after facts facts e
   run_alone_ends result e is read write fine runs = subst (RunEnds limit file w before after facts facts) (sym is) (ended_alone result read write fine runs)
 
 -- ---- with one
@@ -228,7 +233,7 @@ module _ (opened : OpenedStore) (now : Engine) (limit : ℕ) (runs : RunsProgram
   same_source : engine.source_of now ≡ engine.source_of opened.engine
   same_source = ap source_of runs.compiled_is
 
-  pub ran_opened : (store : Option Store) → settings_of store ≡ Some opened.store.settings → RanLogged (compiled_of opened.engine) s (Some opened.store.settings) (core_of opened.engine) (core_of now) result old new (logged_of opened.engine) (logged_of now) was facts
+  pub ran_opened : (store : Option Store) → settings_of store ≡ Some opened.store.settings → RanLogged (compiled_of opened.engine) s (Some opened.store.settings) (core_of opened.engine) (core_of now) result old new (logged_of opened.engine) (logged_of now) was facts store
       → (IsSoundCore (engine.source_of opened.engine) (core_of opened.engine) → IsSoundCore (engine.source_of opened.engine) (core_of now))
       → KeepsWhere (disk_failed result) store (engine.source_of now) (logged_of now) (next_core (rule_of s) (engine.source_of now) (core_of now)) facts
       → IfOk result (λ tally. IsInCycle store tally.batches)
@@ -247,7 +252,7 @@ module _ (opened : OpenedStore) (now : Engine) (limit : ℕ) (runs : RunsProgram
     storable = storable;
     kept = subst (λ src. KeepsWhere (disk_failed result) (Some store) src (logged_of now) (next_core (rule_of s) src (core_of now)) facts) same_source kept;
     in_cycle = in_cycle;
-    runs = subst (λ first. RanLogged (compiled_of opened.engine) s (Some opened.store.settings) (core_of opened.engine) (core_of now) result old new first (logged_of now) was facts)
+    runs = subst (λ first. RanLogged (compiled_of opened.engine) s (Some opened.store.settings) (core_of opened.engine) (core_of now) result old new first (logged_of now) was facts (Some store))
         (all_logged opened.engine none_fresh) ran;
     cause = λ failed. subst (λ src. Rose faults faults' ⊎ EndsPast (rule_of s) (Some store) src (core_of now) (fresh_of now) facts) same_source (cause failed);
   }
@@ -329,14 +334,14 @@ module _ (limit : ℕ) (file dir : List ℕ) (w : words.RunSettings) (before aft
 
       -- what was logged, in this run's own terms
       abbrev Logged : Compiled → RunSettings → StoreSettings → Type 0
-      Logged c t kept = RanLogged c t (Some kept) start ran.last result (shown_of before) (shown_of after) start (settled ran.last ran.fresh) mid now
+      Logged c t kept = RanLogged c t (Some kept) start ran.last result (shown_of before) (shown_of after) start (settled ran.last ran.fresh) mid now (Some ran.store)
 
       logs_so : Logged made.compiled (settings_for limit w) (settings_by w holds.text opened.store.position.epoch)
       logs_so =
           subst (Logged made.compiled (settings_for limit w)) same_settings
           (subst (λ t. Logged made.compiled t opened.store.settings) is (subst (λ c. Logged c s opened.store.settings) ready.runs.compiled_is ran.runs))
 
-      keeps_run : KeepsRun dir w (source_of made.compiled) holds.text start ran.last before.disk after.disk now result
+      keeps_run : KeepsRun dir w (source_of made.compiled) holds.text start ran.last before.disk after.disk now result logs_so.ran.tells.counts
       keeps_run = record {
         moment = moment;
         within = let later : mid.moment ≤ now.moment = logs_so.logs.moments.later in omega (arith, within, later);
@@ -350,6 +355,7 @@ module _ (limit : ℕ) (file dir : List ℕ) (w : words.RunSettings) (before aft
         storable = ran.storable;
         kept = subst (λ src. KeepsWhere (disk_failed result) (Some ran.store) src (settled ran.last ran.fresh) (next_core (rule_for w) src ran.last) now) source_so ran.kept;
         in_cycle = ran.in_cycle;
+        in_turn = logs_so.in_turn;
         cause = cause_so;
       }
 
@@ -371,8 +377,8 @@ module _ (limit : ℕ) (file dir : List ℕ) (w : words.RunSettings) (before aft
 
       pub ran_stored : (result ≡ Err ReadFault → Rose before.input.faults after.input.faults)
           → (result ≡ Err WriteFault → Rose before.out.faults after.out.faults ⊎ Rose before.err.faults after.err.faults) → before.err.faults ≤ after.err.faults
-          → RunsFile limit file w before after now result
-      ran_stored input_cause write_cause err_later = record {
+          → IsFlushedBy result after.out.handed after.out.held before.out.faults after.out.faults → RunsFile limit file w before after now result
+      ran_stored input_cause write_cause err_later handed = record {
         compiled = made.compiled;
         holds = compiled_text;
         start = start;
@@ -381,8 +387,10 @@ module _ (limit : ℕ) (file dir : List ℕ) (w : words.RunSettings) (before aft
         runs = logs_so.ran;
         input_cause = input_cause;
         write_cause = write_cause;
+        handed = handed;
         err_later = err_later;
-        keeps = subst (λ store. KeepsIn store w (source_of made.compiled) holds.text start ran.last before.disk after.disk now result) (sym named) keeps_run;
+        keeps =
+            subst (λ store. KeepsIn store w (source_of made.compiled) holds.text start ran.last before.disk after.disk now result logs_so.ran.tells.counts) (sym named) keeps_run;
         moments =
             subst (λ store. MomentsIn store made.compiled (settings_for limit w) holds.text start logs_so.ran.steps before.disk after.disk now) (sym named) moments_run;
       }

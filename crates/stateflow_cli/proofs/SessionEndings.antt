@@ -3,7 +3,10 @@ use Rattle.std.proofs.Common.{◌≡◌, ℕ, ◌+◌, ◌-◌, ◌^◌, ◌<◌
 use Rattle.std.proofs.Math.Seq.{take-nil}
 use Rattle.std.specs.Str.{chars}
 use Rattle.std.specs.declared.result.Result.{Result}
+use Rattle.std.specs.Io.KnownBytes.{Appends}
+use Rattle.sf_outside.specs.Bytes.{AppendsPrefix}
 use Rattle.sf_outside.specs.DiskModel.{Image, DiskFacts}
+use Rattle.sf_outside.specs.Handing.{IsHandedOn}
 use Rattle.program_meaning.specs.ClassTables.{Source}
 use Rattle.aria_batch.specs.BatchRun as batch
 use Rattle.engine.specs.Cores.{Core, IsSoundCore}
@@ -13,14 +16,15 @@ use Rattle.store_meaning.specs.StandsFor.{StandsFor}
 use Rattle.session_store.specs.declared.store.Store.{Store}
 use Rattle.session_store.specs.declared.store.StoreSettings.{StoreSettings}
 use Rattle.session_store.specs.Endings.{KeepsWhere, next_core}
-use Rattle.session_store.specs.Stores.{StandsSomewhere}
-use Rattle.batch_run.specs.Vocabulary.{Tally, Service, no_batch, tally_after, SessionFault, disk_failed, AreStepsBy, EndsWith, AreWhole, AreAll}
+use Rattle.session_store.specs.Cycles.{IsInCycle}
+use Rattle.session_store.specs.Stores.{Keeps, StandsSomewhere}
+use Rattle.batch_run.specs.Vocabulary.{Tally, Service, no_batch, numbered_text, tally_after, trace_text, SessionFault, IsFlushedBy, disk_failed, AreStepsBy, EndsWith, AreWhole, AreAll}
 use Rattle.batch_run.specs.SessionFaultVariants as stop
 use Rattle.batch_run.specs.RunViews.{run_service}
 use Rattle.batch_run.specs.RunTexts.{AnswersSome, Prints}
 use Rattle.batch_run.specs.RunEvents.{batches_of}
 use Rattle.batch_run.specs.GrownCores.{entries_of}
-use Rattle.batch_run.proofs.Vocabulary.{some_steps}
+use Rattle.batch_run.proofs.Vocabulary.{batches_plain, some_steps, text_plain}
 use Rattle.batch_run.proofs.SerialLaws.{replies_by}
 use Rattle.command_words.specs.Commands as words
 use Rattle.stateflow_cli.specs.Devices.{Devices, Output, with_err}
@@ -31,7 +35,7 @@ use Rattle.stateflow_cli.specs.StatusLines.{status_of, line_of}
 use Rattle.stateflow_cli.specs.Telling.{Told}
 use Rattle.stateflow_cli.specs.Session.{IsOneOf, AreStepsFor, Session}
 use Rattle.stateflow_cli.specs.SessionText.{IsSerial, PrintsText}
-use Rattle.stateflow_cli.specs.Headline.{TracesBatches, RunsGraph, KeepsCommitted, KeepsAll, Headline}
+use Rattle.stateflow_cli.specs.Headline.{FlushesOutput, TracesBatches, RunsGraph, KeepsCommitted, KeepsAll, KeepsInTurn, Headline}
 use Rattle.stateflow_cli.specs.declared.ending.Ending.{Ending}
 use Rattle.stateflow_cli.proofs.LocalEndings.{no_stop}
 use Rattle.stateflow_cli.proofs.RunEndings.{all_told, most_told, begun_of, whole_of, part_traced, whole_traced, served_is, unread_is, unlogged_is, wanting_is, too_long_is, full_is}
@@ -191,6 +195,28 @@ module _ (limit : ℕ) (before after : Devices) (now : DiskFacts) (behind : Outp
         some = some_text;
       }
 
+      -- What was handed on
+
+      abbrev HandedSo : Result Tally SessionFault → Type 0
+      HandedSo x = IsFlushedBy x after.out.handed after.out.held before.out.faults after.out.faults
+
+      handed_so : (other : Result Tally SessionFault) → result ≡ other → HandedSo other
+      handed_so other same = subst (λ x. HandedSo x) same r.handed
+
+      all_handed : IsOneOf status (0 ∷ 3 ∷ 8 ∷ 9 ∷ 10 ∷ []) → IsHandedOn after.out.handed after.out.held
+      all_handed (inl n) = let q = served_is result (own_result 0 n (λ z. omega (arith, z))) in handed_so (Ok q.0) q.1
+      all_handed (inr (inl n)) = handed_so (Err stop.ReadFault) (unread_is result (own_result 3 n (λ z. omega (arith, z))))
+      all_handed (inr (inr (inl n))) = handed_so (Err stop.NoMemory) (wanting_is result (own_result 8 n (λ z. omega (arith, z))))
+      all_handed (inr (inr (inr (inl n)))) = handed_so (Err stop.InputTooLong) (too_long_is result (own_result 9 n (λ z. omega (arith, z))))
+      all_handed (inr (inr (inr (inr (inl n))))) = handed_so (Err stop.HistoryFull) (full_is result (own_result 10 n (λ z. omega (arith, z))))
+      all_handed (inr (inr (inr (inr (inr none))))) = absurd none
+
+      flushed : FlushesOutput session
+      flushed = record {
+        all = all_handed;
+        unstored = λ n. handed_so (Err stop.DiskFault) (unlogged_is result (own_result 5 n (λ z. omega (arith, z))));
+      }
+
       -- What is serial
 
       unwritten : result ≡ Err stop.WriteFault → (disk_failed result ≡ false) × (status ≡ 4)
@@ -228,19 +254,35 @@ module _ (limit : ℕ) (before after : Devices) (now : DiskFacts) (behind : Outp
         outcomes = r.runs.tells.outcomes;
       }
 
+      -- the batches that were told are fewer than a count can hold
+      few_told : length r.runs.tells.counts < 2 ^ 64
+      few_told = let few : length r.runs.tells.counts < 2 ^ 64 - 1 = r.runs.tells.few in omega (arith, few)
+
+      numbered : trace_text s.trace no_batch r.runs.tells.counts ≡ numbered_text s.trace r.runs.tells.counts
+      numbered = text_plain s.trace r.runs.tells.counts few_told
+
+      counted : (tally_after no_batch r.runs.tells.counts).batches ≡ length r.runs.tells.counts
+      counted = batches_plain r.runs.tells.counts few_told
+
+      below_most : (tally_after no_batch r.runs.tells.counts).batches < 2 ^ 64 - 1
+      below_most = let few : length r.runs.tells.counts < 2 ^ 64 - 1 = r.runs.tells.few in omega (arith, few, counted)
+
       trace : Told (line_of file e) (status_of e) behind.held after.err.held behind.faults after.err.faults status → TracesBatches session
       trace told = record {
         behind = behind;
-        part = part_traced r.compiled (settings_for limit s) r.runs.tells.counts before.err.held behind.held result r.runs.tells.traced;
-        whole = λ p. whole_traced r.compiled (settings_for limit s) r.runs.tells.counts before.err.held behind.held result (not_unwritten p) r.runs.tells.traced;
+        part = subst (AppendsPrefix before.err.held behind.held) numbered
+            (part_traced r.compiled (settings_for limit s) r.runs.tells.counts before.err.held behind.held result r.runs.tells.traced);
+        whole = λ p. subst (Appends before.err.held behind.held) numbered
+            (whole_traced r.compiled (settings_for limit s) r.runs.tells.counts before.err.held behind.held result (not_unwritten p) r.runs.tells.traced);
         line = record { ending = e; told = told };
       }
 
       -- What is left of a store
 
       module _ (dir : List ℕ) (named : s.store ≡ Some dir) where
-        kept_run : KeepsRun dir s (batch.source_of r.compiled) r.holds.text r.start r.last before.disk after.disk now result
-        kept_run = subst (λ store. KeepsIn store s (batch.source_of r.compiled) r.holds.text r.start r.last before.disk after.disk now result) named r.keeps
+        kept_run : KeepsRun dir s (batch.source_of r.compiled) r.holds.text r.start r.last before.disk after.disk now result r.runs.tells.counts
+        kept_run =
+            subst (λ store. KeepsIn store s (batch.source_of r.compiled) r.holds.text r.start r.last before.disk after.disk now result r.runs.tells.counts) named r.keeps
 
         moments : RunMoments r.compiled (settings_for limit s) r.holds.text r.start r.runs.steps (before.disk.found dir) after.disk.mounts.moment now
         moments = subst (λ store. MomentsIn store r.compiled (settings_for limit s) r.holds.text r.start r.runs.steps before.disk after.disk now) named r.moments
@@ -253,9 +295,59 @@ module _ (limit : ℕ) (before after : Devices) (now : DiskFacts) (behind : Outp
               (next_core (rule_for s) (batch.source_of r.compiled) r.last) now (disk_failed result) kept_run.kept;
         }
 
+      -- where checkpoints came in their turn
+
+      own_turn : IsOneOf status (3 ∷ 9 ∷ 10 ∷ []) → IsOneOf (status_of (run_ending result)) (3 ∷ 9 ∷ 10 ∷ [])
+      own_turn (inl n) = inl (own_result 3 n (λ z. omega (arith, z)))
+      own_turn (inr (inl n)) = inr (inl (own_result 9 n (λ z. omega (arith, z))))
+      own_turn (inr (inr (inl n))) = inr (inr (inl (own_result 10 n (λ z. omega (arith, z)))))
+      own_turn (inr (inr (inr none))) = absurd none
+
+      module _ (dir : List ℕ) (k : KeepsRun dir s (batch.source_of r.compiled) r.holds.text r.start r.last before.disk after.disk now result r.runs.tells.counts)
+          (kept : Keeps (Some k.store) (batch.source_of r.compiled) (settled r.last k.fresh) now) (turn : IsInCycle (Some k.store) (tally_after no_batch r.runs.tells.counts).batches) where
+        kept_in_turn : KeepsInTurn session dir now
+        kept_in_turn = record {
+          opened = k.opened;
+          found = k.found;
+          fresh = k.fresh;
+          storable = k.storable;
+          keeps = record {
+            position = k.store.position;
+            each = λ image leaves.
+                subst (λ t. StandsFor (record { source = batch.source_of r.compiled; text = t }) image (settled r.last k.fresh) k.store.position)
+                (ap (λ (x : StoreSettings). x.program) k.settings) (kept.keeps.each image leaves);
+            epoch =
+                subst (λ n. k.store.position.epoch ≡ min (k.opened.epoch + n / s.every) (2 ^ 63 - 1)) counted
+                (subst (λ (x : StoreSettings). k.store.position.epoch ≡ min (x.opened + (tally_after no_batch r.runs.tells.counts).batches / x.every) (2 ^ 63 - 1)) k.settings
+                (turn below_most).epoch);
+          };
+        }
+
+    none_of : (m : ℕ) → (m ≡ 3 → ⊥) → (m ≡ 9 → ⊥) → (m ≡ 10 → ⊥) → IsOneOf m (3 ∷ 9 ∷ 10 ∷ []) → ⊥
+    none_of m three nine ten (inl n) = three n
+    none_of m three nine ten (inr (inl n)) = nine n
+    none_of m three nine ten (inr (inr (inl n))) = ten n
+    none_of m three nine ten (inr (inr (inr none))) = none
+
+    in_turn : (result : Result Tally SessionFault) (r : Came result) (is : status_of e ≡ status_of (run_ending result)) (dir : List ℕ) → s.store ≡ Some dir
+        → IsOneOf status (3 ∷ 9 ∷ 10 ∷ []) → KeepsInTurn (session result r is) dir now
+    in_turn (Err stop.ReadFault) r is dir named n =
+        let k = kept_run (Err stop.ReadFault) r is dir named in kept_in_turn (Err stop.ReadFault) r is dir k k.kept k.in_turn
+    in_turn (Err stop.InputTooLong) r is dir named n =
+        let k = kept_run (Err stop.InputTooLong) r is dir named in kept_in_turn (Err stop.InputTooLong) r is dir k k.kept k.in_turn
+    in_turn (Err stop.HistoryFull) r is dir named n =
+        let k = kept_run (Err stop.HistoryFull) r is dir named in kept_in_turn (Err stop.HistoryFull) r is dir k k.kept k.in_turn
+    in_turn (Ok tally) r is dir named n = absurd (none_of 0 (λ z. omega (arith, z)) (λ z. omega (arith, z)) (λ z. omega (arith, z)) (own_turn (Ok tally) r is n))
+    in_turn (Err stop.WriteFault) r is dir named n =
+        absurd (none_of 4 (λ z. omega (arith, z)) (λ z. omega (arith, z)) (λ z. omega (arith, z)) (own_turn (Err stop.WriteFault) r is n))
+    in_turn (Err stop.DiskFault) r is dir named n =
+        absurd (none_of 5 (λ z. omega (arith, z)) (λ z. omega (arith, z)) (λ z. omega (arith, z)) (own_turn (Err stop.DiskFault) r is n))
+    in_turn (Err stop.NoMemory) r is dir named n =
+        absurd (none_of 8 (λ z. omega (arith, z)) (λ z. omega (arith, z)) (λ z. omega (arith, z)) (own_turn (Err stop.NoMemory) r is n))
+
     -- where all was served
     module _ (tally : Tally) (r : Came (Ok tally)) (is : status_of e ≡ status_of (run_ending (Ok tally))) (dir : List ℕ)
-        (k : KeepsRun dir s (batch.source_of r.compiled) r.holds.text r.start r.last before.disk after.disk now (Ok tally)) where
+        (k : KeepsRun dir s (batch.source_of r.compiled) r.holds.text r.start r.last before.disk after.disk now (Ok tally) r.runs.tells.counts) where
       -- the epoch counts the batches that were told
       epoch_told : (told : Tally) → tally ≡ told → told.batches < 2 ^ 64 - 1
           → k.store.position.epoch ≡ min (k.opened.epoch + told.batches / s.every) (2 ^ 63 - 1)
@@ -274,7 +366,7 @@ module _ (limit : ℕ) (before after : Devices) (now : DiskFacts) (behind : Outp
       final_served = record {
         opened = k.opened;
         found = k.found;
-        keeps = record { position = k.store.position; each = last_each; epoch = epoch_told (tally_after no_batch r.runs.tells.counts) r.runs.tells.counted };
+        keeps = record { position = k.store.position; each = last_each; epoch = subst (λ n. k.store.position.epoch ≡ min (k.opened.epoch + n / s.every) (2 ^ 63 - 1)) (counted (Ok tally) r is) (epoch_told (tally_after no_batch r.runs.tells.counts) r.runs.tells.counted (below_most (Ok tally) r is)) };
       }
 
     final : (result : Result Tally SessionFault) (r : Came result) (is : status_of e ≡ status_of (run_ending result)) (dir : List ℕ) → s.store ≡ Some dir → status ≡ 0
@@ -288,10 +380,12 @@ module _ (limit : ℕ) (before after : Devices) (now : DiskFacts) (behind : Outp
       serial = serial result r is;
       writes = r.runs.writes;
       text = text result r is;
+      flushed = flushed result r is;
       trace = trace result r is told;
       events = events result r is;
       mounted = λ dir named. let k = kept_run result r is dir named in record { moment = k.moment; within = k.within; mounts = k.mounts };
       since = moments result r is;
       kept = keeps_committed result r is;
+      in_turn = in_turn result r is;
       final = final result r is;
     }

@@ -84,7 +84,7 @@ module _ (limit : ℕ) (before after : Devices) (was now : DiskFacts) (behind : 
   -- ---- why
 
   stopped_fails : (store : Option (List ℕ)) → s.store ≡ store → (r : Came (Err stop.DiskFault))
-      → KeepsIn store s (source_of r.compiled) r.holds.text r.start r.last before.disk after.disk now (Err stop.DiskFault)
+      → KeepsIn store s (source_of r.compiled) r.holds.text r.start r.last before.disk after.disk now (Err stop.DiskFault) r.runs.tells.counts
       → DiskFails limit file s before after now
   stopped_fails None named r keeps = absurd (keeps refl)
   stopped_fails (Some dir) named r keeps = record { dir = dir; named = named; holds = holds_compiled (before.content file) r.compiled r.holds; cause = by (keeps.cause refl) }

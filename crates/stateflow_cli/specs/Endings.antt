@@ -17,7 +17,7 @@ use Rattle.session.specs.declared.feeding.InputEnd.TheVariants as input
 use Rattle.session.specs.declared.stopping.SessionStop.{SessionStop}
 use Rattle.session.specs.declared.stopping.SessionStop.TheVariants as local
 use Rattle.command_words.specs.Commands as words
-use Rattle.batch_run.specs.Vocabulary.{Tally, SessionFault}
+use Rattle.batch_run.specs.Vocabulary.{Tally, SessionFault, IsFlushedBy}
 use Rattle.batch_run.specs.SessionFaultVariants.{ReadFault, WriteFault, InputTooLong, HistoryFull}
 use Rattle.batch_run.specs.SessionFaultVariants as cause
 use Rattle.batch_run.specs.declared.running.RunSettings.{RunSettings}
@@ -96,8 +96,9 @@ pub record RunsFile (limit : ℕ) (file : List ℕ) (s : words.RunSettings) (bef
   pub runs : Ran compiled (settings_for limit s) start last result (shown_of before) (shown_of after)
   pub input_cause : result ≡ Err ReadFault → Rose before.input.faults after.input.faults
   pub write_cause : result ≡ Err WriteFault → Rose before.out.faults after.out.faults ⊎ Rose before.err.faults after.err.faults
+  pub handed : IsFlushedBy result after.out.handed after.out.held before.out.faults after.out.faults
   pub err_later : before.err.faults ≤ after.err.faults
-  pub keeps : KeepsIn s.store s (source_of compiled) holds.text start last before.disk after.disk now result
+  pub keeps : KeepsIn s.store s (source_of compiled) holds.text start last before.disk after.disk now result runs.tells.counts
   pub moments : MomentsIn s.store compiled (settings_for limit s) holds.text start runs.steps before.disk after.disk now
 
 -- memory was wanted before the run began

@@ -1,8 +1,10 @@
 -- What a run promises of its session: the replies are those of the source methods, run one request after another, and what is left of a store stands for them.
-use Rattle.std.specs.Prelude.{ℕ, ◌≡◌, ◌⊎◌, true, false, List, [], ◌∷◌, Some, IfSome}
+use Rattle.std.specs.Prelude.{ℕ, ◌≡◌, ◌⊎◌, true, false, List, [], ◌∷◌, length, Some, IfSome}
 use Rattle.std.specs.List.{AllByRecursion}
 use Rattle.std.specs.Io.KnownBytes.{Appends}
 use Rattle.sf_outside.specs.Bytes.{AppendsPrefix}
+use Rattle.sf_outside.specs.Causes.{Rose}
+use Rattle.sf_outside.specs.Handing.{IsHandedOn}
 use Rattle.sf_outside.specs.DiskModel.{Image, DiskFacts}
 use Rattle.block_step.specs.CompiledViews.{compiled_program, compiled_names, compiled_tables, compiled_blocks}
 use Rattle.live_laws.specs.Cut.{GraphHasLiveParams}
@@ -15,7 +17,7 @@ use Rattle.session_store.specs.Endings.{next_core}
 use Rattle.session_store.specs.Stores.{StandsSomewhere}
 use Rattle.session_store.specs.Vocabulary.{IsStorable}
 use Rattle.store_opening.specs.Openings.{WasAt}
-use Rattle.batch_run.specs.Vocabulary.{no_batch, tally_after, trace_text, RunBatches, BeginBatches}
+use Rattle.batch_run.specs.Vocabulary.{numbered_text, RunBatches, BeginBatches}
 use Rattle.batch_run.specs.RunViews.{run_service}
 use Rattle.batch_run.specs.RunEvents.{Starts}
 use Rattle.batch_run.specs.BatchOutcomes.{CommitsWhatEnded}
@@ -30,12 +32,17 @@ use Rattle.stateflow_cli.specs.Session.{IsOneOf, Session, source_of, settings_of
 use Rattle.stateflow_cli.specs.SessionText.{IsSerial, PrintsText}
 
 module _ {limit : ℕ} {file : List ℕ} {s : words.RunSettings} {before after : Devices} {status : ℕ} (it : Session limit file s before after status) where
+  -- But with the status of a write fault all that the output holds was handed on, as far as that is told; or with that of a fault of the disk the output failed too.
+  pub record FlushesOutput : Type 0 where
+    pub all : IsOneOf status (0 ∷ 3 ∷ 8 ∷ 9 ∷ 10 ∷ []) → IsHandedOn after.out.handed after.out.held
+    pub unstored : status ≡ 5 → IsHandedOn after.out.handed after.out.held ⊎ Rose before.out.faults after.out.faults
+
   -- The error stream gained the lines of the batches that were told to their ends, where they are to be traced, and then a line of the status. With that of a
   -- write fault a part of those lines.
   pub record TracesBatches : Type 0 where
     pub behind : Output
-    pub part : AppendsPrefix before.err.held behind.held (trace_text s.trace no_batch it.counts)
-    pub whole : (status ≡ 4 → ⊥) → Appends before.err.held behind.held (trace_text s.trace no_batch it.counts)
+    pub part : AppendsPrefix before.err.held behind.held (numbered_text s.trace it.counts)
+    pub whole : (status ≡ 4 → ⊥) → Appends before.err.held behind.held (numbered_text s.trace it.counts)
     pub line : TellsStatus file behind after.err status
 
   -- The chooser was started once, and the watch was told one graph, which fits the file's program and means it, and whose blocks behind the first of a method have
@@ -67,7 +74,16 @@ module _ {limit : ℕ} {file : List ℕ} {s : words.RunSettings} {before after :
     pub opened : Position
     pub found : IfSome (before.disk.found dir)
         (λ image. (place : Position) × WasAt place opened × StandsFor (program_of (source_of it) it.holds.text) image it.start place)
-    pub keeps : KeepsLast (program_of (source_of it) it.holds.text) it.last now opened.epoch s.every (tally_after no_batch it.counts).batches
+    pub keeps : KeepsLast (program_of (source_of it) it.holds.text) it.last now opened.epoch s.every (length it.counts)
+
+  -- So it is of the core but for the requests that came since the last batch, where the input couldn't be read or was too long, or the history came to be full.
+  pub record KeepsInTurn (dir : List ℕ) (now : DiskFacts) : Type 0 where
+    pub opened : Position
+    pub found : IfSome (before.disk.found dir)
+        (λ image. (place : Position) × WasAt place opened × StandsFor (program_of (source_of it) it.holds.text) image it.start place)
+    pub fresh : ℕ
+    pub storable : IsStorable it.last fresh
+    pub keeps : KeepsLast (program_of (source_of it) it.holds.text) (settled it.last fresh) now opened.epoch s.every (length it.counts)
 
   pub record Headline (now : DiskFacts) : Type 0 where
     -- The entries of the batches that were committed, in turn, and the last state are those of running their requests one after another, and each line is that
@@ -76,14 +92,17 @@ module _ {limit : ℕ} {file : List ℕ} {s : words.RunSettings} {before after :
     pub serial : IsSerial (source_of it) (settings_of it) it.start it.last before.out.held after.out.held
         (entries_of (source_of it) (rule_for s) (committed it)) ((it.failed ≡ false) × (status ≡ 4))
     pub writes : AllByRecursion (TakesWrites (source_of it) (rule_for s)) (batches it)
-    -- what was printed and traced
+    -- what was printed, handed on and traced
     pub text : PrintsText (source_of it) (settings_of it) it.start it.last before.out.held after.out.held status after.input.left it.taken
+    pub flushed : FlushesOutput
     pub trace : TracesBatches
     -- what was chosen and told
     pub events : RunsGraph
-    -- Where the words name a store: it was mounted once; what a crash may have left since; what one may leave now; and where all is served
+    -- Where the words name a store: it was mounted once; what a crash may have left since; what one may leave now, and where checkpoints came in their turn; and
+    -- where all is served
     pub mounted : (dir : List ℕ) → s.store ≡ Some dir → MountsOnce dir before after now
     pub since : (dir : List ℕ) → s.store ≡ Some dir
         → RunMoments it.compiled (settings_of it) it.holds.text it.start it.steps (before.disk.found dir) after.disk.mounts.moment now
     pub kept : (dir : List ℕ) → s.store ≡ Some dir → KeepsCommitted now
+    pub in_turn : (dir : List ℕ) → s.store ≡ Some dir → IsOneOf status (3 ∷ 9 ∷ 10 ∷ []) → KeepsInTurn dir now
     pub final : (dir : List ℕ) → s.store ≡ Some dir → status ≡ 0 → KeepsAll dir now

@@ -110,4 +110,4 @@ pub record LeavesUnopened (file dir : List ℕ) (before after : Devices) (now : 
 pub record KeepsLast (p : Program) (last : Core) (now : DiskFacts) (opened every batches : ℕ) : Type 0 where
   pub position : Position
   pub each : (image : Image) → now.may_leave image → StandsFor p image last position
-  pub epoch : batches < 2 ^ 64 - 1 → position.epoch ≡ min (opened + batches / every) (2 ^ 63 - 1)
+  pub epoch : position.epoch ≡ min (opened + batches / every) (2 ^ 63 - 1)

@@ -19,7 +19,7 @@ use Rattle.session_store.specs.Cycles.{IsInCycle}
 use Rattle.session_store.specs.Endings.{KeepsWhere, next_core}
 use Rattle.session_store.specs.Stores.{HasSnapshotPast, EndsPast}
 use Rattle.session_store.specs.Vocabulary.{IsStorable}
-use Rattle.batch_run.specs.Vocabulary.{Tally, Step, SessionFault, disk_failed, IsLogged, StandsLogged}
+use Rattle.batch_run.specs.Vocabulary.{Tally, BatchCounts, Step, SessionFault, IsInTurn, disk_failed, no_batch, tally_after, IsLogged, StandsLogged}
 use Rattle.batch_run.specs.declared.running.RunSettings.{RunSettings}
 use Rattle.batch_run.specs.RunViews.{Shown, rule_of}
 use Rattle.batch_run.specs.RunEvents.{batches_of}
@@ -47,10 +47,10 @@ abbrev pub settings_by : words.RunSettings → List ℕ → ℕ → StoreSetting
 settings_by s text epoch = record { program = chars text; every = s.every; opened = epoch }
 
 -- A run had a store in this folder, from one core to another: the folder was mounted once; each image that a crash now may leave stands for what
--- was logged of the last core, and where the disk failed perhaps for the core behind the batch that was next; where all was served, a checkpoint
--- followed behind each so many batches; and a fault of the disk has a cause
+-- was logged of the last core, and where the disk failed perhaps for the core behind the batch that was next; a checkpoint followed behind each so many of the
+-- batches that were told, unless something failed or memory was wanted; and a fault of the disk has a cause
 pub record KeepsRun (dir : List ℕ) (s : words.RunSettings) (src : Source) (text : List ℕ) (start last : Core) (before after : StoreDisk) (now : DiskFacts)
-    (result : Result Tally SessionFault) : Type 0 where
+    (result : Result Tally SessionFault) (counts : List BatchCounts) : Type 0 where
   pub moment : ℕ
   pub within : moment ≤ now.moment
   pub mounts : after.mounts ≡ mounted before.mounts dir moment
@@ -63,6 +63,7 @@ pub record KeepsRun (dir : List ℕ) (s : words.RunSettings) (src : Source) (tex
   pub storable : IsStorable last fresh
   pub kept : KeepsWhere (disk_failed result) (Some store) src (settled last fresh) (next_core (rule_for s) src last) now
   pub in_cycle : IfOk result (λ tally. IsInCycle (Some store) tally.batches)
+  pub in_turn : IsInTurn result (Some store) (tally_after no_batch counts).batches
   pub cause : disk_failed result ≡ true → DiskRose dir before after ⊎ EndsPast (rule_for s) (Some store) src last fresh now
 
 -- a run of an engine on the store that was opened for it: from the engine's core to the last one, and what the store keeps then
@@ -74,7 +75,7 @@ pub record RanOpened (opened : OpenedStore) (s : RunSettings) (result : Result T
   pub fresh : ℕ
   pub storable : IsStorable last fresh
   pub runs : RanLogged (compiled_of opened.engine) s (Some opened.store.settings) (core_of opened.engine) last result old new
-      (core_of opened.engine) (settled last fresh) was now
+      (core_of opened.engine) (settled last fresh) was now (Some store)
   pub kept : KeepsWhere (disk_failed result) (Some store) (source_of opened.engine) (settled last fresh)
       (next_core (rule_of s) (source_of opened.engine) last) now
   pub in_cycle : IfOk result (λ tally. IsInCycle (Some store) tally.batches)
@@ -97,9 +98,9 @@ MomentsIn (Some dir) compiled s text start steps before after now = RunMoments c
 
 -- where the words name no store there is none, and no disk fails
 abbrev pub KeepsIn : Option (List ℕ) → words.RunSettings → Source → List ℕ → Core → Core → StoreDisk → StoreDisk → DiskFacts
-    → Result Tally SessionFault → Type 0
-KeepsIn None s src text start last before after now result = disk_failed result ≡ true → ⊥
-KeepsIn (Some dir) s src text start last before after now result = KeepsRun dir s src text start last before after now result
+    → Result Tally SessionFault → List BatchCounts → Type 0
+KeepsIn None s src text start last before after now result counts = disk_failed result ≡ true → ⊥
+KeepsIn (Some dir) s src text start last before after now result counts = KeepsRun dir s src text start last before after now result counts
 
 -- the store in this folder wasn't opened: what was found is bad at this place, or of another program; or a fault of the disk or of its mount was
 -- counted, or the first snapshot of a new store would end past the last place; or memory was wanted

@@ -9,6 +9,7 @@ ghost use Rattle.engine.specs.EngineViews.{core_of, tables_of, compiled_of, limi
 ghost use Rattle.session_store.specs.Vocabulary.{IsStorable};
 ghost use Rattle.store_opening.specs.OpenedStores.{KeepsOpened};
 ghost use Rattle.batch_run.specs.RunViews.{CanServe, shown};
+ghost use Rattle.batch_run.specs.Vocabulary.{IsFlushedBy};
 ghost use Rattle.command_words.specs.Commands.{settings_by};
 ghost use Rattle.stateflow_cli.specs.Devices.{StoreDisk, devices, source, sink, outside};
 ghost use Rattle.stateflow_cli.specs.Endings.{RunEnds, longest_input, settings_for, run_ending};
@@ -117,6 +118,7 @@ fn run_on<S: Source, K: Sink, E: Sink, D: Disk, C: Chooser, W: Watch>(
         (shown (S.left input.old) (K.held out.old) (E.held err.old) (C.choices chooser.old) (W.told watch.old))
         (shown (S.left input.new) (K.held out.new) (E.held err.new) (C.choices chooser.new) (W.told watch.new))
         (D.faults disk.old) (D.faults disk.new) (D.facts disk.old) (D.facts disk.new) }
+    ensures handed { IsFlushedBy result (K.handed out.new) (K.held out.new) (K.faults out.old) (K.faults out.new) }
     ensures later_err { E.faults err.old ≤ E.faults err.new }
     ensures read_cause { result ≡ Err SessionFault.ReadFault → Rose (S.faults input.old) (S.faults input.new) }
     ensures write_cause { result ≡ Err SessionFault.WriteFault → Rose (K.faults out.old) (K.faults out.new) ⊎ Rose (E.faults err.old) (E.faults err.new) }

@@ -3,7 +3,7 @@ use Rattle.block_step.specs.CompiledViews.{compiled_tables, compiled_blocks}
 use Rattle.operator_graph.specs.Turns.{Outside}
 use Rattle.engine.specs.EngineViews.{core_of, compiled_of}
 use Rattle.batch_session.specs.Vocabulary.{Settings, service_of, settings_of, logged_of}
-use Rattle.batch_session.specs.Served.{View, Served}
+use Rattle.batch_session.specs.Served.{View, ServedInTurn}
 use Rattle.batch_run.specs.RunViews.{rule_of}
 use Rattle.batch_run.specs.RunEvents.{Starts}
 use Rattle.batch_run.proofs.GraphLaws.{graph_told}
@@ -34,6 +34,6 @@ returns-clause-runs g c =
           (c.graph.ensures.blocks ∙ ap compiled_blocks c.compiled.ensures) c.graph-2.ensures;
     } in
     runs_so (compiled_of e) c.requires.whole c.args.settings.now c.serve.result c.requires.serves.few e (record { compiled_is = refl; limit_is = c.requires.history })
-    c.requires.fits c.requires.few (settings_of c.args.stored.now.store) left held said before started new _ _ _ _ starts
-    (subst (λ (t : Settings). Served (service_of e (rule_of c.args.settings.now) t.batch t.parts) t.trace (settings_of c.args.stored.now.store) t.limit c.serve.result old new
-    (logged_of e) (logged_of c.serve.new.engine) (g.D.Disk.facts c.args.disk.now) (g.D.Disk.facts c.serve.new.disk)) c.session.ensures c.serve.ensures.served)
+    c.requires.fits c.requires.few c.requires.serves.limit (settings_of c.args.stored.now.store) left held said before started new _ _ _ _ c.serve.new.store starts
+    (subst (λ (t : Settings). ServedInTurn (service_of e (rule_of c.args.settings.now) t.batch t.parts) t.trace (settings_of c.args.stored.now.store) t.limit c.serve.result old new
+    (logged_of e) (logged_of c.serve.new.engine) (g.D.Disk.facts c.args.disk.now) (g.D.Disk.facts c.serve.new.disk) c.serve.new.store) c.session.ensures c.serve.ensures.served)

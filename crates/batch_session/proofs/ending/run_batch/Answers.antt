@@ -13,6 +13,7 @@ use Rattle.batch_session.specs.Points.{point_of}
 use Rattle.batch_session.proofs.RunLaws.{on_ok}
 use Rattle.batch_session.proofs.ReportLaws.{Batch-ended}
 use Rattle.batch_session.proofs.StateLaws.{ready_behind, unwritten_is, stop_unwritten}
+use Rattle.batch_session.proofs.TurnLaws.{in_turn_still, in_turn_ended}
 use Rattle.batch_session.proofs.ending.run_batch.Goals as goal
 
 pub returns-in-Ok-clause-runs_one : goal.returns-in-Ok-clause-runs_one
@@ -91,3 +92,10 @@ returns-in-Err-clause-writes g c = record {
   later_err = omega arith;
   cause = λ is. inl (c.in-Err.ensures.cause (ap Err (stop_unwritten c.in-Err.stop is)));
 }
+
+pub returns-in-Ok-clause-in_turn : goal.returns-in-Ok-clause-in_turn
+returns-in-Ok-clause-in_turn g c = in_turn_ended c.end_batch.result _ _ c.end_batch.ensures.ready c.end_batch.ensures.placed
+
+pub returns-in-Err-clause-in_turn : goal.returns-in-Err-clause-in_turn
+returns-in-Err-clause-in_turn g c =
+    in_turn_still {T = Unit {0}} (Err c.in-Err.stop) c.args.store.now c.answer_batch.new.store c.args.tally.now.batches c.answer_batch.ensures.cycle c.requires.ready.in_cycle

@@ -12,6 +12,7 @@ use Rattle.session_steps.proofs.Composing.{Comes-passed, Comes-same}
 use Rattle.session_steps.proofs.Endings.{runs as run_steps, Ending-none, Ending-more, more_count, Ending-over, Ending-stop}
 use Rattle.batch_session.proofs.RunLaws.{some_wait}
 use Rattle.batch_session.proofs.StateLaws.{passed_on, unwritten, then_writes, passed_writes}
+use Rattle.batch_session.proofs.TurnLaws.{in_turn_passed}
 use Rattle.batch_session.proofs.ending.run_waiting.Goals as goal
 
 pub batches-init : goal.batches-init
@@ -95,3 +96,11 @@ returns-clause-logs g c = λ lines.
     let v = service_of c.args.engine.now (g.R.CommitRule.choice c.args.terms.now.rule.now) c.args.terms.now.settings.now.batch c.args.terms.now.settings.now.parts in
     let so_far = c.batches.invariant.ending lines in
     Logged-over v (settings_of c.args.store.now) c.args.terms.now.settings.now.trace _ _ _ _ _ _ so_far.0 so_far.1
+
+pub returns-in_err-run_batch-clause-in_turn : goal.returns-in_err-run_batch-clause-in_turn
+returns-in_err-run_batch-clause-in_turn g c =
+    let p = err_from_is_err_and c.from_residual.result c.from_residual.ensures.1 in
+    in_turn_passed c.from_residual.result _ _ _ (p.1 ∙ ap Err p.2) c.in_err-run_batch.ensures.in_turn
+
+pub returns-clause-in_turn : goal.returns-clause-in_turn
+returns-clause-in_turn g c = c.batches.invariant.ready.in_cycle

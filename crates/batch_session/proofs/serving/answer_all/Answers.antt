@@ -102,9 +102,9 @@ returns-in-Err-answer-clause-serves g c =
     let new : View = view_of told.engine (g.S.Source.left c.next.new.input) (g.K.Sink.held told.out) (g.E.Sink.held told.err) (g.C.Chooser.choices told.chooser) (g.W.Watch.told told.watch) in
     let q : Point = point_of at c.lines.intake.lines c.lines.intake.tally (g.K.Sink.held c.lines.out) (g.E.Sink.held c.lines.err) (g.C.Chooser.choices c.lines.chooser) (g.W.Watch.told c.lines.watch) in
     let z : Point = point_of told.engine told.self.lines told.self.tally new.held new.traced new.outside.choices new.outside.told in
-    At-a-line v traces settings c.args.terms.now.settings.now.limit old new c.lines.invariant.going told.self.lines told.self.tally line stop (Err c.fault_of.result) (ap Err c.fault_of.ensures)
+    At-a-line v traces settings c.args.terms.now.settings.now.limit old new c.lines.invariant.going told.self.lines told.self.tally told.store line stop (Err c.fault_of.result) (ap Err c.fault_of.ensures)
     (λ whole start. Reaches-by {T = Unit {0}} v here traces settings held (λ _. Answer (cut reader.ended whole) ∷ []) (Err stop) q z _ _ _ _ same
-    c.lines.invariant.goes_on.settings (record { came = c.in-Err-answer.ensures.answers whole start; logs = c.answer.ensures.logs whole start }))
+    c.lines.invariant.goes_on.settings (record { came = c.in-Err-answer.ensures.answers whole start; logs = c.answer.ensures.logs whole start })) c.in-Err-answer.ensures.in_turn
 
 pub returns-in-Err-answer-clause-goes_on : goal.returns-in-Err-answer-clause-goes_on
 returns-in-Err-answer-clause-goes_on g c =
@@ -140,10 +140,10 @@ returns-in-Ok-End-clause-serves g c =
     let new : View = view_of end.engine (g.S.Source.left c.next.new.input) (g.K.Sink.held end.out) (g.E.Sink.held end.err) (g.C.Chooser.choices end.chooser) (g.W.Watch.told end.watch) in
     let q : Point = point_of at c.lines.intake.lines c.lines.intake.tally (g.K.Sink.held c.lines.out) (g.E.Sink.held c.lines.err) (g.C.Chooser.choices c.lines.chooser) (g.W.Watch.told c.lines.watch) in
     let z : Point = point_of end.engine end.self.lines end.self.tally new.held new.traced new.outside.choices new.outside.told in
-    At-the-end v traces settings c.args.terms.now.settings.now.limit old new c.lines.invariant.going end.self.lines end.self.tally ended r c.finished.result c.finished.ensures
+    At-the-end v traces settings c.args.terms.now.settings.now.limit old new c.lines.invariant.going end.self.lines end.self.tally end.store ended r c.finished.result c.finished.ensures
     c.finish-ended.ensures.none
     (λ whole start. Reaches-by v here traces settings held (λ w. last_steps w (open_at (core_of at) c.lines.intake.lines) (last_line whole)) r q z _ _ _ _ same
-    c.lines.invariant.goes_on.settings (record { came = c.finish-ended.ensures.finishes whole start; logs = c.finish-ended.ensures.logs whole start }))
+    c.lines.invariant.goes_on.settings (record { came = c.finish-ended.ensures.finishes whole start; logs = c.finish-ended.ensures.logs whole start })) c.finish-ended.ensures.in_turn
 
 pub returns-in-Ok-End-clause-in_cycle : goal.returns-in-Ok-End-clause-in_cycle
 returns-in-Ok-End-clause-in_cycle g c =
@@ -168,8 +168,8 @@ returns-in-Ok-ReadFault-clause-serves g c =
     let v : Service = service_of e (g.R.CommitRule.choice c.args.terms.now.rule.now) c.args.terms.now.settings.now.batch c.args.terms.now.settings.now.parts in
     let old : View = view_of e (g.S.Source.left c.args.input.now) (g.K.Sink.held c.args.out.now) (g.E.Sink.held c.args.err.now) (g.C.Chooser.choices c.args.chooser.now) (g.W.Watch.told c.args.watch.now) in
     let new : View = view_of s.engine (g.S.Source.left c.next.new.input) (g.K.Sink.held s.out) (g.E.Sink.held s.err) (g.C.Chooser.choices s.chooser) (g.W.Watch.told s.watch) in
-    At-a-fault v c.args.terms.now.settings.now.trace (settings_of c.args.store.now) c.args.terms.now.settings.now.limit old new s.intake.lines s.intake.tally s.invariant.going
-    (rw c.in-Ok-ReadFault.field-0-is at c.in-Ok-ReadFault.ensures.gives)
+    At-a-fault v c.args.terms.now.settings.now.trace (settings_of c.args.store.now) c.args.terms.now.settings.now.limit old new s.intake.lines s.intake.tally s.invariant.going s.store
+    (rw c.in-Ok-ReadFault.field-0-is at c.in-Ok-ReadFault.ensures.gives) s.invariant.ready.in_cycle
 
 pub returns-in-Ok-TooLong-clause-serves : goal.returns-in-Ok-TooLong-clause-serves
 returns-in-Ok-TooLong-clause-serves g c =
@@ -178,8 +178,8 @@ returns-in-Ok-TooLong-clause-serves g c =
     let v : Service = service_of e (g.R.CommitRule.choice c.args.terms.now.rule.now) c.args.terms.now.settings.now.batch c.args.terms.now.settings.now.parts in
     let old : View = view_of e (g.S.Source.left c.args.input.now) (g.K.Sink.held c.args.out.now) (g.E.Sink.held c.args.err.now) (g.C.Chooser.choices c.args.chooser.now) (g.W.Watch.told c.args.watch.now) in
     let new : View = view_of s.engine (g.S.Source.left c.next.new.input) (g.K.Sink.held s.out) (g.E.Sink.held s.err) (g.C.Chooser.choices s.chooser) (g.W.Watch.told s.watch) in
-    At-the-limit v c.args.terms.now.settings.now.trace (settings_of c.args.store.now) c.args.terms.now.settings.now.limit old new s.intake.lines s.intake.tally s.invariant.going
-    (rw c.in-Ok-TooLong.field-0-is at c.in-Ok-TooLong.ensures.gives)
+    At-the-limit v c.args.terms.now.settings.now.trace (settings_of c.args.store.now) c.args.terms.now.settings.now.limit old new s.intake.lines s.intake.tally s.invariant.going s.store
+    (rw c.in-Ok-TooLong.field-0-is at c.in-Ok-TooLong.ensures.gives) s.invariant.ready.in_cycle
 
 pub returns-in-Err-clause-serves : goal.returns-in-Err-clause-serves
 returns-in-Err-clause-serves g c =
@@ -188,4 +188,4 @@ returns-in-Err-clause-serves g c =
     let v : Service = service_of e (g.R.CommitRule.choice c.args.terms.now.rule.now) c.args.terms.now.settings.now.batch c.args.terms.now.settings.now.parts in
     let old : View = view_of e (g.S.Source.left c.args.input.now) (g.K.Sink.held c.args.out.now) (g.E.Sink.held c.args.err.now) (g.C.Chooser.choices c.args.chooser.now) (g.W.Watch.told c.args.watch.now) in
     let new : View = view_of s.engine (g.S.Source.left c.next.new.input) (g.K.Sink.held s.out) (g.E.Sink.held s.err) (g.C.Chooser.choices s.chooser) (g.W.Watch.told s.watch) in
-    At-no-memory v c.args.terms.now.settings.now.trace (settings_of c.args.store.now) c.args.terms.now.settings.now.limit old new s.intake.lines s.intake.tally s.invariant.going c.in-Err.ensures.gives
+    At-no-memory v c.args.terms.now.settings.now.trace (settings_of c.args.store.now) c.args.terms.now.settings.now.limit old new s.intake.lines s.intake.tally s.invariant.going s.store c.in-Err.ensures.gives

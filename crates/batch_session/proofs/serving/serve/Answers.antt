@@ -1,10 +1,11 @@
 use Rattle.std.proofs.Common.{sym, arith}
 use Rattle.session_store.specs.Stores.{settings_of}
 use Rattle.session_steps.specs.Vocabulary.{service_of}
-use Rattle.session_steps.proofs.Vocabulary.{fails_alike}
+use Rattle.session_steps.proofs.Vocabulary.{fails_alike, rose_earlier}
 use Rattle.batch_session.specs.Served.{view_of}
 use Rattle.batch_session.proofs.ServeLaws.{Served-flushed}
 use Rattle.batch_session.proofs.StateLaws.{flushed_cause}
+use Rattle.batch_session.proofs.TurnLaws.{flushed_since}
 use Rattle.batch_session.proofs.serving.serve.Goals as goal
 
 pub returns-clause-served : goal.returns-clause-served
@@ -13,7 +14,7 @@ returns-clause-served g c =
     let old = view_of c.args.engine.now (g.S.Source.left c.args.input.now) (g.K.Sink.held c.args.out.now) (g.E.Sink.held c.args.err.now) (g.C.Chooser.choices c.args.chooser.now) (g.W.Watch.told c.args.watch.now) in
     let made = c.answer_all-served.new in
     let mid = view_of made.engine (g.S.Source.left made.input) (g.K.Sink.held made.out) (g.E.Sink.held made.err) (g.C.Chooser.choices made.chooser) (g.W.Watch.told made.watch) in
-    Served-flushed v c.args.settings.now.trace (settings_of c.args.store.now) c.args.settings.now.limit old mid (g.K.Sink.held c.flushed.new.out) _ _ _ _
+    Served-flushed v c.args.settings.now.trace (settings_of c.args.store.now) c.args.settings.now.limit old mid (g.K.Sink.held c.flushed.new.out) _ _ _ _ made.store
     c.answer_all-served.result c.flushed.result c.flushed.ensures.flushed c.flushed.ensures.kept c.answer_all-served.ensures.serves
 
 pub answer_all-served-requires-clause-range : goal.answer_all-served-requires-clause-range
@@ -62,3 +63,6 @@ returns-clause-kept g c = (fails_alike (g.R.CommitRule.choice c.args.rule.now) _
 
 pub returns-clause-disk_cause : goal.returns-clause-disk_cause
 returns-clause-disk_cause g c = (fails_alike (g.R.CommitRule.choice c.args.rule.now) _ _ _ _ (sym c.flushed.ensures.disk) c.answer_all-served.ensures.goes_on).cause
+
+pub returns-clause-handed : goal.returns-clause-handed
+returns-clause-handed g c = flushed_since c.flushed.result _ _ _ _ _ (rose_earlier _ _ _ c.answer_all-served.ensures.writes.later) c.flushed.ensures.handed

@@ -43,7 +43,7 @@ tally_of-requires g c =
     c.serve-served.ensures.settings c.serve-served.ensures.disk_cause in
     no_fault v c.args.input.now old new c.serve-served.new.input.left.now c.requires.empty refl refl _ _ _ _ _ (λ batch short. batch_rule_is_lawful batch)
     c.requires.history (few c.args.settings.now c.args.input.now c.requires.size c.requires.input).lines c.serve-served.result
-    c.serve-served.ensures.served (λ is. omega (arith, c.serve-served.ensures.read_cause is))
+    c.serve-served.ensures.served.served (λ is. omega (arith, c.serve-served.ensures.read_cause is))
     (λ is. elim (c.serve-served.ensures.write_cause is) [ inl rose ↦ omega (arith, rose) | inr rose ↦ omega (arith, rose) ]) undisked
 
 pub returns : goal.returns
@@ -70,7 +70,7 @@ returns g c =
     let served =
     serves_work v c.args.input.now old new c.serve-served.new.input.left.now c.requires.empty refl refl _ _ _ _ _ (λ batch short. batch_rule_is_lawful batch)
     c.requires.history (few c.args.settings.now c.args.input.now c.requires.size c.requires.input).lines c.steps_print.ensures c.comes_begin.ensures
-    c.serve-served.result c.serve-served.ensures.served (λ is. omega (arith, c.serve-served.ensures.read_cause is))
+    c.serve-served.result c.serve-served.ensures.served.served (λ is. omega (arith, c.serve-served.ensures.read_cause is))
     (λ is. elim (c.serve-served.ensures.write_cause is) [ inl rose ↦ omega (arith, rose) | inr rose ↦ omega (arith, rose) ]) undisked
     (c.serve-served.ensures.sound c.requires.sound) in
     subst (λ w. Here w c.tally_of.result) same (subst (λ r. Here v r) (sym c.tally_of.ensures) served)

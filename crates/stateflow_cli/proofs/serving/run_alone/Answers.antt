@@ -3,6 +3,7 @@ use Rattle.sf_outside.specs.DiskModel.{untold}
 use Rattle.command_words.specs.Commands.{settings_by}
 use Rattle.engine.specs.Cores.{empty_core}
 use Rattle.batch_run.specs.RunViews.{shown}
+use Rattle.batch_run.specs.Vocabulary.{IsFlushedBy}
 use Rattle.batch_run.specs.Runs.{Runs}
 use Rattle.batch_run.specs.declared.running.RunSettings.{RunSettings}
 use Rattle.stateflow_cli.specs.Devices.{devices, source, sink, outside}
@@ -25,5 +26,6 @@ returns g c = λ disk.
     c.ending_of.result c.ending_of.ensures c.run_program.ensures.read_cause c.run_program.ensures.write_cause c.run_program.ensures.no_disk
     (subst (λ (s : RunSettings). Runs c.in-Ok.compiled s empty_core c.run_program.ensures.runs.0 c.run_program.result
     (shown (g.S.Source.left c.args.input.now) (g.K.Sink.held c.args.out.now) (g.E.Sink.held c.args.err.now) (g.C.Chooser.choices c.args.chooser.now) (g.W.Watch.told c.args.watch.now))
-    (shown (g.S.Source.left c.run_program.new.input) (g.K.Sink.held c.run_program.new.out) (g.E.Sink.held c.run_program.new.err) (g.C.Chooser.choices c.run_program.new.chooser) (g.W.Watch.told c.run_program.new.watch)))
+    (shown (g.S.Source.left c.run_program.new.input) (g.K.Sink.held c.run_program.new.out) (g.E.Sink.held c.run_program.new.err) (g.C.Chooser.choices c.run_program.new.chooser) (g.W.Watch.told c.run_program.new.watch))
+    (IsFlushedBy c.run_program.result (g.K.Sink.handed c.run_program.new.out) (g.K.Sink.held c.run_program.new.out) (g.K.Sink.faults c.args.out.now) (g.K.Sink.faults c.run_program.new.out)))
     c.settings_of.ensures c.run_program.ensures.runs.1)

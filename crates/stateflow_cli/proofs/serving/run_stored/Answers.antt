@@ -58,4 +58,4 @@ returns-in-Ok-open_store g c =
     c.settings_of.result c.settings_of.ensures (can_serve (settings_by c.args.words) c.settings_of.result c.settings_of.ensures c.requires.in_range) c.run_on.result (g.D.Disk.faults c.open_store.new.disk) c.in-Ok-open_store.ensures.later
     c.in-Ok-open_store.ensures.mounts.moment (c.run_on.ensures.mounts ∙ c.in-Ok-open_store.ensures.mounts.mounts) (g.D.Disk.facts c.open_store.new.disk) c.in-Ok-open_store.ensures.mounts.within
     c.in-Ok-open_store.ensures.mounts.each c.run_on.ensures.ran
-    c.run_on.ensures.read_cause c.run_on.ensures.write_cause c.run_on.ensures.later_err)
+    c.run_on.ensures.read_cause c.run_on.ensures.write_cause c.run_on.ensures.later_err c.run_on.ensures.handed)

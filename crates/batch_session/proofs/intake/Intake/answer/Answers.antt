@@ -13,6 +13,7 @@ use Rattle.batch_session.proofs.LineLaws.{start_answered}
 use Rattle.batch_session.proofs.LoggedLaws.{ended_logs, start_logged}
 use Rattle.batch_session.proofs.ReportLaws.{Line-ended}
 use Rattle.batch_session.proofs.StateLaws.{ready_behind, unwritten_is, stop_unwritten}
+use Rattle.batch_session.proofs.TurnLaws.{in_turn_still, in_turn_ended}
 use Rattle.batch_session.proofs.intake.Intake.answer.Goals as goal
 
 pub returns-in-Some-clause-answers : goal.returns-in-Some-clause-answers
@@ -135,3 +136,14 @@ returns-in-Err-clause-writes g c = record {
   later_err = omega arith;
   cause = λ is. inl (c.in-Err.ensures.cause (ap Err (stop_unwritten c.in-Err.stop is)));
 }
+
+pub returns-in-Some-clause-in_turn : goal.returns-in-Some-clause-in_turn
+returns-in-Some-clause-in_turn g c = in_turn_ended c.end_batch.result _ _ c.end_batch.ensures.ready c.end_batch.ensures.placed
+
+pub returns-in-None-clause-in_turn : goal.returns-in-None-clause-in_turn
+returns-in-None-clause-in_turn g c =
+    in_turn_still {T = Unit {0}} (Ok (tt {0})) c.args.store.now c.answer_line.new.store c.args.self.now.tally.batches c.answer_line.ensures.cycle c.requires.ready.in_cycle
+
+pub returns-in-Err-clause-in_turn : goal.returns-in-Err-clause-in_turn
+returns-in-Err-clause-in_turn g c =
+    in_turn_still {T = Unit {0}} (Err c.in-Err.stop) c.args.store.now c.answer_line.new.store c.args.self.now.tally.batches c.answer_line.ensures.cycle c.requires.ready.in_cycle

@@ -41,3 +41,9 @@ returns-then-is_empty-clause-goes_on g c = stays (g.R.CommitRule.choice c.args.t
 
 pub returns-then-is_empty-clause-writes : goal.returns-then-is_empty-clause-writes
 returns-then-is_empty-clause-writes g c = unwritten _ _
+
+pub returns-then-is_empty-clause-in_turn : goal.returns-then-is_empty-clause-in_turn
+returns-then-is_empty-clause-in_turn g c = c.requires.ready.in_cycle
+
+pub returns-clause-in_turn : goal.returns-clause-in_turn
+returns-clause-in_turn g c = c.answer.ensures.in_turn

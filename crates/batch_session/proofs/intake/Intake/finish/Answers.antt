@@ -11,6 +11,7 @@ use Rattle.batch_session.proofs.LoggedLaws.{Logged-same}
 use Rattle.session_steps.proofs.Composing.{Comes-passed, Comes-same}
 use Rattle.session_steps.proofs.Endings.{Last-stop, Last-then}
 use Rattle.batch_session.proofs.StateLaws.{passed_on, then_writes, passed_writes}
+use Rattle.batch_session.proofs.TurnLaws.{in_turn_passed}
 use Rattle.batch_session.proofs.intake.Intake.finish.Goals as goal
 
 pub returns-in_err-answer_last-clause-finishes : goal.returns-in_err-answer_last-clause-finishes
@@ -62,3 +63,11 @@ returns-clause-logs g c = λ part h.
     let same = same_service c.args.engine.now c.answer_last.new.engine c.answer_last.ensures.goes_on.runs rule c.args.terms.now.settings.now.batch c.args.terms.now.settings.now.parts in
     Logged-last v settings c.args.terms.now.settings.now.trace (last_line part) _ _ _ _ _ _ _ _ (c.in_ok-answer_last.ensures.answers part h) (c.answer_last.ensures.logs part h)
     (Logged-same v settings here _ _ _ _ _ _ _ _ same c.answer_last.ensures.goes_on.settings (c.run_waiting.ensures.logs c.answer_last.new.self.lines))
+
+pub returns-in_err-answer_last-clause-in_turn : goal.returns-in_err-answer_last-clause-in_turn
+returns-in_err-answer_last-clause-in_turn g c =
+    let p = err_from_is_err_and c.from_residual.result c.from_residual.ensures.1 in
+    in_turn_passed c.from_residual.result _ _ _ (p.1 ∙ ap Err p.2) c.in_err-answer_last.ensures.in_turn
+
+pub returns-clause-in_turn : goal.returns-clause-in_turn
+returns-clause-in_turn g c = c.run_waiting.ensures.in_turn

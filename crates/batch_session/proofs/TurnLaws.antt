@@ -1,0 +1,87 @@
+-- Checkpoints in their turn, from a line to its session; and what is handed on of an output, by how a session ends.
+use Rattle.std.proofs.Common.{◌≡◌, ◌≢◌, ◌⊎◌, inl, inr, ℕ, List, Option, Ok, Err, refl, sym, subst}
+use Rattle.std.specs.Prelude.{OnOk}
+use Rattle.std.specs.declared.result.Result.{Result}
+use Rattle.sf_outside.specs.Causes.{Rose}
+use Rattle.sf_outside.specs.Handing.{IsHandedOn}
+use Rattle.session_store.specs.declared.store.Store.{Store}
+use Rattle.session_store.specs.Cycles.{IsInCycle, cycle_of}
+use Rattle.session_store.proofs.CycleLaws.{cycle_kept}
+use Rattle.session_steps.specs.Vocabulary.{SessionState, Stop}
+use Rattle.session_steps.specs.StopVariants as stops
+use Rattle.session_steps.specs.declared.tally.Tally.{Tally}
+use Rattle.batch_session.specs.declared.serving.SessionFault.{SessionFault}
+use Rattle.batch_session.specs.declared.serving.SessionFault.TheVariants as fault
+use Rattle.batch_session.specs.Faults.{fault_of, finished, unflushed}
+use Rattle.batch_session.specs.InTurn.{IsInTurnAt, IsInTurn, IsFlushedBy}
+use Rattle.batch_session.specs.SessionStates.{IsReady}
+
+-- ---- checkpoints
+
+-- whatever a line comes to, where none is owed
+still_at : {T : Type 0} (r : Result T Stop) (store : Option Store) (batches : ℕ) → IsInCycle store batches → IsInTurnAt r store batches
+still_at (Ok value) store batches in_cycle = in_cycle
+still_at (Err stops.HistoryFull) store batches in_cycle = in_cycle
+still_at (Err stops.NoMemory) store batches in_cycle = tt
+still_at (Err stops.DiskFault) store batches in_cycle = tt
+still_at (Err stops.WriteFault) store batches in_cycle = tt
+
+pub in_turn_still : {T : Type 0} (r : Result T Stop) (old new : Option Store) (batches : ℕ) → cycle_of new ≡ cycle_of old → IsInCycle old batches → IsInTurnAt r new batches
+in_turn_still r old new batches same in_cycle = still_at r new batches (cycle_kept old new batches same in_cycle)
+
+-- behind the end of a batch, which has a place
+pub in_turn_ended : (r : Result (Unit {0}) Stop) (s : SessionState) (batches : ℕ) → OnOk r (IsReady s batches) → r ≢ Err stops.HistoryFull → IsInTurnAt r s.store batches
+in_turn_ended (Ok value) s batches ready placed = ready.in_cycle
+in_turn_ended (Err stops.HistoryFull) s batches ready placed = absurd (placed refl)
+in_turn_ended (Err stops.NoMemory) s batches ready placed = tt
+in_turn_ended (Err stops.DiskFault) s batches ready placed = tt
+in_turn_ended (Err stops.WriteFault) s batches ready placed = tt
+
+pub in_turn_passed : {T : Type 0} (r : Result T Stop) (stop : Stop) (store : Option Store) (batches : ℕ) → r ≡ Err stop → IsInTurnAt {T = T} (Err stop) store batches → IsInTurnAt r store batches
+in_turn_passed r stop store batches is turn = subst (λ x. IsInTurnAt x store batches) (sym is) turn
+
+-- what the session comes to
+pub in_turn_stopped : (stop : Stop) (store : Option Store) (batches : ℕ) → IsInTurnAt {T = Unit {0}} (Err stop) store batches → IsInTurn (Err (fault_of stop)) store batches
+in_turn_stopped stops.HistoryFull store batches turn = turn
+in_turn_stopped stops.NoMemory store batches turn = tt
+in_turn_stopped stops.DiskFault store batches turn = tt
+in_turn_stopped stops.WriteFault store batches turn = tt
+
+pub in_turn_finished : (r : Result (Unit {0}) Stop) (tally : Tally) (store : Option Store) (batches : ℕ) → IsInTurnAt r store batches → IsInTurn (finished r tally) store batches
+in_turn_finished (Ok value) tally store batches turn = turn
+in_turn_finished (Err stop) tally store batches turn = in_turn_stopped stop store batches turn
+
+-- ---- the last flush
+
+pub all_flushed : (r : Result Tally SessionFault) (handed held : Option (List ℕ)) (before after : ℕ) → IsHandedOn handed held → IsFlushedBy r handed held before after
+all_flushed (Ok tally) handed held before after all = all
+all_flushed (Err fault.ReadFault) handed held before after all = all
+all_flushed (Err fault.InputTooLong) handed held before after all = all
+all_flushed (Err fault.HistoryFull) handed held before after all = all
+all_flushed (Err fault.NoMemory) handed held before after all = all
+all_flushed (Err fault.DiskFault) handed held before after all = inl all
+all_flushed (Err fault.WriteFault) handed held before after all = tt
+
+not_flushed : (r : Result Tally SessionFault) (handed held : Option (List ℕ)) (before after : ℕ) → Rose before after → IsFlushedBy (unflushed r) handed held before after
+not_flushed (Ok tally) handed held before after rose = tt
+not_flushed (Err fault.ReadFault) handed held before after rose = tt
+not_flushed (Err fault.InputTooLong) handed held before after rose = tt
+not_flushed (Err fault.HistoryFull) handed held before after rose = tt
+not_flushed (Err fault.NoMemory) handed held before after rose = tt
+not_flushed (Err fault.DiskFault) handed held before after rose = inr rose
+not_flushed (Err fault.WriteFault) handed held before after rose = tt
+
+pub not_all_flushed : (result r : Result Tally SessionFault) (handed held : Option (List ℕ)) (before after : ℕ) → result ≡ unflushed r → Rose before after → IsFlushedBy result handed held before after
+not_all_flushed result r handed held before after is rose = subst (λ x. IsFlushedBy x handed held before after) (sym is) (not_flushed r handed held before after rose)
+
+-- a count that rose has risen since an earlier one
+pub flushed_since : (r : Result Tally SessionFault) (handed held : Option (List ℕ)) (first before after : ℕ) → (Rose before after → Rose first after) → IsFlushedBy r handed held before after
+    → IsFlushedBy r handed held first after
+flushed_since (Ok tally) handed held first before after since all = all
+flushed_since (Err fault.ReadFault) handed held first before after since all = all
+flushed_since (Err fault.InputTooLong) handed held first before after since all = all
+flushed_since (Err fault.HistoryFull) handed held first before after since all = all
+flushed_since (Err fault.NoMemory) handed held first before after since all = all
+flushed_since (Err fault.DiskFault) handed held first before after since (inl all) = inl all
+flushed_since (Err fault.DiskFault) handed held first before after since (inr rose) = inr (since rose)
+flushed_since (Err fault.WriteFault) handed held first before after since all = tt
