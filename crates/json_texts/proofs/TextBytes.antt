@@ -10,6 +10,7 @@ use Rattle.std.proofs.lemmas.Bool.Decides.{nat_tests}
 use Rattle.std.proofs.lemmas.Fmt.{IsAscii-decimal, decimal_is_IsNumeral}
 use Rattle.std.proofs.lemmas.List.Elements.{All-append}
 use Rattle.std.proofs.lemmas.Str.{IsUtf8-append, IsUtf8-from_ascii}
+use Rattle.std.proofs.lemmas.Str.Parse.{digit_from_value}
 use Rattle.json.specs.Print.{escape_byte, escape, quoted, token_text}
 use Rattle.json.specs.Token as token
 use Rattle.json.proofs.Printed.Strings.{escape_byte_plain}
@@ -103,22 +104,7 @@ quoted_visible : (text : List ℕ) → AreVisible (quoted text)
 quoted_visible text = visible_then 34 _ (omega arith) (All-append IsVisible (escape text) (34 ∷ []) (escapes_visible text) (tested (34 ∷ []) refl))
 
 digit_visible : (x : ℕ) → digit_value x < 10 → 32 ≤ x
-digit_visible x digit = elim (cases_lt x 32) [
-  | inl low ↦ absurd (no_digit 32 refl x low digit)
-  | inr high ↦ omega arith
-]
-  where
-    -- none of the bytes below n is a digit
-    none_below : ℕ → Bool
-    none_below zero = true
-    none_below (suc n) = nat_le 10 (digit_value n) && none_below n
-
-    no_digit : (n : ℕ) → none_below n ≡ true → (x : ℕ) → x < n → digit_value x < 10 → ⊥
-    no_digit zero passes x lt digit = omega arith
-    no_digit (suc n) passes x lt digit =
-        let both = and_parts (nat_le 10 (digit_value n)) (none_below n) passes in
-        let high : 10 ≤ digit_value n = grind (arith, nat_tests) in
-        elim (cases_eq x n) [ inl same ↦ (let here : digit_value n < 10 = subst (λ y. digit_value y < 10) same digit in omega arith) | inr apart ↦ no_digit n both.1 x (omega arith) digit ]
+digit_visible x digit = omega (arith, (digit_from_value x digit).0)
 
 digits_visible : (ds : List ℕ) → AllDigits 10 ds → AreVisible ds
 digits_visible [] digits = tested [] refl
