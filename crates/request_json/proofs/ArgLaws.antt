@@ -15,7 +15,7 @@ use Rattle.request_json.specs.RequestLines.{length_of, arguments_of}
 use Rattle.request_json.specs.declared.fault.LineFault.TheVariants.{ArgumentCount, ArgumentType}
 use Rattle.request_json.proofs.DataLaws.{length_of_items}
 
-cut_at : {A : Type 0} (xs : List A) (i : ℕ) (x : A) → i < length xs → x ≡ get_or xs i x → drop i xs ≡ x ∷ drop (i + 1) xs
+pub cut_at : {A : Type 0} (xs : List A) (i : ℕ) (x : A) → i < length xs → x ≡ get_or xs i x → drop i xs ≡ x ∷ drop (i + 1) xs
 cut_at xs i x lt is = let cut : drop i xs ≡ get_or xs i x ∷ drop (i + 1) xs = rw (add-one, drop-cons xs i x) in cut ∙ ap (λ y. y ∷ drop (i + 1) xs) (sym is)
 
 -- one more value behind those that there are

@@ -14,7 +14,7 @@ use Rattle.std.proofs.lemmas.Bool.Decides.{nat_tests, Decides-eqb}
 use Rattle.std.proofs.lemmas.Str.Parse.{IsNumeralModel, numerals_by_value, tells_all_ascii_digits, parse_signed_minus, parse_signed_digits}
 use Rattle.request_json.specs.Arguments.{is_numeral, int_of_digits, int_behind_minus, int_of_text}
 
-own : IsNumeralModel (λ ds. all_ascii_digits ds ≡ true) (digits_value 10)
+pub own : IsNumeralModel (λ ds. all_ascii_digits ds ≡ true) (digits_value 10)
 own = numerals_by_value _ tells_all_ascii_digits
 
 -- a text without a minus in front of it
@@ -25,22 +25,22 @@ both : (a b : Bool) → (a && b) ≡ true → (a ≡ true) × (b ≡ true)
 both true b h = (refl, h)
 both false b h = absurd cc
 
-each : (a b : Bool) → a ≡ true → b ≡ true → (a && b) ≡ true
+pub each : (a b : Bool) → a ≡ true → b ≡ true → (a && b) ≡ true
 each a b p q = λ i. p i && q i
 
 le_from : (a b : ℕ) → nat_le a b ≡ true → a ≤ b
 le_from a b h = grind (arith, nat_tests)
 
-le_test : (a b : ℕ) → a ≤ b → nat_le a b ≡ true
+pub le_test : (a b : ℕ) → a ≤ b → nat_le a b ≡ true
 le_test a b h = grind (arith, nat_tests)
 
-lt_from : (a b : ℕ) → nat_lt a b ≡ true → a < b
+pub lt_from : (a b : ℕ) → nat_lt a b ≡ true → a < b
 lt_from a b h = grind (arith, nat_tests)
 
-lt_test : (a b : ℕ) → a < b → nat_lt a b ≡ true
+pub lt_test : (a b : ℕ) → a < b → nat_lt a b ≡ true
 lt_test a b h = grind (arith, nat_tests)
 
-digits_are : (ds : List ℕ) → list_all is_ascii_digit ds ≡ all_ascii_digits ds
+pub digits_are : (ds : List ℕ) → list_all is_ascii_digit ds ≡ all_ascii_digits ds
 digits_are [] = refl
 digits_are (d ∷ ds) = ap (λ b. is_ascii_digit d && b) (digits_are ds)
 

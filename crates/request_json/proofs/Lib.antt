@@ -3,6 +3,12 @@ pub mod ArgLaws
 pub mod IntLaws
 pub mod FloatLaws
 pub mod SentValues
+pub mod PassedInts
+pub mod PlainValues
+pub mod PlainReplies
+pub mod ArgumentsBack
+pub mod TypedParams
+pub mod RequestsBack
 pub mod RequestFits
 pub mod LinesFit
 pub mod LineTexts

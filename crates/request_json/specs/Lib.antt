@@ -1,6 +1,9 @@
 pub mod Arguments
 pub mod RequestLines
+pub mod ValueData
 pub mod ReplyLines
+pub mod RequestTexts
+pub mod RequestsReadBack
 pub mod Sending
 pub mod Answers
 pub mod Actions

@@ -5,13 +5,12 @@ use Rattle.std.specs.Fmt.{signed_decimal}
 use Rattle.serde_json.specs.Data.{Data}
 use Rattle.serde_json.specs.Data as json
 use Rattle.serde_json.specs.Find.{of_integer}
-use Rattle.serde_json.specs.View.{items_of}
 use Rattle.serde_json.specs.Written.{compact_text}
-use Rattle.sf_value.specs.declared.value.Value.{Value, Value-F, fold-Value}
-use Rattle.sf_value.specs.declared.value.Value.TheOpen as open'
+use Rattle.sf_value.specs.declared.value.Value.{Value}
 use Rattle.sf_value.specs.declared.Failure.{Failure}
 use Rattle.sf_value.specs.declared.Outcome.{Outcome}
 use Rattle.sf_value.specs.declared.Outcome.TheVariants as outcome
+use Rattle.request_json.specs.ValueData.{data_with}
 
 -- an int fits 64 bits with a sign
 abbrev pub is_short : ℤ → Bool
@@ -22,17 +21,9 @@ is_short (negsuc n) = nat_lt n (2 ^ 63)
 abbrev pub int_data : ℤ → Data
 int_data z = if is_short z then json.number (of_integer z) else json.string (signed_decimal z)
 
--- a result, in the form in which an argument is passed: one level, where a list's elements have their data
-abbrev pub value_step : Value-F Data → Data
-value_step (open'.Int z) = int_data z
-value_step (open'.Bool b) = json.boolean b
-value_step (open'.Str text) = json.string (encode_utf8_all text)
-value_step open'.Nil = json.null
-value_step (open'.List items) = json.array (items_of items)
-value_step (open'.Entity at) = json.string (encode_utf8_all at.key)
-
+-- a result, in the form in which an argument is passed
 abbrev pub value_data : Value → Data
-value_data = fold-Value Data value_step
+value_data = data_with int_data
 
 -- a kind of failure by its number
 unfoldable pub kind_name : ℕ → List ℕ

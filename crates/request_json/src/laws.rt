@@ -3,6 +3,7 @@
 ghost use Rattle.request_json.specs.FittingSpellings.{ValuesNestAsTypes, ValuesHaveSpellings, OutcomesHaveSpellings, RecordsHaveSpellings};
 ghost use Rattle.request_json.specs.LineSpellings.{LinesHaveSpellings};
 ghost use Rattle.request_json.specs.LinesFit.{LinesFit};
+ghost use Rattle.request_json.specs.RequestsReadBack.{RequestsReadBack};
 
 /// What a line asks fits its program: the class that it names is there, the method where it is a
 /// call, and each parameter has an argument of the type that it declares.
@@ -24,4 +25,10 @@ pub fn fitting_things_have_spellings()
     ensures values { ValuesHaveSpellings }
     ensures outcomes { OutcomesHaveSpellings }
     ensures records { RecordsHaveSpellings }
+{}
+
+/// The text of a request that fits an accepted program is read as this request, where its numbers and
+/// texts are those that a program can hold. A line that long may still be refused for its length.
+pub fn requests_read_back()
+    ensures { RequestsReadBack }
 {}

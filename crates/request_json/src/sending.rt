@@ -1,11 +1,12 @@
-//! What is sent to a writer of JSON: the members of a reply, and those of a refusal.
+//! What is sent to a writer of JSON: values, the members of a reply, and those of a refusal.
 
-ghost use Rattle.std.specs.Prelude.{◌≡◌, map, OnOk};
+ghost use Rattle.std.specs.Prelude.{◌≡◌, OnOk};
 ghost use Rattle.serde_json.specs.Data.{string, number, unsigned, array, member, no_members};
 ghost use Rattle.serde_json.specs.Events.{SendsValue, SendsMembers};
-ghost use Rattle.serde_json.specs.View.{items_of};
-ghost use Rattle.request_json.specs.ReplyLines.{int_data, value_data, kind_name, value_reply, failure_reply, reply_data, bad_data};
-ghost use Rattle.request_json.specs.Sending.{SendsMember};
+ghost use Rattle.request_json.specs.ReplyLines.{int_data, kind_name, value_reply, failure_reply, reply_data, bad_data};
+ghost use Rattle.request_json.specs.RequestTexts.{passed_int};
+ghost use Rattle.request_json.specs.Sending.{ints_of, SendsMember};
+ghost use Rattle.request_json.specs.ValueData.{data_with, items_with};
 
 use itoa::Buffer;
 use serde::{Described, Serialize, Serializer};
@@ -72,8 +73,16 @@ fn kind_text(kind: u8) -> &'static str
     }
 }
 
-/// An int as a number where it fits 64 bits with a sign, else as the text of its digits.
-fn send_int<S: Serializer>(n: i128, out: &mut S) -> Result<(), S::Error>
+/// Which ints are numbers in a line; others are texts of their digits.
+#[derive(Clone, Copy, PartialEq, Eq, Debug)]
+pub(crate) enum Ints {
+    /// Those that fit 64 bits with a sign, as a reply has them.
+    Replied,
+    /// Those that fit 64 bits, with a sign or without, as a request has them.
+    Passed,
+}
+
+fn send_replied<S: Serializer>(n: i128, out: &mut S) -> Result<(), S::Error>
     ensures { OnOk result (SendsValue (int_data n) (S.written out.old) (S.written out.new)) }
 {
     match i64::try_from(n) {
@@ -85,35 +94,57 @@ fn send_int<S: Serializer>(n: i128, out: &mut S) -> Result<(), S::Error>
     }
 }
 
+fn send_passed<S: Serializer>(n: i128, out: &mut S) -> Result<(), S::Error>
+    ensures { OnOk result (SendsValue (passed_int n) (S.written out.old) (S.written out.new)) }
+{
+    match u64::try_from(n) {
+        Ok(natural) => out.u64(natural),
+        Err(_) => send_replied(n, out),
+    }
+}
+
+fn send_int<S: Serializer>(n: i128, ints: Ints, out: &mut S) -> Result<(), S::Error>
+    ensures { OnOk result (SendsValue (ints_of ints n) (S.written out.old) (S.written out.new)) }
+{
+    match ints {
+        Ints::Replied => send_replied(n, out),
+        Ints::Passed => send_passed(n, out),
+    }
+}
+
 /// The elements of a list, one after another.
 #[cycle(values)]
-fn send_values<S: Serializer>(values: &[Value], out: &mut S) -> Result<(), S::Error>
-    ensures { OnOk result (SendsValue (array (items_of (map value_data values.now))) (S.written out.old) (S.written out.new)) }
+pub(crate) fn send_values<S: Serializer>(
+    values: &[Value],
+    ints: Ints,
+    out: &mut S,
+) -> Result<(), S::Error>
+    ensures { OnOk result (SendsValue (array (items_with (ints_of ints) values.now)) (S.written out.old) (S.written out.new)) }
 {
     out.begin_seq(Some(values.len()))?;
     for value in values {
-        send_value(value, out)?;
+        send_value(value, ints, out)?;
     }
     out.end_seq()
 }
 
-/// A result, in the form in which an argument is passed.
+/// A value, in the form that an argument and a result have.
 #[cycle(values)]
-fn send_value<S: Serializer>(value: &Value, out: &mut S) -> Result<(), S::Error>
-    ensures { OnOk result (SendsValue (value_data value.now) (S.written out.old) (S.written out.new)) }
+fn send_value<S: Serializer>(value: &Value, ints: Ints, out: &mut S) -> Result<(), S::Error>
+    ensures { OnOk result (SendsValue (data_with (ints_of ints) value.now) (S.written out.old) (S.written out.new)) }
 {
     match value {
-        Value::Int(n) => send_int(*n, out),
+        Value::Int(n) => send_int(*n, ints, out),
         Value::Bool(truth) => out.bool(*truth),
         Value::Str(text) => out.str(text.as_str()),
         Value::Nil => out.unit(),
-        Value::List(items) => send_values(items.as_slice(), out),
+        Value::List(items) => send_values(items.as_slice(), ints, out),
         Value::Entity(at) => out.str(at.key.as_str()),
     }
 }
 
 /// A member that is a text.
-fn send_text<S: Serializer>(key: &str, text: &str, out: &mut S) -> Result<(), S::Error>
+pub(crate) fn send_text<S: Serializer>(key: &str, text: &str, out: &mut S) -> Result<(), S::Error>
     ensures { OnOk result (SendsMember key.now (string text.now) (S.written out.old) (S.written out.new)) }
 {
     out.key(key)?;
@@ -141,7 +172,7 @@ fn send_result<S: Serializer>(
     out.begin_map(Some(3))?;
     send_text("id", id.as_str(), out)?;
     out.key("ok")?;
-    send_value(value, out)?;
+    send_value(value, Ints::Replied, out)?;
     send_end("seq", u64::from(seq), out)
 }
 

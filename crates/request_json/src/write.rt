@@ -12,7 +12,7 @@ use sf_value::{Bytes, Outcome, Reply, Text};
 use std::alloc::{AllocError, Global};
 
 /// The text of what is written, and LF.
-fn line_of<T: Serialize>(alloc: Global, members: &T) -> Result<Bytes, AllocError>
+pub(crate) fn line_of<T: Serialize>(alloc: Global, members: &T) -> Result<Bytes, AllocError>
     ensures { IfOk result (λ line. IsLineOf (T.writes members.now) line) }
 {
     let Ok(text) = serde_json::to_vec(alloc, members) else {

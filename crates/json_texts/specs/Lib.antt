@@ -1,0 +1,2 @@
+pub mod PlainData
+pub mod TextLaws

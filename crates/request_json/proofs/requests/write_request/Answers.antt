@@ -1,0 +1,13 @@
+use Rattle.std.proofs.lemmas.Result.{IfOk-weaker}
+use Rattle.program_meaning.specs.Sources.{source_of}
+use Rattle.request_json.specs.RequestTexts.{request_text, request_line, request_data}
+use Rattle.request_json.proofs.FloatLaws.{no_float_asked}
+use Rattle.request_json.proofs.SentValues.{line_of_value}
+use Rattle.request_json.proofs.requests.write_request.Goals as goal
+
+pub returns : goal.returns
+unfolding request_line request_text
+returns c =
+    let src = source_of c.args.program.now in
+    let request = c.args.request.now in
+    IfOk-weaker c.line_of.result _ _ (λ line. line_of_value (request_data src request) line (no_float_asked src request)) c.line_of.ensures
