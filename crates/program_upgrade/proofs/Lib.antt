@@ -1,0 +1,9 @@
+pub mod BeginLaws
+pub mod DefaultLaws
+pub mod MappedLaws
+pub mod RuleLaws
+pub mod MappedStates
+pub mod KeptClasses
+pub mod KeptTypes
+pub mod LiteralFits
+pub mod KeptFits

@@ -1,0 +1,9 @@
+pub mod Lent
+pub mod Counts
+pub mod RuleTexts
+pub mod SameParts
+pub mod Defaults
+pub mod UpgradeRules
+pub mod Mapping
+pub mod Answers
+pub mod UpgradeLaws
