@@ -195,9 +195,9 @@ module _ (src : Source) (rule : List Access → Chosen) (limits : Limits) where
       elim (low_or_high n size) [
         | inl low ↦ inl (cut_first s line lines n low)
         | inr high ↦ elim (cut_at lines next (n - size)) [
-            | inl cut ↦ inl (cut_later s line lines n high cut)
-            | inr uncut ↦ inr (uncut_later s line lines n high uncut)
-          ]
+          | inl cut ↦ inl (cut_later s line lines n high cut)
+          | inr uncut ↦ inr (uncut_later s line lines n high uncut)
+        ]
       ]
 
 -- A request that arrives commits nothing
@@ -253,10 +253,10 @@ module _ (src : Source) (rule : List Access → Chosen) (lawful : IsLawfulRule r
       if full
       then t
       else (if due
-          then (if none
-              then record { core = moved_by t line; lines = t.lines + 1; is_full = true }
-              else record { core = after_batch src (moved_by t line) (committed src rule limits (moved_by t line)); lines = t.lines + 1; is_full = false })
-          else record { core = moved_by t line; lines = t.lines + 1; is_full = false })
+      then (if none
+      then record { core = moved_by t line; lines = t.lines + 1; is_full = true }
+      else record { core = after_batch src (moved_by t line) (committed src rule limits (moved_by t line)); lines = t.lines + 1; is_full = false })
+      else record { core = moved_by t line; lines = t.lines + 1; is_full = false })
 
   next_by : (t : Standing) (line : Line) → IsSoundCore src t.core → (full due none : Bool) → IsNext t (stepped t line full due none).core
   next_by t line sound true due none = record { before = t.core; same = refl; sound = sound; last_is = inl refl }
@@ -382,9 +382,9 @@ module _ (src : Source) (rule : List Access → Chosen) (lawful : IsLawfulRule r
           behind = all_behind _ k some;
           whole = λ p q. absurd (p refl);
           some = λ p. (
-              length (texts_of (take k lines)),
-              subst (λ l. Appends held held' (joined l)) (first_replies src rule limits k lines (begun empty_core)) some,
-            );
+            length (texts_of (take k lines)),
+            subst (λ l. Appends held held' (joined l)) (first_replies src rule limits k lines (begun empty_core)) some,
+          );
         }
 
     cut_written : (n : ℕ) → Appends held held' (take n (joined (at_once_texts lines))) → WroteBatches src rule limits lines held held' (Err WriteFault)
@@ -392,19 +392,19 @@ module _ (src : Source) (rule : List Access → Chosen) (lawful : IsLawfulRule r
         let part : Appends held held' (take n (joined (texts_of lines))) = subst (λ text. Appends held held' (take n text)) (same_text lines) wrote in
         elim (cut_at src rule limits lines (begun empty_core) n) [
           | inl c ↦ record {
-              last = (step src rule limits (in_batches src rule limits (take c.count lines)) c.line).core;
-              behind = cut_behind _ refl n part c;
-              whole = λ p q. absurd (q refl);
-              some = λ p. absurd (p refl);
-            }
+            last = (step src rule limits (in_batches src rule limits (take c.count lines)) c.line).core;
+            behind = cut_behind _ refl n part c;
+            whole = λ p q. absurd (q refl);
+            some = λ p. absurd (p refl);
+          }
           | inr u ↦ record {
-              last = (in_batches src rule limits (take (length lines) lines)).core;
-              behind =
-                  all_behind _ (length lines)
-                  (subst (λ l. Appends held held' (joined (texts_of l))) (sym all_taken) (subst (Appends held held') u.text part));
-              whole = λ p q. absurd (q refl);
-              some = λ p. absurd (p refl);
-            }
+            last = (in_batches src rule limits (take (length lines) lines)).core;
+            behind =
+                all_behind _ (length lines)
+                (subst (λ l. Appends held held' (joined (texts_of l))) (sym all_taken) (subst (Appends held held') u.text part));
+            whole = λ p q. absurd (q refl);
+            some = λ p. absurd (p refl);
+          }
         ]
 
 pub writes_batches : WritesBatches
