@@ -81,21 +81,21 @@ method Item.update_stock: 1 blocks
 class User: key username; 2 fields; 2 methods
 method User.buy_item: 5 blocks
   block 0: 2 vars, call Item.price then 4
-  block 1: 3 vars, leave
-  block 2: 3 vars, leave
-  block 3: 4 vars, branch 1 2
+  block 1: 1 vars, leave
+  block 2: 0 vars, leave
+  block 3: 2 vars, branch 1 2
   block 4: 4 vars, call Item.update_stock then 3
 method User.money: 1 blocks
   block 0: 0 vars, leave
 class Cart: key k; 1 fields; 1 methods
 method Cart.first_dear: 7 blocks
   block 0: 2 vars, jump 2
-  block 1: 3 vars, leave
-  block 2: 6 vars, branch 3 1
-  block 3: 6 vars, call Item.price then 6
-  block 4: 8 vars, jump 1
-  block 5: 7 vars, call Item.price then 4
-  block 6: 8 vars, branch 5 2
+  block 1: 1 vars, leave
+  block 2: 4 vars, branch 3 1
+  block 3: 4 vars, call Item.price then 6
+  block 4: 1 vars, jump 1
+  block 5: 1 vars, call Item.price then 4
+  block 6: 6 vars, branch 5 2
 ";
 
 fn stage_of(fault: ProgramFault) -> &'static str {
@@ -177,8 +177,8 @@ fn a_method_is_compiled_or_its_fault_is_told(rt: HostRuntime) -> Result<(), Fail
 const OWN_BLOCKS: &str = "
     no call      | return 2                  | 1 blocks;   block 0: 1 vars, leave
     an own call  | return self.one()         | 1 blocks;   block 0: 1 vars, leave
-    a call       | return b.get()            | 2 blocks;   block 0: 1 vars, call B.get then 1;   block 1: 2 vars, leave
-    a creation   | b = B(\"k\", 1)↵return 2 | 2 blocks;   block 0: 1 vars, make B then 1;   block 1: 2 vars, leave
+    a call       | return b.get()            | 2 blocks;   block 0: 1 vars, call B.get then 1;   block 1: 1 vars, leave
+    a creation   | b = B(\"k\", 1)↵return 2 | 2 blocks;   block 0: 1 vars, make B then 1;   block 1: 1 vars, leave
 ";
 
 #[test]

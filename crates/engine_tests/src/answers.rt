@@ -28,7 +28,7 @@ fn in_order(batch: usize, history: u32) -> Options<'static> {
     }
 }
 
-const ONE_BY_ONE: &str = r#"
+pub const ONE_BY_ONE: &str = r#"
     an item          | new a Item ["apple",3]               | {"id":"a","ok":"apple","seq":1} batch 1 1 1
     its price        | call b Item apple price []           | {"id":"b","ok":3,"seq":2} batch 1 1 1
     two come in      | call c Item apple update_stock [2]   | {"id":"c","ok":true,"seq":3} batch 1 1 1

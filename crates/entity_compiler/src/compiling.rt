@@ -6,6 +6,7 @@ ghost use Rattle.py_tree.specs.ClassRules.{tables_of};
 ghost use Rattle.entity_tables.specs.Views.{plain_tables};
 ghost use Rattle.block_code.specs.GraphViews.{graph_tables, graph_blocks};
 ghost use Rattle.block_step.specs.CompiledViews.{compiled_program, compiled_names, compiled_blocks, IsWhole};
+ghost use Rattle.live_laws.specs.Cut.{GraphHasLiveParams};
 ghost use Rattle.entity_compiler.specs.Compiling.{AreCompiled, IsGraphOf, Compiles};
 
 use crate::classes::program_blocks;
@@ -14,6 +15,7 @@ use block_code::Graph;
 use block_step::Compiled;
 use call_graph::graph;
 use entity_tables::Tables;
+use live_vars::trim;
 use program_text::{Accepted, ProgramError, accept};
 use py_tree::Checked;
 use std::alloc::{AllocError, Global};
@@ -30,7 +32,8 @@ fn graph_of(alloc: Global, program: &Checked, tables: &Tables) -> Result<Graph, 
         calls: &calls,
     };
     let blocks = program_blocks(alloc, &marked)?;
-    Graph::new(alloc, program, blocks)
+    let cut = trim(alloc, program, blocks)?;
+    Graph::new(alloc, program, cut)
 }
 
 /// An accepted program with its graph.
@@ -39,6 +42,7 @@ fn with_graph(alloc: Global, program: Checked, tables: Tables) -> Result<Compile
     ensures program { IfOk result (λ c. compiled_program c ≡ checked_program program) }
     ensures names { IfOk result (λ c. compiled_names c ≡ checked_names program) }
     ensures blocks { IfOk result (λ c. AreCompiled (compiled_names c) (compiled_program c) (compiled_blocks c)) }
+    ensures live { IfOk result (λ c. GraphHasLiveParams (compiled_names c) (compiled_program c) (compiled_blocks c)) }
     ensures whole { IfOk result (λ c. IsWhole c) }
 {
     let graph = graph_of(alloc, &program, &tables);

@@ -14,7 +14,7 @@ use program_text::{Accepted, accept};
 use py_tree::Names;
 use std::alloc::{AllocError, Global};
 use std::test::Fail;
-use test_support::{SHOP, Setting, hold_table, hold_text, text_in};
+use test_support::{PING, SHOP, Setting, hold_table, hold_text, text_in};
 
 /// A row has the lines of a method that gives an int, with a call that suspends in one place.
 const BOX: Setting = Setting {
@@ -88,6 +88,22 @@ fn an_item_is_bought_by_two_calls(rt: HostRuntime) -> Result<(), Fail> {
     hold_text(
         flat_told(rt.alloc(), SHOP, 1, 0),
         "mark; t0 = amount; t1 = call item.price  {amount item t0 t1}; total = (t0 * t1); code; mark; if <not <t2 = call item.update_stock (-amount) {amount item total t2}; t2>> [code; ] else []; code; code; ",
+    )
+}
+
+#[test]
+fn the_target_of_an_addition_is_read_before_the_call(rt: HostRuntime) -> Result<(), Fail> {
+    hold_text(
+        flat_told(rt.alloc(), PING, 0, 1),
+        "mark; t0 = (self.n); t1 = call b.poke self {b t0 t1}; self.n = (t0 + t1); code; ",
+    )
+}
+
+#[test]
+fn a_call_behind_and_is_made_where_it_is_asked(rt: HostRuntime) -> Result<(), Fail> {
+    hold_text(
+        flat_told(rt.alloc(), PING, 0, 2),
+        "mark; if <<flag> and <t0 = call b.yes  {flag b t0}; t0>> [t1 = True; ] else [t1 = False; ]; give t1; ",
     )
 }
 
