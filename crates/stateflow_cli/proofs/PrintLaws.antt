@@ -68,6 +68,7 @@ module _ (content : Option (List ℕ)) (c : Compiled) (one : HoldsOne (λ text. 
         tables = compiled_tables c;
         blocks = compiled_blocks c;
         graph = one.is.whole;
+        live = one.is.live;
         same = spelt ∙ ap encode_utf8_all is ∙ same_bytes (compiled_names c) (compiled_program c) (compiled_tables c) (compiled_blocks c) texts one.is.whole.has_tables;
         told = told;
         unchosen = refl;

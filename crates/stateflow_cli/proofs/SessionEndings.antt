@@ -214,6 +214,7 @@ module _ (limit : ℕ) (before after : Devices) (now : DiskFacts) (behind : Outp
       events : RunsGraph session
       events = record {
         graph = r.holds.is.whole;
+        live = r.holds.is.live;
         started = r.runs.tells.started;
         starts = r.runs.tells.starts;
         begun = begun_of r.compiled (settings_for limit s) (batches_of r.compiled (settings_for limit s) r.start r.runs.steps) r.runs.tells.counts r.runs.tells.started after.outside result

@@ -30,9 +30,10 @@ module _ (s : words.GenSettings) (before after : Devices) where
     pub nothing : (status ≡ 0 → ⊥) → (status ≡ 4 → ⊥) → Keeps before.out.held after.out.held
     pub one_of : (status ≡ 0) ⊎ ((status ≡ 4) ⊎ (status ≡ 8))
 
-  -- The chooser was started once, with the number of the work, and the watch was told one graph, which fits the generated program and means it; then the
-  -- batches of the generated requests were told, each along the picks made for it: with the first status all of them, with that of a write fault,
-  -- or of want of memory, some first ones, and perhaps a part of the next. What each batch commits has the outcomes that its events ended with.
+  -- The chooser was started once, with the number of the work, and the watch was told one graph, which fits the generated program and means it, and whose
+  -- blocks behind the first of a method have as parameters exactly what is live there; then the batches of the generated requests were told, each along the
+  -- picks made for it: with the first status all of them, with that of a write fault, or of want of memory, some first ones, and perhaps a part of the next.
+  -- What each batch commits has the outcomes that its events ended with.
   pub record TellsWork (status : ℕ) : Type 0 where
     pub compiled : Compiled
     pub is : IsCompiledOf work.program compiled

@@ -5,6 +5,7 @@ use Rattle.std.specs.Io.KnownBytes.{Appends}
 use Rattle.sf_outside.specs.Bytes.{AppendsPrefix}
 use Rattle.sf_outside.specs.DiskModel.{Image, DiskFacts}
 use Rattle.block_step.specs.CompiledViews.{compiled_program, compiled_names, compiled_tables, compiled_blocks}
+use Rattle.live_laws.specs.Cut.{GraphHasLiveParams}
 use Rattle.block_step.specs.Compilation.{IsCompilation}
 use Rattle.operator_graph.specs.Turns.{Outside}
 use Rattle.engine.specs.Cores.{IsSoundCore, empty_core}
@@ -64,11 +65,13 @@ module _ {limit : ℕ} {file : List ℕ} {s : words.RunSettings} {before after :
     pub whole : (status ≡ 4 → ⊥) → Appends before.err.held behind.held (trace_text s.trace no_batch it.counts)
     pub line : TellsStatus file behind after.err status
 
-  -- The chooser was started once, and the watch was told one graph, which fits the file's program and means it; then the batches of what was taken were told, each along
-  -- the picks made for it. Only with the status of a write fault, of a fault of the disk or of want of memory may these be some first ones, and a part of the
-  -- next. What each batch commits has the outcomes that its events ended with.
+  -- The chooser was started once, and the watch was told one graph, which fits the file's program and means it, and whose blocks behind the first of a method have
+  -- as parameters exactly what is live there; then the batches of what was taken were told, each along the picks made for it. Only with the status of a write
+  -- fault, of a fault of the disk or of want of memory may these be some first ones, and a part of the next. What each batch commits has the outcomes that its
+  -- events ended with.
   pub record RunsGraph : Type 0 where
     pub graph : IsCompilation (compiled_names it.compiled) (compiled_program it.compiled) (compiled_tables it.compiled) (compiled_blocks it.compiled)
+    pub live : GraphHasLiveParams (compiled_names it.compiled) (compiled_program it.compiled) (compiled_blocks it.compiled)
     pub started : Outside
     pub starts : Starts it.compiled (settings_of it) before.outside started
     pub begun : BeginBatches (run_service it.compiled (settings_of it)) (batches it) it.counts started after.outside
