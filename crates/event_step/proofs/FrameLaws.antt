@@ -5,6 +5,7 @@ use Rattle.std.specs.List.{list_any, flat_map}
 use Rattle.std.proofs.lemmas.Bool.{eqb-true}
 use Rattle.std.proofs.lemmas.List.{append-nil, drop_all}
 use Rattle.std.proofs.lemmas.List.Folds.{list_any-append}
+use Rattle.std.proofs.lemmas.Map.Keys.{any_passes_from_place}
 use Rattle.std.proofs.lemmas.Map.Views.{any-filter_same}
 use Rattle.std.proofs.lemmas.Option.{same_Some, none-some}
 use Rattle.sf_value.specs.declared.Outcome.{Outcome}
@@ -16,6 +17,7 @@ use Rattle.block_code.specs.PlainVars.{PlainVar, plain_vars}
 use Rattle.block_code.specs.PlainBlocks.{PlainCatch, PlainBlock, plain_catch, plain_catches}
 use Rattle.block_code.specs.EventsFit.{Awaits, catch_of, params_if_there, kept_params}
 use Rattle.block_runs.specs.EventStep.{behind_it, up_to, Lasts, one_before, lasts, target_of}
+use Rattle.event_step.specs.Frames.{is_named}
 
 -- The last frame
 
@@ -104,6 +106,14 @@ resumes_entity o (Some l) = refl
 pub name_among : (ps : List VarType) (name : ℕ) → list_any (λ (p : PlainVar). p.name == name) (plain_vars ps) ≡ list_any (λ (p : VarType). p.name.0 == name) ps
 name_among [] name = refl
 name_among (p ∷ ps) name = ap (λ t. (p.name.0 == name) || t) (name_among ps name)
+
+-- one of them that is at a place
+pub named_there : (ps : List VarType) (place name : ℕ) → is_named name (slice_get ps place) ≡ true → list_any (λ (p : VarType). p.name.0 == name) ps ≡ true
+named_there ps place name h = by (slice_get ps place) refl h
+  where
+    by : (o : Option VarType) → slice_get ps place ≡ o → is_named name o ≡ true → list_any (λ (p : VarType). p.name.0 == name) ps ≡ true
+    by None is h = absurd (true≢false (sym h))
+    by (Some p) is h = any_passes_from_place (λ (p : VarType). p.name.0 == name) ps place p is h
 
 module _ (name : ℕ) where
   abbrev named : PlainVar → Bool

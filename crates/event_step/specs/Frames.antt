@@ -1,10 +1,11 @@
 -- Frames, as the definition of an event has them.
-use Rattle.std.specs.Prelude.{◌≡◌, ◌==◌, ℕ, Bool, List, Some, None}
+use Rattle.std.specs.Prelude.{◌≡◌, ◌==◌, ℕ, Bool, false, List, Some, None}
 use Rattle.std.specs.List.{list_any}
 use Rattle.std.specs.declared.option.Option.{Option}
 use Rattle.py_tree.specs.ClassRules.{PlainTable}
 use Rattle.sf_value.specs.declared.Failure.{Failure}
 use Rattle.block_code.specs.declared.event.Frame.{Frame}
+use Rattle.block_code.specs.declared.vars.VarType.{VarType}
 use Rattle.block_code.specs.PlainVars.{PlainVar}
 use Rattle.block_code.specs.PlainBlocks.{PlainBlock}
 use Rattle.block_code.specs.Places.{block_at}
@@ -15,6 +16,11 @@ use Rattle.event_step.specs.declared.blocks.Awaits.{Awaits}
 -- a name is one of those of parameters
 abbrev pub has_name : ℕ → List PlainVar → Bool
 has_name x params = list_any (λ p. p.name == x) params
+
+-- there is a parameter, of this name
+abbrev pub is_named : ℕ → Option VarType → Bool
+is_named x None = false
+is_named x (Some p) = p.name.0 == x
 
 abbrev pub plain_awaits : Awaits → PlainAwaits
 plain_awaits w = record { into = w.into.0; after = w.after }

@@ -27,7 +27,7 @@ fn keep_one(
 ) -> Result<(), AllocError>
     ensures { OnOk result (made.new ≡ made.old ++ kept (kept_params (plain_blocks blocks.now) (plain_block block.now) (plain_awaits awaits)) (var ∷ [])) }
 {
-    if is_kept(blocks, block, awaits, var.name) {
+    if is_kept(blocks, block, awaits, made.len(), var.name) {
         return made.push(alloc, var);
     }
     drop(var);
