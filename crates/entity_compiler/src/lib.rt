@@ -6,8 +6,10 @@
 
 mod classes;
 mod compiling;
+mod laws;
 mod methods;
 
 pub use block_step::Compiled;
 pub use compiling::compile;
+pub use laws::compiled_take_live;
 pub use program_text::{ProgramError, ProgramFault};

@@ -183,7 +183,7 @@ stands_at (t ∷ ts) start k less = by (less_or_more k (length t.methods)) (λ d
         record { class = suc q.class; number = q.number; table = q.table; sig = q.sig; has_table = q.has_table; has_sig = q.has_sig; place = omega (arith, e, there) }
 
 module _ (names : List (List ℕ)) (program : PlainProgram) (accepted : IsKnownAccepted names program) (graph : List (List PlainBlock)) (fits : GraphFits names program graph) where
-  live_are_params : (k : ℕ) (blocks : List PlainBlock) → slice_get graph k ≡ Some blocks → LiveAreParams blocks
+  pub live_are_params : (k : ℕ) (blocks : List PlainBlock) → slice_get graph k ≡ Some blocks → LiveAreParams blocks
   live_are_params k blocks is n b b_is x live =
       let p : StandsAt (tables_of names program) 0 k = stands_at (tables_of names program) 0 k (subst (λ m. k < m) fits.as_many (slice_get_within graph k blocks is)) in
       let m : IsMethod names program accepted.rules.classes accepted.rules.flow p.class p.number p.sig = method_is names program accepted.rules.classes accepted.rules.flow p.class p.number p.table p.sig p.has_table p.has_sig in

@@ -3,10 +3,12 @@ use Rattle.std.specs.Prelude.{◌≡◌, ◌↔◌, ◌==◌, ◌&&◌, ◌||◌
 use Rattle.std.specs.declared.option.Option.{Option}
 use Rattle.std.specs.List.{list_any}
 use Rattle.py_tree.specs.declared.names.Name.{Name}
+use Rattle.py_tree.specs.PlainProgram.{PlainProgram}
 use Rattle.py_tree.specs.ClassViews.{numbers_of}
 use Rattle.block_code.specs.PlainVars.{PlainVar}
 use Rattle.block_code.specs.PlainBlocks.{PlainEnd, EJump, EBranch, ELeave, ECall, EMake, PlainCatch, PlainBlock}
-use Rattle.block_code.specs.GraphFits.{is_var}
+use Rattle.program_meaning.specs.NothingGoesWrong.{IsKnownAccepted}
+use Rattle.block_code.specs.GraphFits.{is_var, GraphFits}
 use Rattle.live_laws.specs.Live.{items_spare, block_reads, Live}
 use Rattle.live_vars.specs.declared.sets.NameSet.{NameSet}
 
@@ -21,6 +23,12 @@ pub record TellsLive (blocks : List PlainBlock) (lists : List (List ℕ)) : Type
 -- what is live at a block is a parameter of it, as it is where blocks fit
 abbrev pub LiveAreParams : List PlainBlock → Type 0
 LiveAreParams blocks = (n : ℕ) (b : PlainBlock) → slice_get blocks n ≡ Some b → (x : ℕ) → Live blocks x n → list_any (is_var x) b.params ≡ true
+
+-- so it is in each method of a graph that fits an accepted program
+abbrev pub FitGraphsTakeLive : Type 0
+FitGraphsTakeLive =
+    (names : List (List ℕ)) (program : PlainProgram) → IsKnownAccepted names program → (graph : List (List PlainBlock)) → GraphFits names program graph
+    → (place : ℕ) (blocks : List PlainBlock) → slice_get graph place ≡ Some blocks → LiveAreParams blocks
 
 -- The views
 

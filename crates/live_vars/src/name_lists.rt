@@ -26,7 +26,8 @@ fn names_of(alloc: Global, set: &NameSet) -> Result<Sequence<Name>, AllocError>
     Ok(names)
 }
 
-/// The live names of each block, where each of them is a parameter of the block, as it is where blocks fit.
+/// The live names of each block, where each of them is a parameter of the block, as it is where blocks fit
+/// (`fit_graphs_take_live`).
 #[tactic(auto, using(crate::proofs::ListRules::list_more))]
 pub fn saved(alloc: Global, blocks: &Blocks) -> Result<NameLists, AllocError>
     ensures { IfOk result (λ lists. LiveAreParams (plain_blocks blocks.now) → TellsLive (plain_blocks blocks.now) (lists_of lists)) }
