@@ -48,7 +48,6 @@ fn changed(old: &Names, new: &Names, t: &ClassTable, u: &ClassTable) -> Option<U
 }
 
 /// The values of the fields that the later program adds to a class, or the first rule that the class breaks.
-
 #[tactic(auto, using(crate::proofs::RuleLaws::rule_laws))]
 fn plan_class(
     alloc: Global,
