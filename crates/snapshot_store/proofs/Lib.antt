@@ -4,4 +4,5 @@ pub mod Fillings
 pub mod Gates
 pub mod Histories
 pub mod OneNewest
+pub mod PagedWrites
 pub mod Slots

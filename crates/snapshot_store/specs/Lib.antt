@@ -1,3 +1,6 @@
 pub mod Answers
+pub mod FrontLaws
+pub mod PageLaws
+pub mod PageSteps
 pub mod SlotFile
 pub mod SlotSteps

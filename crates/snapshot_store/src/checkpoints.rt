@@ -1,7 +1,7 @@
 //! Keeping a snapshot: the slot of its epoch is closed, its log is cleared, the history is added to, the slot is filled, and then it is
 //! opened.
 
-ghost use Rattle.std.specs.Prelude.{◌≡◌, ◌≢◌, ◌⊎◌, ◌↔◌, ◌+◌, ◌^◌, ◌<◌, ◌≤◌, [], ◌∷◌, length, IfSome, OnOk, OnErr, IsErr, IsTrue};
+ghost use Rattle.std.specs.Prelude.{◌≡◌, ◌≢◌, ◌⊎◌, ◌+◌, ◌^◌, ◌<◌, ◌≤◌, [], ◌∷◌, length, IfSome, OnOk, OnErr, IsErr};
 ghost use Rattle.sf_bytes.specs.Heads.{IsHead};
 ghost use Rattle.sf_outside.specs.Causes.{HasCause, Rose};
 ghost use Rattle.sf_outside.specs.DiskModel.{Image, of_file, LeavesOnly, SeenWritten, IsDurable, Stays, LeavesNoMore};
@@ -15,10 +15,9 @@ ghost use Rattle.snapshot_store.specs.SlotSteps.{ComesBeside, CheckpointStep, Ch
 use crate::OPEN;
 use crate::files::{log_of, slot_of};
 use crate::front::{Gate, gate_of};
+use crate::spelled::{append_spelled, checkpoint_of, fill_spelled};
+use sf_bytes::{Given, Measured};
 use sf_outside::{Disk, Failed, StoreFile, put_synced};
-
-/// No write to a store ends past this place.
-const END: u64 = 1 << 62;
 
 /// Keeps the snapshot of the head whose bytes these are, once what it has more of the history stands at its place.
 ///
@@ -53,21 +52,18 @@ pub fn checkpoint<D: Disk>(
         ⊎ ((2 ^ 62 < 17 + length body.now) ⊎ (2 ^ 62 < at + length more.now))) }
     ensures mounts { D.mounts disk.new ≡ D.mounts disk.old }
 {
-    if ends_past(17, body) || ends_past(at, more) {
-        return Err(Failed);
-    }
-    close_slot(disk, epoch)?;
-    clear_log(disk, epoch)?;
-    append_history(disk, at, more)?;
-    fill_slot(disk, epoch, body)?;
-    open_slot(disk, epoch)
-}
-
-/// Whether a write of these bytes at this place would end past the last place of a store.
-fn ends_past(at: u64, bytes: &[u8]) -> bool
-    ensures { IsTrue result ↔ (2 ^ 62 < at + length bytes.now) }
-{
-    at > END || bytes.len() as u64 > END - at
+    let (more_size, size) = (more.len() as u64, body.len() as u64);
+    let more = Given { bytes: more };
+    let body = Given { bytes: body };
+    let more = Measured {
+        spelled: &more,
+        size: more_size,
+    };
+    let body = Measured {
+        spelled: &body,
+        size,
+    };
+    checkpoint_of(disk, epoch, at, &more, &body)
 }
 
 /// Closes the slot of an epoch.
@@ -143,13 +139,12 @@ pub fn append_history<D: Disk>(disk: &mut D, at: u64, body: &[u8]) -> Result<(),
     ensures cause { OnErr result (Rose (D.faults disk.old) (D.faults disk.new) ⊎ (2 ^ 62 < at + length body.now)) }
     ensures mounts { D.mounts disk.new ≡ D.mounts disk.old }
 {
-    if ends_past(at, body) {
-        return Err(Failed);
-    }
-    if body.is_empty() {
-        return Ok(());
-    }
-    put_synced(disk, StoreFile::Hist, at, body)
+    let given = Given { bytes: body };
+    let more = Measured {
+        spelled: &given,
+        size: body.len() as u64,
+    };
+    append_spelled(disk, at, &more)
 }
 
 /// Writes the epoch and the head whose bytes these are behind the gate of the slot of the epoch.
@@ -167,32 +162,12 @@ pub fn fill_slot<D: Disk>(disk: &mut D, epoch: u64, body: &[u8]) -> Result<(), F
     ensures cause { OnErr result (Rose (D.faults disk.old) (D.faults disk.new) ⊎ (2 ^ 62 < 17 + length body.now)) }
     ensures mounts { D.mounts disk.new ≡ D.mounts disk.old }
 {
-    if ends_past(17, body) {
-        return Err(Failed);
-    }
-    put_behind_gate(disk, slot_of(epoch), epoch, body)
-}
-
-/// Writes an epoch and a body behind the gate of a slot, and makes them safe.
-#[tactic(auto, unfolding(sf_bytes::specs::ByteForms::long_bytes))]
-fn put_behind_gate<D: Disk>(
-    disk: &mut D,
-    slot: StoreFile,
-    epoch: u64,
-    body: &[u8],
-) -> Result<(), Failed>
-    requires { 17 + length body.now ≤ 2 ^ 62 }
-    ensures durable { OnOk result (IsDurable slot (D.facts disk.new)) }
-    ensures seen { OnOk result (SeenWritten slot 1 (behind_gate epoch body.now) (D.facts disk.old) (D.facts disk.new)) }
-    ensures moments { LeavesOnly (D.facts disk.old) (D.facts disk.new) (ComesBy slot KeepsGate (D.facts disk.old)) }
-    ensures others { OthersStayDurable slot (D.facts disk.old) (D.facts disk.new) }
-    ensures cause { HasCause (D.faults disk.old) (D.faults disk.new) result }
-    ensures mounts { D.mounts disk.new ≡ D.mounts disk.old }
-{
-    let len = body.len() as u64;
-    disk.write_at(slot, 1, &epoch.to_be_bytes())?;
-    disk.write_at(slot, 9, &len.to_be_bytes())?;
-    put_synced(disk, slot, 17, body)
+    let given = Given { bytes: body };
+    let body = Measured {
+        spelled: &given,
+        size: body.len() as u64,
+    };
+    fill_spelled(disk, epoch, &body)
 }
 
 /// Opens the slot of an epoch.
