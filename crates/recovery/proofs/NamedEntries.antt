@@ -7,7 +7,7 @@ use Rattle.sf_bytes.specs.ByteForms.{entry_bytes}
 use Rattle.sf_bytes.specs.Entries.{EntriesTo, HistoryIs}
 use Rattle.sf_bytes.specs.Gates.{StandsAt}
 use Rattle.sf_bytes.specs.Reads.{BeginsWith}
-use Rattle.sf_bytes.specs.Spelt.{IsSpeltEntry, IsRealEntry, IsReadEntry, IsReadHead, IsReadSnapshot}
+use Rattle.byte_sizes.specs.Spelt.{IsSpeltEntry, IsRealEntry, IsReadEntry, IsReadHead, IsReadSnapshot}
 use Rattle.sf_bytes.proofs.Histories.{run_then, run_reach, history_stays}
 use Rattle.sf_bytes.proofs.Stands.{Stands-same}
 use Rattle.sf_outside.specs.Bytes.{CopiedAll}

@@ -2,7 +2,7 @@
 use Rattle.std.specs.Prelude.{ℕ, ◌≡◌, List, length, Result, Ok, Err}
 use Rattle.std.specs.List.{AllByRecursion}
 use Rattle.sf_bytes.specs.Entries.{HistoryIs, HistoryBreaks}
-use Rattle.sf_bytes.specs.Spelt.{IsReadEntry, IsReadBatch, IsReadSnapshot}
+use Rattle.byte_sizes.specs.Spelt.{IsReadEntry, IsReadBatch, IsReadSnapshot}
 use Rattle.sf_outside.specs.DiskModel.{Image}
 use Rattle.sf_outside.specs.declared.store_disk.StoreFile.{StoreFile}
 use Rattle.sf_outside.specs.declared.store_disk.StoreFile.TheVariants.{Hist}

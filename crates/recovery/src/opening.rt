@@ -3,7 +3,7 @@
 ghost use Rattle.std.specs.Prelude.{◌≡◌, ◌≤◌, IfSome, OnOk, IsErrOf};
 ghost use Rattle.sf_outside.specs.Causes.{HasCause, Rose};
 ghost use Rattle.sf_outside.specs.DiskModel.{Stays, LeavesNoMore, IsClean};
-ghost use Rattle.sf_bytes.specs.Spelt.{IsReadHead, IsReadSnapshot};
+ghost use Rattle.byte_sizes.specs.Spelt.{IsReadHead, IsReadSnapshot};
 ghost use Rattle.sf_value.specs.Heads.{snapshot_of};
 ghost use Rattle.snapshot_store.specs.SlotFile.{IsEpoch, IsNewest};
 ghost use Rattle.recovery.specs.Answers.{Answers, IsPlaced, UnlessFailed};

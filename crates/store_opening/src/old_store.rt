@@ -2,7 +2,7 @@
 
 ghost use Rattle.std.specs.Prelude.{◌≡◌, ◌≤◌, length, IfOk, IfErr, IsErrOf};
 ghost use Rattle.std.specs.List.{AllByRecursion};
-ghost use Rattle.sf_bytes.specs.Spelt.{IsReadBatch, IsReadSnapshot};
+ghost use Rattle.byte_sizes.specs.Spelt.{IsReadBatch, IsReadSnapshot};
 ghost use Rattle.sf_outside.specs.DiskModel.{Image};
 ghost use Rattle.block_step.specs.CompiledViews.{IsWhole};
 ghost use Rattle.recovery.specs.StoreImage.{batches_of, IsOld};

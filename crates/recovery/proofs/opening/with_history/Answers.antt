@@ -1,5 +1,5 @@
 use Rattle.std.proofs.Common.{IfSome, sym, subst}
-use Rattle.sf_bytes.specs.Spelt.{IsReadSnapshot}
+use Rattle.byte_sizes.specs.Spelt.{IsReadSnapshot}
 use Rattle.recovery.specs.StoreImage.{KeepsSnapshot}
 use Rattle.recovery.proofs.NamedEntries.{seen_broken, seen_snapshot, snapshot_read}
 use Rattle.recovery.proofs.opening.with_history.Goals as goal
