@@ -1,5 +1,5 @@
 -- A run has fewer batches than a count can hold: each line of its input has one at most, and then as many come as requests wait.
-use Rattle.std.proofs.Common.{◌≡◌, ℕ, zero, suc, ◌+◌, ◌-◌, ◌^◌, ◌<◌, ◌≤◌, ◌⊎◌, inl, inr, Bool, true, false, nat_eq, List, [], ◌∷◌, ◌++◌, length, take, replicate, if◌then◌else◌, refl, ap, subst, sym, arith}
+use Rattle.std.proofs.Common.{◌≡◌, ℕ, zero, suc, ◌+◌, ◌-◌, ◌^◌, ◌<◌, ◌≤◌, ◌⊎◌, inl, inr, Bool, true, false, nat_eq, List, [], ◌∷◌, ◌++◌, length, take, replicate, if◌then◌else◌, refl, ap, ◌∙◌, subst, sym, arith}
 use Rattle.std.specs.declared.option.Option.{Option}
 use Rattle.std.proofs.lemmas.List.{length-append, length-map, length-take, length-replicate}
 use Rattle.request_json.specs.Actions.{Line, Ended, whole_from, rest_from, last_line, whole_lines, all_lines}
@@ -67,17 +67,18 @@ module _ (compiled : Compiled) (s : RunSettings) (few : s.batch ≤ 256) (start 
   v = run_service compiled s
 
   -- at the end
-  end_within : (lines : List Line) → length (ran_on v (standing_after v (begun start) (answers lines)) (endings (standing_after v (begun start) (answers lines)))) ≤ 256
-  end_within lines = by t.is_full refl
-    where
-      abbrev t : Standing
-      t = standing_after v (begun start) (answers lines)
+  abbrev behind_lines : List Line → Standing
+  behind_lines lines = standing_after v (begun start) (answers lines)
 
-      by : (full : Bool) → t.is_full ≡ full → length (ran_on v t (endings t)) ≤ 256
-      by true is = subst (λ (cores : List Core). length cores ≤ 256) (sym (all_ran_over v t (endings t) is)) (omega arith)
+  end_within : (lines : List Line) → length (ran_on v (behind_lines lines) (endings (behind_lines lines))) ≤ 256
+  end_within lines = by (behind_lines lines).is_full refl
+    where
+      by : (full : Bool) → (behind_lines lines).is_full ≡ full → length (ran_on v (behind_lines lines) (endings (behind_lines lines))) ≤ 256
+      by true is =
+          subst (λ (cores : List Core). length cores ≤ 256) (sym (all_ran_over v (behind_lines lines) (endings (behind_lines lines)) is)) (omega arith)
       by false is =
-          let wait : length t.core.pending < 256 = (from_start compiled s few start fits waiting (answers lines)).holds.wait is in
-          omega (arith, wait, ran_within v (endings t) t, length-replicate (length t.core.pending) RunWaiting)
+          let wait : length (behind_lines lines).core.pending < 256 = (from_start compiled s few start fits waiting (answers lines)).holds.wait is in
+          omega (arith, wait, ran_within v (endings (behind_lines lines)) (behind_lines lines), length-replicate (length (behind_lines lines).core.pending) RunWaiting)
 
   last_within_all : (lines : List Line) → length (ran_on v (begun start) (answers lines ++ endings (standing_after v (begun start) (answers lines)))) ≤ length lines + 256
   last_within_all lines =
