@@ -366,7 +366,13 @@ module _ (limit : ℕ) (before after : Devices) (now : DiskFacts) (behind : Outp
       final_served = record {
         opened = k.opened;
         found = k.found;
-        keeps = record { position = k.store.position; each = last_each; epoch = subst (λ n. k.store.position.epoch ≡ min (k.opened.epoch + n / s.every) (2 ^ 63 - 1)) (counted (Ok tally) r is) (epoch_told (tally_after no_batch r.runs.tells.counts) r.runs.tells.counted (below_most (Ok tally) r is)) };
+        keeps = record {
+          position = k.store.position;
+          each = last_each;
+          epoch =
+              subst (λ n. k.store.position.epoch ≡ min (k.opened.epoch + n / s.every) (2 ^ 63 - 1)) (counted (Ok tally) r is)
+              (epoch_told (tally_after no_batch r.runs.tells.counts) r.runs.tells.counted (below_most (Ok tally) r is));
+        };
       }
 
     final : (result : Result Tally SessionFault) (r : Came result) (is : status_of e ≡ status_of (run_ending result)) (dir : List ℕ) → s.store ≡ Some dir → status ≡ 0
