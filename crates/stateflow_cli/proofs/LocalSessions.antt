@@ -1,5 +1,5 @@
 -- What a session of the direct interpreter did, as one that serves its input in batches of one request.
-use Rattle.std.proofs.Common.{◌≡◌, ℕ, ◌+◌, ◌≤◌, ◌⊎◌, inl, inr, Bool, true, false, List, [], ◌∷◌, ◌++◌, length, take, Ok, Err, refl, sym, ap, ◌∙◌, subst, append-nil, arith}
+use Rattle.std.proofs.Common.{◌≡◌, ℕ, ◌⊎◌, inl, inr, Bool, true, false, List, [], ◌∷◌, ◌++◌, take, Ok, Err, refl, sym, ap, ◌∙◌, subst, append-nil, arith}
 use Rattle.std.proofs.lemmas.List.{take_all, take_at, length-append}
 use Rattle.std.proofs.KnownBytes.{Consumes-trans}
 use Rattle.std.specs.declared.option.Option.{Option}
@@ -19,15 +19,15 @@ use Rattle.session.specs.declared.stopping.SessionStop.TheVariants as local
 use Rattle.session.specs.OutputText.{start}
 use Rattle.session.specs.OutputText as at_once
 use Rattle.session.specs.Stops as once
-use Rattle.session.specs.Served.{Answered, AnsweredOver, AnsweredPart, OfWhole, OfAll, OfLimit, Served}
+use Rattle.session.specs.Served.{Answered, AnsweredOver, OfWhole, OfAll, OfLimit, Served}
 use Rattle.session.proofs.StopLaws.{prefix_written}
-use Rattle.batch_run.specs.RunViews.{Rule, rule_of, run_limits}
+use Rattle.batch_run.specs.RunViews.{rule_of, run_limits}
 use Rattle.batch_run.specs.RunTexts.{stands_behind, stands_at_end, whole_text, all_text, AnswersAll, AnswersWhole, AnswersFirst, FillsAtLine, FillsAtEnd, AnswersSome, AnswersInPart}
 use Rattle.batch_run.specs.GrownCores.{GoesOnSerially}
 use Rattle.batch_run.specs.declared.running.RunSettings.{RunSettings}
 use Rattle.batch_of_one.specs.Vocabulary.{Standing, IsLawfulRule, all_replies, begun, replies}
 use Rattle.batch_of_one.specs.BatchOfOne.{in_batches, StandAlike, IsLocal}
-use Rattle.batch_of_one.specs.WrittenAtOnce.{ComesBehind, WroteBatches}
+use Rattle.batch_of_one.specs.WrittenAtOnce.{WroteBatches}
 use Rattle.batch_of_one.proofs.OneRequest.{batch_of_one_is_local}
 use Rattle.batch_of_one.proofs.WrittenLaws.{writes_batches}
 use Rattle.stateflow_cli.specs.Endings.{settings_for, local_history}

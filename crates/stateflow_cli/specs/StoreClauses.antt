@@ -1,5 +1,5 @@
 -- What a call leaves of the store that its words name, by its status, and why it doesn't serve on it.
-use Rattle.std.specs.Prelude.{ℕ, ◌≡◌, ◌≤◌, ◌⊎◌, ◌+◌, ◌-◌, ◌^◌, ◌<◌, ◌/◌, min, List, Some, IfSome, Err, decimal}
+use Rattle.std.specs.Prelude.{ℕ, ◌≡◌, ◌≤◌, ◌⊎◌, ◌+◌, ◌-◌, ◌^◌, ◌/◌, min, List, Some, IfSome, Err, decimal}
 use Rattle.std.specs.Str.{chars}
 use Rattle.std.specs.Io.KnownBytes.{Appends}
 use Rattle.sf_outside.specs.Causes.{Rose}
