@@ -2,7 +2,7 @@
 use Rattle.std.proofs.Common.{◌≡◌, ℕ, suc, ◌+◌, ◌<◌, ◌≤◌, Bool, true, false, ◌==◌, nat_lt, List, [], ◌∷◌, ◌++◌, length, Option, Some, None, option_map, unwrap_or, refl, sym, ap, ◌∙◌, subst, arith, append_assoc, append-nil, if◌then◌else◌, length-append}
 use Rattle.std.specs.Prelude.{bytes_eq}
 use Rattle.std.proofs.lemmas.Bool.Decides.{nat_tests}
-use Rattle.std.proofs.lemmas.Option.{none-some, same_Some}
+use Rattle.std.proofs.lemmas.Option.{none-some}
 use Rattle.program_meaning.specs.ClassTables.{Source}
 use Rattle.program_meaning.specs.World.{State}
 use Rattle.program_meaning.specs.RequestRun.{run}
@@ -11,8 +11,8 @@ use Rattle.request_json.specs.Actions.{Line, Ended, Left, bytes_of, whole_from, 
 use Rattle.input_lines.proofs.CutLaws.{whole-append, rest-append}
 use Rattle.run_audit.specs.declared.verdict.Verdict.{Verdict}
 use Rattle.run_audit.specs.declared.verdict.Verdict.TheVariants as verdict
-use Rattle.run_audit.specs.Verdict.{Pair, Reading, Whole, Front, read_lines, reply_text, differing, acts_in, difference, or_bad, told, verdict_on, verdict_of}
-use Rattle.run_audit.specs.Fronts.{most_behind, if_too_long, lines_of_front, decided}
+use Rattle.run_audit.specs.Verdict.{Pair, Reading, Whole, Front, read_lines, reply_text, differing, acts_in, difference, or_bad, told, verdict_of}
+use Rattle.run_audit.specs.Fronts.{most_behind, lines_of_front, decided}
 use Rattle.run_audit.proofs.ReadingLaws.{Begins, Same, More, lines_begin, long_begins}
 
 -- ---- the lines of a file, by its front

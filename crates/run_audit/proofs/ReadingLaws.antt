@@ -1,5 +1,5 @@
 -- How the reading of a front goes on behind it.
-use Rattle.std.proofs.Common.{◌≡◌, ◌⊎◌, inl, inr, ℕ, ◌+◌, ◌*◌, ◌<◌, Bool, true, false, nat_le, List, [], ◌∷◌, ◌++◌, length, Option, Some, None, refl, sym, ap, ◌∙◌, arith, if◌then◌else◌}
+use Rattle.std.proofs.Common.{◌≡◌, ℕ, ◌+◌, ◌*◌, ◌<◌, Bool, true, false, nat_le, List, [], ◌∷◌, ◌++◌, length, Option, Some, None, refl, sym, ap, ◌∙◌, arith, if◌then◌else◌}
 use Rattle.std.proofs.lemmas.Bool.Decides.{nat_tests}
 use Rattle.std.specs.Result.{result_ok}
 use Rattle.sf_value.specs.declared.Request.{Request}
@@ -7,7 +7,7 @@ use Rattle.program_meaning.specs.ClassTables.{Source}
 use Rattle.request_json.specs.Arguments.{◌>>?◌}
 use Rattle.request_json.specs.RequestLines.{longest, reading_of}
 use Rattle.request_json.specs.Actions.{Line, bytes_of, content_of}
-use Rattle.run_audit.specs.Verdict.{longest_reply, Pair, if_new, asked_by, is_reply, Reading, bad_line, none_bad, behind_entry, Extent, Whole, Front, read_last, read_pair, read_lines}
+use Rattle.run_audit.specs.Verdict.{longest_reply, Pair, if_new, asked_by, is_reply, Reading, bad_line, behind_entry, Extent, Whole, Front, read_last, read_pair, read_lines}
 use Rattle.run_audit.specs.Fronts.{most_behind}
 
 -- The reading of a front is that of the whole file, or it met nothing bad, and the file's entries begin with its own.

@@ -6,7 +6,9 @@ use sf_value::Bytes;
 #[derive(Drop)]
 pub enum Verdict {
     /// Each reply is the one that a serial run of the requests gives.
-    Serial { entries: u32 },
+    Serial {
+        entries: u32,
+    },
     /// The reply of this entry isn't.
     Differs {
         place: u32,
@@ -14,5 +16,7 @@ pub enum Verdict {
         found: Bytes,
     },
     /// This line is no request or no reply, or is missing.
-    BadRun { line: u64 },
+    BadRun {
+        line: u64,
+    },
 }
