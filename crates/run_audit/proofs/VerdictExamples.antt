@@ -8,11 +8,10 @@ use Rattle.std.specs.Str.{chars, is_utf8}
 use Rattle.std.specs.Str.Lossy.{utf8_valid_len}
 use Rattle.serde_json.proofs.OnLiterals.{serde_json_on_literals}
 use Rattle.py_tree.specs.declared.names.Place.{Place}
-use Rattle.py_tree.specs.PlainTypes.{WInt, WStr}
+use Rattle.py_tree.specs.PlainTypes.{WInt}
 use Rattle.py_tree.specs.PlainProgram.{PlainMethod}
 use Rattle.py_tree.specs.ClassRules.{text_of, is_init, is_key, is_called, methods_of as methods_among}
 use Rattle.sf_value.specs.Keys.{key_cmp}
-use Rattle.sf_value.specs.declared.Act.{Act}
 use Rattle.sf_value.specs.declared.Act.TheVariants as act
 use Rattle.sf_value.specs.declared.Outcome.{Outcome}
 use Rattle.sf_value.specs.declared.Outcome.TheVariants as outcome
