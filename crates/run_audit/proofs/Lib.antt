@@ -1,0 +1,3 @@
+mod ReadingLaws
+mod FrontsDecide
+mod VerdictExamples
