@@ -1,4 +1,4 @@
-//! Judges a file of request lines and reply lines: whether it is what one serial run of its requests gives.
+//! What a file of request lines and reply lines is, by one serial run of its requests: the definition of this verdict, and a law of it.
 #![tactic(auto)]
 
 mod laws;
