@@ -128,13 +128,9 @@ module _ (text : List ℕ) (core : Core) (empty : core ≡ empty_core) where
       by (inl head) = head
       by (inr history) = let none : sum_by entry_size (drop 0 []) ≡ 0 = refl in absurd (omega (arith, history, none))
 
-  pub first_cause : (fault : KeepFault) (old new : ℕ) → (fault ≡ of_checkpoint.DiskFault → Rose old new ⊎ CheckpointEndsPast new_position text core) → keep_stop fault ≡ DiskFault
-      → Rose old new ⊎ HasSnapshotPast text empty_core
-  first_cause of_checkpoint.DiskFault old new cause same = elim (cause refl) [ inl rose ↦ inl rose | inr past ↦ inr (first_past past) ]
-  first_cause of_checkpoint.NoMemory old new cause same = absurd (other same)
-    where
-      other : NoMemory ≡ DiskFault → ⊥
-      other same = cc
+  pub first_cause : (old new : ℕ) → Rose old new ⊎ CheckpointEndsPast new_position text core → Rose old new ⊎ HasSnapshotPast text empty_core
+  first_cause old new (inl rose) = inl rose
+  first_cause old new (inr past) = inr (first_past past)
 
 -- ---- an engine of a new store
 

@@ -39,7 +39,5 @@ returns-in-Err-clause-moments g c =
     (g.D.Disk.facts c.keep_core.new.disk) c.keep_core.ensures.moments
 
 pub returns-in-Err-clause-cause : goal.returns-in-Err-clause-cause
-returns-in-Err-clause-cause g c = λ failed.
-    let stop : keep_stop c.in-Err.fault ≡ DiskFault = cc (c.from.ensures, failed) in
-    first_cause c.args.settings.program (core_of c.args.engine) c.requires.core c.in-Err.fault (g.D.Disk.faults c.args.disk.now) (g.D.Disk.faults c.keep_core.new.disk)
-    (λ same. c.in-Err.ensures.cause (ap Err same)) stop
+returns-in-Err-clause-cause g c =
+    first_cause c.args.settings.program (core_of c.args.engine) c.requires.core (g.D.Disk.faults c.args.disk.now) (g.D.Disk.faults c.keep_core.new.disk) c.in-Err.ensures.cause
