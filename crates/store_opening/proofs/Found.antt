@@ -20,8 +20,6 @@ use Rattle.store_meaning.specs.Keeping.{KeepsCore}
 use Rattle.store_meaning.specs.StandsFor.{Program, new_position, OldStandsFor, StandsFor}
 use Rattle.store_meaning.proofs.Opening.{seen_new, clean_keeps}
 use Rattle.session_store.specs.Stores.{program_with, StandsSomewhere, HasSnapshotPast, CheckpointEndsPast}
-use Rattle.session_store.specs.declared.checkpoints.KeepFault.{KeepFault}
-use Rattle.session_store.specs.declared.checkpoints.KeepFault.TheVariants as of_checkpoint
 use Rattle.session_store.proofs.NoStore.{none_storable}
 use Rattle.store_opening.specs.declared.finding.FoundStore.TheVariants.{Old}
 use Rattle.store_opening.specs.declared.opened_store.OpenSettings.{OpenSettings}
@@ -31,7 +29,6 @@ use Rattle.store_opening.specs.declared.stop.OpenStop.TheVariants.{DiskFault, Ba
 use Rattle.store_opening.specs.Findings.{Judges, IsFoundFor, IsAsFound}
 use Rattle.store_opening.specs.OpenedStores.{program_for, settings_at, IsReady, KeepsOpened}
 use Rattle.store_opening.specs.Openings.{AnswersFound, AnswersOld, LeavesAsFound, LeavesFound}
-use Rattle.store_opening.specs.Stops.{keep_stop}
 
 -- ---- an opened store
 

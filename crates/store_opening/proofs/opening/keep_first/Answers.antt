@@ -1,12 +1,10 @@
-use Rattle.std.proofs.Common.{◌≡◌, Err, refl, sym, ap, ◌∙◌}
+use Rattle.std.proofs.Common.{refl, sym, ap, ◌∙◌}
 use Rattle.engine.specs.EngineViews.{core_of}
 use Rattle.store_meaning.specs.Engines.{program_of}
 use Rattle.session_store.proofs.NoStore.{none_storable}
 use Rattle.store_meaning.specs.StandsFor.{new_position}
 use Rattle.session_store.specs.Checkpoints.{kept_at}
 use Rattle.store_opening.specs.OpenedStores.{settings_at}
-use Rattle.store_opening.specs.Stops.{keep_stop}
-use Rattle.store_opening.specs.declared.stop.OpenStop.TheVariants.{DiskFault}
 use Rattle.store_opening.proofs.Found.{new_keeps, new_found, new_left, new_ready, first_cause}
 use Rattle.store_opening.proofs.opening.keep_first.Goals as goal
 
