@@ -1,4 +1,4 @@
-use Rattle.std.proofs.Common.{[], Err, false, true, true≢false, refl, sym, ap, subst}
+use Rattle.std.proofs.Common.{[], false, true, true≢false, refl, sym, subst}
 use Rattle.engine.specs.EngineViews.{core_of, source_of}
 use Rattle.session_store.specs.Vocabulary.{logged_of, IsStorable}
 use Rattle.session_store.specs.Stores.{settings_of, Keeps}
