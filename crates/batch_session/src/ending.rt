@@ -98,16 +98,7 @@ fn run_batch<R: CommitRule, K: Sink, E: Sink, D: Disk, C: Chooser, W: Watch>(
         chooser,
         watch,
     ) {
-        Ok(counts) => end_batch(
-            terms.alloc,
-            engine,
-            store,
-            terms.settings,
-            err,
-            disk,
-            tally,
-            counts,
-        ),
+        Ok(counts) => end_batch(engine, store, terms.settings, err, disk, tally, counts),
         Err(stop) => Err(stop),
     }
 }
