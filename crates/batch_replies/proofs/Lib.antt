@@ -2,6 +2,7 @@ pub mod SameProgram
 pub mod GoingLaws
 pub mod ReplyLaws
 pub mod CountLaws
+pub mod FlushLaws
 pub mod WriteLaws
 pub mod AnswerLaws
 pub mod Vocabulary

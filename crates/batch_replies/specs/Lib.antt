@@ -1,4 +1,5 @@
 pub mod Stops
+pub mod Flushing
 pub mod GoingOn
 pub mod BatchAnswers
 pub mod LinesInOrder

@@ -19,6 +19,7 @@ ghost use Rattle.batch_replies.specs.GoingOn.{state_of, CanGoOn, GoesOn};
 ghost use Rattle.batch_replies.specs.BatchAnswers.{AnswersBatch, TellsBatch, IsChosenBy, runs_on};
 ghost use Rattle.batch_replies.specs.LinesInOrder.{reply_lines};
 ghost use Rattle.batch_replies.specs.Moments.{Logs};
+ghost use Rattle.batch_replies.specs.Flushing.{Flushes};
 
 use crate::counting::{BatchCounts, counts_of};
 use crate::drafts::{Draft, draft_of};
@@ -63,6 +64,7 @@ pub fn answer_batch<R: CommitRule, K: Sink, D: Disk, C: Chooser, W: Watch>(
         (runs_on (source_of engine.old) (R.choice rule.now) (record { batch = size; history = limit_of engine.old }) (core_of engine.old))
         (logged_of engine.old) (logged_of engine.new) (D.facts disk.old) (D.facts disk.new) }
     ensures cycle { cycle_of store.new ≡ cycle_of store.old }
+    ensures flushes { Flushes result (K.handed out.old) (K.handed out.new) (K.held out.new) }
 {
     match engine.plan(alloc, parts, rule, chooser, watch) {
         Ok(planned) => answer_planned(alloc, engine, store, planned, out, disk),
@@ -99,6 +101,7 @@ fn answer_planned<K: Sink, D: Disk>(
         → Logs (source_of engine.old) rule (settings_of store.old) (core_of engine.old ∷ []) (logged_of engine.old) (logged_of engine.new)
         (D.facts disk.old) (D.facts disk.new) }
     ensures cycle { cycle_of store.new ≡ cycle_of store.old }
+    ensures flushes { Flushes result (K.handed out.old) (K.handed out.new) (K.held out.new) }
 {
     match draft_of(alloc, engine, store, &planned) {
         Ok(draft) => answer_drafted(engine, store, planned, draft, out, disk),
@@ -139,6 +142,7 @@ fn answer_drafted<K: Sink, D: Disk>(
         → Logs (source_of engine.old) rule (settings_of store.old) (core_of engine.old ∷ []) (logged_of engine.old) (logged_of engine.new)
         (D.facts disk.old) (D.facts disk.new) }
     ensures cycle { cycle_of store.new ≡ cycle_of store.old }
+    ensures flushes { Flushes result (K.handed out.old) (K.handed out.new) (K.held out.new) }
 {
     let Draft { record, lines } = draft;
     let logged = log_planned(disk, store, engine, &planned, &record);
@@ -164,6 +168,7 @@ fn written<K: Sink>(out: &mut K, lines: Lines, counts: BatchCounts) -> Result<Ba
     ensures whole { OnOk result (Appends (K.held out.old) (K.held out.new) (joined lines)) }
     ensures part { OnErr result (AppendsPrefix (K.held out.old) (K.held out.new) (joined lines)) }
     ensures cause { HasCause (K.faults out.old) (K.faults out.new) result }
+    ensures flushes { Flushes result (K.handed out.old) (K.handed out.new) (K.held out.new) }
 {
     let wrote = write_all(out, lines.as_slice());
     drop(lines);

@@ -62,19 +62,19 @@ told_within r told ran h = by (told_in_part r told ran h)
     by (inr less) = omega (arith, less)
 
 module _ (compiled : Compiled) (whole : IsWhole compiled) (s : RunSettings) (few : s.batch ≤ 256) (start : Core) (fits : CoreFits (tables compiled s few) start)
-    (waiting : length start.pending < 256) (limit : s.limit ≤ 2 ^ 62) (store : Option StoreSettings) (left held said : Option (List ℕ)) (before started : Outside) (starts : Starts compiled s before started)
+    (waiting : length start.pending < 256) (limit : s.limit ≤ 2 ^ 62) (store : Option StoreSettings) (left held handed said : Option (List ℕ)) (before started : Outside) (starts : Starts compiled s before started)
     (new : View) (logged logged' : Core) (f g : DiskFacts) where
   abbrev v : Service
   v = run_service compiled s
 
   abbrev old : View
-  old = at_begin start left held said started
+  old = at_begin start left held handed said started
 
   abbrev first : Shown
-  first = record { left = left; held = held; said = said; outside = before }
+  first = record { left = left; held = held; handed = handed; said = said; outside = before }
 
   abbrev last : Shown
-  last = record { left = new.left; held = new.held; said = new.traced; outside = new.outside }
+  last = record { left = new.left; held = new.held; handed = new.handed; said = new.traced; outside = new.outside }
 
   abbrev ServedBy : Result Tally SessionFault → Type 0
   ServedBy result = Served v s.trace store s.limit result old new logged logged' f g
@@ -112,6 +112,7 @@ module _ (compiled : Compiled) (whole : IsWhole compiled) (s : RunSettings) (few
           told = told h.counts h.told;
           traced = traced h.counts h.traced;
           counted = tt;
+          flushes = h.flushes;
           ended = record {
             first = h.ended.first;
             rest = h.ended.rest;
@@ -143,6 +144,7 @@ module _ (compiled : Compiled) (whole : IsWhole compiled) (s : RunSettings) (few
           told = did.ran;
           traced = did.traced;
           counted = sym t.counted ∙ did.tally;
+          flushes = did.flushes;
           ended = record {
             first = t.steps;
             rest = [];

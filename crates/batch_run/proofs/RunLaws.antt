@@ -27,16 +27,16 @@ use Rattle.batch_run.proofs.SerialLaws.{serial_session, replies_by}
 use Rattle.batch_run.proofs.EventLaws.{served_tells}
 
 abbrev pub shown_by : View → Shown
-shown_by view = record { left = view.left; held = view.held; said = view.traced; outside = view.outside }
+shown_by view = record { left = view.left; held = view.held; handed = view.handed; said = view.traced; outside = view.outside }
 
 module _ (compiled : Compiled) (s : RunSettings) (result : Result Tally SessionFault) (whole : IsWhole compiled) (few : s.batch ≤ 256) (start : Core)
-    (fits : CoreFits (tables compiled s few) start) (waiting : length start.pending < 256) (limit : s.limit ≤ 2 ^ 62) (store : Option StoreSettings) (left held said : Option (List ℕ)) (before started : Outside)
+    (fits : CoreFits (tables compiled s few) start) (waiting : length start.pending < 256) (limit : s.limit ≤ 2 ^ 62) (store : Option StoreSettings) (left held handed said : Option (List ℕ)) (before started : Outside)
     (new : View) (logged logged' : Core) (f g : DiskFacts) (kept : Option Store) where
   abbrev old : View
-  old = at_begin start left held said started
+  old = at_begin start left held handed said started
 
   abbrev first : Shown
-  first = record { left = left; held = held; said = said; outside = before }
+  first = record { left = left; held = held; handed = handed; said = said; outside = before }
 
   abbrev ServedSo : Type 0
   ServedSo = Served (run_service compiled s) s.trace store s.limit result old new logged logged' f g
@@ -54,7 +54,7 @@ module _ (compiled : Compiled) (s : RunSettings) (result : Result Tally SessionF
       → RanLogged compiled s store start new.core result first (shown_by new) logged logged' f g kept
   begun_so starts by =
       let t = by.served in
-      let told = served_tells compiled whole s few start fits waiting limit store left held said before started starts new logged logged' f g result t in
+      let told = served_tells compiled whole s few start fits waiting limit store left held handed said before started starts new logged logged' f g result t in
       record {
         ran = record {
           taken = t.taken;
@@ -63,8 +63,8 @@ module _ (compiled : Compiled) (s : RunSettings) (result : Result Tally SessionF
           ends = t.ends;
           steps = t.steps;
           of_taken = t.of_taken;
-          prints = served_prints compiled s start store left held said started new logged logged' f g result t;
-          answers = served_in_part compiled s start store left held said started new logged logged' f g result t;
+          prints = served_prints compiled s start store left held handed said started new logged logged' f g result t;
+          answers = served_in_part compiled s start store left held handed said started new logged logged' f g result t;
           tells = told.tells;
           goes_on = goes_on compiled s few start fits waiting t.steps new.core _ told.tells.ended;
           writes = each_takes_writes compiled s few start fits waiting t.steps;
@@ -76,16 +76,16 @@ module _ (compiled : Compiled) (s : RunSettings) (result : Result Tally SessionF
 
 -- an engine with this core, of this program
 pub runs_so : (compiled : Compiled) → IsWhole compiled → (s : RunSettings) (result : Result Tally SessionFault) (few : s.batch ≤ 256) (e : Engine) → RunsProgram e compiled s.history
-    → CoreFits (tables compiled s few) (core_of e) → length (core_of e).pending < 256 → s.limit ≤ 2 ^ 62 → (store : Option StoreSettings) (left held said : Option (List ℕ)) (before started : Outside) (new : View)
+    → CoreFits (tables compiled s few) (core_of e) → length (core_of e).pending < 256 → s.limit ≤ 2 ^ 62 → (store : Option StoreSettings) (left held handed said : Option (List ℕ)) (before started : Outside) (new : View)
     (logged logged' : Core) (f g : DiskFacts) (kept : Option Store) → Starts compiled s before started
-    → ServedInTurn (service_of e (rule_of s) s.batch s.partitions) s.trace store s.limit result (at_begin (core_of e) left held said started) new logged logged' f g kept
-    → RanLogged compiled s store (core_of e) new.core result (record { left = left; held = held; said = said; outside = before }) (shown_by new) logged logged' f g kept
-runs_so compiled whole s result few e runs fits waiting limit store left held said before started new logged logged' f g kept starts served =
+    → ServedInTurn (service_of e (rule_of s) s.batch s.partitions) s.trace store s.limit result (at_begin (core_of e) left held handed said started) new logged logged' f g kept
+    → RanLogged compiled s store (core_of e) new.core result (record { left = left; held = held; handed = handed; said = said; outside = before }) (shown_by new) logged logged' f g kept
+runs_so compiled whole s result few e runs fits waiting limit store left held handed said before started new logged logged' f g kept starts served =
     let of_compiled = subst (λ (c : Compiled). ServedInTurn (record { compiled = c; parts = s.partitions; rule = (rule_of s); limits = limits_of s.batch (limit_of e) })
-    s.trace store s.limit result (at_begin (core_of e) left held said started) new logged logged' f g kept) runs.compiled_is served in
+    s.trace store s.limit result (at_begin (core_of e) left held handed said started) new logged logged' f g kept) runs.compiled_is served in
     let of_limit = subst (λ (n : ℕ). ServedInTurn (record { compiled = compiled; parts = s.partitions; rule = (rule_of s); limits = limits_of s.batch n })
-    s.trace store s.limit result (at_begin (core_of e) left held said started) new logged logged' f g kept) runs.limit_is of_compiled in
-    begun_so compiled s result whole few (core_of e) fits waiting limit store left held said before started new logged logged' f g kept starts of_limit
+    s.trace store s.limit result (at_begin (core_of e) left held handed said started) new logged logged' f g kept) runs.limit_is of_compiled in
+    begun_so compiled s result whole few (core_of e) fits waiting limit store left held handed said before started new logged logged' f g kept starts of_limit
 
 -- the same program, from the same core
 pub ran_from : (compiled made : Compiled) (s : RunSettings) (start core last : Core) (result : Result Tally SessionFault) (old new : Shown) → made ≡ compiled

@@ -38,8 +38,8 @@ written_prefix (Err stop.DiskFault) a b text w = w
 written_prefix (Err stop.WriteFault) a b text w = w
 
 -- a session at its begin, with this core
-abbrev pub at_begin : Core → Option (List ℕ) → Option (List ℕ) → Option (List ℕ) → Outside → View
-at_begin start left held said outside = record { core = start; left = left; held = held; traced = said; outside = outside }
+abbrev pub at_begin : Core → Option (List ℕ) → Option (List ℕ) → Option (List ℕ) → Option (List ℕ) → Outside → View
+at_begin start left held handed said outside = record { core = start; left = left; held = held; handed = handed; traced = said; outside = outside }
 
 module _ (compiled : Compiled) (s : RunSettings) (start : Core) where
   -- what the steps of bytes print, and where they lead
@@ -62,11 +62,11 @@ module _ (compiled : Compiled) (s : RunSettings) (start : Core) where
   all_stands : (bytes : List ℕ) → stands_at_end (source_of compiled) s start bytes ≡ standing_after (run_service compiled s) (begun start) (all_steps (run_service compiled s) start bytes)
   all_stands bytes = sym ((steps_print (run_service compiled s)).1 start bytes).stands
 
-  module _ (store : Option StoreSettings) (left held said : Option (List ℕ)) (started : Outside) (new : View) (logged logged' : Core) (f g : DiskFacts)
+  module _ (store : Option StoreSettings) (left held handed said : Option (List ℕ)) (started : Outside) (new : View) (logged logged' : Core) (f g : DiskFacts)
       (result : Result Tally SessionFault)
-      (t : Served (run_service compiled s) s.trace store s.limit result (at_begin start left held said started) new logged logged' f g) where
+      (t : Served (run_service compiled s) s.trace store s.limit result (at_begin start left held handed said started) new logged logged' f g) where
     abbrev old : View
-    old = at_begin start left held said started
+    old = at_begin start left held handed said started
 
     abbrev v : Service
     v = run_service compiled s
@@ -196,28 +196,28 @@ module _ (compiled : Compiled) (s : RunSettings) (start : Core) where
 
 -- By the result
 
-module _ (compiled : Compiled) (s : RunSettings) (start : Core) (store : Option StoreSettings) (left held said : Option (List ℕ)) (started : Outside) (new : View)
+module _ (compiled : Compiled) (s : RunSettings) (start : Core) (store : Option StoreSettings) (left held handed said : Option (List ℕ)) (started : Outside) (new : View)
     (logged logged' : Core) (f g : DiskFacts) where
   abbrev ServedBy : Result Tally SessionFault → Type 0
-  ServedBy result = Served (run_service compiled s) s.trace store s.limit result (at_begin start left held said started) new logged logged' f g
+  ServedBy result = Served (run_service compiled s) s.trace store s.limit result (at_begin start left held handed said started) new logged logged' f g
 
   pub served_prints : (result : Result Tally SessionFault) (t : ServedBy result) → Prints (source_of compiled) s start new.left held new.held t.taken new.core result
   served_prints (Ok tally) t =
-      let k = known compiled s start store left held said started new logged logged' f g (Ok tally) t (Ok (tt {0})) t.ends in
-      all_answered compiled s start store left held said started new logged logged' f g (Ok tally) t k.of_taken k.is_stop k.none_waits
+      let k = known compiled s start store left held handed said started new logged logged' f g (Ok tally) t (Ok (tt {0})) t.ends in
+      all_answered compiled s start store left held handed said started new logged logged' f g (Ok tally) t k.of_taken k.is_stop k.none_waits
   served_prints (Err ReadFault) t =
-      let k = known compiled s start store left held said started new logged logged' f g (Err ReadFault) t (Err ReadFault) t.ends in
-      whole_answered compiled s start store left held said started new logged logged' f g (Err ReadFault) t k.of_taken k.is_stop
+      let k = known compiled s start store left held handed said started new logged logged' f g (Err ReadFault) t (Err ReadFault) t.ends in
+      whole_answered compiled s start store left held handed said started new logged logged' f g (Err ReadFault) t k.of_taken k.is_stop
   served_prints (Err InputTooLong) t =
-      let k = known compiled s start store left held said started new logged logged' f g (Err InputTooLong) t (Err InputTooLong) t.ends in
-      first_answered compiled s start store left held said started new logged logged' f g (Err InputTooLong) t k.of_taken k.is_stop
+      let k = known compiled s start store left held handed said started new logged logged' f g (Err InputTooLong) t (Err InputTooLong) t.ends in
+      first_answered compiled s start store left held handed said started new logged logged' f g (Err InputTooLong) t k.of_taken k.is_stop
   served_prints (Err HistoryFull) t =
-      let k = known compiled s start store left held said started new logged logged' f g (Err HistoryFull) t (Err HistoryFull) t.ends in
-      filled compiled s start store left held said started new logged logged' f g (Err HistoryFull) t k.of_taken k.is_stop
+      let k = known compiled s start store left held handed said started new logged logged' f g (Err HistoryFull) t (Err HistoryFull) t.ends in
+      filled compiled s start store left held handed said started new logged logged' f g (Err HistoryFull) t k.of_taken k.is_stop
   served_prints (Err NoMemory) t =
-      let k = known compiled s start store left held said started new logged logged' f g (Err NoMemory) t (Err NoMemory) t.ends in
-      no_memory compiled s start store left held said started new logged logged' f g (Err NoMemory) t k.of_taken k.is_stop
+      let k = known compiled s start store left held handed said started new logged logged' f g (Err NoMemory) t (Err NoMemory) t.ends in
+      no_memory compiled s start store left held handed said started new logged logged' f g (Err NoMemory) t k.of_taken k.is_stop
   served_prints (Err DiskFault) t =
-      let k = known compiled s start store left held said started new logged logged' f g (Err DiskFault) t (Err DiskFault) t.ends in
-      disk_fault compiled s start store left held said started new logged logged' f g (Err DiskFault) t k.of_taken k.is_stop
-  served_prints (Err WriteFault) t = served_in_part compiled s start store left held said started new logged logged' f g (Err WriteFault) t
+      let k = known compiled s start store left held handed said started new logged logged' f g (Err DiskFault) t (Err DiskFault) t.ends in
+      disk_fault compiled s start store left held handed said started new logged logged' f g (Err DiskFault) t k.of_taken k.is_stop
+  served_prints (Err WriteFault) t = served_in_part compiled s start store left held handed said started new logged logged' f g (Err WriteFault) t

@@ -13,15 +13,16 @@ use Rattle.batch_output.specs.BatchOutput.{Limits}
 use Rattle.batch_session.specs.Vocabulary.{Service, Settings, limits_of}
 use Rattle.batch_run.specs.declared.running.RunSettings.{RunSettings}
 
--- what its input has left, what its output and its error stream hold, and what was chosen and told
+-- what its input has left, what its output holds and has handed on, what its error stream holds, and what was chosen and told
 pub record Shown : Type 0 where
   pub left : Option (List ℕ)
   pub held : Option (List ℕ)
+  pub handed : Option (List ℕ)
   pub said : Option (List ℕ)
   pub outside : Outside
 
-abbrev pub shown : Option (List ℕ) → Option (List ℕ) → Option (List ℕ) → Option Choices → Option (List Told) → Shown
-shown left held said choices told = record { left = left; held = held; said = said; outside = record { choices = choices; told = told } }
+abbrev pub shown : Option (List ℕ) → Option (List ℕ) → Option (List ℕ) → Option (List ℕ) → Option Choices → Option (List Told) → Shown
+shown left held handed said choices told = record { left = left; held = held; handed = handed; said = said; outside = record { choices = choices; told = told } }
 
 -- settings that can be served
 pub record CanServe (s : RunSettings) : Type 0 where

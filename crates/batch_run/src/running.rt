@@ -76,8 +76,8 @@ pub fn run_program<S: Source, K: Sink, E: Sink, C: Chooser, W: Watch>(
     requires whole { IsWhole compiled }
     requires serves { CanServe settings.now }
     ensures runs { (last : Core) × Runs compiled settings.now empty_core last result
-        (shown (S.left input.old) (K.held out.old) (E.held err.old) (C.choices chooser.old) (W.told watch.old))
-        (shown (S.left input.new) (K.held out.new) (E.held err.new) (C.choices chooser.new) (W.told watch.new))
+        (shown (S.left input.old) (K.held out.old) (K.handed out.old) (E.held err.old) (C.choices chooser.old) (W.told watch.old))
+        (shown (S.left input.new) (K.held out.new) (K.handed out.new) (E.held err.new) (C.choices chooser.new) (W.told watch.new))
         (IsFlushedBy result (K.handed out.new) (K.held out.new) (K.faults out.old) (K.faults out.new)) }
     ensures later_err { E.faults err.old ≤ E.faults err.new }
     ensures read_cause { result ≡ Err SessionFault.ReadFault → Rose (S.faults input.old) (S.faults input.new) }
@@ -130,8 +130,8 @@ pub fn run_opened<S: Source, K: Sink, E: Sink, D: Disk, C: Chooser, W: Watch>(
     requires kept { Keeps stored.old.store (source_of stored.old.engine) (logged_of stored.old.engine) (D.facts disk.old) }
     requires in_cycle { IsInCycle stored.old.store 0 }
     ensures runs { RanLogged (compiled_of stored.old.engine) settings.now (settings_of stored.old.store) (core_of stored.old.engine) (core_of stored.new.engine) result
-        (shown (S.left input.old) (K.held out.old) (E.held err.old) (C.choices chooser.old) (W.told watch.old))
-        (shown (S.left input.new) (K.held out.new) (E.held err.new) (C.choices chooser.new) (W.told watch.new))
+        (shown (S.left input.old) (K.held out.old) (K.handed out.old) (E.held err.old) (C.choices chooser.old) (W.told watch.old))
+        (shown (S.left input.new) (K.held out.new) (K.handed out.new) (E.held err.new) (C.choices chooser.new) (W.told watch.new))
         (logged_of stored.old.engine) (logged_of stored.new.engine) (D.facts disk.old) (D.facts disk.new) stored.new.store }
     ensures handed { IsFlushedBy result (K.handed out.new) (K.held out.new) (K.faults out.old) (K.faults out.new) }
     ensures later_err { E.faults err.old ≤ E.faults err.new }

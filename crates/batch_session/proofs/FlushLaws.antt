@@ -1,27 +1,29 @@
 -- What a session has done stays so where its output is flushed: nothing more is written.
-use Rattle.std.proofs.Common.{◌≡◌, ◌⊎◌, ◌++◌, ◌∷◌, ℕ, inl, inr, Bool, List, Option, Ok, Err, refl, subst}
+use Rattle.std.proofs.Common.{◌≡◌, ◌⊎◌, ◌++◌, [], ◌∷◌, length, ℕ, inl, inr, Bool, List, Option, Ok, Err, refl, subst}
 use Rattle.std.specs.declared.result.Result.{Result}
 use Rattle.std.specs.Io.KnownBytes.{Keeps}
 use Rattle.std.proofs.KnownBytes.{Appends-kept}
 use Rattle.sf_outside.specs.Bytes.{AppendsPrefix}
 use Rattle.sf_outside.specs.Gains.{joined}
-use Rattle.session_steps.specs.Vocabulary.{BatchCounts, Stop, Service, Moment, Move, whole_text, IsUntaken, IsCommitted, FindsFull, IsUnplanned, IsUnlogged, IsUnanswered, IsUnreplied}
+use Rattle.session_steps.specs.Vocabulary.{BatchCounts, Stop, Service, Moment, Move, whole_text, IsUntaken, IsCommitted, FindsFull, IsUnplanned, IsUnlogged, IsUnanswered, IsUnreplied, StaysHanded}
 use Rattle.session_steps.specs.StopVariants.{HistoryFull, NoMemory, DiskFault, WriteFault}
 use Rattle.session_steps.specs.Steps.{Step, move_of}
 use Rattle.session_steps.specs.Doings.{Point, going, moment, Does, IsUncounted, StopsAt, StopsWithin, StopsBetween, Comes}
+use Rattle.session_steps.proofs.FlushLaws.{flushes_since}
+use Rattle.session_steps.proofs.Vocabulary.{stays_none, stays_then}
 
 -- the output holds this instead
 abbrev moment_with : Moment → Option (List ℕ) → Moment
 moment_with p held = record { core = p.core; held = held; outside = p.outside }
 
-abbrev pub point_with : Point → Option (List ℕ) → Point
-point_with p held = record { core = p.core; lines = p.lines; held = held; traced = p.traced; outside = p.outside; tally = p.tally }
+abbrev pub point_with : Point → Option (List ℕ) → Option (List ℕ) → Point
+point_with p held handed = record { core = p.core; lines = p.lines; held = held; handed = handed; traced = p.traced; outside = p.outside; tally = p.tally }
 
 part_kept : (a b c : Option (List ℕ)) (bytes : List ℕ) → AppendsPrefix a b bytes → Keeps b c → AppendsPrefix a c bytes
 part_kept a b c bytes part kept = (part.0, Appends-kept a b c _ part.1 kept)
 
-uncounted_kept : (held : Option (List ℕ)) (p q : Point) → IsUncounted p q → IsUncounted p (point_with q held)
-uncounted_kept held p q u = record { tally = u.tally; traced = u.traced }
+uncounted_kept : (held handed : Option (List ℕ)) (p q : Point) → StaysHanded q.handed handed → IsUncounted p q → IsUncounted p (point_with q held handed)
+uncounted_kept held handed p q more u = record { tally = u.tally; traced = u.traced; stays = stays_then p.handed q.handed handed u.stays more }
 
 -- A move
 
@@ -77,22 +79,23 @@ module _ (v : Service) (m : Move) (held : Option (List ℕ)) (old new : Moment) 
 
 -- Steps
 
-module _ (v : Service) (traces : Bool) (held : Option (List ℕ)) where
-  does_kept : (steps : List Step) (p q : Point) → Keeps q.held held → Does v traces steps p q → Does v traces steps p (point_with q held)
-  does_kept steps p q kept d = record {
+module _ (v : Service) (traces : Bool) (held handed : Option (List ℕ)) where
+  does_kept : (steps : List Step) (p q : Point) → Keeps q.held held → StaysHanded q.handed handed → Does v traces steps p q → Does v traces steps p (point_with q held handed)
+  does_kept steps p q kept more d = record {
     stands = d.stands;
     wrote = Appends-kept p.held q.held held _ d.wrote kept;
     counts = d.counts;
     ran = d.ran;
     tally = d.tally;
     traced = d.traced;
+    flushes = flushes_since v (going p) p.held steps (length d.counts) p.handed q.handed handed d.flushes more;
   }
 
-  module _ (steps first rest : List Step) (step : Step) (split : steps ≡ first ++ step ∷ rest) (p between q : Point) (did : Does v traces first p between) (kept : Keeps q.held held) where
+  module _ (steps first rest : List Step) (step : Step) (split : steps ≡ first ++ step ∷ rest) (p between q : Point) (did : Does v traces first p between) (kept : Keeps q.held held) (more : StaysHanded q.handed handed) where
     abbrev move : Move
     move = move_of v (going between) step
 
-    at_full : StopsAt v traces HistoryFull step between q → StopsWithin v traces HistoryFull steps p (point_with q held)
+    at_full : StopsAt v traces HistoryFull step between q → StopsWithin v traces HistoryFull steps p (point_with q held handed)
     at_full s = record {
       first = first;
       step = step;
@@ -100,20 +103,20 @@ module _ (v : Service) (traces : Bool) (held : Option (List ℕ)) where
       split = split;
       between = between;
       did = did;
-      stopped = (full_kept v move held (moment between) (moment q) kept s.0, uncounted_kept held between q s.1);
+      stopped = (full_kept v move held (moment between) (moment q) kept s.0, uncounted_kept held handed between q more s.1);
     }
 
     -- where nothing was written, the output may have been found so before the step
     at_memory : IsUntaken (going between) move (moment between) (moment q) ⊎ IsUnplanned v move (moment between) (moment q) → IsUncounted between q
-        → StopsWithin v traces NoMemory steps p (point_with q held)
+        → StopsWithin v traces NoMemory steps p (point_with q held handed)
     at_memory (inl u) n = record {
       first = first;
       step = step;
       rest = rest;
       split = split;
-      between = point_with between held;
-      did = does_kept first p between (subst (λ h. Keeps h held) u.unwritten kept) did;
-      stopped = (inl (record { core = u.core; unwritten = refl; untold = u.untold }), record { tally = n.tally; traced = n.traced });
+      between = point_with between held handed;
+      did = does_kept first p between (subst (λ h. Keeps h held) u.unwritten kept) (stays_then between.handed q.handed handed n.stays more) did;
+      stopped = (inl (record { core = u.core; unwritten = refl; untold = u.untold }), record { tally = n.tally; traced = n.traced; stays = stays_none handed });
     }
     at_memory (inr u) n = record {
       first = first;
@@ -122,10 +125,10 @@ module _ (v : Service) (traces : Bool) (held : Option (List ℕ)) where
       split = split;
       between = between;
       did = did;
-      stopped = (inr (unplanned_kept v move held (moment between) (moment q) kept u), uncounted_kept held between q n);
+      stopped = (inr (unplanned_kept v move held (moment between) (moment q) kept u), uncounted_kept held handed between q more n);
     }
 
-    at_disk : StopsAt v traces DiskFault step between q → StopsWithin v traces DiskFault steps p (point_with q held)
+    at_disk : StopsAt v traces DiskFault step between q → StopsWithin v traces DiskFault steps p (point_with q held handed)
     at_disk s = record {
       first = first;
       step = step;
@@ -133,10 +136,10 @@ module _ (v : Service) (traces : Bool) (held : Option (List ℕ)) where
       split = split;
       between = between;
       did = did;
-      stopped = (unlogged_kept v move held (moment between) (moment q) kept s.0, uncounted_kept held between q s.1);
+      stopped = (unlogged_kept v move held (moment between) (moment q) kept s.0, uncounted_kept held handed between q more s.1);
     }
 
-    at_fault : StopsAt v traces WriteFault step between q → StopsWithin v traces WriteFault steps p (point_with q held)
+    at_fault : StopsAt v traces WriteFault step between q → StopsWithin v traces WriteFault steps p (point_with q held handed)
     at_fault (inl s) = record {
       first = first;
       step = step;
@@ -144,7 +147,7 @@ module _ (v : Service) (traces : Bool) (held : Option (List ℕ)) where
       split = split;
       between = between;
       did = did;
-      stopped = inl (fault_kept v move held (moment between) (moment q) kept s.0, uncounted_kept held between q s.1);
+      stopped = inl (fault_kept v move held (moment between) (moment q) kept s.0, uncounted_kept held handed between q more s.1);
     }
     at_fault (inr s) = record {
       first = first;
@@ -158,18 +161,19 @@ module _ (v : Service) (traces : Bool) (held : Option (List ℕ)) where
         committed = committed_kept v move held (moment between) (moment q) kept s.counts s.committed;
         tally = s.tally;
         part = s.part;
+        flushes = flushes_since v (going between) between.held (step ∷ []) 1 between.handed q.handed handed s.flushes more;
       });
     }
 
-  between_kept : (steps : List Step) (p q : Point) → Keeps q.held held → StopsBetween v traces steps p q → StopsBetween v traces steps p (point_with q held)
-  between_kept steps p q kept s = record { first = s.first; rest = s.rest; split = s.split; did = does_kept s.first p q kept s.did }
+  between_kept : (steps : List Step) (p q : Point) → Keeps q.held held → StaysHanded q.handed handed → StopsBetween v traces steps p q → StopsBetween v traces steps p (point_with q held handed)
+  between_kept steps p q kept more s = record { first = s.first; rest = s.rest; split = s.split; did = does_kept s.first p q kept more s.did }
 
   -- what it came to
-  pub Comes-flushed : {T : Type 0} (r : Result T Stop) (steps : List Step) (p q : Point) → Keeps q.held held → Comes v traces r steps p q → Comes v traces r steps p (point_with q held)
-  Comes-flushed (Ok value) steps p q kept d = does_kept steps p q kept d
-  Comes-flushed (Err HistoryFull) steps p q kept s = at_full steps s.first s.rest s.step s.split p s.between q s.did kept s.stopped
-  Comes-flushed (Err NoMemory) steps p q kept (inl s) = inl (at_memory steps s.first s.rest s.step s.split p s.between q s.did kept s.stopped.0 s.stopped.1)
-  Comes-flushed (Err NoMemory) steps p q kept (inr s) = inr (between_kept steps p q kept s)
-  Comes-flushed (Err DiskFault) steps p q kept (inl s) = inl (at_disk steps s.first s.rest s.step s.split p s.between q s.did kept s.stopped)
-  Comes-flushed (Err DiskFault) steps p q kept (inr s) = inr (between_kept steps p q kept s)
-  Comes-flushed (Err WriteFault) steps p q kept s = at_fault steps s.first s.rest s.step s.split p s.between q s.did kept s.stopped
+  pub Comes-flushed : {T : Type 0} (r : Result T Stop) (steps : List Step) (p q : Point) → Keeps q.held held → StaysHanded q.handed handed → Comes v traces r steps p q → Comes v traces r steps p (point_with q held handed)
+  Comes-flushed (Ok value) steps p q kept more d = does_kept steps p q kept more d
+  Comes-flushed (Err HistoryFull) steps p q kept more s = at_full steps s.first s.rest s.step s.split p s.between q s.did kept more s.stopped
+  Comes-flushed (Err NoMemory) steps p q kept more (inl s) = inl (at_memory steps s.first s.rest s.step s.split p s.between q s.did kept more s.stopped.0 s.stopped.1)
+  Comes-flushed (Err NoMemory) steps p q kept more (inr s) = inr (between_kept steps p q kept more s)
+  Comes-flushed (Err DiskFault) steps p q kept more (inl s) = inl (at_disk steps s.first s.rest s.step s.split p s.between q s.did kept more s.stopped)
+  Comes-flushed (Err DiskFault) steps p q kept more (inr s) = inr (between_kept steps p q kept more s)
+  Comes-flushed (Err WriteFault) steps p q kept more s = at_fault steps s.first s.rest s.step s.split p s.between q s.did kept more s.stopped

@@ -6,7 +6,7 @@ use Rattle.std.specs.Io.KnownBytes.{Keeps}
 use Rattle.sf_outside.specs.DiskModel.{DiskFacts}
 use Rattle.engine.specs.Cores.{Core}
 use Rattle.session_store.specs.declared.store.Store.{Store}
-use Rattle.session_steps.specs.Vocabulary.{Service, Stop, StoreSettings}
+use Rattle.session_steps.specs.Vocabulary.{Service, StaysHanded, Stop, StoreSettings}
 use Rattle.session_steps.specs.StopVariants as stops
 use Rattle.session_steps.specs.Steps.{Step}
 use Rattle.session_steps.specs.declared.tally.Tally.{Tally}
@@ -17,15 +17,15 @@ use Rattle.batch_session.specs.Served.{View, point_at, first_point, AreWhole, Ar
 use Rattle.batch_session.proofs.FlushLaws.{Comes-flushed}
 
 module _ (v : Service) (traces : Bool) (settings : Option StoreSettings) (limit : ℕ) where
-  abbrev view_with : View → Option (List ℕ) → View
-  view_with view held = record { core = view.core; left = view.left; held = held; traced = view.traced; outside = view.outside }
+  abbrev view_with : View → Option (List ℕ) → Option (List ℕ) → View
+  view_with view held handed = record { core = view.core; left = view.left; held = held; handed = handed; traced = view.traced; outside = view.outside }
 
-  module _ (old mid : View) (held : Option (List ℕ)) (first last : Core) (f g : DiskFacts) where
+  module _ (old mid : View) (held handed : Option (List ℕ)) (more : StaysHanded mid.handed handed) (first last : Core) (f g : DiskFacts) where
     abbrev Serves : Result Tally SessionFault → View → Type 0
     Serves result new = Served v traces settings limit result old new first last f g
 
     -- nothing more is written
-    abbrev same_flushed : (served : Result Tally SessionFault) → Keeps mid.held held → Serves served mid → Serves served (view_with mid held)
+    abbrev same_flushed : (served : Result Tally SessionFault) → Keeps mid.held held → Serves served mid → Serves served (view_with mid held handed)
     same_flushed served kept s = record {
       taken = s.taken;
       consumed = s.consumed;
@@ -37,7 +37,7 @@ module _ (v : Service) (traces : Bool) (settings : Option StoreSettings) (limit 
       is_stop = s.is_stop;
       lines = s.lines;
       tally = s.tally;
-      came = Comes-flushed v traces held s.stop s.steps (first_point old) (point_at mid s.lines s.tally) kept s.came;
+      came = Comes-flushed v traces held handed s.stop s.steps (first_point old) (point_at mid s.lines s.tally) kept more s.came;
       counted = s.counted;
       none_waits = s.none_waits;
       logs = s.logs;
@@ -66,15 +66,15 @@ module _ (v : Service) (traces : Bool) (settings : Option StoreSettings) (limit 
       abbrev InTurn : Result Tally SessionFault → View → Type 0
       InTurn result new = ServedInTurn v traces settings limit result old new first last f g store
 
-      turn_flushed : (served : Result Tally SessionFault) → Keeps mid.held held → InTurn served mid → InTurn served (view_with mid held)
+      turn_flushed : (served : Result Tally SessionFault) → Keeps mid.held held → InTurn served mid → InTurn served (view_with mid held handed)
       turn_flushed served kept t = record { served = same_flushed served kept t.served; in_turn = t.in_turn }
 
-      turn_unflushed : (served : Result Tally SessionFault) → Keeps mid.held held → InTurn served mid → InTurn (Err fault.WriteFault) (view_with mid held)
-      turn_unflushed served kept t = record { served = served_unflushed served (view_with mid held) (same_flushed served kept t.served); in_turn = tt }
+      turn_unflushed : (served : Result Tally SessionFault) → Keeps mid.held held → InTurn served mid → InTurn (Err fault.WriteFault) (view_with mid held handed)
+      turn_unflushed served kept t = record { served = served_unflushed served (view_with mid held handed) (same_flushed served kept t.served); in_turn = tt }
 
-      pub Served-flushed : (served result : Result Tally SessionFault) → IsFlushed served result → Keeps mid.held held → InTurn served mid → InTurn result (view_with mid held)
-      Served-flushed served result (inl is) kept t = subst (λ x. InTurn x (view_with mid held)) (sym is) (turn_flushed served kept t)
-      Served-flushed served result (inr is) kept t = subst (λ x. InTurn x (view_with mid held)) (sym is) (turn_unflushed served kept t)
+      pub Served-flushed : (served result : Result Tally SessionFault) → IsFlushed served result → Keeps mid.held held → InTurn served mid → InTurn result (view_with mid held handed)
+      Served-flushed served result (inl is) kept t = subst (λ x. InTurn x (view_with mid held handed)) (sym is) (turn_flushed served kept t)
+      Served-flushed served result (inr is) kept t = subst (λ x. InTurn x (view_with mid held handed)) (sym is) (turn_unflushed served kept t)
 
   -- what is known of a session by what it came to before the last flush
   module _ (result : Result Tally SessionFault) (old new : View) (first last : Core) (f g : DiskFacts) (s : Served v traces settings limit result old new first last f g) where

@@ -1,5 +1,6 @@
 -- The lemmas of lower crates that the crates above this one name from here.
-pub use Rattle.session_steps.proofs.BeginLaws.{comes_begin, counts_of_each}
+pub use Rattle.session_steps.proofs.BeginLaws.{comes_begin}
+pub use Rattle.session_steps.proofs.Composing.{counts_of_each}
 pub use Rattle.session_steps.proofs.PieceLaws.{prefix_after, prefix_none, prefix_whole}
 pub use Rattle.session_steps.proofs.PlainCounts.{batches_plain, text_plain}
 pub use Rattle.session_steps.proofs.PrintLaws.{steps_print}

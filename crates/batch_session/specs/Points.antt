@@ -8,11 +8,12 @@ use Rattle.engine.specs.EngineViews.{core_of}
 use Rattle.session_steps.specs.declared.tally.Tally.{Tally}
 use Rattle.session_steps.specs.Doings.{Point}
 
-abbrev pub point_of : Engine → ℕ → Tally → Option (List ℕ) → Option (List ℕ) → Option Choices → Option (List Told) → Point
-point_of engine lines tally held traced choices told = record {
+abbrev pub point_of : Engine → ℕ → Tally → Option (List ℕ) → Option (List ℕ) → Option (List ℕ) → Option Choices → Option (List Told) → Point
+point_of engine lines tally held handed traced choices told = record {
   core = core_of engine;
   lines = lines;
   held = held;
+  handed = handed;
   traced = traced;
   outside = record { choices = choices; told = told };
   tally = tally;

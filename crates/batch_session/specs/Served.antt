@@ -21,21 +21,22 @@ use Rattle.batch_session.specs.declared.serving.SessionFault.{SessionFault}
 use Rattle.batch_session.specs.declared.serving.SessionFault.TheVariants.{ReadFault, WriteFault, DiskFault, InputTooLong, HistoryFull, NoMemory}
 use Rattle.batch_session.specs.InTurn.{IsInTurn}
 
--- a session from outside: its core, what its input has left, what its output and its trace hold, and what was chosen and told
+-- a session from outside: its core, what its input has left, what its output holds and has handed on, what its trace holds, and what was chosen and told
 pub record View : Type 0 where
   pub core : Core
   pub left : Option (List ℕ)
   pub held : Option (List ℕ)
+  pub handed : Option (List ℕ)
   pub traced : Option (List ℕ)
   pub outside : Outside
 
-abbrev pub view_of : Engine → Option (List ℕ) → Option (List ℕ) → Option (List ℕ) → Option Choices → Option (List Told) → View
-view_of engine left held traced choices told =
-    record { core = core_of engine; left = left; held = held; traced = traced; outside = record { choices = choices; told = told } }
+abbrev pub view_of : Engine → Option (List ℕ) → Option (List ℕ) → Option (List ℕ) → Option (List ℕ) → Option Choices → Option (List Told) → View
+view_of engine left held handed traced choices told =
+    record { core = core_of engine; left = left; held = held; handed = handed; traced = traced; outside = record { choices = choices; told = told } }
 
 abbrev pub point_at : View → ℕ → Tally → Point
 point_at view lines tally =
-    record { core = view.core; lines = lines; held = view.held; traced = view.traced; outside = view.outside; tally = tally }
+    record { core = view.core; lines = lines; held = view.held; handed = view.handed; traced = view.traced; outside = view.outside; tally = tally }
 
 -- it began before the first line, and counted no batch yet
 abbrev pub first_point : View → Point

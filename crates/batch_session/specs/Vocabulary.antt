@@ -1,5 +1,6 @@
 -- The definitions of lower crates that the crates above this one name from here.
 pub use Rattle.session_steps.specs.Doings.{BeginBatches, Comes, Does, LogsSteps, Point, RunBatches, StopsAt, StopsBetween, StopsWithin, going, moment}
+pub use Rattle.session_steps.specs.Flushing.{FlushesBatches, IsFlushedBehind}
 pub use Rattle.session_steps.specs.StepLaws.{AreCounted, ComesBegin, EndsAmong, HasBegun, IsAtNext, StepsPrint, ToldAs, TracedAs, WroteAs}
 pub use Rattle.session_steps.specs.Steps.{Answer, RunWaiting, Step, all_steps, answers, behind, endings, move_of, printed_at, ran_at, whole_steps}
 unfoldable pub use Rattle.session_steps.specs.Steps.{printed, ran_on, standing_after}

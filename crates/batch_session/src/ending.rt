@@ -38,8 +38,8 @@ pub(crate) fn run_waiting<R: CommitRule, K: Sink, E: Sink, D: Disk, C: Chooser, 
     requires ready { IsReady (state_of engine.old store.old (D.facts disk.old) (D.faults disk.old) (D.mounts disk.old)) tally.old.batches }
     ensures runs_waiting { (lines : ℕ)
         → RunsWaiting (service_by engine.old (R.choice terms.now.rule.now) terms.now.settings.now) terms.now.settings.now.trace result
-        (point_of engine.old lines tally.old (K.held out.old) (E.held err.old) (C.choices chooser.old) (W.told watch.old))
-        (point_of engine.new lines tally.new (K.held out.new) (E.held err.new) (C.choices chooser.new) (W.told watch.new)) }
+        (point_of engine.old lines tally.old (K.held out.old) (K.handed out.old) (E.held err.old) (C.choices chooser.old) (W.told watch.old))
+        (point_of engine.new lines tally.new (K.held out.new) (K.handed out.new) (E.held err.new) (C.choices chooser.new) (W.told watch.new)) }
     ensures none { OnOk result ((core_of engine.new).pending ≡ []) }
     ensures logs { (lines : ℕ) → LogsSteps (service_by engine.old (R.choice terms.now.rule.now) terms.now.settings.now)
         (settings_of store.old) (core_of engine.old) lines (endings (open_at (core_of engine.old) lines))
@@ -74,8 +74,8 @@ fn run_batch<R: CommitRule, K: Sink, E: Sink, D: Disk, C: Chooser, W: Watch>(
     requires some { 0 < length (core_of engine.old).pending }
     ensures runs_one { (lines : ℕ)
         → RunsOne (service_by engine.old (R.choice terms.now.rule.now) terms.now.settings.now) terms.now.settings.now.trace result
-        (point_of engine.old lines tally.old (K.held out.old) (E.held err.old) (C.choices chooser.old) (W.told watch.old))
-        (point_of engine.new lines tally.new (K.held out.new) (E.held err.new) (C.choices chooser.new) (W.told watch.new)) }
+        (point_of engine.old lines tally.old (K.held out.old) (K.handed out.old) (E.held err.old) (C.choices chooser.old) (W.told watch.old))
+        (point_of engine.new lines tally.new (K.held out.new) (K.handed out.new) (E.held err.new) (C.choices chooser.new) (W.told watch.new)) }
     ensures fewer { OnOk result (length (core_of engine.new).pending < length (core_of engine.old).pending) }
     ensures logs { (lines : ℕ) → LogsSteps (service_by engine.old (R.choice terms.now.rule.now) terms.now.settings.now)
         (settings_of store.old) (core_of engine.old) lines (RunWaiting ∷ [])

@@ -68,8 +68,8 @@ impl Intake {
         requires lines { self.old.lines + 1 < 2 ^ 64 }
         ensures answers { AnswersKept (service_by engine.old (R.choice terms.now.rule.now) terms.now.settings.now)
             terms.now.settings.now.trace result self.old.reader.ended self.old.reader.line
-            (point_of engine.old self.old.lines self.old.tally (K.held out.old) (E.held err.old) (C.choices chooser.old) (W.told watch.old))
-            (point_of engine.new self.new.lines self.new.tally (K.held out.new) (E.held err.new) (C.choices chooser.new) (W.told watch.new)) }
+            (point_of engine.old self.old.lines self.old.tally (K.held out.old) (K.handed out.old) (E.held err.old) (C.choices chooser.old) (W.told watch.old))
+            (point_of engine.new self.new.lines self.new.tally (K.held out.new) (K.handed out.new) (E.held err.new) (C.choices chooser.new) (W.told watch.new)) }
         ensures within { self.new.lines ≤ self.old.lines + 1 }
         ensures reader { self.new.reader ≡ self.old.reader }
         ensures logs { (line : List ℕ) → IsStart longest self.old.reader.line line
@@ -127,8 +127,8 @@ impl Intake {
         requires left { self.old.reader.ended ≡ false }
         ensures answers { AnswersLast (service_by engine.old (R.choice terms.now.rule.now) terms.now.settings.now)
             terms.now.settings.now.trace result self.old.reader.line
-            (point_of engine.old self.old.lines self.old.tally (K.held out.old) (E.held err.old) (C.choices chooser.old) (W.told watch.old))
-            (point_of engine.new self.new.lines self.new.tally (K.held out.new) (E.held err.new) (C.choices chooser.new) (W.told watch.new)) }
+            (point_of engine.old self.old.lines self.old.tally (K.held out.old) (K.handed out.old) (E.held err.old) (C.choices chooser.old) (W.told watch.old))
+            (point_of engine.new self.new.lines self.new.tally (K.held out.new) (K.handed out.new) (E.held err.new) (C.choices chooser.new) (W.told watch.new)) }
         ensures logs { (part : List ℕ) → IsStart longest self.old.reader.line part
             → LogsSteps (service_by engine.old (R.choice terms.now.rule.now) terms.now.settings.now)
             (settings_of store.old) (core_of engine.old) self.old.lines (answers (last_line part))
@@ -165,8 +165,8 @@ impl Intake {
         requires left { self.old.reader.ended ≡ false }
         ensures finishes { Finishes (service_by engine.old (R.choice terms.now.rule.now) terms.now.settings.now)
             terms.now.settings.now.trace result self.old.reader.line
-            (point_of engine.old self.old.lines self.old.tally (K.held out.old) (E.held err.old) (C.choices chooser.old) (W.told watch.old))
-            (point_of engine.new self.new.lines self.new.tally (K.held out.new) (E.held err.new) (C.choices chooser.new) (W.told watch.new)) }
+            (point_of engine.old self.old.lines self.old.tally (K.held out.old) (K.handed out.old) (E.held err.old) (C.choices chooser.old) (W.told watch.old))
+            (point_of engine.new self.new.lines self.new.tally (K.held out.new) (K.handed out.new) (E.held err.new) (C.choices chooser.new) (W.told watch.new)) }
         ensures none { OnOk result ((core_of engine.new).pending ≡ []) }
         ensures logs { (part : List ℕ) → IsStart longest self.old.reader.line part
             → LogsSteps (service_by engine.old (R.choice terms.now.rule.now) terms.now.settings.now)

@@ -11,7 +11,7 @@ ghost use Rattle.session_store.specs.Vocabulary.{logged_of, IsStorable};
 ghost use Rattle.session_store.specs.Cycles.{IsInCycle};
 ghost use Rattle.session_store.specs.Endings.{KeepsWhere, next_core};
 ghost use Rattle.session_store.specs.Stores.{settings_of, Keeps, EndsPast};
-ghost use Rattle.session_steps.specs.Vocabulary.{service_of, service_by, state_of, IsInRange, GoesOn};
+ghost use Rattle.session_steps.specs.Vocabulary.{service_of, service_by, state_of, IsInRange, GoesOn, StaysHanded};
 ghost use Rattle.batch_session.specs.InTurn.{IsFlushedBy};
 ghost use Rattle.batch_session.specs.Served.{view_of, ServedInTurn};
 ghost use Rattle.batch_session.specs.SessionStates.{IsReady, WritesOn};
@@ -74,8 +74,8 @@ pub fn serve<R: CommitRule, S: Source, K: Sink, E: Sink, D: Disk, C: Chooser, W:
     requires limit { settings.now.limit ≤ 2 ^ 62 }
     ensures served { ServedInTurn (service_of engine.old (R.choice rule.now) settings.now.batch settings.now.parts) settings.now.trace
         (settings_of store.old) settings.now.limit result
-        (view_of engine.old (S.left input.old) (K.held out.old) (E.held err.old) (C.choices chooser.old) (W.told watch.old))
-        (view_of engine.new (S.left input.new) (K.held out.new) (E.held err.new) (C.choices chooser.new) (W.told watch.new))
+        (view_of engine.old (S.left input.old) (K.held out.old) (K.handed out.old) (E.held err.old) (C.choices chooser.old) (W.told watch.old))
+        (view_of engine.new (S.left input.new) (K.held out.new) (K.handed out.new) (E.held err.new) (C.choices chooser.new) (W.told watch.new))
         (logged_of engine.old) (logged_of engine.new) (D.facts disk.old) (D.facts disk.new) store.new }
     ensures handed { IsFlushedBy result (K.handed out.new) (K.held out.new) (K.faults out.old) (K.faults out.new) }
     ensures read { S.faults input.old ≤ S.faults input.new }
@@ -122,8 +122,8 @@ fn answer_all<R: CommitRule, S: Source, K: Sink, E: Sink, D: Disk, C: Chooser, W
     requires limit { terms.now.settings.now.limit ≤ 2 ^ 62 }
     ensures serves { ServedInTurn (service_by engine.old (R.choice terms.now.rule.now) terms.now.settings.now) terms.now.settings.now.trace
         (settings_of store.old) terms.now.settings.now.limit result
-        (view_of engine.old (S.left input.old) (K.held out.old) (E.held err.old) (C.choices chooser.old) (W.told watch.old))
-        (view_of engine.new (S.left input.new) (K.held out.new) (E.held err.new) (C.choices chooser.new) (W.told watch.new))
+        (view_of engine.old (S.left input.old) (K.held out.old) (K.handed out.old) (E.held err.old) (C.choices chooser.old) (W.told watch.old))
+        (view_of engine.new (S.left input.new) (K.held out.new) (K.handed out.new) (E.held err.new) (C.choices chooser.new) (W.told watch.new))
         (logged_of engine.old) (logged_of engine.new) (D.facts disk.old) (D.facts disk.new) store.new }
     ensures read { S.faults input.old ≤ S.faults input.new }
     ensures read_cause { result ≡ Err SessionFault.ReadFault → Rose (S.faults input.old) (S.faults input.new) }
@@ -180,6 +180,7 @@ fn flushed<K: Sink>(out: &mut K, served: Result<Tally, SessionFault>) -> Result<
     ensures kept { KeepsBytes (K.held out.old) (K.held out.new) }
     ensures flushed { IsFlushed served result }
     ensures handed { IsFlushedBy result (K.handed out.new) (K.held out.new) (K.faults out.old) (K.faults out.new) }
+    ensures stays { StaysHanded (K.handed out.old) (K.handed out.new) }
     ensures disk { disk_failed result ≡ disk_failed served }
     ensures later { K.faults out.old ≤ K.faults out.new }
     ensures cause { result ≡ Err SessionFault.WriteFault → (served ≡ Err SessionFault.WriteFault) ⊎ Rose (K.faults out.old) (K.faults out.new) }

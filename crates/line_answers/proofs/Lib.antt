@@ -1,3 +1,4 @@
+pub mod FlushLaws
 pub mod LineLaws
 pub mod TakenLaws
 pub mod TakingLaws

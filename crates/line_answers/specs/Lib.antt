@@ -1,3 +1,4 @@
+pub mod Flushing
 pub mod LineViews
 pub mod Services
 pub mod Takings

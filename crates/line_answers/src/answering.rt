@@ -12,8 +12,10 @@ ghost use Rattle.batch_replies.specs.Vocabulary.{logged_of, cycle_of, settings_o
 ghost use Rattle.batch_replies.specs.Stops.{disk_failed};
 ghost use Rattle.batch_replies.specs.GoingOn.{state_of, CanGoOn, GoesOn};
 ghost use Rattle.batch_replies.specs.Moments.{Logs};
+ghost use Rattle.batch_replies.specs.Flushing.{StaysHanded};
 ghost use Rattle.line_answers.specs.LineViews.{line_of};
 ghost use Rattle.line_answers.specs.Services.{service_by, IsInRange};
+ghost use Rattle.line_answers.specs.Flushing.{FlushesBatch};
 ghost use Rattle.line_answers.specs.LineAnswers.{before, moment_of, move_at, ran_by, Moves, AnswersLine, line_result};
 
 use crate::reading::InputLine;
@@ -23,7 +25,7 @@ use batch_replies::{BatchCounts, Stop, Store, answer_batch};
 use engine::Engine;
 use operator_graph::Watch;
 use reservations::CommitRule;
-use sf_outside::{Chooser, Disk, Failed, Sink, write_line};
+use sf_outside::{Chooser, Disk, Failed, Sink};
 use sf_value::Bytes;
 
 /// Takes a line. What it is answered at once is written, and not flushed. Where a batch is due then, it
@@ -59,6 +61,7 @@ pub fn answer_line<R: CommitRule, K: Sink, D: Disk, C: Chooser, W: Watch>(
         (before (core_of engine.old) line.entry.number) (line_of line.entry)))
         (logged_of engine.old) (logged_of engine.new) (D.facts disk.old) (D.facts disk.new) }
     ensures cycle { cycle_of store.new ≡ cycle_of store.old }
+    ensures flushes { FlushesBatch result (K.handed out.old) (K.handed out.new) (K.held out.new) }
 {
     match take_line(terms.alloc, engine, terms.settings.batch, line) {
         Ok(taken) => answer_taken(terms, engine, store, taken, out, disk, chooser, watch),
@@ -95,6 +98,7 @@ fn answer_taken<R: CommitRule, K: Sink, D: Disk, C: Chooser, W: Watch>(
         (record { answer = cons_option taken.answer []; core = core_of engine.old; is_due = taken.is_due }))
         (logged_of engine.old) (logged_of engine.new) (D.facts disk.old) (D.facts disk.new) }
     ensures cycle { cycle_of store.new ≡ cycle_of store.old }
+    ensures flushes { FlushesBatch result (K.handed out.old) (K.handed out.new) (K.held out.new) }
 {
     let Taken { answer, is_due } = taken;
     if write_answer(out, answer).is_err() {
@@ -121,6 +125,7 @@ fn write_answer<K: Sink>(out: &mut K, answer: Option<Bytes>) -> Result<(), Faile
     ensures whole { OnOk result (Appends (K.held out.old) (K.held out.new) (joined (cons_option answer []))) }
     ensures part { OnErr result (AppendsPrefix (K.held out.old) (K.held out.new) (joined (cons_option answer []))) }
     ensures cause { HasCause (K.faults out.old) (K.faults out.new) result }
+    ensures stays { StaysHanded (K.handed out.old) (K.handed out.new) }
 {
     match answer {
         Some(line) => write_whole(out, line),
@@ -132,8 +137,9 @@ fn write_whole<K: Sink>(out: &mut K, line: Bytes) -> Result<(), Failed>
     ensures whole { OnOk result (Appends (K.held out.old) (K.held out.new) line) }
     ensures part { OnErr result (AppendsPrefix (K.held out.old) (K.held out.new) line) }
     ensures cause { HasCause (K.faults out.old) (K.faults out.new) result }
+    ensures stays { StaysHanded (K.handed out.old) (K.handed out.new) }
 {
-    let wrote = write_line(out, line.as_slice());
+    let wrote = out.write(line.as_slice());
     drop(line);
     wrote
 }

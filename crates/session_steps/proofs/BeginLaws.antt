@@ -12,14 +12,17 @@ use Rattle.batch_output.specs.BatchOutput.{Standing, batch_lines, lines_if}
 use Rattle.line_answers.specs.Vocabulary.{Batch, IsToldAlong, Core, BatchCounts, HasPlace, core_behind, Stop}
 use Rattle.line_answers.specs.StopVariants.{HistoryFull, NoMemory, DiskFault, WriteFault}
 use Rattle.line_answers.specs.Services.{Service, program_of}
+use Rattle.line_answers.proofs.Vocabulary.{stays_none}
 use Rattle.line_answers.specs.LineAnswers.{Move, IsUntaken, FindsFull, IsUnplanned, IsUnlogged, IsUnanswered, IsUnreplied, batch_on, whole_text}
 use Rattle.session_steps.specs.Steps.{Step, move_of, behind, standing_after, printed, ran_on}
+use Rattle.session_steps.specs.Flushing.{FlushesBatches}
 use Rattle.session_steps.specs.Traces.{tally_after, trace_text}
 use Rattle.session_steps.specs.Doings.{Point, going, moment, IsUncounted, RunBatches, BeginBatches, Does, IsUntraced, StopsAt, StopsWithin, Comes}
 use Rattle.session_steps.specs.StepLaws.{WroteAs, WholeAs, ToldAs, TracedAs, StandsAs, IsAtNext, AreCounted, EndsAmong, HasBegun, ComesBegin}
 use Rattle.session_steps.proofs.PieceLaws.{prefix_whole, prefix_none, prefix_after}
 use Rattle.session_steps.proofs.StepFacts.{printed_is, printed_placed, printed_full, behind_full, behind_placed, ran_placed, ran_full, standing_over, all_printed_over, all_ran_over, standing-append, standing-one, printed-append, ran-append, printed-cons, ran-cons}
-use Rattle.session_steps.proofs.Composing.{tally-nil, tally-one, tally-append, trace-append, trace-nil, Ran-then, Begin-then, Begin-none}
+use Rattle.session_steps.proofs.Composing.{tally-nil, tally-one, tally-append, trace-append, trace-nil, Ran-then, Begin-then, Begin-none, counts_of_each, flushes_behind}
+use Rattle.session_steps.proofs.FlushLaws.{flushes_none, flushes_among}
 
 -- a whole run of a batch is a beginning of one
 run_begins : (batch : Batch) (parts events : ℕ) (old new : Outside) → IsToldAlong batch parts (Some events) old new → IsToldAlong batch parts None old new
@@ -57,13 +60,6 @@ traced_after (Err HistoryFull) a b c xs ys first rest = Appends-trans a b c xs y
 traced_after (Err NoMemory) a b c xs ys first rest = Appends-trans a b c xs ys first rest
 traced_after (Err DiskFault) a b c xs ys first rest = Appends-trans a b c xs ys first rest
 traced_after (Err WriteFault) a b c xs ys first rest = prefix_after a b c xs ys first rest
-
--- batches that were run have a count each
-pub counts_of_each : (v : Service) (cores : List Core) (counts : List BatchCounts) (a b : Outside) → RunBatches v cores counts a b → length counts ≡ length cores
-counts_of_each v [] [] a b ran = refl
-counts_of_each v [] (c ∷ counts) a b ran = absurd ran
-counts_of_each v (core ∷ cores) [] a b ran = absurd ran
-counts_of_each v (core ∷ cores) (c ∷ counts) a b ran = ap (λ n. suc n) (counts_of_each v cores counts ran.0 b ran.2)
 
 -- so many more were counted, and committed
 counted_after : (r : Result (Unit {0}) Stop) (before counted ran : ℕ) → AreCounted r counted ran → AreCounted r (before + counted) (before + ran)
@@ -140,6 +136,7 @@ module _ (v : Service) (traces : Bool) where
             subst (TracedAs r p.traced z.traced) (sym trace)
             (traced_after r p.traced q.traced z.traced (trace_text traces p.tally d.counts) (trace_text traces q.tally h.counts) d.traced h.traced);
         tally = h.tally ∙ ap (λ t. tally_after t h.counts) d.tally ∙ sym (tally-append d.counts h.counts p.tally);
+        flushes = flushes_behind v traces xs ys p q z d h.counts h.flushes;
         ended = ended_after r xs ys p q z d h.counts h.ended;
       }
 
@@ -157,6 +154,7 @@ module _ (v : Service) (traces : Bool) where
     told = h.told;
     traced = h.traced;
     tally = h.tally;
+    flushes = h.flushes;
     ended = record { first = h.ended.first; rest = h.ended.rest; split = h.ended.split; core = h.ended.core; ran = h.ended.ran };
   }
 
@@ -176,6 +174,7 @@ module _ (v : Service) (traces : Bool) where
     told = Begin-none v (ran_on v (going p) steps) p.outside p.outside refl;
     traced = none_traced p p refl;
     tally = sym (tally-nil p.tally);
+    flushes = flushes_none v (going p) p.held steps p.handed p.handed (stays_none p.handed);
     ended = ended_before (Err NoMemory) refl steps p p (inl refl);
   }
 
@@ -248,6 +247,9 @@ module _ (v : Service) (traces : Bool) where
     uncounted : IsUncounted p q → q.tally ≡ tally_after p.tally []
     uncounted u = u.tally ∙ sym (tally-nil p.tally)
 
+    unflushed : IsUncounted p q → FlushesBatches v (step ∷ rest) (going p) 0 p.held p.handed q.handed
+    unflushed u = flushes_none v (going p) p.held (step ∷ rest) p.handed q.handed u.stays
+
     untraced : IsUncounted p q → Appends p.traced q.traced (trace_text traces p.tally [])
     untraced u = none_traced p q u.traced
 
@@ -275,6 +277,7 @@ module _ (v : Service) (traces : Bool) where
           told = subst (λ l. RunBatches v l [] p.outside q.outside) (sym none) a.untold;
           traced = untraced u;
           tally = uncounted u;
+          flushes = unflushed u;
           ended = ended_before (Err HistoryFull) refl (step ∷ rest) p q (inr a.core);
         }
 
@@ -287,6 +290,7 @@ module _ (v : Service) (traces : Bool) where
       told = Begin-none v cores p.outside q.outside a.untold;
       traced = untraced u;
       tally = uncounted u;
+      flushes = unflushed u;
       ended = ended_before (Err NoMemory) refl (step ∷ rest) p q a.core;
     }
 
@@ -299,6 +303,7 @@ module _ (v : Service) (traces : Bool) where
       told = batch_begun a.due a.place a.begun;
       traced = untraced u;
       tally = uncounted u;
+      flushes = unflushed u;
       ended = ended_before (Err NoMemory) refl (step ∷ rest) p q (inr a.core);
     }
 
@@ -317,6 +322,7 @@ module _ (v : Service) (traces : Bool) where
       told = Begin-none v cores p.outside q.outside a.untold;
       traced = untraced_part u;
       tally = uncounted u;
+      flushes = unflushed u;
       ended = ended_before (Err WriteFault) (inl refl) (step ∷ rest) p q (inr a.core);
     }
 
@@ -329,6 +335,7 @@ module _ (v : Service) (traces : Bool) where
       told = batch_begun a.due a.place (run_begins (batch_on v.compiled move.core) v.parts a.events p.outside q.outside a.told);
       traced = untraced_part u;
       tally = uncounted u;
+      flushes = unflushed u;
       ended = ended_behind 0 (inr refl) a.due a.place a.core;
     }
 
@@ -345,6 +352,7 @@ module _ (v : Service) (traces : Bool) where
               (q.outside, c.ran, Begin-none v (ran_on v (behind v (going p) step) rest) q.outside q.outside refl);
           traced = a.part;
           tally = a.tally ∙ sym (tally-one p.tally a.counts);
+          flushes = flushes_among v (going p) p.held (step ∷ []) rest 1 p.handed q.handed a.flushes;
           ended = ended_behind 1 (inl refl) c.due c.place c.core;
         }
 
@@ -377,6 +385,7 @@ module _ (v : Service) (traces : Bool) where
     told = d.ran;
     traced = d.traced;
     tally = d.tally;
+    flushes = d.flushes;
     ended = record {
       first = steps;
       rest = [];

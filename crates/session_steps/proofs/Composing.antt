@@ -1,5 +1,5 @@
 -- How a session goes on from what it has come to.
-use Rattle.std.proofs.Common.{◌≡◌, inl, inr, Bool, true, false, List, [], ◌∷◌, ◌++◌, Ok, Err, IsErr, refl, sym, ap, ◌∙◌, subst, append_assoc, append-nil}
+use Rattle.std.proofs.Common.{◌≡◌, suc, inl, inr, Bool, true, false, List, [], ◌∷◌, ◌++◌, length, length-append, Ok, Err, IsErr, refl, sym, ap, ◌∙◌, subst, append_assoc, append-nil}
 use Rattle.std.specs.declared.result.Result.{Result}
 use Rattle.std.specs.Io.KnownBytes.{Appends}
 use Rattle.std.proofs.KnownBytes.{Appends-nil, Appends-trans}
@@ -9,10 +9,13 @@ use Rattle.operator_graph.specs.Turns.{Outside}
 use Rattle.line_answers.specs.Vocabulary.{Core, BatchCounts, Stop}
 use Rattle.line_answers.specs.StopVariants.{HistoryFull, NoMemory, DiskFault, WriteFault}
 use Rattle.line_answers.specs.Services.{Service}
+use Rattle.line_answers.proofs.Vocabulary.{stays_none}
 use Rattle.session_steps.specs.declared.tally.Tally.{Tally}
 use Rattle.session_steps.specs.Steps.{Step, standing_after, printed, ran_on}
 use Rattle.session_steps.specs.Traces.{with_batch, tally_after, trace_line, trace_lines, trace_text}
+use Rattle.session_steps.specs.Flushing.{FlushesBatches}
 use Rattle.session_steps.specs.Doings.{Point, going, RunBatches, BeginBatches, Does, StopsAt, StopsWithin, StopsBetween, Comes}
+use Rattle.session_steps.proofs.FlushLaws.{flushes_none, flushes_then}
 use Rattle.session_steps.proofs.StepFacts.{standing-nil, printed-nil, ran-nil, standing-append, printed-append, ran-append}
 
 -- What is counted and traced
@@ -67,7 +70,23 @@ module _ (v : Service) where
   Begin-none [] a b same = same
   Begin-none (x ∷ xs) a b same = inl same
 
+-- batches that were run have a count each
+pub counts_of_each : (v : Service) (cores : List Core) (counts : List BatchCounts) (a b : Outside) → RunBatches v cores counts a b → length counts ≡ length cores
+counts_of_each v [] [] a b ran = refl
+counts_of_each v [] (c ∷ counts) a b ran = absurd ran
+counts_of_each v (core ∷ cores) [] a b ran = absurd ran
+counts_of_each v (core ∷ cores) (c ∷ counts) a b ran = ap (λ n. suc n) (counts_of_each v cores counts ran.0 b ran.2)
+
 module _ (v : Service) (traces : Bool) where
+  -- these steps were done, and so much is handed on behind more of them
+  pub flushes_behind : (xs ys : List Step) (p q z : Point) (d : Does v traces xs p q) (counts : List BatchCounts)
+      → FlushesBatches v ys (going q) (length counts) q.held q.handed z.handed
+      → FlushesBatches v (xs ++ ys) (going p) (length (d.counts ++ counts)) p.held p.handed z.handed
+  flushes_behind xs ys p q z d counts f =
+      subst (λ n. FlushesBatches v (xs ++ ys) (going p) n p.held p.handed z.handed) (sym (length-append d.counts counts))
+      (flushes_then v (going p) p.held xs ys (going q) (length d.counts) q.held p.handed q.handed z.handed d.stands d.wrote
+      (sym (counts_of_each v (ran_on v (going p) xs) d.counts p.outside q.outside d.ran)) (length counts) d.flushes f)
+
   -- there was nothing to do
   pub Does-none : (p : Point) → Does v traces [] p p
   Does-none p = record {
@@ -77,6 +96,7 @@ module _ (v : Service) (traces : Bool) where
     ran = subst (λ cores. RunBatches v cores [] p.outside p.outside) (sym (ran-nil v (going p))) refl;
     tally = sym (tally-nil p.tally);
     traced = subst (Appends p.traced p.traced) (sym (trace-nil traces p.tally)) (Appends-nil p.traced);
+    flushes = flushes_none v (going p) p.held [] p.handed p.handed (stays_none p.handed);
   }
 
   -- these steps, and then those
@@ -101,6 +121,7 @@ module _ (v : Service) (traces : Bool) where
         traced =
             subst (Appends p.traced z.traced) (sym trace)
             (Appends-trans p.traced q.traced z.traced (trace_text traces p.tally d.counts) (trace_text traces q.tally e.counts) d.traced e.traced);
+        flushes = flushes_behind xs ys p q z d e.counts e.flushes;
       }
 
   -- a stop within those, behind these
@@ -198,11 +219,13 @@ pub Comes-same : {T : Type 0} (v v' : Service) (traces : Bool) (r : Result T Sto
 Comes-same v v' traces r steps p q same c = subst (λ x. Comes x traces r steps p q) same c
 
 -- two points are one where all that they tell is the same
-pub same_point : (p q : Point) → q.core ≡ p.core → q.lines ≡ p.lines → q.held ≡ p.held → q.traced ≡ p.traced → q.outside ≡ p.outside → q.tally ≡ p.tally → q ≡ p
-same_point p q core lines held traced outside tally =
-    ap (λ c. let z : Point = record { core = c; lines = q.lines; held = q.held; traced = q.traced; outside = q.outside; tally = q.tally } in z) core
-    ∙ ap (λ n. let z : Point = record { core = p.core; lines = n; held = q.held; traced = q.traced; outside = q.outside; tally = q.tally } in z) lines
-    ∙ ap (λ h. let z : Point = record { core = p.core; lines = p.lines; held = h; traced = q.traced; outside = q.outside; tally = q.tally } in z) held
-    ∙ ap (λ h. let z : Point = record { core = p.core; lines = p.lines; held = p.held; traced = h; outside = q.outside; tally = q.tally } in z) traced
-    ∙ ap (λ o. let z : Point = record { core = p.core; lines = p.lines; held = p.held; traced = p.traced; outside = o; tally = q.tally } in z) outside
-    ∙ ap (λ t. let z : Point = record { core = p.core; lines = p.lines; held = p.held; traced = p.traced; outside = p.outside; tally = t } in z) tally
+pub same_point : (p q : Point) → q.core ≡ p.core → q.lines ≡ p.lines → q.held ≡ p.held → q.handed ≡ p.handed → q.traced ≡ p.traced → q.outside ≡ p.outside → q.tally ≡ p.tally → q ≡ p
+same_point p q core lines held handed traced outside tally = λ i. record {
+  core = core i;
+  lines = lines i;
+  held = held i;
+  handed = handed i;
+  traced = traced i;
+  outside = outside i;
+  tally = tally i;
+}

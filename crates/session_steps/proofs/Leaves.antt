@@ -6,27 +6,40 @@ use Rattle.std.specs.Io.KnownBytes.{Appends}
 use Rattle.std.proofs.KnownBytes.{Appends-nil}
 use Rattle.sf_outside.specs.Bytes.{AppendsPrefix}
 use Rattle.sf_outside.specs.Gains.{joined}
+use Rattle.sf_outside.specs.Handing.{IsHandedOn}
 use Rattle.sf_outside.proofs.GainLaws.{joined-nil, joined_one}
 use Rattle.request_json.specs.Actions.{Line, Action, action_of}
 use Rattle.batch_output.specs.BatchOutput.{Standing, waits, answer, taken, is_due}
-use Rattle.line_answers.specs.Vocabulary.{Core, BatchCounts, Answers, TellsBatch, core_behind, Stop}
+use Rattle.line_answers.specs.Vocabulary.{Core, BatchCounts, Answers, StaysHanded, TellsBatch, core_behind, Stop}
 use Rattle.line_answers.specs.StopVariants.{HistoryFull, NoMemory, DiskFault, WriteFault}
 use Rattle.line_answers.specs.Services.{Service, program_of}
 use Rattle.line_answers.specs.LineAnswers.{before, Move, Moment, Moves, IsUntaken, FindsFull, IsUnplanned, IsUnlogged, AnswersLine, batch_on, line_result}
+use Rattle.line_answers.proofs.Vocabulary.{stays_none}
 use Rattle.line_answers.proofs.TakenLaws.{batch_moved}
 use Rattle.session_steps.specs.declared.tally.Tally.{Tally}
-use Rattle.session_steps.specs.Steps.{Step, open_at, Answer, RunWaiting, move_of}
+use Rattle.session_steps.specs.Steps.{Step, open_at, Answer, RunWaiting, move_of, printed, ran_on}
 use Rattle.session_steps.specs.Traces.{with_batch, trace_line, trace_lines, trace_text}
+use Rattle.session_steps.specs.Flushing.{FlushesBatches}
 use Rattle.session_steps.specs.Doings.{Point, going, moment, RunBatches, IsUncounted, Does, StopsAt, Comes}
+use Rattle.session_steps.proofs.FlushLaws.{flushes_none, flushes_one}
 use Rattle.session_steps.proofs.StepFacts.{lines_behind, printed_undue, behind_undue, ran_undue, printed_placed, behind_placed, ran_placed, standing-one, printed-one, ran-one}
 use Rattle.session_steps.proofs.Composing.{tally-nil, tally-one, trace-nil, Does-none, Comes-at}
 
 -- What is counted and traced of a step
 
--- its batch was counted, and traced where that is asked for
+-- its batch was counted, and traced where that is asked for, and the output was flushed behind it
 pub record IsCounted (traces : Bool) (counts : BatchCounts) (old new : Point) : Type 0 where
   pub tally : new.tally ≡ with_batch old.tally counts
   pub traced : Appends old.traced new.traced (trace_text traces old.tally (counts ∷ []))
+  pub stays : StaysHanded old.handed new.handed
+  pub flushed : IsHandedOn new.handed new.held
+
+-- or it was traced in part
+pub record IsHalfTraced (traces : Bool) (counts : BatchCounts) (old new : Point) : Type 0 where
+  pub tally : new.tally ≡ with_batch old.tally counts
+  pub part : AppendsPrefix old.traced new.traced (trace_text traces old.tally (counts ∷ []))
+  pub stays : StaysHanded old.handed new.handed
+  pub flushed : IsHandedOn new.handed new.held
 
 -- or there was none
 abbrev pub Counts : Bool → Option BatchCounts → Point → Point → Type 0
@@ -49,6 +62,21 @@ module _ (v : Service) (traces : Bool) where
   opened : (core core' : Core) (n n' : ℕ) → core' ≡ core → n' ≡ n → open_at core n ≡ open_at core' n'
   opened core core' n n' same count = sym (ap (λ c. open_at c n') same ∙ ap (open_at core) count)
 
+  -- what a step whose batch was committed printed, the core that the batch ran on, and what is handed on where the output was flushed behind it
+  committed_text : (counts : BatchCounts) (step : Step) (old new : Point) → Moves v (Ok (Some counts)) (move_from old step) (moment old) (moment new)
+      → Appends old.held new.held (joined (printed v (going old) (step ∷ [])))
+  committed_text counts step old new a = subst (λ l. Appends old.held new.held (joined l))
+      (sym (printed-one v (going old) step ∙ printed_placed v old.core old.lines step a.due)) a.wrote
+
+  committed_core : (counts : BatchCounts) (step : Step) (old new : Point) → Moves v (Ok (Some counts)) (move_from old step) (moment old) (moment new)
+      → ran_on v (going old) (step ∷ []) ≡ (move_from old step).core ∷ []
+  committed_core counts step old new a = ran-one v (going old) step ∙ ran_placed v old.core old.lines step a.due a.place
+
+  flushed_step : (counts : BatchCounts) (step : Step) (old new : Point) → Moves v (Ok (Some counts)) (move_from old step) (moment old) (moment new)
+      → StaysHanded old.handed new.handed → IsHandedOn new.handed new.held → FlushesBatches v (step ∷ []) (going old) 1 old.held old.handed new.handed
+  flushed_step counts step old new a stays all =
+      flushes_one v (going old) old.held step old.handed new.handed new.held (ap length (committed_core counts step old new a)) (committed_text counts step old new a) all stays
+
   -- the step was done: no batch was due, or it was committed
   pub Does-step : (counts : Option BatchCounts) (step : Step) (old new : Point) → new.lines ≡ lines_behind old.lines step
       → Moves v (Ok counts) (move_from old step) (moment old) (moment new) → Counts traces counts old new → Does v traces (step ∷ []) old new
@@ -65,6 +93,7 @@ module _ (v : Service) (traces : Bool) where
         tally = u.tally ∙ sym (tally-nil old.tally);
         traced = subst (λ t. Appends old.traced t (trace_text traces old.tally [])) (sym u.traced)
             (subst (Appends old.traced old.traced) (sym (trace-nil traces old.tally)) (Appends-nil old.traced));
+        flushes = flushes_none v (going old) old.held (step ∷ []) old.handed new.handed u.stays;
       }
   Does-step (Some counts) step old new lines a u =
       let m = move_from old step in
@@ -72,15 +101,15 @@ module _ (v : Service) (traces : Bool) where
         stands =
             standing-one v (going old) step ∙ behind_placed v old.core old.lines step a.due a.place
             ∙ opened (core_behind (program_of v) v.rule v.limits m.core) new.core (lines_behind old.lines step) new.lines a.core lines;
-        wrote = subst (λ l. Appends old.held new.held (joined l))
-            (sym (printed-one v (going old) step ∙ printed_placed v old.core old.lines step a.due)) a.wrote;
+        wrote = committed_text counts step old new a;
         counts = counts ∷ [];
         ran =
             subst (λ cores. RunBatches v cores (counts ∷ []) old.outside new.outside)
-            (sym (ran-one v (going old) step ∙ ran_placed v old.core old.lines step a.due a.place))
+            (sym (committed_core counts step old new a))
             (new.outside, a.ran, refl);
         tally = u.tally ∙ sym (tally-one old.tally counts);
         traced = u.traced;
+        flushes = flushed_step counts step old new a u.stays u.flushed;
       }
 
   -- the session stopped at the step, and counted nothing
@@ -93,9 +122,9 @@ module _ (v : Service) (traces : Bool) where
 
   -- its batch was committed, and the line of its trace was written in part
   pub Stops-untraced : (counts : BatchCounts) (step : Step) (old new : Point) → Moves v (Ok (Some counts)) (move_from old step) (moment old) (moment new)
-      → new.tally ≡ with_batch old.tally counts
-      → AppendsPrefix old.traced new.traced (trace_text traces old.tally (counts ∷ [])) → StopsAt v traces WriteFault step old new
-  Stops-untraced counts step old new a tally part = inr (record { counts = counts; committed = a; tally = tally; part = part })
+      → IsHalfTraced traces counts old new → StopsAt v traces WriteFault step old new
+  Stops-untraced counts step old new a u =
+      inr (record { counts = counts; committed = a; tally = u.tally; part = u.part; flushes = flushed_step counts step old new a u.stays u.flushed })
 
   -- A stop at one step is one of it alone
 
@@ -131,11 +160,10 @@ module _ (v : Service) (traces : Bool) where
   Stops-line stop line old new a u = stops_line stop line old new (subst (λ s. AnswersLine v (Err stop) s line (moment old) (moment new)) (before_is old) a) u
 
   pub Untraced-line : (counts : BatchCounts) (line : Line) (old new : Point)
-      → AnswersLine v (Ok (Some counts)) (before old.core (old.lines + 1)) line (moment old) (moment new)
-      → new.tally ≡ with_batch old.tally counts → AppendsPrefix old.traced new.traced (trace_text traces old.tally (counts ∷ []))
+      → AnswersLine v (Ok (Some counts)) (before old.core (old.lines + 1)) line (moment old) (moment new) → IsHalfTraced traces counts old new
       → StopsAt v traces WriteFault (Answer line) old new
-  Untraced-line counts line old new a tally part =
-      Stops-untraced counts (Answer line) old new (subst (λ s. AnswersLine v (Ok (Some counts)) s line (moment old) (moment new)) (before_is old) a) tally part
+  Untraced-line counts line old new a u =
+      Stops-untraced counts (Answer line) old new (subst (λ s. AnswersLine v (Ok (Some counts)) s line (moment old) (moment new)) (before_is old) a) u
 
   -- A batch of what waits, at the end of the input
 
@@ -170,15 +198,14 @@ module _ (v : Service) (traces : Bool) where
 
   pub Untraced-batch : (counts : BatchCounts) (old new : Point) → 0 < length old.core.pending
       → Answers (program_of v) v.rule v.limits (Ok counts) old.core new.core old.held new.held
-      → TellsBatch (batch_on v.compiled old.core) v.parts (Ok counts) old.outside new.outside → new.tally ≡ with_batch old.tally counts
-      → AppendsPrefix old.traced new.traced (trace_text traces old.tally (counts ∷ [])) → StopsAt v traces WriteFault RunWaiting old new
-  Untraced-batch counts old new some a t tally part = Stops-untraced counts RunWaiting old new
-      (Moves-waiting (Ok counts) old new (some_waits old.core some) a t) tally part
+      → TellsBatch (batch_on v.compiled old.core) v.parts (Ok counts) old.outside new.outside → IsHalfTraced traces counts old new
+      → StopsAt v traces WriteFault RunWaiting old new
+  Untraced-batch counts old new some a t u = Stops-untraced counts RunWaiting old new (Moves-waiting (Ok counts) old new (some_waits old.core some) a t) u
 
   -- where nothing waits it does nothing
   pub Does-idle : (p : Point) → length p.core.pending ≡ 0 → Does v traces (RunWaiting ∷ []) p p
   Does-idle p none = Does-step None RunWaiting p p refl (record { undue = none_waits p.core none; core = refl; wrote = nothing p.held; untold = refl })
-      (record { tally = refl; traced = refl })
+      (record { tally = refl; traced = refl; stays = stays_none p.handed })
 
 -- A line that asks the same
 

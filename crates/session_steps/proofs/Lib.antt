@@ -1,5 +1,6 @@
 pub mod PieceLaws
 pub mod StepFacts
+pub mod FlushLaws
 pub mod Composing
 pub mod Leaves
 pub mod Endings

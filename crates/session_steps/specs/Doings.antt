@@ -1,5 +1,5 @@
 -- What a session has done of its steps: of each in full, or up to the one at which it stopped.
-use Rattle.std.specs.Prelude.{◌≡◌, ℕ, ◌⊎◌, Bool, false, List, [], ◌∷◌, ◌++◌, None, Ok, Err}
+use Rattle.std.specs.Prelude.{◌≡◌, ℕ, ◌⊎◌, Bool, false, List, [], ◌∷◌, ◌++◌, length, None, Ok, Err}
 use Rattle.std.specs.declared.option.Option.{Option}
 use Rattle.std.specs.declared.result.Result.{Result}
 use Rattle.std.specs.Io.KnownBytes.{Appends}
@@ -8,20 +8,22 @@ use Rattle.sf_outside.specs.DiskModel.{DiskFacts}
 use Rattle.sf_outside.specs.Gains.{joined}
 use Rattle.operator_graph.specs.Turns.{Outside}
 use Rattle.batch_output.specs.BatchOutput.{Standing}
-use Rattle.line_answers.specs.Vocabulary.{IsToldAlong, Core, BatchCounts, Logs, StoreSettings, Stop}
+use Rattle.line_answers.specs.Vocabulary.{IsToldAlong, Core, BatchCounts, Logs, StaysHanded, StoreSettings, Stop}
 use Rattle.line_answers.specs.StopVariants.{HistoryFull, NoMemory, DiskFault, WriteFault}
 use Rattle.line_answers.specs.Services.{Service, program_of}
 use Rattle.line_answers.specs.LineAnswers.{Moment, RunsBatch, Moves, IsUntaken, FindsFull, IsUnplanned, IsUnlogged, IsCommitted, batch_on}
 use Rattle.session_steps.specs.declared.tally.Tally.{Tally}
 use Rattle.session_steps.specs.Steps.{Step, open_at, move_of, standing_after, printed, ran_on}
+use Rattle.session_steps.specs.Flushing.{FlushesBatches}
 use Rattle.session_steps.specs.Traces.{with_batch, tally_after, trace_text}
 
--- where a session is: its core, how many lines came, what its output and its trace hold, what was chosen and told, and what is counted of its
--- batches
+-- where a session is: its core, how many lines came, what its output holds and has handed on, what its trace holds, what was chosen and told, and what is
+-- counted of its batches
 pub record Point : Type 0 where
   pub core : Core
   pub lines : ℕ
   pub held : Option (List ℕ)
+  pub handed : Option (List ℕ)
   pub traced : Option (List ℕ)
   pub outside : Outside
   pub tally : Tally
@@ -33,10 +35,11 @@ going p = record { core = p.core; lines = p.lines; is_full = false }
 abbrev pub moment : Point → Moment
 moment p = record { core = p.core; held = p.held; outside = p.outside }
 
--- nothing was counted and traced
+-- nothing was counted and traced, and what was handed on stays so
 pub record IsUncounted (old new : Point) : Type 0 where
   pub tally : new.tally ≡ old.tally
   pub traced : new.traced ≡ old.traced
+  pub stays : StaysHanded old.handed new.handed
 
 module _ (v : Service) where
   -- of these steps from this core on, behind so many lines, some may have been done: what is logged behind them, and what each moment since may leave
@@ -60,7 +63,8 @@ module _ (v : Service) where
       (between : Outside) × RunsBatch v core counts old between × BeginBatches cores more between new
 
 module _ (v : Service) (traces : Bool) where
-  -- each of these steps was done in full: their lines were printed, their batches were run, counted, and traced where that is asked for
+  -- each of these steps was done in full: their lines were printed, their batches were run, counted, and traced where that is asked for, and the output was
+  -- flushed behind each
   pub record Does (steps : List Step) (old new : Point) : Type 0 where
     pub stands : standing_after v (going old) steps ≡ going new
     pub wrote : Appends old.held new.held (joined (printed v (going old) steps))
@@ -68,13 +72,15 @@ module _ (v : Service) (traces : Bool) where
     pub ran : RunBatches v (ran_on v (going old) steps) counts old.outside new.outside
     pub tally : new.tally ≡ tally_after old.tally counts
     pub traced : Appends old.traced new.traced (trace_text traces old.tally counts)
+    pub flushes : FlushesBatches v steps (going old) (length counts) old.held old.handed new.handed
 
-  -- a batch was run, committed and answered, and its line of the trace was written in part
+  -- a batch was run, committed, answered and flushed, and its line of the trace was written in part
   pub record IsUntraced (step : Step) (old new : Point) : Type 0 where
     pub counts : BatchCounts
     pub committed : IsCommitted v (move_of v (going old) step) counts (moment old) (moment new)
     pub tally : new.tally ≡ with_batch old.tally counts
     pub part : AppendsPrefix old.traced new.traced (trace_text traces old.tally (counts ∷ []))
+    pub flushes : FlushesBatches v (step ∷ []) (going old) 1 old.held old.handed new.handed
 
   -- the session stopped at a step
   abbrev pub StopsAt : Stop → Step → Point → Point → Type 0

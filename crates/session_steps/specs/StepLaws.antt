@@ -12,6 +12,7 @@ use Rattle.line_answers.specs.Vocabulary.{Core, BatchCounts, Stop}
 use Rattle.line_answers.specs.StopVariants.{HistoryFull, NoMemory, DiskFault, WriteFault}
 use Rattle.line_answers.specs.Services.{Service, program_of}
 use Rattle.session_steps.specs.Steps.{Step, answers, all_steps, move_of, standing_after, printed, ran_on}
+use Rattle.session_steps.specs.Flushing.{FlushesBatches}
 use Rattle.session_steps.specs.Traces.{tally_after, trace_text}
 use Rattle.session_steps.specs.Doings.{Point, going, RunBatches, BeginBatches, Comes}
 
@@ -96,7 +97,7 @@ pub record EndsAmong (v : Service) (steps : List Step) (old : Standing) (last : 
   pub ran : Ran (length (ran_on v old first))
 
 -- a first part of what the steps print was printed, and of their batches some first ones were run, told, counted and traced; all of it where the
--- steps were done or the history was full. The tally is that of those that were counted.
+-- steps were done or the history was full. The tally is that of those that were counted, and the output was flushed behind the last of them.
 pub record HasBegun {T : Type 0} (v : Service) (traces : Bool) (result : Result T Stop) (steps : List Step) (old new : Point) : Type 0 where
   pub stands : StandsAs result (standing_after v (going old) steps) (going new)
   pub wrote : WroteAs result old.held new.held (joined (printed v (going old) steps))
@@ -105,6 +106,7 @@ pub record HasBegun {T : Type 0} (v : Service) (traces : Bool) (result : Result 
   pub told : ToldAs v result (ran_on v (going old) steps) counts old.outside new.outside
   pub traced : TracedAs result old.traced new.traced (trace_text traces old.tally counts)
   pub tally : new.tally ≡ tally_after old.tally counts
+  pub flushes : FlushesBatches v steps (going old) (length counts) old.held old.handed new.handed
   pub ended : EndsAmong v steps (going old) new.core (AreCounted result (length counts))
 
 abbrev pub ComesBegin : Type 0

@@ -215,6 +215,7 @@ module _ (limit : ℕ) (before after : Devices) (now : DiskFacts) (behind : Outp
       flushed = record {
         all = all_handed;
         unstored = λ n. handed_so (Err stop.DiskFault) (unlogged_is result (own_result 5 n (λ z. omega (arith, z))));
+        batches = r.runs.tells.flushes;
       }
 
       -- What is serial

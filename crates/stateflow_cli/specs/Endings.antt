@@ -78,7 +78,7 @@ pub record Interprets (limit : ℕ) (file : List ℕ) (before after : Devices) (
 
 -- what a run shows of the devices
 abbrev pub shown_of : Devices → Shown
-shown_of d = record { left = d.input.left; held = d.out.held; said = d.err.held; outside = d.outside }
+shown_of d = record { left = d.input.left; held = d.out.held; handed = d.out.handed; said = d.err.held; outside = d.outside }
 
 -- the settings that words give, with the most bytes of input that count
 abbrev pub settings_for : ℕ → words.RunSettings → RunSettings

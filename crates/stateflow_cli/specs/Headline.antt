@@ -17,7 +17,7 @@ use Rattle.session_store.specs.Endings.{next_core}
 use Rattle.session_store.specs.Stores.{StandsSomewhere}
 use Rattle.session_store.specs.Vocabulary.{IsStorable}
 use Rattle.store_opening.specs.Openings.{WasAt}
-use Rattle.batch_run.specs.Vocabulary.{numbered_text, RunBatches, BeginBatches}
+use Rattle.batch_run.specs.Vocabulary.{numbered_text, RunBatches, BeginBatches, FlushesBatches, begun}
 use Rattle.batch_run.specs.RunViews.{run_service}
 use Rattle.batch_run.specs.RunEvents.{Starts}
 use Rattle.batch_run.specs.BatchOutcomes.{CommitsWhatEnded}
@@ -33,9 +33,11 @@ use Rattle.stateflow_cli.specs.SessionText.{IsSerial, PrintsText}
 
 module _ {limit : ℕ} {file : List ℕ} {s : words.RunSettings} {before after : Devices} {status : ℕ} (it : Session limit file s before after status) where
   -- But with the status of a write fault all that the output holds was handed on, as far as that is told; or with that of a fault of the disk the output failed too.
+  -- And whatever the status, behind the last of the batches that were told to their ends all that it held then was handed on.
   pub record FlushesOutput : Type 0 where
     pub all : IsOneOf status (0 ∷ 3 ∷ 8 ∷ 9 ∷ 10 ∷ []) → IsHandedOn after.out.handed after.out.held
     pub unstored : status ≡ 5 → IsHandedOn after.out.handed after.out.held ⊎ Rose before.out.faults after.out.faults
+    pub batches : FlushesBatches (run_service it.compiled (settings_of it)) it.steps (begun it.start) (length it.counts) before.out.held before.out.handed after.out.handed
 
   -- The error stream gained the lines of the batches that were told to their ends, where they are to be traced, and then a line of the status. With that of a
   -- write fault a part of those lines.

@@ -115,8 +115,8 @@ fn run_on<S: Source, K: Sink, E: Sink, D: Disk, C: Chooser, W: Watch>(
     requires first { opened.store.settings.opened ≡ opened.store.position.epoch }
     requires kept { KeepsOpened (D.facts disk.old) opened }
     ensures ran { RanOpened opened settings.now result
-        (shown (S.left input.old) (K.held out.old) (E.held err.old) (C.choices chooser.old) (W.told watch.old))
-        (shown (S.left input.new) (K.held out.new) (E.held err.new) (C.choices chooser.new) (W.told watch.new))
+        (shown (S.left input.old) (K.held out.old) (K.handed out.old) (E.held err.old) (C.choices chooser.old) (W.told watch.old))
+        (shown (S.left input.new) (K.held out.new) (K.handed out.new) (E.held err.new) (C.choices chooser.new) (W.told watch.new))
         (D.faults disk.old) (D.faults disk.new) (D.facts disk.old) (D.facts disk.new) }
     ensures handed { IsFlushedBy result (K.handed out.new) (K.held out.new) (K.faults out.old) (K.faults out.new) }
     ensures later_err { E.faults err.old ≤ E.faults err.new }

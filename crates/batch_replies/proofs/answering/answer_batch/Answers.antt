@@ -5,6 +5,7 @@ use Rattle.batch_replies.specs.BatchAnswers.{runs_on}
 use Rattle.batch_replies.proofs.AnswerLaws.{tells_planned}
 use Rattle.batch_replies.proofs.GoingLaws.{asked, still_ready, then_goes}
 use Rattle.batch_replies.proofs.MomentLaws.{chosen_now, logs_unplanned, logs_planned}
+use Rattle.batch_replies.proofs.FlushLaws.{untouched}
 use Rattle.batch_replies.proofs.answering.answer_batch.Goals as goal
 
 pub returns-in-Ok-clause-told : goal.returns-in-Ok-clause-told
@@ -58,3 +59,9 @@ returns-in-Err-HistoryFull-clause-goes_on g c =
 pub returns-in-Err-NoMemory-clause-goes_on : goal.returns-in-Err-NoMemory-clause-goes_on
 returns-in-Err-NoMemory-clause-goes_on g c =
     asked (g.R.CommitRule.choice c.args.rule.now) c.args.engine.now c.plan.new.self c.plan.ensures.runs c.plan.ensures.core c.plan.ensures.fresh _ _ _ _ c.requires.ready
+
+pub returns-in-Err-HistoryFull-clause-flushes : goal.returns-in-Err-HistoryFull-clause-flushes
+returns-in-Err-HistoryFull-clause-flushes g c = untouched _ (g.K.Sink.handed c.args.out.now) _
+
+pub returns-in-Err-NoMemory-clause-flushes : goal.returns-in-Err-NoMemory-clause-flushes
+returns-in-Err-NoMemory-clause-flushes g c = untouched _ (g.K.Sink.handed c.args.out.now) _

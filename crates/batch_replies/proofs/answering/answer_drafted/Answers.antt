@@ -13,6 +13,7 @@ use Rattle.batch_replies.proofs.CountLaws.{fewer_left}
 use Rattle.batch_replies.proofs.GoingLaws.{fails_alike, only_written}
 use Rattle.batch_replies.proofs.MomentLaws.{logs_chosen}
 use Rattle.batch_replies.proofs.SameProgram.{runs_itself}
+use Rattle.batch_replies.proofs.FlushLaws.{untouched}
 use Rattle.batch_replies.proofs.answering.answer_drafted.Goals as goal
 
 pub log_planned-logged-requires-clause-short : goal.log_planned-logged-requires-clause-short
@@ -86,3 +87,6 @@ returns-in-Err-clause-goes_on g c = λ rule chosen.
       ];
       mounts = logged.mounts;
     }
+
+pub returns-in-Err-clause-flushes : goal.returns-in-Err-clause-flushes
+returns-in-Err-clause-flushes g c = untouched _ (g.K.Sink.handed c.args.out.now) _

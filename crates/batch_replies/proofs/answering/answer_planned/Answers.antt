@@ -4,6 +4,7 @@ use Rattle.session_store.specs.Vocabulary.{logged_of}
 use Rattle.session_store.proofs.Vocabulary.{plan_is_spelt}
 use Rattle.batch_replies.proofs.GoingLaws.{stays}
 use Rattle.batch_replies.proofs.MomentLaws.{Logs-still}
+use Rattle.batch_replies.proofs.FlushLaws.{untouched}
 use Rattle.batch_replies.proofs.answering.answer_planned.Goals as goal
 
 pub draft_of-requires : goal.draft_of-requires
@@ -16,3 +17,6 @@ returns-in-Err-clause-logs g c = λ rule chosen.
 
 pub returns-in-Err-clause-goes_on : goal.returns-in-Err-clause-goes_on
 returns-in-Err-clause-goes_on g c = λ rule chosen. stays rule _ c.requires.ready
+
+pub returns-in-Err-clause-flushes : goal.returns-in-Err-clause-flushes
+returns-in-Err-clause-flushes g c = untouched _ (g.K.Sink.handed c.args.out.now) _

@@ -22,9 +22,9 @@ returns-clause-runs g c =
       last,
       inr (
         ran_from c.args.compiled (compiled_of e) c.args.settings.now empty_core (core_of e) last c.run_opened-ended.result
-            (shown (g.S.Source.left c.args.input.now) (g.K.Sink.held c.args.out.now) (g.E.Sink.held c.args.err.now) (g.C.Chooser.choices c.args.chooser.now)
+            (shown (g.S.Source.left c.args.input.now) (g.K.Sink.held c.args.out.now) (g.K.Sink.handed c.args.out.now) (g.E.Sink.held c.args.err.now) (g.C.Chooser.choices c.args.chooser.now)
             (g.W.Watch.told c.args.watch.now))
-            (shown (g.S.Source.left c.run_opened-ended.new.input) (g.K.Sink.held c.run_opened-ended.new.out) (g.E.Sink.held c.run_opened-ended.new.err)
+            (shown (g.S.Source.left c.run_opened-ended.new.input) (g.K.Sink.held c.run_opened-ended.new.out) (g.K.Sink.handed c.run_opened-ended.new.out) (g.E.Sink.held c.run_opened-ended.new.err)
             (g.C.Chooser.choices c.run_opened-ended.new.chooser) (g.W.Watch.told c.run_opened-ended.new.watch))
             c.in-Ok.ensures.runs.compiled_is c.in-Ok.ensures.core c.run_opened-ended.ensures.runs.ran,
         c.run_opened-ended.ensures.handed,

@@ -21,12 +21,18 @@ returns-in-Ok-clause-runs_one g c = λ lines.
     let e = c.args.engine.now in
     let size = c.args.terms.now.settings.now.batch in
     let v : Service = service_of e (g.R.CommitRule.choice c.args.terms.now.rule.now) size c.args.terms.now.settings.now.parts in
-    let old : Point = point_of e lines c.args.tally.now (g.K.Sink.held c.args.out.now) (g.E.Sink.held c.args.err.now) (g.C.Chooser.choices c.args.chooser.now) (g.W.Watch.told c.args.watch.now) in
+    let old : Point = point_of e lines c.args.tally.now (g.K.Sink.held c.args.out.now) (g.K.Sink.handed c.args.out.now) (g.E.Sink.held c.args.err.now) (g.C.Chooser.choices c.args.chooser.now) (g.W.Watch.told c.args.watch.now) in
     let ran = c.answer_batch.new in
-    let new : Point = point_of ran.engine lines c.end_batch.new.tally (g.K.Sink.held ran.out) (g.E.Sink.held c.end_batch.new.err) (g.C.Chooser.choices ran.chooser) (g.W.Watch.told ran.watch) in
+    let new : Point = point_of ran.engine lines c.end_batch.new.tally (g.K.Sink.held ran.out) (g.K.Sink.handed ran.out) (g.E.Sink.held c.end_batch.new.err) (g.C.Chooser.choices ran.chooser) (g.W.Watch.told ran.watch) in
     let said = c.end_batch.ensures in
     Batch-ended v c.args.terms.now.settings.now.trace c.in-Ok.counts c.end_batch.result old new refl c.requires.some (c.in-Ok.ensures.answers size) c.in-Ok.ensures.told
-    (record { tally = said.counted; traced = said.traced; placed = said.placed })
+    (record {
+      tally = said.counted;
+      traced = said.traced;
+      placed = said.placed;
+      stays = c.answer_batch.ensures.flushes.stays;
+      flushed = c.in-Ok.ensures.flushes.all;
+    })
 
 pub returns-in-Ok-clause-fewer : goal.returns-in-Ok-clause-fewer
 returns-in-Ok-clause-fewer g c = on_ok c.end_batch.result _ c.in-Ok.ensures.fewer
@@ -39,11 +45,11 @@ returns-in-Err-clause-runs_one g c = λ lines.
     let traces = c.args.terms.now.settings.now.trace in
     let stop = c.in-Err.stop in
     let held = g.E.Sink.held c.args.err.now in
-    let old : Point = point_of e lines c.args.tally.now (g.K.Sink.held c.args.out.now) held (g.C.Chooser.choices c.args.chooser.now) (g.W.Watch.told c.args.watch.now) in
+    let old : Point = point_of e lines c.args.tally.now (g.K.Sink.held c.args.out.now) (g.K.Sink.handed c.args.out.now) held (g.C.Chooser.choices c.args.chooser.now) (g.W.Watch.told c.args.watch.now) in
     let ran = c.answer_batch.new in
-    let new : Point = point_of ran.engine lines c.args.tally.now (g.K.Sink.held ran.out) held (g.C.Chooser.choices ran.chooser) (g.W.Watch.told ran.watch) in
+    let new : Point = point_of ran.engine lines c.args.tally.now (g.K.Sink.held ran.out) (g.K.Sink.handed ran.out) held (g.C.Chooser.choices ran.chooser) (g.W.Watch.told ran.watch) in
     Comes-one v traces {T = Unit {0}} (Err stop) stop RunWaiting old new refl
-    (Stops-batch v traces stop old new c.requires.some (c.in-Err.ensures.answers size) c.in-Err.ensures.told (record { tally = refl; traced = refl }))
+    (Stops-batch v traces stop old new c.requires.some (c.in-Err.ensures.answers size) c.in-Err.ensures.told (record { tally = refl; traced = refl; stays = c.answer_batch.ensures.flushes.stays }))
 
 pub returns-in-Ok-clause-logs : goal.returns-in-Ok-clause-logs
 returns-in-Ok-clause-logs g c = λ lines.

@@ -31,13 +31,13 @@ lines-init g c =
     let traces = c.args.terms.now.settings.now.trace in
     let limit = c.args.terms.now.settings.now.limit in
     let v : Service = service_of e rule c.args.terms.now.settings.now.batch c.args.terms.now.settings.now.parts in
-    let old : View = view_of e (g.S.Source.left c.args.input.now) (g.K.Sink.held c.args.out.now) (g.E.Sink.held c.args.err.now) (g.C.Chooser.choices c.args.chooser.now) (g.W.Watch.told c.args.watch.now) in
+    let old : View = view_of e (g.S.Source.left c.args.input.now) (g.K.Sink.held c.args.out.now) (g.K.Sink.handed c.args.out.now) (g.E.Sink.held c.args.err.now) (g.C.Chooser.choices c.args.chooser.now) (g.W.Watch.told c.args.watch.now) in
     let intake = c.new-intake.result in
     let new = c.new-intake.ensures in
-    let first : Point = point_of e intake.lines intake.tally old.held old.traced old.outside.choices old.outside.told in
+    let first : Point = point_of e intake.lines intake.tally old.held old.handed old.traced old.outside.choices old.outside.told in
     record {
       going = Going-new v traces (settings_of c.args.store.now) limit old.left (first_point old) first (logged_of e) (g.D.Disk.facts c.args.disk.now) new.reader
-          (same_point (first_point old) first refl new.lines refl refl refl new.tally)
+          (same_point (first_point old) first refl new.lines refl refl refl refl new.tally)
           (Logs-still (source_of e) rule c.args.store.now _ (logged_of e) (logged_of e) (g.D.Disk.facts c.args.disk.now) refl c.requires.ready.can_go_on.kept);
       lines = omega (arith, new.lines, new.reader.room, ap length new.reader.piece);
       read = omega arith;
@@ -67,8 +67,8 @@ lines-preserved g c =
     let same = same_service e at c.lines.invariant.goes_on.runs rule size parts in
     let line = rw c.in-Ok-Line.field-0-is at c.in-Ok-Line.ensures.gives in
     let reader : Lines = c.next.new.self in
-    let q : Point = point_of at c.lines.intake.lines c.lines.intake.tally (g.K.Sink.held c.lines.out) (g.E.Sink.held c.lines.err) (g.C.Chooser.choices c.lines.chooser) (g.W.Watch.told c.lines.watch) in
-    let z : Point = point_of told.engine told.self.lines told.self.tally (g.K.Sink.held told.out) (g.E.Sink.held told.err) (g.C.Chooser.choices told.chooser) (g.W.Watch.told told.watch) in
+    let q : Point = point_of at c.lines.intake.lines c.lines.intake.tally (g.K.Sink.held c.lines.out) (g.K.Sink.handed c.lines.out) (g.E.Sink.held c.lines.err) (g.C.Chooser.choices c.lines.chooser) (g.W.Watch.told c.lines.watch) in
+    let z : Point = point_of told.engine told.self.lines told.self.tally (g.K.Sink.held told.out) (g.K.Sink.handed told.out) (g.E.Sink.held told.err) (g.C.Chooser.choices told.chooser) (g.W.Watch.told told.watch) in
     let kept = c.answer.ensures.reader in
     record {
       going = Going-line v traces settings c.args.terms.now.settings.now.limit c.lines.invariant.going line told.self.reader z (logged_of told.engine) (g.D.Disk.facts told.disk) kept
@@ -98,10 +98,10 @@ returns-in-Err-answer-clause-serves g c =
     let stop = c.in-Err-answer.stop in
     let line = rw c.in-Ok-Line.field-0-is at c.in-Ok-Line.ensures.gives in
     let reader : Lines = c.next.new.self in
-    let old : View = view_of e (g.S.Source.left c.args.input.now) (g.K.Sink.held c.args.out.now) (g.E.Sink.held c.args.err.now) (g.C.Chooser.choices c.args.chooser.now) (g.W.Watch.told c.args.watch.now) in
-    let new : View = view_of told.engine (g.S.Source.left c.next.new.input) (g.K.Sink.held told.out) (g.E.Sink.held told.err) (g.C.Chooser.choices told.chooser) (g.W.Watch.told told.watch) in
-    let q : Point = point_of at c.lines.intake.lines c.lines.intake.tally (g.K.Sink.held c.lines.out) (g.E.Sink.held c.lines.err) (g.C.Chooser.choices c.lines.chooser) (g.W.Watch.told c.lines.watch) in
-    let z : Point = point_of told.engine told.self.lines told.self.tally new.held new.traced new.outside.choices new.outside.told in
+    let old : View = view_of e (g.S.Source.left c.args.input.now) (g.K.Sink.held c.args.out.now) (g.K.Sink.handed c.args.out.now) (g.E.Sink.held c.args.err.now) (g.C.Chooser.choices c.args.chooser.now) (g.W.Watch.told c.args.watch.now) in
+    let new : View = view_of told.engine (g.S.Source.left c.next.new.input) (g.K.Sink.held told.out) (g.K.Sink.handed told.out) (g.E.Sink.held told.err) (g.C.Chooser.choices told.chooser) (g.W.Watch.told told.watch) in
+    let q : Point = point_of at c.lines.intake.lines c.lines.intake.tally (g.K.Sink.held c.lines.out) (g.K.Sink.handed c.lines.out) (g.E.Sink.held c.lines.err) (g.C.Chooser.choices c.lines.chooser) (g.W.Watch.told c.lines.watch) in
+    let z : Point = point_of told.engine told.self.lines told.self.tally new.held new.handed new.traced new.outside.choices new.outside.told in
     At-a-line v traces settings c.args.terms.now.settings.now.limit old new c.lines.invariant.going told.self.lines told.self.tally told.store line stop (Err c.fault_of.result) (ap Err c.fault_of.ensures)
     (λ whole start. Reaches-by {T = Unit {0}} v here traces settings held (λ _. Answer (cut reader.ended whole) ∷ []) (Err stop) q z _ _ _ _ same
     c.lines.invariant.goes_on.settings (record { came = c.in-Err-answer.ensures.answers whole start; logs = c.answer.ensures.logs whole start })) c.in-Err-answer.ensures.in_turn
@@ -136,10 +136,10 @@ returns-in-Ok-End-clause-serves g c =
     let same = same_service e at c.lines.invariant.goes_on.runs rule size parts in
     let r = c.finish-ended.result in
     let ended = rw c.in-Ok-End.field-0-is at c.in-Ok-End.ensures.gives in
-    let old : View = view_of e (g.S.Source.left c.args.input.now) (g.K.Sink.held c.args.out.now) (g.E.Sink.held c.args.err.now) (g.C.Chooser.choices c.args.chooser.now) (g.W.Watch.told c.args.watch.now) in
-    let new : View = view_of end.engine (g.S.Source.left c.next.new.input) (g.K.Sink.held end.out) (g.E.Sink.held end.err) (g.C.Chooser.choices end.chooser) (g.W.Watch.told end.watch) in
-    let q : Point = point_of at c.lines.intake.lines c.lines.intake.tally (g.K.Sink.held c.lines.out) (g.E.Sink.held c.lines.err) (g.C.Chooser.choices c.lines.chooser) (g.W.Watch.told c.lines.watch) in
-    let z : Point = point_of end.engine end.self.lines end.self.tally new.held new.traced new.outside.choices new.outside.told in
+    let old : View = view_of e (g.S.Source.left c.args.input.now) (g.K.Sink.held c.args.out.now) (g.K.Sink.handed c.args.out.now) (g.E.Sink.held c.args.err.now) (g.C.Chooser.choices c.args.chooser.now) (g.W.Watch.told c.args.watch.now) in
+    let new : View = view_of end.engine (g.S.Source.left c.next.new.input) (g.K.Sink.held end.out) (g.K.Sink.handed end.out) (g.E.Sink.held end.err) (g.C.Chooser.choices end.chooser) (g.W.Watch.told end.watch) in
+    let q : Point = point_of at c.lines.intake.lines c.lines.intake.tally (g.K.Sink.held c.lines.out) (g.K.Sink.handed c.lines.out) (g.E.Sink.held c.lines.err) (g.C.Chooser.choices c.lines.chooser) (g.W.Watch.told c.lines.watch) in
+    let z : Point = point_of end.engine end.self.lines end.self.tally new.held new.handed new.traced new.outside.choices new.outside.told in
     At-the-end v traces settings c.args.terms.now.settings.now.limit old new c.lines.invariant.going end.self.lines end.self.tally end.store ended r c.finished.result c.finished.ensures
     c.finish-ended.ensures.none
     (λ whole start. Reaches-by v here traces settings held (λ w. last_steps w (open_at (core_of at) c.lines.intake.lines) (last_line whole)) r q z _ _ _ _ same
@@ -166,8 +166,8 @@ returns-in-Ok-ReadFault-clause-serves g c =
     let e = c.args.engine.now in
     let s = c.lines in
     let v : Service = service_of e (g.R.CommitRule.choice c.args.terms.now.rule.now) c.args.terms.now.settings.now.batch c.args.terms.now.settings.now.parts in
-    let old : View = view_of e (g.S.Source.left c.args.input.now) (g.K.Sink.held c.args.out.now) (g.E.Sink.held c.args.err.now) (g.C.Chooser.choices c.args.chooser.now) (g.W.Watch.told c.args.watch.now) in
-    let new : View = view_of s.engine (g.S.Source.left c.next.new.input) (g.K.Sink.held s.out) (g.E.Sink.held s.err) (g.C.Chooser.choices s.chooser) (g.W.Watch.told s.watch) in
+    let old : View = view_of e (g.S.Source.left c.args.input.now) (g.K.Sink.held c.args.out.now) (g.K.Sink.handed c.args.out.now) (g.E.Sink.held c.args.err.now) (g.C.Chooser.choices c.args.chooser.now) (g.W.Watch.told c.args.watch.now) in
+    let new : View = view_of s.engine (g.S.Source.left c.next.new.input) (g.K.Sink.held s.out) (g.K.Sink.handed s.out) (g.E.Sink.held s.err) (g.C.Chooser.choices s.chooser) (g.W.Watch.told s.watch) in
     At-a-fault v c.args.terms.now.settings.now.trace (settings_of c.args.store.now) c.args.terms.now.settings.now.limit old new s.intake.lines s.intake.tally s.invariant.going s.store
     (rw c.in-Ok-ReadFault.field-0-is at c.in-Ok-ReadFault.ensures.gives) s.invariant.ready.in_cycle
 
@@ -176,8 +176,8 @@ returns-in-Ok-TooLong-clause-serves g c =
     let e = c.args.engine.now in
     let s = c.lines in
     let v : Service = service_of e (g.R.CommitRule.choice c.args.terms.now.rule.now) c.args.terms.now.settings.now.batch c.args.terms.now.settings.now.parts in
-    let old : View = view_of e (g.S.Source.left c.args.input.now) (g.K.Sink.held c.args.out.now) (g.E.Sink.held c.args.err.now) (g.C.Chooser.choices c.args.chooser.now) (g.W.Watch.told c.args.watch.now) in
-    let new : View = view_of s.engine (g.S.Source.left c.next.new.input) (g.K.Sink.held s.out) (g.E.Sink.held s.err) (g.C.Chooser.choices s.chooser) (g.W.Watch.told s.watch) in
+    let old : View = view_of e (g.S.Source.left c.args.input.now) (g.K.Sink.held c.args.out.now) (g.K.Sink.handed c.args.out.now) (g.E.Sink.held c.args.err.now) (g.C.Chooser.choices c.args.chooser.now) (g.W.Watch.told c.args.watch.now) in
+    let new : View = view_of s.engine (g.S.Source.left c.next.new.input) (g.K.Sink.held s.out) (g.K.Sink.handed s.out) (g.E.Sink.held s.err) (g.C.Chooser.choices s.chooser) (g.W.Watch.told s.watch) in
     At-the-limit v c.args.terms.now.settings.now.trace (settings_of c.args.store.now) c.args.terms.now.settings.now.limit old new s.intake.lines s.intake.tally s.invariant.going s.store
     (rw c.in-Ok-TooLong.field-0-is at c.in-Ok-TooLong.ensures.gives) s.invariant.ready.in_cycle
 
@@ -186,6 +186,6 @@ returns-in-Err-clause-serves g c =
     let e = c.args.engine.now in
     let s = c.lines in
     let v : Service = service_of e (g.R.CommitRule.choice c.args.terms.now.rule.now) c.args.terms.now.settings.now.batch c.args.terms.now.settings.now.parts in
-    let old : View = view_of e (g.S.Source.left c.args.input.now) (g.K.Sink.held c.args.out.now) (g.E.Sink.held c.args.err.now) (g.C.Chooser.choices c.args.chooser.now) (g.W.Watch.told c.args.watch.now) in
-    let new : View = view_of s.engine (g.S.Source.left c.next.new.input) (g.K.Sink.held s.out) (g.E.Sink.held s.err) (g.C.Chooser.choices s.chooser) (g.W.Watch.told s.watch) in
+    let old : View = view_of e (g.S.Source.left c.args.input.now) (g.K.Sink.held c.args.out.now) (g.K.Sink.handed c.args.out.now) (g.E.Sink.held c.args.err.now) (g.C.Chooser.choices c.args.chooser.now) (g.W.Watch.told c.args.watch.now) in
+    let new : View = view_of s.engine (g.S.Source.left c.next.new.input) (g.K.Sink.held s.out) (g.K.Sink.handed s.out) (g.E.Sink.held s.err) (g.C.Chooser.choices s.chooser) (g.W.Watch.told s.watch) in
     At-no-memory v c.args.terms.now.settings.now.trace (settings_of c.args.store.now) c.args.terms.now.settings.now.limit old new s.intake.lines s.intake.tally s.invariant.going s.store c.in-Err.ensures.gives

@@ -16,8 +16,8 @@ abbrev pub invariant-lines : goal.invariant-lines
 invariant-lines g l = record {
   going : Going (service_of l.fn.engine (g.R.CommitRule.choice l.terms.rule.now) l.terms.settings.now.batch l.terms.settings.now.parts) l.terms.settings.now.trace (settings_of l.fn.store) l.terms.settings.now.limit
       (g.S.Source.left l.fn.input) (g.S.Source.left l.input) l.intake.reader
-      (first_point (view_of l.fn.engine (g.S.Source.left l.fn.input) (g.K.Sink.held l.fn.out) (g.E.Sink.held l.fn.err) (g.C.Chooser.choices l.fn.chooser) (g.W.Watch.told l.fn.watch)))
-      (point_of l.engine l.intake.lines l.intake.tally (g.K.Sink.held l.out) (g.E.Sink.held l.err) (g.C.Chooser.choices l.chooser) (g.W.Watch.told l.watch))
+      (first_point (view_of l.fn.engine (g.S.Source.left l.fn.input) (g.K.Sink.held l.fn.out) (g.K.Sink.handed l.fn.out) (g.E.Sink.held l.fn.err) (g.C.Chooser.choices l.fn.chooser) (g.W.Watch.told l.fn.watch)))
+      (point_of l.engine l.intake.lines l.intake.tally (g.K.Sink.held l.out) (g.K.Sink.handed l.out) (g.E.Sink.held l.err) (g.C.Chooser.choices l.chooser) (g.W.Watch.told l.watch))
       (logged_of l.fn.engine) (logged_of l.engine) (g.D.Disk.facts l.fn.disk) (g.D.Disk.facts l.disk);
   lines : l.intake.lines + length l.intake.reader.piece + l.intake.reader.room ≤ l.terms.settings.now.limit;
   read : g.S.Source.faults l.fn.input ≤ g.S.Source.faults l.input;

@@ -32,9 +32,9 @@ serve-served-requires-clause-limit g c = omega (arith, (few c.args.settings.now 
 pub tally_of-requires : goal.tally_of-requires
 tally_of-requires g c =
     let old : View =
-    view_of c.args.engine.now (Some c.args.input.now) None None (g.C.Chooser.choices c.args.chooser.now) (g.W.Watch.told c.args.watch.now) in
+    view_of c.args.engine.now (Some c.args.input.now) None None None (g.C.Chooser.choices c.args.chooser.now) (g.W.Watch.told c.args.watch.now) in
     let new : View =
-    view_of c.serve-served.new.engine (Some c.serve-served.new.input.left.now) None None (g.C.Chooser.choices c.serve-served.new.chooser)
+    view_of c.serve-served.new.engine (Some c.serve-served.new.input.left.now) None None None (g.C.Chooser.choices c.serve-served.new.chooser)
     (g.W.Watch.told c.serve-served.new.watch) in
     let v : Service = service_of c.args.engine.now batch_rule c.args.settings.now.batch c.args.settings.now.parts in
     let e = c.serve-served.new.engine in
@@ -49,9 +49,9 @@ tally_of-requires g c =
 pub returns : goal.returns
 returns g c =
     let old : View =
-    view_of c.args.engine.now (Some c.args.input.now) None None (g.C.Chooser.choices c.args.chooser.now) (g.W.Watch.told c.args.watch.now) in
+    view_of c.args.engine.now (Some c.args.input.now) None None None (g.C.Chooser.choices c.args.chooser.now) (g.W.Watch.told c.args.watch.now) in
     let new : View =
-    view_of c.serve-served.new.engine (Some c.serve-served.new.input.left.now) None None (g.C.Chooser.choices c.serve-served.new.chooser)
+    view_of c.serve-served.new.engine (Some c.serve-served.new.input.left.now) None None None (g.C.Chooser.choices c.serve-served.new.chooser)
     (g.W.Watch.told c.serve-served.new.watch) in
     let v : Service = service_of c.args.engine.now batch_rule c.args.settings.now.batch c.args.settings.now.parts in
     let e = c.serve-served.new.engine in

@@ -4,11 +4,13 @@ use Rattle.request_json.specs.Actions.{action_of}
 use Rattle.engine.specs.EngineViews.{core_of, source_of}
 use Rattle.batch_replies.specs.Vocabulary.{settings_of, logged_of}
 use Rattle.batch_replies.specs.GoingOn.{SessionState, state_of}
+use Rattle.batch_replies.proofs.FlushLaws.{stays_none}
 use Rattle.batch_replies.proofs.GoingLaws.{still_ready, then_goes}
 use Rattle.batch_replies.proofs.MomentLaws.{Logs-still}
 use Rattle.line_answers.specs.LineViews.{line_of}
 use Rattle.line_answers.specs.Services.{service_by}
 use Rattle.line_answers.specs.LineAnswers.{before, Moment, moment_of, move_at, ran_by}
+use Rattle.line_answers.proofs.FlushLaws.{stopped_line}
 use Rattle.line_answers.proofs.TakenLaws.{engine_moved, engine_logs, line_moved, taken_waits, few_behind}
 use Rattle.line_answers.proofs.TakingLaws.{takes_on}
 use Rattle.line_answers.proofs.answering.answer_line.Goals as goal
@@ -85,3 +87,6 @@ returns-in-Err-clause-logs g c =
     let v = service_by e rule c.args.terms.now.settings.now in
     Logs-still (source_of e) rule c.args.store.now (ran_by v (move_at v (before (core_of e) c.args.line.number) (line_of c.args.line))) (logged_of e) (logged_of c.take_line.new.engine)
     (g.D.Disk.facts c.args.disk.now) c.take_line.ensures.takes.logged c.requires.ready.kept
+
+pub returns-in-Err-clause-flushes : goal.returns-in-Err-clause-flushes
+returns-in-Err-clause-flushes g c = stopped_line _ _ _ _ (stays_none (g.K.Sink.handed c.args.out.now))

@@ -10,6 +10,7 @@ use Rattle.batch_replies.proofs.GoingLaws.{stays, fails_alike}
 use Rattle.batch_replies.proofs.MomentLaws.{Logs-still}
 use Rattle.line_answers.specs.Services.{service_by}
 use Rattle.line_answers.specs.LineAnswers.{Move, Moment, moment_of, ran_by, Moves}
+use Rattle.line_answers.proofs.FlushLaws.{stopped_line, undue_line, line_flushes}
 use Rattle.line_answers.proofs.TakenLaws.{batch_moved, fails_so, where_ok}
 use Rattle.line_answers.proofs.answering.answer_taken.Goals as goal
 
@@ -57,3 +58,12 @@ returns-clause-logs g c =
     let size = c.args.terms.now.settings.now.batch in
     subst (λ due. Logs (source_of e) rule (settings_of c.args.store.now) (if due then runs_on (source_of e) rule (record { batch = size; history = limit_of e }) (core_of e) else []) (logged_of e)
     (logged_of c.answer_batch.new.engine) (g.D.Disk.facts c.args.disk.now) (g.D.Disk.facts c.answer_batch.new.disk)) (sym c.if-not-is_due.false) (c.answer_batch.ensures.logs size)
+
+pub returns-then-is_err-clause-flushes : goal.returns-then-is_err-clause-flushes
+returns-then-is_err-clause-flushes g c = stopped_line _ _ _ _ c.write_answer.ensures.stays
+
+pub returns-then-not-is_due-clause-flushes : goal.returns-then-not-is_due-clause-flushes
+returns-then-not-is_due-clause-flushes g c = undue_line _ _ _ c.write_answer.ensures.stays
+
+pub returns-clause-flushes : goal.returns-clause-flushes
+returns-clause-flushes g c = line_flushes c.answer_batch.result _ _ _ _ _ c.line_result.ensures c.write_answer.ensures.stays c.answer_batch.ensures.flushes

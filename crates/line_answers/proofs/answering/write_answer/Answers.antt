@@ -6,6 +6,7 @@ use Rattle.std.proofs.KnownBytes.{Appends-nil}
 use Rattle.sf_outside.specs.Bytes.{AppendsPrefix}
 use Rattle.sf_outside.specs.Gains.{joined}
 use Rattle.sf_outside.proofs.GainLaws.{joined-nil, joined_one}
+use Rattle.batch_replies.proofs.FlushLaws.{stays_none}
 use Rattle.line_answers.proofs.answering.write_answer.Goals as goal
 
 pub returns-in-Some-clause-whole : goal.returns-in-Some-clause-whole
@@ -22,3 +23,6 @@ pub returns-in-None-clause-whole : goal.returns-in-None-clause-whole
 returns-in-None-clause-whole g c =
     subst (λ answer. Appends (g.K.Sink.held c.args.out.now) (g.K.Sink.held c.args.out.now) (joined (cons_option answer []))) (sym c.in-None.is)
     (subst (Appends (g.K.Sink.held c.args.out.now) (g.K.Sink.held c.args.out.now)) (sym joined-nil) (Appends-nil (g.K.Sink.held c.args.out.now)))
+
+pub returns-in-None-clause-stays : goal.returns-in-None-clause-stays
+returns-in-None-clause-stays g c = stays_none (g.K.Sink.handed c.args.out.now)

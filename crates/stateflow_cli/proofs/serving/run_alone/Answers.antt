@@ -25,7 +25,7 @@ returns g c = λ disk.
     untold (unnamed c.args.words c.requires.alone) refl c.in-Ok.compiled c.in-Ok.ensures.gives c.run_program.ensures.runs.0 c.run_program.ensures.later_err c.run_program.result
     c.ending_of.result c.ending_of.ensures c.run_program.ensures.read_cause c.run_program.ensures.write_cause c.run_program.ensures.no_disk
     (subst (λ (s : RunSettings). Runs c.in-Ok.compiled s empty_core c.run_program.ensures.runs.0 c.run_program.result
-    (shown (g.S.Source.left c.args.input.now) (g.K.Sink.held c.args.out.now) (g.E.Sink.held c.args.err.now) (g.C.Chooser.choices c.args.chooser.now) (g.W.Watch.told c.args.watch.now))
-    (shown (g.S.Source.left c.run_program.new.input) (g.K.Sink.held c.run_program.new.out) (g.E.Sink.held c.run_program.new.err) (g.C.Chooser.choices c.run_program.new.chooser) (g.W.Watch.told c.run_program.new.watch))
+    (shown (g.S.Source.left c.args.input.now) (g.K.Sink.held c.args.out.now) (g.K.Sink.handed c.args.out.now) (g.E.Sink.held c.args.err.now) (g.C.Chooser.choices c.args.chooser.now) (g.W.Watch.told c.args.watch.now))
+    (shown (g.S.Source.left c.run_program.new.input) (g.K.Sink.held c.run_program.new.out) (g.K.Sink.handed c.run_program.new.out) (g.E.Sink.held c.run_program.new.err) (g.C.Chooser.choices c.run_program.new.chooser) (g.W.Watch.told c.run_program.new.watch))
     (IsFlushedBy c.run_program.result (g.K.Sink.handed c.run_program.new.out) (g.K.Sink.held c.run_program.new.out) (g.K.Sink.faults c.args.out.now) (g.K.Sink.faults c.run_program.new.out)))
     c.settings_of.ensures c.run_program.ensures.runs.1)

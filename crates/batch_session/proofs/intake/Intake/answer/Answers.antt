@@ -23,13 +23,19 @@ returns-in-Some-clause-answers g c = λ line start.
     let shown : Line = cut c.ended.result c.line.result.now in
     let is : shown ≡ cut self.reader.ended self.reader.line = ap (λ ended. cut ended c.line.result.now) c.ended.ensures ∙ ap (cut self.reader.ended) c.line.ensures in
     let v : Service = service_of e (g.R.CommitRule.choice c.args.terms.now.rule.now) c.args.terms.now.settings.now.batch c.args.terms.now.settings.now.parts in
-    let old : Point = point_of e self.lines self.tally (g.K.Sink.held c.args.out.now) (g.E.Sink.held c.args.err.now) (g.C.Chooser.choices c.args.chooser.now) (g.W.Watch.told c.args.watch.now) in
+    let old : Point = point_of e self.lines self.tally (g.K.Sink.held c.args.out.now) (g.K.Sink.handed c.args.out.now) (g.E.Sink.held c.args.err.now) (g.C.Chooser.choices c.args.chooser.now) (g.W.Watch.told c.args.watch.now) in
     let ran = c.answer_line.new in
-    let new : Point = point_of ran.engine (self.lines + 1) c.end_batch.new.tally (g.K.Sink.held ran.out) (g.E.Sink.held c.end_batch.new.err) (g.C.Chooser.choices ran.chooser) (g.W.Watch.told ran.watch) in
+    let new : Point = point_of ran.engine (self.lines + 1) c.end_batch.new.tally (g.K.Sink.held ran.out) (g.K.Sink.handed ran.out) (g.E.Sink.held c.end_batch.new.err) (g.C.Chooser.choices ran.chooser) (g.W.Watch.told ran.watch) in
     let said = c.end_batch.ensures in
     Line-ended v c.args.terms.now.settings.now.trace c.in-Some.counts c.end_batch.result (cut self.reader.ended line) old new refl
     (start_answered v (Ok c.in-Ok.ran) (Ok (Some c.in-Some.counts)) (before (core_of e) (self.lines + 1)) shown self.reader.ended self.reader.line line (moment old) (moment new) (ap Ok c.in-Some.is) is start c.in-Ok.ensures.answers)
-    (record { tally = said.counted; traced = said.traced; placed = said.placed })
+    (record {
+      tally = said.counted;
+      traced = said.traced;
+      placed = said.placed;
+      stays = c.answer_line.ensures.flushes.stays;
+      flushed = (rw c.in-Some.is at c.in-Ok.ensures.flushes).all refl;
+    })
 
 pub returns-in-None-clause-answers : goal.returns-in-None-clause-answers
 returns-in-None-clause-answers g c = λ line start.
@@ -39,12 +45,12 @@ returns-in-None-clause-answers g c = λ line start.
     let is : shown ≡ cut self.reader.ended self.reader.line = ap (λ ended. cut ended c.line.result.now) c.ended.ensures ∙ ap (cut self.reader.ended) c.line.ensures in
     let v : Service = service_of e (g.R.CommitRule.choice c.args.terms.now.rule.now) c.args.terms.now.settings.now.batch c.args.terms.now.settings.now.parts in
     let held = g.E.Sink.held c.args.err.now in
-    let old : Point = point_of e self.lines self.tally (g.K.Sink.held c.args.out.now) held (g.C.Chooser.choices c.args.chooser.now) (g.W.Watch.told c.args.watch.now) in
+    let old : Point = point_of e self.lines self.tally (g.K.Sink.held c.args.out.now) (g.K.Sink.handed c.args.out.now) held (g.C.Chooser.choices c.args.chooser.now) (g.W.Watch.told c.args.watch.now) in
     let ran = c.answer_line.new in
-    let new : Point = point_of ran.engine (self.lines + 1) self.tally (g.K.Sink.held ran.out) held (g.C.Chooser.choices ran.chooser) (g.W.Watch.told ran.watch) in
+    let new : Point = point_of ran.engine (self.lines + 1) self.tally (g.K.Sink.held ran.out) (g.K.Sink.handed ran.out) held (g.C.Chooser.choices ran.chooser) (g.W.Watch.told ran.watch) in
     Does-line v c.args.terms.now.settings.now.trace None (cut self.reader.ended line) old new refl
     (start_answered v (Ok c.in-Ok.ran) (Ok None) (before (core_of e) (self.lines + 1)) shown self.reader.ended self.reader.line line (moment old) (moment new) (ap Ok c.in-None.is) is start c.in-Ok.ensures.answers)
-    (record { tally = refl; traced = refl })
+    (record { tally = refl; traced = refl; stays = c.answer_line.ensures.flushes.stays })
 
 pub returns-in-Err-clause-answers : goal.returns-in-Err-clause-answers
 returns-in-Err-clause-answers g c = λ line start.
@@ -55,14 +61,14 @@ returns-in-Err-clause-answers g c = λ line start.
     let v : Service = service_of e (g.R.CommitRule.choice c.args.terms.now.rule.now) c.args.terms.now.settings.now.batch c.args.terms.now.settings.now.parts in
     let traces = c.args.terms.now.settings.now.trace in
     let held = g.E.Sink.held c.args.err.now in
-    let old : Point = point_of e self.lines self.tally (g.K.Sink.held c.args.out.now) held (g.C.Chooser.choices c.args.chooser.now) (g.W.Watch.told c.args.watch.now) in
+    let old : Point = point_of e self.lines self.tally (g.K.Sink.held c.args.out.now) (g.K.Sink.handed c.args.out.now) held (g.C.Chooser.choices c.args.chooser.now) (g.W.Watch.told c.args.watch.now) in
     let ran = c.answer_line.new in
-    let new : Point = point_of ran.engine self.lines self.tally (g.K.Sink.held ran.out) held (g.C.Chooser.choices ran.chooser) (g.W.Watch.told ran.watch) in
+    let new : Point = point_of ran.engine self.lines self.tally (g.K.Sink.held ran.out) (g.K.Sink.handed ran.out) held (g.C.Chooser.choices ran.chooser) (g.W.Watch.told ran.watch) in
     let stop = c.in-Err.stop in
     Comes-one v traces {T = Unit {0}} (Err stop) stop (Answer (cut self.reader.ended line)) old new refl
     (Stops-line v traces stop (cut self.reader.ended line) old new
     (start_answered v (Err stop) (Err stop) (before (core_of e) (self.lines + 1)) shown self.reader.ended self.reader.line line (moment old) (moment new) refl is start c.in-Err.ensures.answers)
-    (record { tally = refl; traced = refl }))
+    (record { tally = refl; traced = refl; stays = c.answer_line.ensures.flushes.stays }))
 
 pub returns-in-Some-clause-logs : goal.returns-in-Some-clause-logs
 returns-in-Some-clause-logs g c = λ line start.
