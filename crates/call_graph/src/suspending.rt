@@ -11,8 +11,8 @@ ghost use Rattle.call_graph.specs.SuspendingCode.{leaving_in};
 
 use crate::program::CallGraph;
 use py_tree::{
-    Arm, Checked, Expr, ExprKind, Exprs, Links, Name, Over, Stmt, StmtKind, function_of, goes_on,
-    is_self,
+    Arm, Checked, Clause, Expr, ExprKind, Exprs, Links, Name, Over, Stmt, StmtKind, function_of,
+    goes_on, is_self,
 };
 
 fn method_leaves(graph: &CallGraph, class: u32, method: Option<u32>) -> bool
