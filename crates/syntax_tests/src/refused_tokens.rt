@@ -33,7 +33,7 @@ fn hold(alloc: Global, front: &str, table: &str, count: usize) -> Result<(), Fai
 }
 
 const IMPORTS: &str = "
-    a word that is left out    |   try↵                             | 1:3: LeftOut
+    a word that is left out    |   with↵                            | 1:3: LeftOut
     a string behind an import  | import stateflow↵'b'↵              | 2:1: Unexpected
     another name for a module  | import stateflow as s↵             | 1:18: Unexpected
     two modules                | import stateflow, typing↵          | 1:17: Unexpected
