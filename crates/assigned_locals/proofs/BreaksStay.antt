@@ -61,7 +61,6 @@ module _ (us vs : List Var) where
     breaks_stay (PFor at name name_at over body) c w after h =
         let a : ForParts c w after name name_at over body = for_parts c w after at name name_at over body h in
         same_breaks w after (follows (PFor at name name_at over body) c w after h).grows (sym (ap breaks_of a.is))
-
     breaks_stay (PTry at body clauses) c w after h m =
         let a : TryParts c w after body clauses = try_parts c w after at body clauses h in
         breaks_stay_clauses clauses c a.end (known_at (at_head (assigned_in body) w.locals)) (way (all_go_on body) a.end.locals) after a.rest (breaks_stay_all body c w a.end a.inside m)

@@ -360,7 +360,6 @@ module _ {W : Type 0} (s : Site W) where
         (λ v us vs world n both a.
         acts_meet body (either names (sure head)) (within_loop c) (begun start) p.end p.turn (assigned us name v) (assigned vs name v) (agree_stays (either names (sure head)) us vs name v both) (agree_assigned us vs name v p.item p.item head a) world n)
         turns us vs world n k (for_start (name ∷ assigned_in body) w.locals p.named us vs to_named a))))
-
     act_meets (PTry at body clauses) names c w after h us vs k a world n =
         let p : TryParts c w after body clauses = try_parts c w after at body clauses h in
         let head : List PlainLocal = at_head (assigned_in body) w.locals in

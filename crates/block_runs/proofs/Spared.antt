@@ -304,7 +304,6 @@ module _ (tables : List PlainTable) {W : Type 0} (s : Site W) (WorldFits : W →
         step_spares vars world n _ k (λ n.
         fitting_spares (TurnsFit a.item) vars (turns_of s over vars world n) (λ turns w n. over_turns name (λ vars w n. act_all s body vars w n) turns vars w n) k (over_fits b w.locals over a.item vars world n a.goes_over v p) (λ turns world n f p.
         over_spares name a.item body a.end head sound_head head_type (forgets_first (name ∷ []) (assigned_in body) head forgotten) well (first_point (ctx true) (begun start) body points) turns f vars world n (for_head_fits all w.locals a.named vars to_named v) k p))
-
     act_spares (PTry at body clauses) b w after vars world n h x sound v p k inside =
         let a : TryParts (ctx b) w after body clauses = try_parts (ctx b) w after at body clauses h in
         let head : List PlainLocal = at_head (assigned_in body) w.locals in

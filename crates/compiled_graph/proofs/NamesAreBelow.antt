@@ -98,7 +98,6 @@ module _ (n : ℕ) where
     stmt_one (PIf at arms other) = both_one (arms_one arms) (stmts_one other)
     stmt_one (PWhile at test body) = both_one (expr_one test) (stmts_one body)
     stmt_one (PFor at name name_at over body) = all_one (below_one name) (over_one over) (stmts_one body)
-
     stmt_one (PTry at body clauses) = both_one (stmts_one body) (clauses_one clauses)
 
     stmts_one : (xs : PlainStmts) → One (StmtsNames n xs)

@@ -53,7 +53,6 @@ module _ (c : Context) (outside : c.in_loop ≡ false) where
     stmt_remains (PIf at arms other) w after h = arms_remain arms w None (all_go_on other) (λ last. flow_all c last other) (all_jump other) (λ v last e. all_remain other v last e) after h
     stmt_remains (PWhile at test body) w after h = refl
     stmt_remains (PFor at name name_at over body) w after h = refl
-
     stmt_remains (PTry at body clauses) w after h =
         let a = try_parts c w after at body clauses h in
         ap (λ b. b || clauses_jump clauses) (all_remain body w a.end a.inside)

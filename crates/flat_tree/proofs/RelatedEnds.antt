@@ -160,7 +160,6 @@ module _ {W : Type 0} {R : List Var → List Var → Type 0} where
             step_related us vs w n _ _ r (λ n.
             given_related us vs (turns_of s over us w n) (turns_of s over vs w n) _ _ r (turns_same s (carries.agree r) over w n named.1) (λ turns w n.
             turns_related name named.0 (λ vars w n. act_all s body vars w n) (λ vars w n. act_all s body vars w n) (act_all_related body named.2) turns us vs w n r))
-
         act_related (PTry at body clauses) named us vs w n r =
             step_related us vs w n _ _ r (λ n. caught_related (act_all s body us w n) (act_all s body vs w n) _ _ (act_all_related body named.0 us vs w n r) (clauses_related clauses named.1))
 

@@ -145,7 +145,6 @@ mutual
       let to_head : EachTyped (shapes w.locals) all → shapes head ≡ shapes w.locals = λ t. for_shapes all w.locals a.named ∙ ap shapes (sym (stored_ok c w.locals (named_at name name_at) a.item a.named a.names).1) ∙ shapes_with name a.item a.item w.locals t.0 in
       let to_start : EachTyped (shapes w.locals) all → shapes start ≡ shapes w.locals = λ t. shapes_with name a.item a.item head (moved all w.locals head (to_head t) t).0 ∙ to_head t in
       on_stays c all w (after_for head a.end) after (λ t. behind_for head a.end ∙ inside.same (moved (assigned_in body) w.locals start (to_start t) t.1) ∙ to_start t) a.is
-
   stmt_stays (PTry at body clauses) c w after h =
       let a : TryParts c w after body clauses = try_parts c w after at body clauses h in
       stays_on c (assigned_in body) (assigned_in_clauses clauses) w a.end after (all_stay body c w a.end a.inside)

@@ -73,7 +73,14 @@ pub fn statement(
             Ok(true)
         }
         StmtKind::Try { body, clauses } => {
-            through_try(alloc, context, env, breaks, body.as_slice(), clauses.as_slice())
+            through_try(
+                alloc,
+                context,
+                env,
+                breaks,
+                body.as_slice(),
+                clauses.as_slice(),
+            )
         }
     }
 }

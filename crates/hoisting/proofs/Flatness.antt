@@ -367,7 +367,6 @@ module _ (leaves : Leaving) where
           let head : Stage = record { locals = at_head (assigned_in body) h.locals; next = h.next } in
           mark_flat _ (more_flat _ [] ((forms_flat test).test head, (all_flat body (where_shown true test head.locals ((forms leaves c test).test head).next)).each) none_flat)
       opened_flat (PFor at name name_at over body) h = for_flat at name over body (point_behind c (PFor at name name_at over body) h.locals) h (λ g. flat_all leaves c body g) (all_flat body)
-
       opened_flat (PTry at body clauses) h = mark_flat _ (more_flat _ [] ((all_flat body h).each, clauses_flat (at_head (assigned_in body) h.locals) clauses (flat_all leaves c body h).next) none_flat)
 
       pub all_flat : (xs : PlainStmts) (h : Stage) → AllFlat (flat_all leaves c xs h).code

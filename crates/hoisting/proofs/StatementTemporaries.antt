@@ -66,7 +66,6 @@ module _ (leaves : Leaving) (c : Context) where
     opened_rises (PIf at arms other) h = le_on (arms_rise arms h) (all_rise other _)
     opened_rises (PWhile at test body) h = le_on ((forms_rise leaves c test).test (record { locals = at_head (assigned_in body) h.locals; next = h.next })) (all_rise body _)
     opened_rises (PFor at name name_at over body) h = for_rises at name over body (point_behind c (PFor at name name_at over body) h.locals) h (λ g. flat_all leaves c body g) (all_rise body)
-
     opened_rises (PTry at body clauses) h = le_on (all_rise body h) (clauses_rise (at_head (assigned_in body) h.locals) clauses _)
 
     pub all_rise : (xs : PlainStmts) (h : Stage) → h.next ≤ (flat_all leaves c xs h).next

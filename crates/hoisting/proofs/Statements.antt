@@ -372,7 +372,6 @@ module _ {W : Type 0} (s : Site W) (leaves : Leaving) (c : Context) (calls : Cal
         (act_reached s (PWhile at test body) vs w (suc n))))
     opened_means (PFor at name name_at over body) named h le R carries us vs w n r =
         for_related at name over body (surely (locals_behind c (PFor at name name_at over body) h.locals)) h (λ g. flat_all leaves c body g) carries named.0 named.1 le (λ g far R carries. all_mean body named.2 g far R carries) us vs w n r
-
     opened_means (PTry at body clauses) named h le R carries us vs w n r =
         let head : List PlainLocal = at_head (assigned_in body) h.locals in
         let f : Flattened (List PlainFlatStmt) = flat_all leaves c body h in

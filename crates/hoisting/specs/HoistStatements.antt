@@ -178,7 +178,6 @@ module _ (leaves : Leaving) (c : Context) where
         let f = flat_all body start in
         record { code = FMark ∷ FWhile (surely head.locals) t.test (surely start.locals) (flat_stmts_of f.code) (point_behind c (PWhile at test body) h.locals) ∷ []; next = f.next }
     opened (PFor at name name_at over body) h = for_code at name over body (point_behind c (PFor at name name_at over body) h.locals) h (λ g. flat_all body g)
-
     opened (PTry at body clauses) h =
         let f = flat_all body h in
         let g = flat_clauses (at_head (assigned_in body) h.locals) clauses f.next in

@@ -260,7 +260,6 @@ module _ (C : Names) where
         (fewer (of_if C A B at arms other) a) met none_met false (λ h. h)
     stmt_alike (PWhile at test body) A B c w u a met = while_alike A B at test body c w u a met (λ start start2 b. all_alike body C A (within_loop c) (begun start) (begun start2) b none_met)
     stmt_alike (PFor at name name_at over body) A B c w u a met = for_alike A B at name name_at over body c w u a met (λ start start2 b. all_alike body C A (within_loop c) (begun start) (begun start2) b none_met)
-
     stmt_alike (PTry at body clauses) A B c w u a met =
         let N : Names = OfStmt C A B (PTry at body clauses) in
         let head : List PlainLocal = at_head (assigned_in body) w.locals in

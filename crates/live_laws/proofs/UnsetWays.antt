@@ -63,7 +63,6 @@ module _ (v : ℕ) where
     spared_goes (PRaise at kind message) h = h
     spared_goes (PIf at arms other) h = either_more (an_arm_spares arms v) (all_spare other v) (an_arm_goes_on arms) (all_go_on other) (spared_arms_go arms) (spared_all_go other) h
     spared_goes (PWhile at test body) h = either_more (not (is_true test)) (break_spares body v) (not (is_true test)) (break_in body) (λ k. k) (spared_break body) h
-
     spared_goes (PTry at body clauses) h = either_more (all_spare body v) (a_clause_spares clauses v) (all_go_on body) (a_clause_goes_on clauses) (spared_all_go body) (spared_clauses_go clauses) h
 
     spared_clauses_go : (clauses : PlainClauses) → a_clause_spares clauses v ≡ true → a_clause_goes_on clauses ≡ true
@@ -99,7 +98,6 @@ module _ (v : ℕ) where
     spared_leaves (PReturn at e) h = h
     spared_leaves (PRaise at kind message) h = h
     spared_leaves (PIf at arms other) h = either_more (break_in_arm_spares arms v) (break_spares other v) (break_in_arm arms) (break_in other) (spared_arm_breaks arms) (spared_break other) h
-
     spared_leaves (PTry at body clauses) h = either_more (break_spares body v) (break_in_clause_spares clauses v) (break_in body) (break_in_clause clauses) (spared_break body) (spared_clause_breaks clauses) h
 
     spared_arm_breaks : (arms : PlainArms) → break_in_arm_spares arms v ≡ true → break_in_arm arms ≡ true
@@ -305,7 +303,6 @@ module _ (v : ℕ) where
         (spared_all_go v other) u)
     stmt_clear (PWhile at test body) c w u = while_clear at test body c w u (λ start start_unset. all_clear body (within_loop c) (begun start) start_unset)
     stmt_clear (PFor at name name_at over body) c w u = for_clear at name name_at over body c w u (λ start start_unset. all_clear body (within_loop c) (begun start) start_unset)
-
     stmt_clear (PTry at body clauses) c w u =
         let head : List PlainLocal = at_head (assigned_in body) w.locals in
         let S : Way → Type 0 = Clear v (all_read_first body v || clauses_read_first clauses v) (all_spare body v || a_clause_spares clauses v) (break_spares body v || break_in_clause_spares clauses v) in

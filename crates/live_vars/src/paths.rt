@@ -70,8 +70,7 @@ fn leaves_sparing(stmt: &Stmt, name: Name) -> bool
             break_in_arm_spares(arms.as_slice(), name) || break_spares(other.as_slice(), name)
         }
         StmtKind::Try { body, clauses } => {
-            break_spares(body.as_slice(), name)
-                || break_in_clause_spares(clauses.as_slice(), name)
+            break_spares(body.as_slice(), name) || break_in_clause_spares(clauses.as_slice(), name)
         }
         StmtKind::Pass
         | StmtKind::Expr(_)

@@ -22,7 +22,9 @@ use expression_hoister::test;
 use flat_tree::{FlatArm, FlatArms, FlatClause, FlatClauses, FlatStmt, FlatStmts};
 use flow_types::Locals;
 use hoisting::{Setting, Stage, surely, where_shown};
-use py_tree::{Arm, Arms, Clause, Clauses, Expr, Name, Over, Place, Stmt, StmtKind, Stmts, Ty, goes_on};
+use py_tree::{
+    Arm, Arms, Clause, Clauses, Expr, Name, Over, Place, Stmt, StmtKind, Stmts, Ty, goes_on,
+};
 use sf_list::Sequence;
 use std::alloc::{AllocError, Global};
 

@@ -132,7 +132,6 @@ module _ {W : Type 0} where
       act_stays (PWhile at test body) none vars w n = step_stays vars w n _ (λ n. while_stays (suc n) (λ vars w n. eval s test vars w n) (λ vars w n. act_all s body vars w n) vars w n)
       act_stays (PFor at name name_at over body) none vars w n =
           step_stays vars w n _ (λ n. given_stays vars (turns_of s over vars w n) _ (λ t w n. turns_stay name (λ vars w n. act_all s body vars w n) t vars w n))
-
       act_stays (PTry at body clauses) none vars w n =
           step_stays vars w n _ (λ n. caught_stays (act_all s body vars w n) _ (acts_stay body (neither_first (all_jump body) _ none) vars w n) (clauses_stay clauses (neither_second (all_jump body) _ none)))
 

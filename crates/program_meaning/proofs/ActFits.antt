@@ -466,7 +466,6 @@ module _ (tables : List PlainTable) {W : Type 0} (s : Site W) (WorldFits : W →
         stepping_fits tables WorldFits R true false b after kept vars world n (λ n. with_given vars (turns_of s over vars world n) (λ turns w n. over_turns name (λ vars w n. act_all s body vars w n) turns vars w n)) r.held p (λ n.
         given_fit tables WorldFits R true false b after kept vars (TurnsFit a.item) (turns_of s over vars world n) (λ turns w n. over_turns name (λ vars w n. act_all s body vars w n) turns vars w n) r.held (over_fits b w.locals over a.item vars world n a.goes_over r.fit p) (λ turns world n f p.
         along _ _ _ _ _ _ _ a.is (for_fits name a.item body b w a.end head kept g bound inside turns vars world n f (for_head_fits all w.locals a.named vars to_named r.fit) r.held p)))
-
     act_fits (PTry at body clauses) b w after kept vars world n h x r p =
         let a : TryParts (ctx b) w after body clauses = try_parts (ctx b) w after at body clauses h in
         let head : List PlainLocal = at_head (assigned_in body) w.locals in

@@ -213,7 +213,6 @@ mutual
       let to_head : Grows w.locals head = grows_same w.locals w.locals a.named head refl (sym (for_shapes (name ∷ assigned_in body) w.locals a.named)) named in
       let to_end : Grows w.locals a.end.locals = grows_on w.locals (with_local name a.item a.item head) a.end.locals (grows_on w.locals head (with_local name a.item a.item head) to_head (local_grows name a.item a.item head)) inside.grows in
       subst (λ v. Follows w v) a.is (grown_way w (after_for head a.end) (grows_same w.locals w.locals a.end.locals (after_for head a.end) refl (sym (behind_for head a.end)) to_end))
-
   follows (PTry at body clauses) c w after h =
       let a : TryParts c w after body clauses = try_parts c w after at body clauses h in
       follows_on w a.end after (follows_all body c w a.end a.inside)

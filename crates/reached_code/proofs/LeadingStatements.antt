@@ -164,7 +164,6 @@ module _ (leaves : Leaving) (c : Context) where
         ((λ is. point_there c (PWhile at test body) h.locals ∙ while_goes_on at test body head is), (forms_lead leaves c test).test head, all_live body (where_shown true test head.locals ((forms leaves c test).test head).next))
     opened_reached (PFor at name name_at over body) h =
         leading true _ (for_leads at name over body (surely (locals_behind c (PFor at name name_at over body) h.locals)) h (λ g. flat_all leaves c body g) (all_live body))
-
     opened_reached (PTry at body clauses) h =
         marked_one (goes_on (PTry at body clauses)) _ (point_there c (PTry at body clauses) h.locals) (all_live body h, clauses_live (at_head (assigned_in body) h.locals) clauses (flat_all leaves c body h).next)
 

@@ -128,7 +128,6 @@ module _ (c : Context) where
         ∙ ap (λ q. needs_none q (then_named p.item)) (for_fault c 0 (in_loop_if c a) at name name_at over body w next h)
         ∙ ap (λ r. with_found r (then_body p.item)) p.names
         ∙ ap (λ r. with_found r (then_behind p.named)) p.turn) p.is
-
     stmt_anew (PTry at body clauses) a b w next o loops h =
         let p : TryParts (in_loop_if c a) w next body clauses = try_parts (in_loop_if c a) w next at body clauses h in
         let start : List Known = known_at (at_head (assigned_in body) w.locals) in

@@ -340,7 +340,6 @@ module _ (c : Context) (limit : ℕ) where
         let p : ForParts (in_loop_if c a) w next name name_at over body = for_parts (in_loop_if c a) w next at name name_at over body h in
         for_kept at name name_at over body a b w v next named ahead typed h p
         (λ start2 kept typed2. all_kept body true true (begun (for_start name body w p.named p.item)) (begun start2) p.end named.2 (λ j t. t) (begun_ahead (for_start name body w p.named p.item) start2 kept) typed2 p.turn)
-
     stmt_kept (PTry at body clauses) a b w v next named loops ahead typed h =
         let p : TryParts (in_loop_if c a) w next body clauses = try_parts (in_loop_if c a) w next at body clauses h in
         let names : List ℕ = assigned_in body in

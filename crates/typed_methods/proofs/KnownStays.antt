@@ -188,7 +188,6 @@ module _ (floor : List PlainLocal) where
         let to_end : Grows head p.end.locals = grows_on head start p.end.locals (local_grows name p.item p.item head) (follows_all body (within_loop d) (begun start) p.end p.turn).grows in
         same_above (on w (after_for head p.end)) next p.is
         (on_above w (after_for head p.end) a (subst (λ (n : Way). Grows w.locals n.locals) (sym p.is) (follows (PFor at name name_at over body) d w next h).grows) (behind_for head p.end under to_end end))
-
     stmt_above (PTry at body clauses) d w next forgets a h =
         let p : TryParts d w next body clauses = try_parts d w next at body clauses h in
         let head : List PlainLocal = at_head (assigned_in body) w.locals in

@@ -147,7 +147,6 @@ module _ (n : ℕ) where
         let first : EachTyped (shapes next.locals) (name ∷ []) =
         each_as p.end.locals next.locals (name ∷ []) after (each_grown start p.end.locals (name ∷ []) (follows_all body (within_loop d) (begun start) p.end p.turn).grows (ap is_some (stored_type name p.item p.item head), tt)) in
         record { typed = (first.0, s.typed); free = s.free }
-
     stmt_settles (PTry at body clauses) d w next named h =
         let p : TryParts d w next body clauses = try_parts d w next at body clauses h in
         let start : List Known = known_at (at_head (assigned_in body) w.locals) in

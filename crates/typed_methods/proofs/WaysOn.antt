@@ -56,7 +56,6 @@ module _ (env : List PlainLocal) where
     left_on (PFor at name name_at over body) d w next h m =
         let p : ForParts d w next name name_at over body = for_parts d w next at name name_at over body h in
         on_left w (after_for (for_head (name ∷ assigned_in body) w.locals p.named) p.end) next p.is (follows (PFor at name name_at over body) d w next h).grows m
-
     left_on (PTry at body clauses) d w next h m =
         let p : TryParts d w next body clauses = try_parts d w next at body clauses h in
         clauses_left_on clauses d p.end next (known_at (at_head (assigned_in body) w.locals)) (way (all_go_on body) p.end.locals) p.rest (all_left_on body d w p.end p.inside m)
