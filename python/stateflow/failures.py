@@ -1,0 +1,36 @@
+"""The failures of the language that Python hasn't, and what a clause of a `try` catches."""
+
+
+class NoEntity(Exception):
+    """A call's entity isn't there."""
+
+
+class AlreadyExists(Exception):
+    """A creation's entity is there already."""
+
+
+class SizeLimit(Exception):
+    """A value weighs more than a value may."""
+
+
+class StepLimit(Exception):
+    """A request wants more steps than it has. Nothing catches it."""
+
+
+CAUGHT: dict[str, type[Exception]] = {
+    kind.__name__: kind
+    for kind in (
+        Exception,
+        ValueError,
+        RuntimeError,
+        AssertionError,
+        ZeroDivisionError,
+        IndexError,
+        OverflowError,
+        RecursionError,
+        NoEntity,
+        AlreadyExists,
+        SizeLimit,
+    )
+}
+"""The kinds that a clause may name. `Exception` catches all of them, and `RuntimeError` a `RecursionError` too, as in Python."""
