@@ -6,6 +6,9 @@ import random
 NUMBERS = "0 1 2 3 7 10 64 -1 -3 9223372036854775807 170141183460469231731687303715884105727".split()
 TEXTS = ['"a"', '"b"', '"c"', "''", '"é€"', r"'x\ny'", r'"q\"u"']
 CLASSES = ["First", "Second", "Third"]
+CAUGHT = (
+    "ZeroDivisionError IndexError AssertionError RecursionError OverflowError ValueError RuntimeError NoEntity AlreadyExists SizeLimit Exception"
+).split()
 ODD = (
     "[] None self zz self.zz self.key.zz len(1,2) str(True) abs('a') -True self.m9() self.m0(1,2,3,4) First() range(3) self.f1.f0 "
     "[None] [[]] ([]==[]) min(1) (1<True) ('a'<1) [1,'a'] [1,None]"
@@ -249,7 +252,7 @@ class Drawer:
         if self.chance(3 * self.noise):
             return self.odd_statement(depth, in_loop)
         plain = [self.store_field, self.store_local, self.combine, self.expression, self.check]
-        nested = [self.branch, self.count_loop, self.list_loop, self.test_loop, self.optional_branch]
+        nested = [self.branch, self.count_loop, self.list_loop, self.test_loop, self.optional_branch, self.attempt, self.attempt]
         if in_loop:
             plain.append(self.leave_turn)
         return self.one_of(nested)(depth, in_loop) if depth > 0 and self.chance(0.4) else self.one_of(plain)()
@@ -322,6 +325,40 @@ class Drawer:
         name = self.one_of(names)
         return [f"if {name} is not None:", *self.suite(depth, in_loop, sure={name: item_of(self.scope.names[name])})]
 
+    def attempt(self, depth, in_loop):
+        """A `try`. Its body and each of its clauses may begin with the same name, which is known behind it then, and the body may end in what fails."""
+        name, kind = self.one_of([(None, "int"), (None, "int"), *[(name, self.scope.names[name]) for name in self.free_locals()], (self.fresh(), self.kind())])
+        lines = ["try:", *self.begun(name, kind), *self.suite(depth, in_loop), *indented(self.risk() if self.chance(0.7) else ["pass"])]
+        heads = [f"except {caught}:" for caught in self.random.sample(CAUGHT, self.random.randint(0, 3))]
+        for head in heads + ["except:"] * (not heads or self.chance(0.4)):
+            lines += [head, *self.begun(name, kind), *self.suite(depth, in_loop)]
+        if name is not None:
+            self.scope.names[name] = kind
+            self.scope.sure.pop(name, None)
+        return lines
+
+    def begun(self, name, kind):
+        """How a part of a `try` begins."""
+        return [] if name is None else [f"    {name}: {kind} = {self.value(kind, 2)}"]
+
+    def risk(self):
+        """Lines that fail, or may."""
+        text, turn = self.fresh(), self.fresh()
+        fails = self.one_of(["Exception", "ValueError", "RuntimeError", f"Exception({self.value('str', 1)})"])
+        forms = [
+            [f"{self.value('int', 1)} {self.one_of(['//', '%'])} {self.one_of(['0', self.value('int', 1)])}"],
+            [f"{self.least('List[int]')}[{self.value('int', 1)}]"],
+            [f"assert {self.value('bool', 1)}"],
+            [f"raise {fails}"],
+            [f"if {self.value('bool', 1)}:", f"    raise {fails}"],
+            [f"{NUMBERS[-1]} + {self.value('int', 1)}"],
+            [f'{text} = "ab"', f"for {turn} in range(16):", f"    {text} = {text} + {text}"],
+            [self.created(self.one_of(self.classes))],
+            [self.call_of(self.kind(), 1)],
+            [self.call_of(self.kind(), 1)],
+        ]
+        return self.one_of(forms)
+
     def odd_statement(self, depth, in_loop):
         """A statement that a rule may refuse, here or further down."""
         name = self.one_of([*self.scope.names, "zz", "v0", "len", CLASSES[0]])
@@ -340,12 +377,15 @@ class Drawer:
             [f"{place} {self.one_of(['+=', '-=', '//='])} {value}"],
             [f"assert {value}, {self.value('str', 1)}", value],
             [f"if {self.value('bool', 1)}:", f"    {name} = {value}"],
+            ["try:", f"    {place} = {value}", f"except {self.one_of(CAUGHT)}:", f"    {name} = {self.value(self.kind(), 1)}"],
         ]
         return self.one_of(forms)
 
     def odd_suite(self, name, value, depth, in_loop):
         """A loop that may have no end or go over what is no list, or a branch that returns."""
-        head = self.one_of(["while True:", f"for {name} in range({value}):", f"for {name} in {value}:", f"if {self.value('bool', 0)}:"])
+        head = self.one_of(["while True:", f"for {name} in range({value}):", f"for {name} in {value}:", f"if {self.value('bool', 0)}:", "try:"])
+        if head == "try:":
+            return [head, *self.suite(depth, in_loop), f"    {name} = {value}", "except:", *self.suite(depth, in_loop)]
         if not head.startswith("if"):
             return [head, *self.suite(depth, True)]
         return [head, *self.suite(depth, in_loop), f"    return {value}", "else:", *self.suite(depth, in_loop)]
