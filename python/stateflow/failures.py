@@ -17,20 +17,18 @@ class StepLimit(Exception):
     """A request wants more steps than it has. Nothing catches it."""
 
 
-CAUGHT: dict[str, type[Exception]] = {
-    kind.__name__: kind
-    for kind in (
-        Exception,
-        ValueError,
-        RuntimeError,
-        AssertionError,
-        ZeroDivisionError,
-        IndexError,
-        OverflowError,
-        RecursionError,
-        NoEntity,
-        AlreadyExists,
-        SizeLimit,
-    )
-}
+KINDS: tuple[type[Exception], ...] = (
+    Exception,
+    ValueError,
+    RuntimeError,
+    AssertionError,
+    ZeroDivisionError,
+    IndexError,
+    OverflowError,
+    RecursionError,
+    NoEntity,
+    AlreadyExists,
+    SizeLimit,
+)
+CAUGHT = {kind.__name__: kind for kind in KINDS}
 """The kinds that a clause may name. `Exception` catches all of them, and `RuntimeError` a `RecursionError` too, as in Python."""

@@ -562,6 +562,13 @@ PROGRAMS = [
         "let a method do it, or let the request give the value",
     ),
     (
+        "@entity\nclass A:\n    def __init__(self, k: str):\n        self.k: str = k\n        try: assert k > k\n        except: pass\n"
+        "    def __key__(self) -> str:\n        return self.k\n",
+        "5:9: InitForm",
+        "`__init__` declares fields and asserts, and catches nothing",
+        "let the method that makes the entity catch what fails",
+    ),
+    (
         "@entity\nclass A:\n    def __init__(self, k: str):\n        self.k: str = k\n        if len(k) > 1:\n            self.n: int = 1\n    def __key__(self) -> str:\n        return self.k\n",
         "5:9: InitForm",
         "`__init__` declares fields and asserts, and has no branches and loops",

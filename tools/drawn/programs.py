@@ -287,9 +287,11 @@ class Drawer:
 
     def check(self):
         test = self.value("bool", 2)
+        return self.one_of([["pass"], [f"assert {test}, {self.value('str', 1)}"], [f"if {test}:", f"    {self.leave(False)}"]])
+
+    def leave(self, in_loop):
         fails = self.one_of(["ValueError", "RuntimeError", f"Exception({self.value('str', 1)})"])
-        leaves = self.one_of([f"raise {fails}", f"return {self.value(self.result, 1)}"])
-        return self.one_of([["pass"], [f"assert {test}, {self.value('str', 1)}"], [f"if {test}:", f"    {leaves}"]])
+        return self.one_of([f"raise {fails}", f"return {self.value(self.result, 1)}", *["break", "continue"] * in_loop])
 
     def leave_turn(self):
         return [f"if {self.value('bool', 1)}:", f"    {self.one_of(['break', 'continue'])}"]
@@ -327,11 +329,13 @@ class Drawer:
 
     def attempt(self, depth, in_loop):
         """A `try`. Its body and each of its clauses may begin with the same name, which is known behind it then, and the body may end in what fails."""
-        name, kind = self.one_of([(None, "int"), (None, "int"), *[(name, self.scope.names[name]) for name in self.free_locals()], (self.fresh(), self.kind())])
-        lines = ["try:", *self.begun(name, kind), *self.suite(depth, in_loop), *indented(self.risk() if self.chance(0.7) else ["pass"])]
+        new = {self.fresh(): self.kind()}
+        name, kind = self.one_of([(None, None), *[(name, self.scope.names[name]) for name in self.free_locals()], *new.items()])
+        known = new if name in new else {}
+        lines = ["try:", *self.begun(name, kind), *self.suite(depth, in_loop, known), *indented(self.risk(in_loop))]
         heads = [f"except {caught}:" for caught in self.random.sample(CAUGHT, self.random.randint(0, 3))]
         for head in heads + ["except:"] * (not heads or self.chance(0.4)):
-            lines += [head, *self.begun(name, kind), *self.suite(depth, in_loop)]
+            lines += [head, *self.begun(name, kind), *self.suite(depth, in_loop, known), *["    " + self.leave(in_loop)] * self.chance(0.2)]
         if name is not None:
             self.scope.names[name] = kind
             self.scope.sure.pop(name, None)
@@ -341,21 +345,31 @@ class Drawer:
         """How a part of a `try` begins."""
         return [] if name is None else [f"    {name}: {kind} = {self.value(kind, 2)}"]
 
-    def risk(self):
-        """Lines that fail, or may."""
+    def call_of_another(self):
+        """A call of an entity that may not be there."""
+        found = [(name, owner) for owner in self.classes for name in self.names_of(owner) if name != "self"]
+        if not found:
+            return self.call_of(self.kind(), 1)
+        name, owner = self.one_of(found)
+        method = self.one_of([*self.methods[owner]])
+        return self.called(f"{name}.{method}", self.methods[owner][method][0], 1)
+
+    def risk(self, in_loop):
+        """Lines that fail or leave, or may."""
         text, turn = self.fresh(), self.fresh()
-        fails = self.one_of(["Exception", "ValueError", "RuntimeError", f"Exception({self.value('str', 1)})"])
         forms = [
+            [],
+            [self.leave(in_loop)],
             [f"{self.value('int', 1)} {self.one_of(['//', '%'])} {self.one_of(['0', self.value('int', 1)])}"],
             [f"{self.least('List[int]')}[{self.value('int', 1)}]"],
             [f"assert {self.value('bool', 1)}"],
-            [f"raise {fails}"],
-            [f"if {self.value('bool', 1)}:", f"    raise {fails}"],
+            [f"if {self.value('bool', 1)}:", f"    {self.leave(in_loop)}"],
             [f"{NUMBERS[-1]} + {self.value('int', 1)}"],
             [f'{text} = "ab"', f"for {turn} in range(16):", f"    {text} = {text} + {text}"],
             [self.created(self.one_of(self.classes))],
             [self.call_of(self.kind(), 1)],
-            [self.call_of(self.kind(), 1)],
+            [self.call_of_another()],
+            [self.call_of_another()],
         ]
         return self.one_of(forms)
 

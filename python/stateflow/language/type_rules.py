@@ -471,7 +471,7 @@ class MethodRules:
         """Each clause begins with what was known before the body, which may have failed at any point."""
         caught = self.here().forgetting(assigned(node.body))
         self.walk(node.body)
-        ends = [self.state]
+        ends: list[State | None] = [self.state]
         for clause in node.clauses:
             self.state = caught
             self.walk(clause.body)
