@@ -6,9 +6,8 @@ import random
 NUMBERS = "0 1 2 3 7 10 64 -1 -3 9223372036854775807 170141183460469231731687303715884105727".split()
 TEXTS = ['"a"', '"b"', '"c"', "''", '"é€"', r"'x\ny'", r'"q\"u"']
 CLASSES = ["First", "Second", "Third"]
-CAUGHT = (
-    "ZeroDivisionError IndexError AssertionError RecursionError OverflowError ValueError RuntimeError NoEntity AlreadyExists SizeLimit Exception"
-).split()
+CAUGHT = [f" {kind}" for kind in "ZeroDivisionError IndexError AssertionError OverflowError ValueError NoEntity AlreadyExists SizeLimit".split()]
+WIDE = [" RecursionError", " RuntimeError", " Exception", ""]  # these catch what ends a recursion, which then takes all steps
 ODD = (
     "[] None self zz self.zz self.key.zz len(1,2) str(True) abs('a') -True self.m9() self.m0(1,2,3,4) First() range(3) self.f1.f0 "
     "[None] [[]] ([]==[]) min(1) (1<True) ('a'<1) [1,'a'] [1,None]"
@@ -333,9 +332,9 @@ class Drawer:
         name, kind = self.one_of([(None, None), *[(name, self.scope.names[name]) for name in self.free_locals()], *new.items()])
         known = new if name in new else {}
         lines = ["try:", *self.begun(name, kind), *self.suite(depth, in_loop, known), *indented(self.risk(in_loop))]
-        heads = [f"except {caught}:" for caught in self.random.sample(CAUGHT, self.random.randint(0, 3))]
-        for head in heads + ["except:"] * (not heads or self.chance(0.4)):
-            lines += [head, *self.begun(name, kind), *self.suite(depth, in_loop, known), *["    " + self.leave(in_loop)] * self.chance(0.2)]
+        kinds = self.random.sample(CAUGHT, self.random.randint(1, 3)) + [self.one_of(WIDE)] * self.chance(0.3)
+        for caught in kinds:
+            lines += [f"except{caught}:", *self.begun(name, kind), *self.suite(depth, in_loop, known), *["    " + self.leave(in_loop)] * self.chance(0.2)]
         if name is not None:
             self.scope.names[name] = kind
             self.scope.sure.pop(name, None)
@@ -391,7 +390,7 @@ class Drawer:
             [f"{place} {self.one_of(['+=', '-=', '//='])} {value}"],
             [f"assert {value}, {self.value('str', 1)}", value],
             [f"if {self.value('bool', 1)}:", f"    {name} = {value}"],
-            ["try:", f"    {place} = {value}", f"except {self.one_of(CAUGHT)}:", f"    {name} = {self.value(self.kind(), 1)}"],
+            ["try:", f"    {place} = {value}", f"except{self.one_of(CAUGHT + WIDE)}:", f"    {name} = {self.value(self.kind(), 1)}"],
         ]
         return self.one_of(forms)
 
