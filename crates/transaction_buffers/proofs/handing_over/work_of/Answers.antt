@@ -6,11 +6,11 @@ use Rattle.transaction_buffers.proofs.handing_over.work_of.Goals as goal
 
 pub returns : goal.returns
 returns c =
-    let entries = c.args.entities.entries in
+    let entries = c.args.entities.items in
     let left = c.loop-at.at-iterator in
     let none : left ≡ [] = rest_all (λ x. x) left _ c.next.result c.in-None.is c.next.ensures.steps in
     let is = c.loop-at.invariant in
-    handed_over entries c.loop-at.work c.into_iter-at-iterator.ensures.into_iter_gives.4
+    handed_over entries c.loop-at.work c.requires
     (all_done refs_of c.loop-at.work.reads left entries is.reads none refl)
     (all_done written c.loop-at.work.writes left entries is.writes none refl)
     (all_done records_of c.loop-at.work.held left entries is.held none refl)
