@@ -139,3 +139,18 @@ module _ {X : Type 0} (at : Ref) (first last : X) where
   pub put_back : (r : Option X) (es left : List (Ref × X)) → IfSome r (λ _. left ≡ insert_entry is_ref es at first) → IfNone r (left ≡ es) → insert_entry is_ref left at last ≡ insert_entry is_ref es at last
   put_back None es left some none = ap (λ l. insert_entry is_ref l at last) none
   put_back (Some x) es left some none = ap (λ l. insert_entry is_ref l at last) some ∙ put_twice es
+
+  lookup_put : (es : List (Ref × X)) → lookup (is_ref at) (insert_entry is_ref es at first) ≡ Some first
+  lookup_put [] = ap (λ b. cond b (Some first) None) (ref_equiv.refl at)
+  lookup_put (e ∷ es) = by (is_ref at e.0) refl (lookup_put es)
+    where
+      by : (b : Bool) → is_ref at e.0 ≡ b → lookup (is_ref at) (insert_entry is_ref es at first) ≡ Some first
+          → lookup (is_ref at) (if b then (e.0, first) ∷ es else e ∷ insert_entry is_ref es at first) ≡ Some first
+      by true h more = ap (λ b. cond b (Some first) (lookup (is_ref at) es)) h
+      by false h more = ap (λ b. cond b (Some e.1) (lookup (is_ref at) (insert_entry is_ref es at first))) h ∙ more
+
+  -- the same, where it is put back in its place
+  pub put_in_place : (r : Option X) (es left more : List (Ref × X)) → left ≡ insert_entry is_ref es at first → r ≡ lookup (is_ref at) left → IfSome r (λ _. more ≡ insert_entry is_ref left at last)
+      → more ≡ insert_entry is_ref es at last
+  put_in_place None es left more taken is put = absurd (true≢false (sym (ap is_some (is ∙ ap (lookup (is_ref at)) taken ∙ lookup_put es))))
+  put_in_place (Some x) es left more taken is put = put ∙ ap (λ l. insert_entry is_ref l at last) taken ∙ put_twice es

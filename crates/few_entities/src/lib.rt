@@ -4,11 +4,11 @@
 //! entities that come behind the first sixteen are found by hash, so a request that touches many costs no more for each of them.
 #![tactic(auto)]
 
-ghost use Rattle.std.specs.Prelude.{◌≡◌, ◌<◌, ◌++◌, [], None, IfOk, OnOk, OnErr, IfSome, IfNone, position, length};
+ghost use Rattle.std.specs.Prelude.{◌≡◌, ◌<◌, ◌++◌, [], None, IfOk, OnOk, OnErr, IfSome, IfNone, is_some, position, length, slice_get};
 ghost use Rattle.std.specs.Option.{option_copied};
 ghost use Rattle.std.specs.List.{IsDistinct};
 ghost use Rattle.std.specs.Map.{lookup};
-ghost use Rattle.indexmap.specs.IndexMap.{insert_entry};
+ghost use Rattle.indexmap.specs.IndexMap.{insert_entry, values, index_map_len};
 ghost use Rattle.few_entities.specs.Entries.{refs_of, is_ref};
 
 use indexmap::IndexMap;
@@ -51,6 +51,19 @@ fn place_among<V>(list: &[(Ref, V)], at: &Ref) -> Option<usize>
     list.iter().position(|entry| *at == entry.0)
 }
 
+/// The place of an entity in the table. Where nothing is there, it isn't hashed.
+fn place_behind<V>(more: &IndexMap<Ref, V>, at: &Ref) -> Option<usize>
+    ensures index { result ≡ position (is_ref at.now) (refs_of more.now.entries) }
+    ensures found { is_some result ≡ is_some (lookup (is_ref at.now) more.now.entries) }
+    ensures value { IfSome result (λ i. slice_get (values more.now) i ≡ lookup (is_ref at.now) more.now.entries) }
+    ensures within { IfSome result (λ i. i < index_map_len more.now) }
+{
+    if more.is_empty() {
+        return None;
+    }
+    more.get_index_of(at)
+}
+
 /// Gives its value to an entity that isn't in the list.
 fn put_more<V: Drop>(
     few: &mut Vec<(Ref, V)>,
@@ -87,7 +100,10 @@ impl<V: Drop> ByEntity<V> {
     {
         match place_among(self.few.as_slice(), at) {
             Some(i) => Some(&self.few[i].1),
-            None => self.more.get(at),
+            None => {
+                let i = place_behind(&self.more, at)?;
+                Some(&self.more[i])
+            }
         }
     }
 
@@ -100,7 +116,7 @@ impl<V: Drop> ByEntity<V> {
         match place_among(self.few.as_slice(), at) {
             Some(i) => Some(mem::replace(&mut self.few[i].1, value)),
             None => {
-                let i = self.more.get_index_of(at)?;
+                let i = place_behind(&self.more, at)?;
                 Some(mem::replace(&mut self.more[i], value))
             }
         }

@@ -20,7 +20,7 @@ returns-in_err-i-in-None-clause-value g c =
     let more = c.self.inside.more.entries in
     let t = is_ref c.args.at.now in
     c.from_residual.ensures
-    ∙ none_by c.get_index_of.result (lookup t more) c.get_index_of.ensures.found c.in_err-i-in-None.was
+    ∙ none_by c.place_behind.result (lookup t more) c.place_behind.ensures.found c.in_err-i-in-None.was
     ∙ sym (lookup_more t few more (is_absent t few (c.in-None.ensures.place ∙ ap (position (λ e. t e.0)) c.as_slice.ensures.value)))
     ∙ ap (lookup t) c.self.view_is
 
