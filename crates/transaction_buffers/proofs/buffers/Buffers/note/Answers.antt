@@ -17,5 +17,5 @@ returns c =
     let made = subst (λ t. IsNext old c.args.held c.args.wrote t) (sym c.touched_again.ensures) (next_is old c.args.held c.args.wrote) in
     let next = subst (λ before. IsNext before c.args.held c.args.wrote new) c.replace-before.ensures.value made in
     OnOk-map c.put.result _ _ (λ is.
-      noted_after es at c.args.held c.args.wrote new next _ (is ∙ put_back at _ new old es c.replace-before.new.self c.replace-before.ensures.entries c.replace-before.ensures.unchanged)
-      ∙ ap (λ b. noted b (key_of at) (fields_if c.args.held) c.args.wrote) c.self.view_is) c.put.ensures
+    noted_after es at c.args.held c.args.wrote new next _ (is ∙ put_back at _ new old es c.replace-before.new.self c.replace-before.ensures.entries c.replace-before.ensures.unchanged)
+    ∙ ap (λ b. noted b (key_of at) (fields_if c.args.held) c.args.wrote) c.self.view_is) c.put.ensures
