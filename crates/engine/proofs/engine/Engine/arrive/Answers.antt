@@ -1,7 +1,8 @@
 use Rattle.std.proofs.Common.{sym, ◌∙◌, subst, true≢false, refl}
-use Rattle.engine.specs.Cores.{CoreFits, IsSoundCore}
+use Rattle.engine.specs.Cores.{CoreFits}
+use Rattle.engine.specs.Growth.{GrowsSerially}
 use Rattle.engine.specs.EngineViews.{core_of, source_of, tables_of}
-use Rattle.engine.proofs.ArrivalLaws.{arrival_fits, arrival_sound, met, new_core, new_fresh, old_core, old_fresh}
+use Rattle.engine.proofs.ArrivalLaws.{arrival_fits, arrival_grows, met, new_core, new_fresh, old_core, old_fresh}
 use Rattle.engine.proofs.engine.Engine.arrive.Goals as goal
 
 pub returns-in_ok-push-clause-arrival : goal.returns-in_ok-push-clause-arrival
@@ -21,9 +22,10 @@ pub returns-in_ok-push-clause-core_fits : goal.returns-in_ok-push-clause-core_fi
 returns-in_ok-push-clause-core_fits c = λ fits.
     subst (CoreFits (tables_of c.args.self.now)) (sym (returns-in_ok-push-clause-core c)) (arrival_fits (tables_of c.args.self.now) (core_of c.args.self.now) c.args.request c.requires.fits fits)
 
-pub returns-in_ok-push-clause-sound : goal.returns-in_ok-push-clause-sound
-returns-in_ok-push-clause-sound c = λ sound.
-    subst (IsSoundCore (source_of c.args.self.now)) (sym (returns-in_ok-push-clause-core c)) (arrival_sound (source_of c.args.self.now) (core_of c.args.self.now) c.args.request c.requires.fits sound)
+pub returns-in_ok-push-clause-grows : goal.returns-in_ok-push-clause-grows
+returns-in_ok-push-clause-grows c =
+    subst (GrowsSerially (source_of c.args.self.now) (core_of c.args.self.now)) (sym (returns-in_ok-push-clause-core c))
+    (arrival_grows (source_of c.args.self.now) (core_of c.args.self.now) c.args.request c.requires.fits)
 
 pub returns-else-is_new-clause-arrival : goal.returns-else-is_new-clause-arrival
 returns-else-is_new-clause-arrival c = met (core_of c.args.self.now) c.args.request c.as_slice.result.now c.arrival_at-arrival.result c.as_slice.ensures c.arrival_at-arrival.ensures

@@ -3,10 +3,11 @@ use Rattle.program_meaning.proofs.Soundness.{checked_are_known}
 use Rattle.block_step.specs.CompiledViews.{compiled_program, compiled_names}
 use Rattle.kept_parts.specs.Ids.{entry_ids, request_ids}
 use Rattle.kept_parts.proofs.IdLaws.{first_part}
-use Rattle.engine.specs.Cores.{Core, CoreFits, IsSoundCore}
+use Rattle.engine.specs.Cores.{Core, CoreFits}
+use Rattle.engine.specs.Growth.{GrowsSerially}
 use Rattle.engine.specs.EngineViews.{core_of, source_of, tables_of}
 use Rattle.engine.specs.Moves.{moved, CanMove}
-use Rattle.engine.proofs.ReplayLaws.{can_replay, replayed_fits, replayed_sound}
+use Rattle.engine.proofs.ReplayLaws.{can_replay, replayed_fits, replayed_grows}
 use Rattle.engine.proofs.engine.Engine.replay.Goals as goal
 
 pub ids_differ-requires-clause-committed : goal.ids_differ-requires-clause-committed
@@ -42,8 +43,8 @@ returns-clause-core_fits c =
     subst (CoreFits (tables_of e)) (sym (returns-clause-core c))
     (replayed_fits (compiled_names e.compiled) (compiled_program e.compiled) (checked_are_known e.compiled.program) (core_of e) c.args.batch (returns-clause-batch_fits c) c.requires.fits)
 
-pub returns-clause-sound : goal.returns-clause-sound
-returns-clause-sound c = λ sound.
+pub returns-clause-grows : goal.returns-clause-grows
+returns-clause-grows c =
     let e = c.args.self.now in
-    subst (IsSoundCore (source_of e)) (sym (returns-clause-core c))
-    (replayed_sound (compiled_names e.compiled) (compiled_program e.compiled) (checked_are_known e.compiled.program) (core_of e) c.args.batch (returns-clause-batch_fits c) sound)
+    subst (GrowsSerially (source_of e) (core_of e)) (sym (returns-clause-core c))
+    (replayed_grows (source_of e) (core_of e) c.args.batch (returns-clause-batch_fits c))
