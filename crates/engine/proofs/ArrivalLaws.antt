@@ -138,6 +138,9 @@ module _ (tables : List PlainTable) (core : Core) (r : Request) (fits : RequestF
   core_fits arrival.Waiting says c = c
   core_fits arrival.Reused says c = c
 
+  pub arrival_pending_fits : PendingFits tables core → PendingFits tables (joined core r (arrival_of core r))
+  arrival_pending_fits = pending_fits (arrival_of core r) (arrivals_say core r)
+
   pub arrival_fits : CoreFits tables core → CoreFits tables (joined core r (arrival_of core r))
   arrival_fits = core_fits (arrival_of core r) (arrivals_say core r)
 

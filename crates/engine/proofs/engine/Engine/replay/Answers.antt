@@ -7,6 +7,7 @@ use Rattle.engine.specs.Cores.{Core, CoreFits}
 use Rattle.engine.specs.Growth.{GrowsSerially}
 use Rattle.engine.specs.EngineViews.{core_of, source_of, tables_of}
 use Rattle.engine.specs.Moves.{moved, CanMove}
+use Rattle.engine.proofs.GrowthLaws.{grows_same}
 use Rattle.engine.proofs.ReplayLaws.{can_replay, replayed_fits, replayed_grows}
 use Rattle.engine.proofs.engine.Engine.replay.Goals as goal
 
@@ -48,3 +49,22 @@ returns-clause-grows c =
     let e = c.args.self.now in
     subst (GrowsSerially (source_of e) (core_of e)) (sym (returns-clause-core c))
     (replayed_grows (source_of e) (core_of e) c.args.batch (returns-clause-batch_fits c))
+
+pub returns-then-not-can_list-clause-grows : goal.returns-then-not-can_list-clause-grows
+returns-then-not-can_list-clause-grows c = grows_same (source_of c.args.self.now) (core_of c.args.self.now)
+
+pub returns-in_err-waiting-clause-grows : goal.returns-in_err-waiting-clause-grows
+returns-in_err-waiting-clause-grows c = grows_same (source_of c.args.self.now) (core_of c.args.self.now)
+
+pub returns-in_err-append-clause-grows : goal.returns-in_err-append-clause-grows
+returns-in_err-append-clause-grows c = grows_same (source_of c.args.self.now) (core_of c.args.self.now)
+
+pub returns-then-not-ids_differ-clause-grows : goal.returns-then-not-ids_differ-clause-grows
+returns-then-not-ids_differ-clause-grows c = grows_same (source_of c.args.self.now) (core_of c.args.self.now)
+
+pub returns-in_err-replay-clause-grows : goal.returns-in_err-replay-clause-grows
+returns-in_err-replay-clause-grows c = grows_same (source_of c.args.self.now) (core_of c.args.self.now)
+
+pub returns-in_err-make_room-clause-grows : goal.returns-in_err-make_room-clause-grows
+returns-in_err-make_room-clause-grows c =
+    subst (GrowsSerially (source_of c.args.self.now) (core_of c.args.self.now)) (sym c.make_room.ensures.core) (grows_same (source_of c.args.self.now) (core_of c.args.self.now))
