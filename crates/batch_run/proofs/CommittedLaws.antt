@@ -88,13 +88,7 @@ module _ (src : Source) (rule : List Access → Chosen) (lawful : IsLawfulRule r
       ∙ sym (each_access src core.state picked))
       is_lawful.apart
 
-  pub batch_is_serial : outcomes_of (batch_entries src core chosen.committed) ≡ serial_outcomes src core.state (serial.acts_of (batch_entries src core chosen.committed))
-  batch_is_serial =
-      outcomes_on src core.state picked
-      ∙ sym (conflict_free_serial src core.state (acts_of picked) free).outcomes
-      ∙ ap (serial_outcomes src core.state) (sym (acts_on src core.state picked))
-
-  -- and the state behind it takes the writes of what it commits
+  -- the state behind it takes the writes of what it commits
   pub batch_takes_writes : TakesWrites src rule core
   batch_takes_writes = record {
     records = λ q.

@@ -29,10 +29,6 @@ use Rattle.batch_run.specs.BatchOutcomes.{ended_with, CommitsWhatEnded}
 
 -- What fits
 
-committed_fit : (tables : List PlainTable) (es : List Entry) → RequestsFit tables es → ActsFit tables (serial.acts_of es)
-committed_fit tables [] fit = no_act
-committed_fit tables (e ∷ es) fit = one_act fit.0.act (committed_fit tables es fit.1)
-
 waiting_fit : (tables : List PlainTable) (rs : List Request) → AllByRecursion (RequestFits tables) rs → AllByRecursion (ActFits tables) (acts_of rs)
 waiting_fit tables [] fit = tt
 waiting_fit tables (r ∷ rs) fit = (fit.0.act, waiting_fit tables rs fit.1)
@@ -94,12 +90,3 @@ module _ (compiled : Compiled) (whole : IsWhole compiled) (core : Core) where
 
   pub fitting_commits : CoreFits tables core → (parts : ℕ) → CommitsWhatEnded compiled parts core
   fitting_commits fits parts = commits fits.state fits.pending.requests parts
-
-  pub commits_what_ended : IsSoundCore (source_of compiled) core → (parts : ℕ) → CommitsWhatEnded compiled parts core
-  commits_what_ended sound parts = commits state_fits sound.pending.requests parts
-    where
-      state_fits : StateFits tables core.state
-      state_fits =
-          subst (StateFits tables) (sym sound.committed.run.state)
-          (histories_fit (compiled_names compiled) (compiled_program compiled) (checked_are_known compiled.program) (serial.acts_of core.history)
-          (committed_fit tables core.history sound.committed.requests))

@@ -23,6 +23,7 @@ use Rattle.engine.specs.declared.arrival.Arrival.{Arrival}
 use Rattle.engine.specs.declared.arrival.Arrival.TheVariants as arrival
 use Rattle.engine.specs.Cores.{Core, ids_of, PendingFits, CoreFits}
 use Rattle.engine.specs.Growth.{GrowsSerially}
+use Rattle.engine.proofs.GrowthLaws.{goes_none, grows_same}
 use Rattle.engine.specs.Arrivals.{waiting_with, meets, arrival_of, joined, after_arrival, counted, fresh_after, requests_of, Says, ArrivalsSay}
 
 -- Among the requests that wait
