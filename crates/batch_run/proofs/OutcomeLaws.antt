@@ -11,11 +11,10 @@ use Rattle.sf_value.specs.declared.Request.{Request}
 use Rattle.program_meaning.specs.ClassTables.{Source}
 use Rattle.program_meaning.specs.World.{State}
 use Rattle.program_meaning.specs.Fits.{StateFits, ActFits}
-use Rattle.program_meaning.specs.NothingGoesWrong.{ActsFit, no_act, one_act}
 use Rattle.program_meaning.specs.RequestRun.{Ran, run}
 use Rattle.program_meaning.specs.Serial as serial
-use Rattle.program_meaning.proofs.Soundness.{checked_are_known, histories_fit}
-use Rattle.request_history.specs.SoundHistory.{RequestFits, RequestsFit}
+use Rattle.program_meaning.proofs.Soundness.{checked_are_known}
+use Rattle.request_history.specs.SoundHistory.{RequestFits}
 use Rattle.block_step.specs.declared.compiled.Compiled.{Compiled}
 use Rattle.block_step.specs.CompiledViews.{compiled_program, compiled_names, compiled_tables, compiled_blocks, IsWhole}
 use Rattle.operator_graph.specs.BatchEvents.{batch_after}
@@ -23,7 +22,7 @@ use Rattle.operator_graph.specs.FirstFlights.{acts_of}
 use Rattle.batch_events.specs.BatchRuns.{come_to, ComesToRuns}
 use Rattle.batch_events.proofs.OwnRuns.{batches_come_to_their_runs}
 use Rattle.aria_batch.specs.BatchRun.{source_of, batch_of, running_along}
-use Rattle.engine.specs.Cores.{Core, CoreFits, IsSoundCore}
+use Rattle.engine.specs.Cores.{Core, CoreFits}
 use Rattle.engine.specs.Batches.{entry_on}
 use Rattle.batch_run.specs.BatchOutcomes.{ended_with, CommitsWhatEnded}
 

@@ -1,5 +1,5 @@
 -- The core of an engine behind a batch that was planned on it.
-use Rattle.std.proofs.Common.{◌≡◌, ◌+◌, ◌++◌, length, sym, ap, ◌∙◌, subst, arith}
+use Rattle.std.proofs.Common.{◌≡◌, ◌+◌, length, ap, ◌∙◌, subst, arith}
 use Rattle.std.proofs.lemmas.List.{length-map}
 use Rattle.program_meaning.specs.Serial.{acts_of, outcomes_of, serial_outcomes}
 use Rattle.program_meaning.proofs.Soundness.{checked_are_known}

@@ -1,5 +1,5 @@
 -- A batch of a log that runs again: what joins the core, and that the core behind it fits, and is grown serially.
-use Rattle.std.proofs.Common.{◌≡◌, ℕ, suc, ◌+◌, ◌≤◌, ◌<◌, ◌^◌, Bool, true, not, ◌&&◌, ◌||◌, List, [], ◌∷◌, ◌++◌, map as over, Option, Some, None, length, refl, sym, ap, ◌∙◌, subst, arith, append_assoc}
+use Rattle.std.proofs.Common.{◌≡◌, ℕ, suc, ◌+◌, ◌≤◌, Bool, true, not, ◌&&◌, ◌||◌, List, [], ◌∷◌, ◌++◌, map as over, Option, Some, None, length, refl, sym, ap, ◌∙◌, subst, arith, append_assoc}
 use Rattle.std.specs.Prelude.{bytes_eq, slice_get, filter_map}
 use Rattle.std.specs.List.{list_any, AllByRecursion, IsDistinct, range_with_len, cons_option}
 use Rattle.std.proofs.lemmas.List.{map-append, length-append}
