@@ -1,5 +1,5 @@
 -- What an engine leaves that takes what a line asks, or not.
-use Rattle.std.proofs.Common.{◌≡◌, false, List, sym, subst}
+use Rattle.std.proofs.Common.{◌≡◌, false, List, refl, sym, subst}
 use Rattle.serial_order.specs.ConflictFree.{Access}
 use Rattle.reservations.specs.CommitRules.{Chosen}
 use Rattle.engine.specs.declared.engine.Engine.{Engine}
@@ -9,6 +9,7 @@ use Rattle.engine.specs.EngineViews.{core_of, source_of, tables_of, compiled_of,
 use Rattle.engine.proofs.GrowthLaws.{grows_same}
 use Rattle.batch_replies.specs.GoingOn.{SessionState, CanGoOn, GoesOn, state_of}
 use Rattle.batch_replies.proofs.GoingLaws.{same_storable, same_logged, moved}
+use Rattle.batch_replies.proofs.SameProgram.{runs_itself}
 use Rattle.line_answers.specs.Takings.{Takes}
 
 -- contracts see no change
@@ -20,6 +21,10 @@ Takes-same e now runs core fresh = record {
   grows = subst (GrowsSerially (source_of e) (core_of e)) (sym core) (grows_same (source_of e) (core_of e));
   storable = λ storable. same_storable e now core fresh storable;
 }
+
+-- nothing was taken
+pub Takes-itself : (e : Engine) → Takes e e
+Takes-itself e = Takes-same e e (runs_itself e) refl refl
 
 -- the session goes on from there
 pub takes_on : (rule : List Access → Chosen) (s : SessionState) (now : Engine) → CanGoOn s → Takes s.engine now → GoesOn rule false s (state_of now s.store s.facts s.faults s.mounts)
