@@ -99,7 +99,6 @@ fn run_batch<R: CommitRule, K: Sink, E: Sink, D: Disk, C: Chooser, W: Watch>(
         watch,
     ) {
         Ok(counts) => end_batch(
-            terms.alloc,
             engine,
             store,
             terms.settings,

@@ -94,7 +94,6 @@ impl Intake {
                 self.lines += 1;
                 match ran {
                     Some(counts) => end_batch(
-                        terms.alloc,
                         engine,
                         store,
                         terms.settings,

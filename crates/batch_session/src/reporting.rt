@@ -16,14 +16,12 @@ ghost use Rattle.batch_session.specs.SessionStates.{IsReady};
 
 use engine::Engine;
 use session_steps::{BatchCounts, Settings, Stop, Tally, write_trace};
-use session_store::{KeepFault, Store, batch_ended};
+use session_store::{Store, batch_ended};
 use sf_outside::{Disk, Failed, Sink};
-use std::alloc::Global;
 
 /// Counts a batch that is answered and writes its line where batches are traced. Then it makes a checkpoint
-/// where one is due. It flushes nothing.
+/// where one is due. It takes no memory, and flushes nothing.
 pub(crate) fn end_batch<E: Sink, D: Disk>(
-    alloc: Global,
     engine: &Engine,
     store: &mut Option<Store>,
     settings: &Settings,
@@ -37,6 +35,7 @@ pub(crate) fn end_batch<E: Sink, D: Disk>(
     ensures counted { tally.new ≡ with_batch tally.old counts }
     ensures traced { TracedAs result (E.held err.old) (E.held err.new) (trace_text settings.now.trace tally.old (counts ∷ [])) }
     ensures placed { result ≢ Err Stop.HistoryFull }
+    ensures memory { result ≢ Err Stop.NoMemory }
     ensures later_err { E.faults err.old ≤ E.faults err.new }
     ensures cause { result ≡ Err Stop.WriteFault → Rose (E.faults err.old) (E.faults err.new) }
     ensures logs { (rule : List Access → Chosen) → Logs (source_of engine.now) rule (settings_of store.old) []
@@ -47,10 +46,9 @@ pub(crate) fn end_batch<E: Sink, D: Disk>(
         (state_of engine.now store.new (D.facts disk.new) (D.faults disk.new) (D.mounts disk.new)) }
 {
     match report(err, settings.trace, tally, counts) {
-        Ok(()) => match batch_ended(alloc, disk, store, engine) {
+        Ok(()) => match batch_ended(disk, store, engine) {
             Ok(()) => Ok(()),
-            Err(KeepFault::DiskFault) => Err(Stop::DiskFault),
-            Err(KeepFault::NoMemory) => Err(Stop::NoMemory),
+            Err(_) => Err(Stop::DiskFault),
         },
         Err(_) => Err(Stop::WriteFault),
     }

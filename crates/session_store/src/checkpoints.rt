@@ -1,104 +1,73 @@
-//! Checkpoints: after every so many batches the store keeps a head, and the entries of the history that it doesn't have yet.
+//! Checkpoints: after every so many batches the store keeps a head, and the entries of the history that it doesn't have yet. Both are
+//! written as they are spelled, so that a checkpoint takes no memory.
 
-ghost use Rattle.std.specs.Prelude.{◌≡◌, ◌+◌, ◌≤◌, ◌<◌, ◌^◌, ◌⊎◌, length, IfOk, OnOk, IsErrOf, Err};
+ghost use Rattle.std.specs.Prelude.{◌≡◌, ◌+◌, ◌≤◌, ◌<◌, ◌^◌, ◌⊎◌, length, IfOk, OnOk, OnErr};
 ghost use Rattle.sf_outside.specs.Causes.{Rose};
 ghost use Rattle.sf_outside.specs.DiskModel.{LeavesOnly};
-ghost use Rattle.std.specs.List.{AllByRecursion};
-ghost use Rattle.byte_sizes.specs.Spelt.{IsShortText, IsSpeltEntry};
-ghost use Rattle.sf_bytes.specs.Entries.{EntriesTo};
+ghost use Rattle.byte_sizes.specs.Spelt.{IsShortText};
+ghost use Rattle.sf_bytes.specs.Counting.{IsSizeOf};
 ghost use Rattle.store_meaning.specs.Vocabulary.{CoreFits, core_of, source_of, tables_of};
 ghost use Rattle.store_meaning.specs.Engines.{program_of};
 ghost use Rattle.store_meaning.specs.Keeping.{KeepsCore};
 ghost use Rattle.storable_cores.specs.Storable.{IsStorable};
 ghost use Rattle.session_store.specs.Cycles.{cycle_of, next_cycle};
-ghost use Rattle.session_store.specs.Stores.{settings_of, Keeps, StandsSomewhere, HistoryEndsPast, CheckpointEndsPast, SnapshotEndsPast};
-ghost use Rattle.session_store.specs.Endings.{KeepsWhere, LeavesMeanwhile};
-ghost use Rattle.session_store.specs.Checkpoints.{disk_failed, HasEntries, HasHead, IsCheckpointAt, kept_at};
+ghost use Rattle.session_store.specs.Stores.{settings_of, Keeps, LeavesEither, StandsSomewhere, CheckpointEndsPast, SnapshotEndsPast};
+ghost use Rattle.session_store.specs.Endings.{LeavesMeanwhile};
+ghost use Rattle.session_store.specs.Checkpoints.{kept_at};
 
+use crate::lending::{EntriesBehind, StateRecords};
 use crate::store::Store;
-use sf_bytes::{write_entry, write_head};
-use sf_list::Sequence;
+use sf_bytes::{LentHead, Measured, Spelled, measure};
 use sf_outside::{Disk, Failed};
-use sf_value::{Bytes, Entry, Text};
-use std::alloc::{AllocError, Global};
+use sf_value::Text;
 use store_meaning::{Engine, Position, keep_head};
 
 /// Behind this epoch there is no checkpoint any more.
 const LAST_EPOCH: u64 = (1 << 63) - 1;
 
-/// Why no checkpoint was made where one was due.
-#[derive(Clone, Copy, PartialEq, Eq, Debug)]
-pub enum KeepFault {
-    DiskFault,
-    NoMemory,
-}
-
-impl From<Failed> for KeepFault {
-    ghost use Rattle.std.specs.Prelude.{◌≡◌};
-    ghost use Rattle.session_store.specs.declared.checkpoints.KeepFault.TheVariants.{DiskFault};
-
-    ghost from_gives = { λ _ fault. fault ≡ DiskFault };
-
-    fn from(_fault: Failed) -> KeepFault {
-        KeepFault::DiskFault
-    }
-}
-
-impl From<AllocError> for KeepFault {
-    ghost use Rattle.std.specs.Prelude.{◌≡◌};
-    ghost use Rattle.session_store.specs.declared.checkpoints.KeepFault.TheVariants.{NoMemory};
-
-    ghost from_gives = { λ _ fault. fault ≡ NoMemory };
-
-    fn from(_error: AllocError) -> KeepFault {
-        KeepFault::NoMemory
-    }
-}
+/// No write to a store ends past this place.
+const END: u64 = 1 << 62;
 
 /// Counts a batch of an engine, where there is a store, and makes a checkpoint where one is due. Behind the last epoch there is none any more.
 ///
-/// Want of memory comes before the first write.
+/// It takes no memory.
 pub fn batch_ended<D: Disk>(
-    alloc: Global,
     disk: &mut D,
     store: &mut Option<Store>,
     engine: &Engine,
-) -> Result<(), KeepFault>
+) -> Result<(), Failed>
     requires fits { CoreFits (tables_of engine.now) (core_of engine.now) }
     requires storable { IsStorable (core_of engine.now) 0 }
     requires few { length (core_of engine.now).pending ≤ 255 }
     requires kept { Keeps store.old (source_of engine.now) (core_of engine.now) (D.facts disk.old) }
-    ensures kept { KeepsWhere (disk_failed result) store.new (source_of engine.now) (core_of engine.now) (core_of engine.now) (D.facts disk.new) }
+    ensures kept { OnOk result (Keeps store.new (source_of engine.now) (core_of engine.now) (D.facts disk.new)) }
+    ensures leaves { OnErr result (LeavesEither store.new (source_of engine.now) (core_of engine.now) (core_of engine.now) (D.facts disk.new)) }
     ensures moments { LeavesMeanwhile store.old (source_of engine.now) (core_of engine.now) (core_of engine.now) (D.facts disk.old) (D.facts disk.new) }
     ensures cycle { OnOk result (cycle_of store.new ≡ next_cycle (cycle_of store.old)) }
     ensures settings { settings_of store.new ≡ settings_of store.old }
     ensures later { D.faults disk.old ≤ D.faults disk.new }
-    ensures cause { result ≡ Err KeepFault.DiskFault → Rose (D.faults disk.old) (D.faults disk.new) ⊎ SnapshotEndsPast store.new (core_of engine.now) }
+    ensures cause { OnErr result (Rose (D.faults disk.old) (D.faults disk.new) ⊎ SnapshotEndsPast store.new (core_of engine.now)) }
     ensures mounts { D.mounts disk.new ≡ D.mounts disk.old }
 {
     match store {
-        Some(store) => count_batch(alloc, disk, store, engine),
+        Some(store) => count_batch(disk, store, engine),
         None => Ok(()),
     }
 }
 
 /// Counts a batch, and makes a checkpoint where one is due.
-fn count_batch<D: Disk>(
-    alloc: Global,
-    disk: &mut D,
-    store: &mut Store,
-    engine: &Engine,
-) -> Result<(), KeepFault>
+fn count_batch<D: Disk>(disk: &mut D, store: &mut Store, engine: &Engine) -> Result<(), Failed>
     requires fits { CoreFits (tables_of engine.now) (core_of engine.now) }
     requires storable { IsStorable (core_of engine.now) 0 }
     requires few { length (core_of engine.now).pending ≤ 255 }
     requires kept { Keeps (Some store.old) (source_of engine.now) (core_of engine.now) (D.facts disk.old) }
-    ensures kept { KeepsWhere (disk_failed result) (Some store.new) (source_of engine.now) (core_of engine.now) (core_of engine.now) (D.facts disk.new) }
+    ensures kept { OnOk result (Keeps (Some store.new) (source_of engine.now) (core_of engine.now) (D.facts disk.new)) }
+    ensures leaves { OnErr result (LeavesEither (Some store.new) (source_of engine.now) (core_of engine.now) (core_of engine.now) (D.facts disk.new)) }
     ensures moments { LeavesMeanwhile (Some store.old) (source_of engine.now) (core_of engine.now) (core_of engine.now) (D.facts disk.old) (D.facts disk.new) }
     ensures cycle { OnOk result (cycle_of (Some store.new) ≡ next_cycle (cycle_of (Some store.old))) }
     ensures settings { store.new.settings ≡ store.old.settings }
     ensures later { D.faults disk.old ≤ D.faults disk.new }
-    ensures cause { result ≡ Err KeepFault.DiskFault → Rose (D.faults disk.old) (D.faults disk.new) ⊎ SnapshotEndsPast (Some store.new) (core_of engine.now) }
+    ensures cause { OnErr result (Rose (D.faults disk.old) (D.faults disk.new) ⊎ SnapshotEndsPast (Some store.new) (core_of engine.now)) }
     ensures mounts { D.mounts disk.new ≡ D.mounts disk.old }
 {
     if store.since < store.settings.every - 1 {
@@ -109,20 +78,19 @@ fn count_batch<D: Disk>(
     if store.position.epoch == LAST_EPOCH {
         return Ok(());
     }
-    store.position = keep_core(alloc, disk, store.position, engine, &store.settings.program)?;
+    store.position = keep_core(disk, store.position, engine, &store.settings.program)?;
     Ok(())
 }
 
 /// Keeps the core of an engine under the next epoch, and gives where the store is then. The history goes on behind the entries that the store has.
 ///
-/// At each moment a crash leaves the core, at the one position or at the other. Want of memory comes before the first write.
+/// At each moment a crash leaves the core, at the one position or at the other. It takes no memory.
 pub fn keep_core<D: Disk>(
-    alloc: Global,
     disk: &mut D,
     position: Position,
     engine: &Engine,
     text: &Text,
-) -> Result<Position, KeepFault>
+) -> Result<Position, Failed>
     requires fits { CoreFits (tables_of engine.now) (core_of engine.now) }
     requires storable { IsStorable (core_of engine.now) 0 }
     requires few { length (core_of engine.now).pending ≤ 255 }
@@ -132,100 +100,59 @@ pub fn keep_core<D: Disk>(
     ensures next { IfOk result (λ next. next ≡ kept_at position (core_of engine.now)) }
     ensures kept { OnOk result (KeepsCore (program_of engine.now text.now) (D.facts disk.new) (core_of engine.now) (kept_at position (core_of engine.now))) }
     ensures moments { LeavesOnly (D.facts disk.old) (D.facts disk.new) (λ image. StandsSomewhere (program_of engine.now text.now) image (core_of engine.now)) }
-    ensures unwritten { IsErrOf result KeepFault.NoMemory → disk.new ≡ disk.old }
     ensures later { D.faults disk.old ≤ D.faults disk.new }
-    ensures cause { IsErrOf result KeepFault.DiskFault → Rose (D.faults disk.old) (D.faults disk.new) ⊎ CheckpointEndsPast position text.now (core_of engine.now) }
+    ensures cause { OnErr result (Rose (D.faults disk.old) (D.faults disk.new) ⊎ CheckpointEndsPast position text.now (core_of engine.now)) }
     ensures mounts { D.mounts disk.new ≡ D.mounts disk.old }
 {
-    let made = checkpoint_bytes(alloc, engine, text, position)?;
-    Ok(keep_head(
-        disk,
-        position,
-        made.more.as_slice(),
-        made.body.as_slice(),
-        made.kept,
-    )?)
-}
-
-/// What a checkpoint writes.
-#[derive(Drop)]
-struct Checkpoint {
-    /// The bytes of the entries that the store doesn't have yet.
-    more: Bytes,
-    /// The bytes of the head.
-    body: Bytes,
-    /// How many entries the head has.
-    kept: u32,
-}
-
-/// What a checkpoint of the core of an engine writes behind a position. None is made whose history would end past all places.
-fn checkpoint_bytes(
-    alloc: Global,
-    engine: &Engine,
-    text: &Text,
-    position: Position,
-) -> Result<Checkpoint, KeepFault>
-    requires fits { CoreFits (tables_of engine.now) (core_of engine.now) }
-    requires storable { IsStorable (core_of engine.now) 0 }
-    requires few { length (core_of engine.now).pending ≤ 255 }
-    requires text { IsShortText text.now }
-    ensures made { IfOk result (IsCheckpointAt (program_of engine.now text.now) position (core_of engine.now)) }
-    ensures past { IsErrOf result KeepFault.DiskFault → HistoryEndsPast position (core_of engine.now) }
-{
-    let more = history_bytes(alloc, engine, position.kept)?;
-    let Some(bytes) = position.bytes.checked_add(more.len() as u64) else {
-        return Err(KeepFault::DiskFault);
+    let behind = EntriesBehind {
+        engine,
+        kept: position.kept,
     };
-    let (body, kept) = head_bytes(alloc, engine, text, bytes)?;
-    Ok(Checkpoint { more, body, kept })
-}
-
-/// The bytes of the entries of an engine's history behind the first so many.
-fn history_bytes(alloc: Global, engine: &Engine, kept: u32) -> Result<Bytes, AllocError>
-    requires { IsStorable (core_of engine.now) 0 }
-    ensures { IfOk result (HasEntries (core_of engine.now) kept) }
-{
-    let entries = engine.entries_behind(alloc, kept)?;
-    let more = bytes_of(alloc, entries.as_slice());
-    drop(entries);
-    more
-}
-
-/// The bytes of entries, one behind the other.
-fn bytes_of(alloc: Global, entries: &[Entry]) -> Result<Bytes, AllocError>
-    requires { AllByRecursion IsSpeltEntry entries.now }
-    ensures { IfOk result (λ more. EntriesTo more 0 entries.now (length more)) }
-{
-    let mut more = Sequence::new(alloc);
-    for entry in entries {
-        more.append(alloc, write_entry(alloc, entry)?)?;
+    let more = Measured {
+        spelled: &behind,
+        size: size_of(&behind),
+    };
+    let bytes = position.bytes.saturating_add(more.size);
+    if bytes > END {
+        return Err(Failed);
     }
-    Ok(more)
+    let records = StateRecords::of(engine);
+    let head = head_of(engine, text, bytes, &records);
+    let body = Measured {
+        spelled: &head,
+        size: size_of(&head),
+    };
+    keep_head(disk, position, &more, &body, head.kept)
 }
 
-/// The bytes of a head of the core of an engine, and how many entries it has. They take so many bytes.
-fn head_bytes(
-    alloc: Global,
-    engine: &Engine,
-    text: &Text,
+/// A head of the core of an engine, with so many bytes of its history, whose parts stand where they are.
+fn head_of<'a, 'r>(
+    engine: &'a Engine,
+    text: &'a Text,
     bytes: u64,
-) -> Result<(Bytes, u32), AllocError>
-    requires fits { CoreFits (tables_of engine.now) (core_of engine.now) }
-    requires storable { IsStorable (core_of engine.now) 0 }
-    requires few { length (core_of engine.now).pending ≤ 255 }
-    requires text { IsShortText text.now }
-    ensures { IfOk result (HasHead (program_of engine.now text.now) (core_of engine.now) bytes) }
+    records: &'a StateRecords<'r>,
+) -> LentHead<'a, StateRecords<'r>>
+    ensures program { result.program.now ≡ text.now }
+    ensures kept { result.kept ≡ length (core_of engine.now).history }
+    ensures few { result.kept < 2 ^ 32 }
+    ensures bytes { result.bytes ≡ bytes }
+    ensures records { result.records.now ≡ records.now }
+    ensures pending { result.pending.now ≡ (core_of engine.now).pending }
 {
-    let head = engine.head(alloc, text.as_str().as_bytes(), bytes)?;
-    let kept = head.kept;
-    match write_head(alloc, &head) {
-        Ok(body) => {
-            drop(head);
-            Ok((body, kept))
-        }
-        Err(error) => {
-            drop(head);
-            Err(error)
-        }
+    LentHead {
+        program: text,
+        kept: engine.entries(),
+        bytes,
+        records,
+        pending: engine.pending(),
     }
+}
+
+/// How many bytes a thing has, as far as a `u64` says it.
+fn size_of<B: Spelled>(spelled: &B) -> u64
+    requires { B.is_spelt spelled.now }
+    ensures size { IsSizeOf result (B.bytes_of spelled.now) }
+    ensures real { B.is_real spelled.now }
+{
+    measure(spelled).size
 }

@@ -4,11 +4,12 @@
 #![tactic(auto)]
 
 mod checkpoints;
+mod lending;
 mod logging;
 mod no_disk;
 mod store;
 
-pub use checkpoints::{KeepFault, batch_ended, keep_core};
+pub use checkpoints::{batch_ended, keep_core};
 pub use logging::{log_planned, record_bytes};
 pub use no_disk::NoDisk;
 pub use store::{Store, StoreSettings};

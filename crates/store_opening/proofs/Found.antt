@@ -20,8 +20,6 @@ use Rattle.store_meaning.specs.Keeping.{KeepsCore}
 use Rattle.store_meaning.specs.StandsFor.{Program, new_position, OldStandsFor, StandsFor}
 use Rattle.store_meaning.proofs.Opening.{seen_new, clean_keeps}
 use Rattle.session_store.specs.Stores.{program_with, StandsSomewhere, HasSnapshotPast, CheckpointEndsPast}
-use Rattle.session_store.specs.declared.checkpoints.KeepFault.{KeepFault}
-use Rattle.session_store.specs.declared.checkpoints.KeepFault.TheVariants as of_checkpoint
 use Rattle.session_store.proofs.NoStore.{none_storable}
 use Rattle.store_opening.specs.declared.finding.FoundStore.TheVariants.{Old}
 use Rattle.store_opening.specs.declared.opened_store.OpenSettings.{OpenSettings}
@@ -31,7 +29,6 @@ use Rattle.store_opening.specs.declared.stop.OpenStop.TheVariants.{DiskFault, Ba
 use Rattle.store_opening.specs.Findings.{Judges, IsFoundFor, IsAsFound}
 use Rattle.store_opening.specs.OpenedStores.{program_for, settings_at, IsReady, KeepsOpened}
 use Rattle.store_opening.specs.Openings.{AnswersFound, AnswersOld, LeavesAsFound, LeavesFound}
-use Rattle.store_opening.specs.Stops.{keep_stop}
 
 -- ---- an opened store
 
@@ -128,13 +125,9 @@ module _ (text : List ℕ) (core : Core) (empty : core ≡ empty_core) where
       by (inl head) = head
       by (inr history) = let none : sum_by entry_size (drop 0 []) ≡ 0 = refl in absurd (omega (arith, history, none))
 
-  pub first_cause : (fault : KeepFault) (old new : ℕ) → (fault ≡ of_checkpoint.DiskFault → Rose old new ⊎ CheckpointEndsPast new_position text core) → keep_stop fault ≡ DiskFault
-      → Rose old new ⊎ HasSnapshotPast text empty_core
-  first_cause of_checkpoint.DiskFault old new cause same = elim (cause refl) [ inl rose ↦ inl rose | inr past ↦ inr (first_past past) ]
-  first_cause of_checkpoint.NoMemory old new cause same = absurd (other same)
-    where
-      other : NoMemory ≡ DiskFault → ⊥
-      other same = cc
+  pub first_cause : (old new : ℕ) → Rose old new ⊎ CheckpointEndsPast new_position text core → Rose old new ⊎ HasSnapshotPast text empty_core
+  first_cause old new (inl rose) = inl rose
+  first_cause old new (inr past) = inr (first_past past)
 
 -- ---- an engine of a new store
 

@@ -7,8 +7,6 @@ use Rattle.recovery.specs.declared.fault.OpenFault.{OpenFault}
 use Rattle.recovery.specs.declared.fault.OpenFault.TheVariants as of_files
 use Rattle.engine.specs.declared.restore_error.RestoreError.{RestoreError}
 use Rattle.engine.specs.declared.restore_error.RestoreError.TheVariants as of_snapshot
-use Rattle.session_store.specs.declared.checkpoints.KeepFault.{KeepFault}
-use Rattle.session_store.specs.declared.checkpoints.KeepFault.TheVariants as of_checkpoint
 use Rattle.store_opening.specs.declared.replaying.ReplayStop.{ReplayStop}
 use Rattle.store_opening.specs.declared.replaying.ReplayStop.TheVariants as of_log
 use Rattle.store_opening.specs.declared.stop.OpenStop.{OpenStop}
@@ -22,10 +20,6 @@ abbrev pub reopen_stop : OpenFault → OpenStop
 reopen_stop of_files.Failed = DiskFault
 reopen_stop (of_files.Bad file at) = Bad file at
 reopen_stop of_files.NoMemory = NoMemory
-
-abbrev pub keep_stop : KeepFault → OpenStop
-keep_stop of_checkpoint.DiskFault = DiskFault
-keep_stop of_checkpoint.NoMemory = NoMemory
 
 -- a snapshot that the program can't take is bad at the start of its slot
 abbrev pub restore_stop : ℕ → RestoreError → OpenStop

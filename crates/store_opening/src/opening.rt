@@ -1,6 +1,6 @@
 //! Opening the store of a program in a folder: what is found there is gone on with, or a new store is begun.
 
-ghost use Rattle.std.specs.Prelude.{◌≡◌, ◌≤◌, ◌⊎◌, IfOk, IfSome, IsErrOf};
+ghost use Rattle.std.specs.Prelude.{◌≡◌, ◌≢◌, ◌≤◌, ◌⊎◌, IfOk, IfSome, OnErr, IsErrOf, Err};
 ghost use Rattle.sf_outside.specs.Causes.{Rose};
 ghost use Rattle.sf_outside.specs.DiskModel.{IsClean, LeavesOnly};
 ghost use Rattle.byte_sizes.specs.Spelt.{IsShortText};
@@ -74,7 +74,7 @@ fn begin<D: Disk>(
     ensures cause { IsErrOf result OpenStop.DiskFault → Rose (D.faults disk.old) (D.faults disk.new) ⊎ HasSnapshotPast settings.program empty_core }
 {
     match Engine::new(alloc, compiled, settings.limit) {
-        Ok(engine) => keep_first(alloc, disk, engine, settings),
+        Ok(engine) => keep_first(disk, engine, settings),
         Err(_) => {
             drop(settings);
             Err(OpenStop::NoMemory)
@@ -82,9 +82,8 @@ fn begin<D: Disk>(
     }
 }
 
-/// Keeps the first snapshot of a store, of an engine to which nothing has come.
+/// Keeps the first snapshot of a store, of an engine to which nothing has come. It takes no memory.
 fn keep_first<D: Disk>(
-    alloc: Global,
     disk: &mut D,
     engine: Engine,
     settings: OpenSettings,
@@ -105,7 +104,8 @@ fn keep_first<D: Disk>(
         (LeavesFound (program_for (compiled_of engine) settings.program) (D.facts disk.old).seen) }
     ensures mounts { D.mounts disk.new ≡ D.mounts disk.old }
     ensures later { D.faults disk.old ≤ D.faults disk.new }
-    ensures cause { IsErrOf result OpenStop.DiskFault → Rose (D.faults disk.old) (D.faults disk.new) ⊎ HasSnapshotPast settings.program empty_core }
+    ensures cause { OnErr result (Rose (D.faults disk.old) (D.faults disk.new) ⊎ HasSnapshotPast settings.program empty_core) }
+    ensures memory { result ≢ Err OpenStop.NoMemory }
 {
     let nowhere = Position {
         epoch: 0,
@@ -113,7 +113,7 @@ fn keep_first<D: Disk>(
         bytes: 0,
         kept: 0,
     };
-    match keep_core(alloc, disk, nowhere, &engine, &settings.program) {
+    match keep_core(disk, nowhere, &engine, &settings.program) {
         Ok(position) => Ok(OpenedStore {
             engine,
             store: store_at(settings, position),

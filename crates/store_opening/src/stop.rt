@@ -2,11 +2,10 @@
 
 ghost use Rattle.std.specs.Prelude.{◌≡◌};
 ghost use Rattle.store_opening.specs.declared.stop.OpenStop.TheVariants.{DiskFault, NoMemory};
-ghost use Rattle.store_opening.specs.Stops.{mount_stop, reopen_stop, keep_stop};
+ghost use Rattle.store_opening.specs.Stops.{mount_stop, reopen_stop};
 
 use recovery::OpenFault;
-use session_store::KeepFault;
-use sf_outside::{MountFault, StoreFile};
+use sf_outside::{Failed, MountFault, StoreFile};
 
 /// Why a store isn't opened.
 #[derive(Clone, Copy, PartialEq, Eq, Debug)]
@@ -42,13 +41,10 @@ impl From<OpenFault> for OpenStop {
     }
 }
 
-impl From<KeepFault> for OpenStop {
-    ghost from_gives = { λ fault stop. stop ≡ keep_stop fault };
+impl From<Failed> for OpenStop {
+    ghost from_gives = { λ fault stop. stop ≡ DiskFault };
 
-    fn from(fault: KeepFault) -> OpenStop {
-        match fault {
-            KeepFault::DiskFault => OpenStop::DiskFault,
-            KeepFault::NoMemory => OpenStop::NoMemory,
-        }
+    fn from(_fault: Failed) -> OpenStop {
+        OpenStop::DiskFault
     }
 }

@@ -30,19 +30,11 @@ returns-in-Ok-batch_ended-clause-goes_on g c =
     ended_goes c.args.engine.now c.requires.fresh c.args.store.now c.batch_ended.new.store _ _ _ _ _ _ false c.requires.ready.can_go_on c.in-Ok-batch_ended.ensures.kept ended.settings ended.later
     (λ is. absurd (true≢false (sym is))) ended.mounts
 
-pub returns-in-Err-DiskFault-clause-goes_on : goal.returns-in-Err-DiskFault-clause-goes_on
-returns-in-Err-DiskFault-clause-goes_on g c =
+pub returns-in-Err-batch_ended-clause-goes_on : goal.returns-in-Err-batch_ended-clause-goes_on
+returns-in-Err-batch_ended-clause-goes_on g c =
     let ended = c.batch_ended.ensures in
-    ended_goes c.args.engine.now c.requires.fresh c.args.store.now c.batch_ended.new.store _ _ _ _ _ _ true c.requires.ready.can_go_on
-    (rw c.in-Err-DiskFault.field-0-is at c.in-Err-DiskFault.ensures.kept) ended.settings ended.later
-    (λ is. c.in-Err-DiskFault.ensures.cause (ap (λ e. Err e) c.in-Err-DiskFault.field-0-is)) ended.mounts
-
-pub returns-in-Err-NoMemory-clause-goes_on : goal.returns-in-Err-NoMemory-clause-goes_on
-returns-in-Err-NoMemory-clause-goes_on g c =
-    let ended = c.batch_ended.ensures in
-    ended_goes c.args.engine.now c.requires.fresh c.args.store.now c.batch_ended.new.store _ _ _ _ _ _ false c.requires.ready.can_go_on
-    (rw c.in-Err-NoMemory.field-0-is at c.in-Err-NoMemory.ensures.kept) ended.settings ended.later
-    (λ is. absurd (true≢false (sym is))) ended.mounts
+    ended_goes c.args.engine.now c.requires.fresh c.args.store.now c.batch_ended.new.store _ _ _ _ _ _ true c.requires.ready.can_go_on c.in-Err-batch_ended.ensures.leaves ended.settings ended.later
+    (λ is. c.in-Err-batch_ended.ensures.cause) ended.mounts
 
 pub returns-in-Err-clause-goes_on : goal.returns-in-Err-clause-goes_on
 returns-in-Err-clause-goes_on g c = λ rule. stays rule _ c.requires.ready.can_go_on
@@ -55,16 +47,8 @@ returns-in-Ok-batch_ended-clause-logs g c = λ rule.
     subst (λ core. Logs (source_of e) rule (settings_of c.args.store.now) [] core core old new) (sym (all_logged e c.requires.fresh))
     (Logs-checkpoint (source_of e) rule c.args.store.now (core_of e) old new c.batch_ended.ensures.moments)
 
-pub returns-in-Err-DiskFault-clause-logs : goal.returns-in-Err-DiskFault-clause-logs
-returns-in-Err-DiskFault-clause-logs g c = λ rule.
-    let e = c.args.engine.now in
-    let old = g.D.Disk.facts c.args.disk.now in
-    let new = g.D.Disk.facts c.batch_ended.new.disk in
-    subst (λ core. Logs (source_of e) rule (settings_of c.args.store.now) [] core core old new) (sym (all_logged e c.requires.fresh))
-    (Logs-checkpoint (source_of e) rule c.args.store.now (core_of e) old new c.batch_ended.ensures.moments)
-
-pub returns-in-Err-NoMemory-clause-logs : goal.returns-in-Err-NoMemory-clause-logs
-returns-in-Err-NoMemory-clause-logs g c = λ rule.
+pub returns-in-Err-batch_ended-clause-logs : goal.returns-in-Err-batch_ended-clause-logs
+returns-in-Err-batch_ended-clause-logs g c = λ rule.
     let e = c.args.engine.now in
     let old = g.D.Disk.facts c.args.disk.now in
     let new = g.D.Disk.facts c.batch_ended.new.disk in

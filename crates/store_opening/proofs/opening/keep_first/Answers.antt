@@ -1,12 +1,10 @@
-use Rattle.std.proofs.Common.{◌≡◌, Err, refl, sym, ap, ◌∙◌}
+use Rattle.std.proofs.Common.{refl, sym, ap, ◌∙◌}
 use Rattle.engine.specs.EngineViews.{core_of}
 use Rattle.store_meaning.specs.Engines.{program_of}
 use Rattle.session_store.proofs.NoStore.{none_storable}
 use Rattle.store_meaning.specs.StandsFor.{new_position}
 use Rattle.session_store.specs.Checkpoints.{kept_at}
 use Rattle.store_opening.specs.OpenedStores.{settings_at}
-use Rattle.store_opening.specs.Stops.{keep_stop}
-use Rattle.store_opening.specs.declared.stop.OpenStop.TheVariants.{DiskFault}
 use Rattle.store_opening.proofs.Found.{new_keeps, new_found, new_left, new_ready, first_cause}
 use Rattle.store_opening.proofs.opening.keep_first.Goals as goal
 
@@ -39,7 +37,5 @@ returns-in-Err-clause-moments g c =
     (g.D.Disk.facts c.keep_core.new.disk) c.keep_core.ensures.moments
 
 pub returns-in-Err-clause-cause : goal.returns-in-Err-clause-cause
-returns-in-Err-clause-cause g c = λ failed.
-    let stop : keep_stop c.in-Err.fault ≡ DiskFault = cc (c.from.ensures, failed) in
-    first_cause c.args.settings.program (core_of c.args.engine) c.requires.core c.in-Err.fault (g.D.Disk.faults c.args.disk.now) (g.D.Disk.faults c.keep_core.new.disk)
-    (λ same. c.in-Err.ensures.cause (ap Err same)) stop
+returns-in-Err-clause-cause g c =
+    first_cause c.args.settings.program (core_of c.args.engine) c.requires.core (g.D.Disk.faults c.args.disk.now) (g.D.Disk.faults c.keep_core.new.disk) c.in-Err.ensures.cause
