@@ -220,8 +220,8 @@ module _ (v : Service) (traces : Bool) (settings : Option StoreSettings) (limit 
   module _ (old new : View) {l₁ : Option (List ℕ)} {reader next : Lines} (count : ℕ) (tally : Tally) {a b : Core} {f g : DiskFacts}
       (w : Going v traces settings limit old.left l₁ reader (first_point old) (point_at new count tally) a b f g) (store : Option Store) where
     -- memory was wanted for a line
-    pub At-no-memory : Joins reader next l₁ new.left → ServedInTurn v traces settings limit (Err fault.NoMemory) old new a b f g store
-    At-no-memory j =
+    pub At-no-memory : Joins reader next l₁ new.left → IsInCycle store tally.batches → ServedInTurn v traces settings limit (Err fault.NoMemory) old new a b f g store
+    At-no-memory j in_cycle =
         let taken = Given-stop (Given-none w.read j) in
         let m = line_wanted w j in
         let s : Served v traces settings limit (Err fault.NoMemory) old new a b f g = record {
@@ -240,7 +240,7 @@ module _ (v : Service) (traces : Bool) (settings : Option StoreSettings) (limit 
           none_waits = tt;
           logs = m.logs;
         } in
-        record { served = s; in_turn = tt }
+        record { served = s; in_turn = in_cycle }
 
     -- the input couldn't be read
     pub At-a-fault : JoinsAll reader next l₁ new.left → IsInCycle store tally.batches → ServedInTurn v traces settings limit (Err fault.ReadFault) old new a b f g store

@@ -8,6 +8,7 @@ ghost use Rattle.serial_order.specs.ConflictFree.{Access};
 ghost use Rattle.reservations.specs.CommitRules.{Chosen};
 ghost use Rattle.engine.specs.EngineViews.{source_of, fresh_of};
 ghost use Rattle.session_store.specs.Vocabulary.{logged_of};
+ghost use Rattle.session_store.specs.Cycles.{cycle_of};
 ghost use Rattle.session_store.specs.Stores.{settings_of};
 ghost use Rattle.session_steps.specs.Vocabulary.{state_of, disk_failed, GoesOn, Logs};
 ghost use Rattle.session_steps.specs.StepLaws.{TracedAs};
@@ -36,6 +37,7 @@ pub(crate) fn end_batch<E: Sink, D: Disk>(
     ensures traced { TracedAs result (E.held err.old) (E.held err.new) (trace_text settings.now.trace tally.old (counts ∷ [])) }
     ensures placed { result ≢ Err Stop.HistoryFull }
     ensures memory { result ≢ Err Stop.NoMemory }
+    ensures cycle { result ≡ Err Stop.WriteFault → cycle_of store.new ≡ cycle_of store.old }
     ensures later_err { E.faults err.old ≤ E.faults err.new }
     ensures cause { result ≡ Err Stop.WriteFault → Rose (E.faults err.old) (E.faults err.new) }
     ensures logs { (rule : List Access → Chosen) → Logs (source_of engine.now) rule (settings_of store.old) []

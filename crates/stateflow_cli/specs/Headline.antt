@@ -1,5 +1,5 @@
 -- What a run promises of its session: the replies are those of the source methods, run one request after another, and what is left of a store stands for them.
-use Rattle.std.specs.Prelude.{ℕ, ◌≡◌, ◌⊎◌, true, false, List, [], ◌∷◌, length, Some, IfSome}
+use Rattle.std.specs.Prelude.{ℕ, ◌≡◌, ◌+◌, ◌⊎◌, true, false, List, [], ◌∷◌, length, Some, IfSome}
 use Rattle.std.specs.List.{AllByRecursion}
 use Rattle.std.specs.Io.KnownBytes.{Appends}
 use Rattle.sf_outside.specs.Bytes.{AppendsPrefix}
@@ -76,14 +76,14 @@ module _ {limit : ℕ} {file : List ℕ} {s : words.RunSettings} {before after :
         (λ image. (place : Position) × WasAt place opened × StandsFor (program_of (source_of it) it.holds.text) image it.start place)
     pub keeps : KeepsLast (program_of (source_of it) it.holds.text) it.last now opened.epoch s.every (length it.counts)
 
-  -- So it is of the core but for the requests that came since the last batch, where the input couldn't be read or was too long, or the history came to be full.
-  pub record KeepsInTurn (dir : List ℕ) (now : DiskFacts) : Type 0 where
+  -- So it is, behind so many batches, of the core but for the requests that came since the last batch.
+  pub record KeepsInTurn (dir : List ℕ) (now : DiskFacts) (batches : ℕ) : Type 0 where
     pub opened : Position
     pub found : IfSome (before.disk.found dir)
         (λ image. (place : Position) × WasAt place opened × StandsFor (program_of (source_of it) it.holds.text) image it.start place)
     pub fresh : ℕ
     pub storable : IsStorable it.last fresh
-    pub keeps : KeepsLast (program_of (source_of it) it.holds.text) (settled it.last fresh) now opened.epoch s.every (length it.counts)
+    pub keeps : KeepsLast (program_of (source_of it) it.holds.text) (settled it.last fresh) now opened.epoch s.every batches
 
   pub record Headline (now : DiskFacts) : Type 0 where
     -- The entries of the batches that were committed, in turn, and the last state are those of running their requests one after another, and each line is that
@@ -98,11 +98,14 @@ module _ {limit : ℕ} {file : List ℕ} {s : words.RunSettings} {before after :
     pub trace : TracesBatches
     -- what was chosen and told
     pub events : RunsGraph
-    -- Where the words name a store: it was mounted once; what a crash may have left since; what one may leave now, and where checkpoints came in their turn; and
+    -- Where the words name a store: it was mounted once; what a crash may have left since; what one may leave now, and where checkpoints came in their turn, with 4 perhaps but
+    -- for the last batch; and
     -- where all is served
     pub mounted : (dir : List ℕ) → s.store ≡ Some dir → MountsOnce dir before after now
     pub since : (dir : List ℕ) → s.store ≡ Some dir
         → RunMoments it.compiled (settings_of it) it.holds.text it.start it.steps (before.disk.found dir) after.disk.mounts.moment now
     pub kept : (dir : List ℕ) → s.store ≡ Some dir → KeepsCommitted now
-    pub in_turn : (dir : List ℕ) → s.store ≡ Some dir → IsOneOf status (3 ∷ 9 ∷ 10 ∷ []) → KeepsInTurn dir now
+    pub in_turn : (dir : List ℕ) → s.store ≡ Some dir → IsOneOf status (3 ∷ 8 ∷ 9 ∷ 10 ∷ []) → KeepsInTurn dir now (length it.counts)
+    pub owing : (dir : List ℕ) → s.store ≡ Some dir → status ≡ 4 → it.failed ≡ false
+        → KeepsInTurn dir now (length it.counts) ⊎ ((before : ℕ) × (before + 1 ≡ length it.counts) × KeepsInTurn dir now before)
     pub final : (dir : List ℕ) → s.store ≡ Some dir → status ≡ 0 → KeepsAll dir now
