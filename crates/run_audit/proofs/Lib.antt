@@ -1,3 +1,4 @@
 mod ReadingLaws
+mod JudgingLaws
 mod FrontsDecide
 mod VerdictExamples

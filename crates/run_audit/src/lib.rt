@@ -1,8 +1,12 @@
-//! What a file of request lines and reply lines is, by one serial run of its requests: the definition of this verdict, and a law of it.
+//! What a file of request lines and reply lines is, by one serial run of its requests: the definition of this verdict, laws of it, and the judge of a line.
 #![tactic(auto)]
 
+mod fault;
+mod judging;
 mod laws;
 mod verdict;
 
+pub use fault::AuditFault;
+pub use judging::Judge;
 pub use laws::fronts_decide;
 pub use verdict::Verdict;

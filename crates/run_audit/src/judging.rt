@@ -1,0 +1,78 @@
+//! One line at a time: an odd one asks something, and an even one is held to what that comes to.
+
+ghost use Rattle.std.specs.Prelude.{◌≡◌, IfOk};
+ghost use Rattle.program_meaning.specs.Sources.{source_of};
+ghost use Rattle.request_json.specs.Actions.{content_of};
+ghost use Rattle.run_audit.specs.Verdict.{asked_by, if_new};
+ghost use Rattle.run_audit.specs.Judging.{none_judged};
+ghost use Rattle.run_audit.specs.Standings.{judged_by, shown_line};
+
+use indexmap::IndexSet;
+use input_lines::{LONGEST, trimmed};
+use py_tree::Checked;
+use request_json::{LineError, read_line};
+use sf_value::{Request, Text};
+use source_meaning::Local;
+use std::alloc::{AllocError, Global};
+
+/// There are at most this many entries.
+const LAST_ENTRY: usize = 4_294_967_295;
+
+/// What stands between two lines: the state, the ids of the entries, and the request whose reply comes next.
+#[derive(Drop)]
+pub struct Judge {
+    pub(crate) local: Local,
+    pub(crate) ids: IndexSet<Text>,
+    pub(crate) asked: Option<Request>,
+}
+
+/// The content of a line, which ended with LF or is the last one.
+fn content(line: &[u8], ended: bool) -> &[u8]
+    ensures { result.now ≡ content_of (shown_line ended line.now) }
+{
+    if ended { trimmed(line) } else { line }
+}
+
+impl Judge {
+    /// Before the first line.
+    pub fn new(alloc: Global) -> Judge
+        ensures { judged_by result ≡ none_judged }
+    {
+        Judge {
+            local: Local::new(alloc),
+            ids: IndexSet::new(alloc),
+            asked: None,
+        }
+    }
+
+    /// A request, unless an earlier entry has its id or there is no entry left for it.
+    fn if_new(&self, request: Request) -> Option<Request>
+        ensures { result ≡ if_new self.now.ids.keys request }
+    {
+        if self.ids.contains(&request.id) || self.ids.len() >= LAST_ENTRY {
+            drop(request);
+            return None;
+        }
+        Some(request)
+    }
+
+    /// What an odd line asks, given without its LF. Of a line that is too long, its first bytes up to one more than it may have are enough.
+    pub fn asked_by(
+        &self,
+        alloc: Global,
+        program: &Checked,
+        line: &[u8],
+        ended: bool,
+    ) -> Result<Option<Request>, AllocError>
+        ensures { IfOk result (λ asked. asked ≡ asked_by (source_of program.now) self.now.ids.keys (shown_line ended line.now)) }
+    {
+        if line.len() > LONGEST {
+            return Ok(None);
+        }
+        match read_line(alloc, program, content(line, ended)) {
+            Ok(request) => Ok(self.if_new(request)),
+            Err(LineError::Fault(_)) => Ok(None),
+            Err(LineError::NoMemory) => Err(AllocError),
+        }
+    }
+}
