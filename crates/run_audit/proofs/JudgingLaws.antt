@@ -1,5 +1,5 @@
 -- How a line is judged behind others.
-use Rattle.std.proofs.Common.{◌≡◌, ℕ, suc, ◌+◌, ◌*◌, ◌≤◌, ◌<◌, Bool, true, false, nat_le, List, [], ◌∷◌, ◌++◌, length, take, Option, Some, None, refl, sym, ap, ◌∙◌, arith, if◌then◌else◌, length-append}
+use Rattle.std.proofs.Common.{◌≡◌, ℕ, suc, ◌+◌, ◌*◌, Bool, true, false, List, [], ◌∷◌, ◌++◌, length, Some, None, refl, sym, ap, ◌∙◌, arith, if◌then◌else◌, length-append}
 use Rattle.std.specs.Prelude.{bytes_eq}
 use Rattle.sf_value.specs.declared.Request.{Request}
 use Rattle.program_meaning.specs.ClassTables.{Source}
@@ -7,10 +7,9 @@ use Rattle.program_meaning.specs.World.{State}
 use Rattle.program_meaning.specs.RequestRun.{run}
 use Rattle.program_meaning.specs.Serial.{serial_outcomes}
 use Rattle.request_json.specs.Actions.{Line, content_of}
-use Rattle.run_audit.specs.declared.verdict.Verdict.{Verdict}
 use Rattle.run_audit.specs.declared.verdict.Verdict.TheVariants as verdict
 use Rattle.run_audit.specs.Verdict.{asked_by, is_reply, Reading, bad_line, behind_entry, Extent, read_last, read_pair, read_lines, reply_text, differing, acts_in, or_bad}
-use Rattle.run_audit.specs.Judging.{Judged, read_reply, read_behind, told_of, told_behind, count_behind, Passes, Decides}
+use Rattle.run_audit.specs.Judging.{Judged, read_reply, told_of, Passes, Decides}
 
 module _ (src : Source) (extent : Extent) (ids : List (List ℕ)) where
   -- an odd line that asks nothing is bad

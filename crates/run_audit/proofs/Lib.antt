@@ -1,4 +1,5 @@
 mod ReadingLaws
 mod JudgingLaws
+mod ReplyLaws
 mod FrontsDecide
 mod VerdictExamples

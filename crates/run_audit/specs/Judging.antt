@@ -19,6 +19,10 @@ pub record Judged : Type 0 where
 abbrev pub none_judged : Judged
 none_judged = record { ids = []; state = no_state; asked = None }
 
+-- behind an odd line that asks this
+abbrev pub behind_odd : List (List ℕ) → State → Request → Judged
+behind_odd ids s r = record { ids = ids; state = s; asked = Some r }
+
 -- what is read of the lines behind an odd line that asks this
 abbrev pub read_reply : Source → Extent → List (List ℕ) → Request → List Line → Reading
 read_reply src extent ids r [] = missing extent (2 * length ids + 2)

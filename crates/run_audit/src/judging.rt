@@ -1,17 +1,19 @@
 //! One line at a time: an odd one asks something, and an even one is held to what that comes to.
 
-ghost use Rattle.std.specs.Prelude.{◌≡◌, IfOk};
+ghost use Rattle.std.specs.Prelude.{◌≡◌, ◌<◌, ◌++◌, ◌∷◌, [], ℕ, suc, List, length, Some, IfOk, OnOk};
+ghost use Rattle.program_meaning.specs.RequestRun.{run};
 ghost use Rattle.program_meaning.specs.Sources.{source_of};
 ghost use Rattle.request_json.specs.Actions.{content_of};
-ghost use Rattle.run_audit.specs.Verdict.{asked_by, if_new};
+ghost use Rattle.request_json.specs.ReplyLines.{reply_line};
+ghost use Rattle.run_audit.specs.Verdict.{asked_by, if_new, reply_text};
 ghost use Rattle.run_audit.specs.Judging.{none_judged};
 ghost use Rattle.run_audit.specs.Standings.{judged_by, shown_line};
 
 use indexmap::IndexSet;
 use input_lines::{LONGEST, trimmed};
 use py_tree::Checked;
-use request_json::{LineError, read_line};
-use sf_value::{Request, Text};
+use request_json::{LineError, read_line, write_entry};
+use sf_value::{Bytes, Outcome, Request, Text};
 use source_meaning::Local;
 use std::alloc::{AllocError, Global};
 
@@ -31,6 +33,15 @@ fn content(line: &[u8], ended: bool) -> &[u8]
     ensures { result.now ≡ content_of (shown_line ended line.now) }
 {
     if ended { trimmed(line) } else { line }
+}
+
+/// A line without the LF that it ends with.
+fn without_end(line: Bytes) -> Bytes
+    ensures { (text : List ℕ) → line ≡ text ++ 10 ∷ [] → result ≡ text }
+{
+    let mut line = line;
+    let _end = line.pop();
+    line
 }
 
 impl Judge {
@@ -74,5 +85,45 @@ impl Judge {
             Err(LineError::Fault(_)) => Ok(None),
             Err(LineError::NoMemory) => Err(AllocError),
         }
+    }
+
+    /// Commits an entry whose request was new, and is run already.
+    fn keep(&mut self, request: Request) -> Result<(), AllocError>
+        requires { if_new self.old.ids.keys request ≡ Some request }
+        ensures ids { OnOk result (self.new.ids.keys ≡ self.old.ids.keys ++ request.id ∷ []) }
+        ensures local { self.new.local ≡ self.old.local }
+        ensures asked { self.new.asked ≡ self.old.asked }
+    {
+        self.ids.insert(request.id)?;
+        Ok(())
+    }
+
+    /// The reply line of the entry that comes next.
+    fn reply(&self, alloc: Global, id: &Text, outcome: &Outcome) -> Result<Bytes, AllocError>
+        requires { length self.now.ids.keys < 4294967295 }
+        ensures { IfOk result (λ line. line ≡ reply_line id.now outcome.now (suc (length self.now.ids.keys))) }
+    {
+        let place = (self.ids.len() + 1) as u32;
+        write_entry(alloc, id, outcome, place)
+    }
+
+    /// Runs a request, and gives its reply line, without its LF.
+    fn wanted(
+        &mut self,
+        alloc: Global,
+        program: &Checked,
+        request: &Request,
+    ) -> Result<Bytes, AllocError>
+        requires { length self.old.ids.keys < 4294967295 }
+        ensures line { IfOk result (λ line. line
+            ≡ reply_text request.now.id (run (source_of program.now) self.old.local request.now.act).outcome (suc (length self.old.ids.keys))) }
+        ensures state { OnOk result (self.new.local ≡ (run (source_of program.now) self.old.local request.now.act).state) }
+        ensures ids { self.new.ids ≡ self.old.ids }
+        ensures asked { self.new.asked ≡ self.old.asked }
+    {
+        let outcome = self.local.run(alloc, program, request)?;
+        let line = self.reply(alloc, &request.id, &outcome)?;
+        drop(outcome);
+        Ok(without_end(line))
     }
 }
