@@ -80,7 +80,8 @@ read_pair n (Some r) even others = if is_reply even then behind_entry (record { 
 unfoldable pub read_lines : Source → Extent → List (List ℕ) → List Line → Reading
 read_lines src extent earlier [] = none_bad
 read_lines src extent earlier (odd ∷ []) = read_last extent (length earlier) (asked_by src earlier odd)
-read_lines src extent earlier (odd ∷ even ∷ more) = read_pair (length earlier) (asked_by src earlier odd) even (λ r. read_lines src extent (earlier ++ r.id ∷ []) more)
+read_lines src extent earlier (odd ∷ even ∷ more) =
+    read_pair (length earlier) (asked_by src earlier odd) even (λ r. read_lines src extent (earlier ++ r.id ∷ []) more)
 
 -- ---- judging, by the serial run of the requests
 
