@@ -1,5 +1,6 @@
 -- The verdict on a file of request lines and reply lines.
-use Rattle.std.specs.Prelude.{ℕ, suc, ◌+◌, ◌*◌, Bool, ◌||◌, nat_le, bytes_eq, List, [], ◌∷◌, ◌++◌, length, map as over, Some, None, option_map, unwrap_or, if◌then◌else◌}
+use Rattle.std.specs.Prelude.{ℕ, suc, ◌+◌, ◌*◌, Bool, ◌||◌, nat_le, bytes_eq, if◌then◌else◌}
+use Rattle.std.specs.Prelude.{List, [], ◌∷◌, ◌++◌, length, map as over, Some, None, option_map, unwrap_or}
 use Rattle.std.specs.declared.option.Option.{Option}
 use Rattle.std.specs.Result.{result_ok}
 use Rattle.std.specs.List.{list_any}
