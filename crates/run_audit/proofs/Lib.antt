@@ -1,5 +1,6 @@
 mod ReadingLaws
 mod JudgingLaws
 mod ReplyLaws
+mod JudgeSteps
 mod FrontsDecide
 mod VerdictExamples
