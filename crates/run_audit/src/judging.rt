@@ -1,21 +1,26 @@
 //! One line at a time: an odd one asks something, and an even one is held to what that comes to.
 
-ghost use Rattle.std.specs.Prelude.{◌≡◌, ◌<◌, ◌++◌, ◌∷◌, [], ℕ, suc, List, length, Some, IfOk, OnOk};
+ghost use Rattle.std.specs.Prelude.{◌≡◌, ◌<◌, ◌++◌, ◌∷◌, [], ℕ, suc, List, length, None, Some, IfOk, OnOk};
 ghost use Rattle.program_meaning.specs.RequestRun.{run};
 ghost use Rattle.program_meaning.specs.Sources.{source_of};
 ghost use Rattle.request_json.specs.Actions.{content_of};
 ghost use Rattle.request_json.specs.ReplyLines.{reply_line};
 ghost use Rattle.run_audit.specs.Verdict.{asked_by, if_new, reply_text};
-ghost use Rattle.run_audit.specs.Judging.{none_judged};
+ghost use Rattle.run_audit.specs.Judging.{none_judged, behind_odd, Judges};
 ghost use Rattle.run_audit.specs.Standings.{judged_by, shown_line};
 
+use crate::verdict::Verdict;
 use indexmap::IndexSet;
 use input_lines::{LONGEST, trimmed};
 use py_tree::Checked;
 use request_json::{LineError, read_line, write_entry};
+use sf_list::Sequence;
 use sf_value::{Bytes, Outcome, Request, Text};
 use source_meaning::Local;
 use std::alloc::{AllocError, Global};
+
+/// A reply line has at most this many bytes.
+const LONGEST_REPLY: usize = 4_194_304;
 
 /// There are at most this many entries.
 const LAST_ENTRY: usize = 4_294_967_295;
@@ -42,6 +47,14 @@ fn without_end(line: Bytes) -> Bytes
     let mut line = line;
     let _end = line.pop();
     line
+}
+
+fn copied(alloc: Global, bytes: &[u8]) -> Result<Bytes, AllocError>
+    ensures { IfOk result (λ made. made ≡ bytes.now) }
+{
+    let mut made = Sequence::new(alloc);
+    made.extend_from_slice(alloc, bytes)?;
+    Ok(made)
 }
 
 impl Judge {
@@ -125,5 +138,37 @@ impl Judge {
         let line = self.reply(alloc, &request.id, &outcome)?;
         drop(outcome);
         Ok(without_end(line))
+    }
+
+    /// Holds an even line, given without its LF, to what the request of the line before it comes to. Of a line that is too long, its
+    /// first bytes up to one more than it may have are enough.
+    pub fn hear(
+        &mut self,
+        alloc: Global,
+        program: &Checked,
+        request: Request,
+        line: &[u8],
+        ended: bool,
+    ) -> Result<Option<Verdict>, AllocError>
+        requires new { if_new self.old.ids.keys request ≡ Some request }
+        requires none { self.old.asked ≡ None }
+        ensures { Judges (source_of program.now) (behind_odd self.old.ids.keys self.old.local request) (judged_by self.new) (shown_line ended line.now) result }
+    {
+        if line.len() > LONGEST_REPLY {
+            drop(request);
+            let number = 2 * self.ids.len() as u64 + 2;
+            return Ok(Some(Verdict::BadRun { line: number }));
+        }
+        let wanted = self.wanted(alloc, program, &request)?;
+        let found = content(line, ended);
+        if wanted.as_slice() != found {
+            drop(request);
+            let place = (self.ids.len() + 1) as u32;
+            let found = copied(alloc, found)?;
+            return Ok(Some(Verdict::Differs { place, wanted, found }));
+        }
+        drop(wanted);
+        self.keep(request)?;
+        Ok(None)
     }
 }
