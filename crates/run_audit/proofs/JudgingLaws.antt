@@ -25,7 +25,7 @@ module _ (src : Source) (extent : Extent) (ids : List (List ℕ)) where
   odd_asks r odd (even ∷ more) some = ap (λ o. read_pair (length ids) o even (λ r. read_lines src extent (ids ++ r.id ∷ []) more)) some
 
 -- what is told where a bad line comes first
-told_bad : (src : Source) (n : ℕ) (s : State) (number : ℕ) → told_of src n s (bad_line number) ≡ Some (verdict.BadRun number)
+pub told_bad : (src : Source) (n : ℕ) (s : State) (number : ℕ) → told_of src n s (bad_line number) ≡ Some (verdict.BadRun number)
 unfolding differing
 told_bad src n s number = refl
 
@@ -43,6 +43,7 @@ module _ (src : Source) (ids : List (List ℕ)) (s : State) where
   Passes-odd r odd some = record {
     told = λ extent more. ap (told_of src (length ids) s) (odd_asks src extent ids r odd more some);
     count = λ extent more. ap (λ reading. length ids + length reading.entries) (odd_asks src extent ids r odd more some);
+    turns = refl;
   }
 
   module _ (r : Request) where
@@ -88,4 +89,5 @@ module _ (src : Source) (ids : List (List ℕ)) (s : State) where
       count = λ extent more.
           ap (λ reading. length ids + length reading.entries) (even_read extent even more true short)
           ∙ omega (arith, longer);
+      turns = refl;
     }

@@ -1,13 +1,15 @@
 //! One line at a time: an odd one asks something, and an even one is held to what that comes to.
 
-ghost use Rattle.std.specs.Prelude.{◌≡◌, ◌<◌, ◌++◌, ◌∷◌, [], ℕ, suc, List, length, None, Some, IfOk, OnOk};
+ghost use Rattle.std.specs.Prelude.{◌≡◌, ◌<◌, ◌≤◌, ◌++◌, ◌∷◌, [], ℕ, suc, bytes_eq, List, length, None, Some, IfOk, OnOk};
+ghost use Rattle.program_meaning.specs.ClassTables.{Source as Program};
 ghost use Rattle.program_meaning.specs.RequestRun.{run};
 ghost use Rattle.program_meaning.specs.Sources.{source_of};
 ghost use Rattle.request_json.specs.Actions.{content_of};
 ghost use Rattle.request_json.specs.ReplyLines.{reply_line};
-ghost use Rattle.run_audit.specs.Verdict.{asked_by, if_new, reply_text};
-ghost use Rattle.run_audit.specs.Judging.{none_judged, behind_odd, Judges};
-ghost use Rattle.run_audit.specs.Standings.{judged_by, shown_line};
+ghost use Rattle.run_audit.specs.Verdict.{asked_by, if_new, is_reply, reply_text, Front};
+ghost use Rattle.run_audit.specs.Fronts.{if_too_long};
+ghost use Rattle.run_audit.specs.Judging.{none_judged, behind_odd, next_number, most_of, told_behind, ending_of, Judges};
+ghost use Rattle.run_audit.specs.Standings.{judged_by, shown_line, Stands};
 
 use crate::verdict::Verdict;
 use indexmap::IndexSet;
@@ -47,6 +49,21 @@ fn without_end(line: Bytes) -> Bytes
     let mut line = line;
     let _end = line.pop();
     line
+}
+
+/// Whether a line is no longer than a reply may be.
+fn is_reply(line: &[u8], ended: bool) -> bool
+    ensures { result ≡ is_reply (shown_line ended line.now) }
+{
+    let _ended = ended;
+    line.len() <= LONGEST_REPLY
+}
+
+/// Whether a reply is the one that is wanted, byte for byte.
+fn is_same(found: &[u8], wanted: &Bytes) -> bool
+    ensures { result ≡ bytes_eq found.now wanted.now }
+{
+    found == wanted.as_slice()
 }
 
 fn copied(alloc: Global, bytes: &[u8]) -> Result<Bytes, AllocError>
@@ -142,7 +159,7 @@ impl Judge {
 
     /// Holds an even line, given without its LF, to what the request of the line before it comes to. Of a line that is too long, its
     /// first bytes up to one more than it may have are enough.
-    pub fn hear(
+    fn hear(
         &mut self,
         alloc: Global,
         program: &Checked,
@@ -152,16 +169,18 @@ impl Judge {
     ) -> Result<Option<Verdict>, AllocError>
         requires new { if_new self.old.ids.keys request ≡ Some request }
         requires none { self.old.asked ≡ None }
-        ensures { Judges (source_of program.now) (behind_odd self.old.ids.keys self.old.local request) (judged_by self.new) (shown_line ended line.now) result }
+        ensures judges { Judges (source_of program.now) (behind_odd self.old.ids.keys self.old.local request) (judged_by self.new)
+            (shown_line ended line.now) result }
+        ensures stands { OnOk result (Stands self.new) }
     {
-        if line.len() > LONGEST_REPLY {
+        if !is_reply(line, ended) {
             drop(request);
             let number = 2 * self.ids.len() as u64 + 2;
             return Ok(Some(Verdict::BadRun { line: number }));
         }
         let wanted = self.wanted(alloc, program, &request)?;
         let found = content(line, ended);
-        if wanted.as_slice() != found {
+        if !is_same(found, &wanted) {
             drop(request);
             let place = (self.ids.len() + 1) as u32;
             let found = copied(alloc, found)?;
@@ -170,5 +189,90 @@ impl Judge {
         drop(wanted);
         self.keep(request)?;
         Ok(None)
+    }
+
+    /// Asks what an odd line asks, given as for `asked_by`.
+    fn ask(
+        &mut self,
+        alloc: Global,
+        program: &Checked,
+        line: &[u8],
+        ended: bool,
+    ) -> Result<Option<Verdict>, AllocError>
+        requires stands { Stands self.old }
+        requires none { self.old.asked ≡ None }
+        ensures judges { Judges (source_of program.now) (judged_by self.old) (judged_by self.new) (shown_line ended line.now) result }
+        ensures stands { OnOk result (Stands self.new) }
+    {
+        let asked = self.asked_by(alloc, program, line, ended)?;
+        if asked.is_none() {
+            let number = 2 * self.ids.len() as u64 + 1;
+            return Ok(Some(Verdict::BadRun { line: number }));
+        }
+        self.asked = asked;
+        Ok(None)
+    }
+
+    /// Judges the line that comes next, given without its LF. Of a line that is too long, its first bytes up to one more than a reply line
+    /// may have are enough.
+    pub fn judge(
+        &mut self,
+        alloc: Global,
+        program: &Checked,
+        line: &[u8],
+        ended: bool,
+    ) -> Result<Option<Verdict>, AllocError>
+        requires { Stands self.old }
+        ensures judges { Judges (source_of program.now) (judged_by self.old) (judged_by self.new) (shown_line ended line.now) result }
+        ensures stands { OnOk result (Stands self.new) }
+    {
+        match self.asked.take() {
+            Some(request) => self.hear(alloc, program, request, line, ended),
+            None => self.ask(alloc, program, line, ended),
+        }
+    }
+
+    /// The number of the line that comes next, from 1.
+    fn next_number(&self) -> u64
+        requires { Stands self.now }
+        ensures { result ≡ next_number (judged_by self.now) }
+    {
+        let before = 2 * self.ids.len() as u64;
+        if self.asked.is_some() { before + 2 } else { before + 1 }
+    }
+
+    /// How many bytes it may have.
+    fn most(&self) -> usize
+        ensures { result ≡ most_of self.now.asked }
+    {
+        if self.asked.is_some() { LONGEST_REPLY } else { LONGEST }
+    }
+
+    /// What is told where the file ends behind these lines.
+    pub fn end(&self) -> Verdict
+        requires { Stands self.now }
+        ensures { (src : Program) → ending_of src (judged_by self.now) [] ≡ result }
+    {
+        if self.asked.is_some() {
+            return Verdict::BadRun {
+                line: self.next_number(),
+            };
+        }
+        Verdict::Serial {
+            entries: self.ids.len() as u32,
+        }
+    }
+
+    /// What is told where more of the file may not be read, by the part of a line that stands behind these lines: it counts as soon as it is too long.
+    pub fn cut(&self, part: &[u8]) -> Option<Verdict>
+        requires { Stands self.now }
+        ensures { (src : Program) → told_behind src Front (judged_by self.now) (if_too_long (most_of self.now.asked) part.now) ≡ result }
+    {
+        if part.len() <= self.most() {
+            return None;
+        }
+        Some(Verdict::BadRun {
+            line: self.next_number(),
+        })
     }
 }
