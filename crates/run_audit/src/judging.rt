@@ -184,7 +184,11 @@ impl Judge {
             drop(request);
             let place = (self.ids.len() + 1) as u32;
             let found = copied(alloc, found)?;
-            return Ok(Some(Verdict::Differs { place, wanted, found }));
+            return Ok(Some(Verdict::Differs {
+                place,
+                wanted,
+                found,
+            }));
         }
         drop(wanted);
         self.keep(request)?;
@@ -238,14 +242,22 @@ impl Judge {
         ensures { result ≡ next_number (judged_by self.now) }
     {
         let before = 2 * self.ids.len() as u64;
-        if self.asked.is_some() { before + 2 } else { before + 1 }
+        if self.asked.is_some() {
+            before + 2
+        } else {
+            before + 1
+        }
     }
 
     /// How many bytes it may have.
     fn most(&self) -> usize
         ensures { result ≡ most_of self.now.asked }
     {
-        if self.asked.is_some() { LONGEST_REPLY } else { LONGEST }
+        if self.asked.is_some() {
+            LONGEST_REPLY
+        } else {
+            LONGEST
+        }
     }
 
     /// What is told where the file ends behind these lines.

@@ -1,4 +1,4 @@
-//! What a file of request lines and reply lines is, by one serial run of its requests: the definition, laws of it, and the judge of an odd line.
+//! What a file of request lines and reply lines is, by one serial run of its requests: the definition, laws of it, and a judge of its lines.
 #![tactic(auto)]
 
 mod auditing;
