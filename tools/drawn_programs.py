@@ -27,7 +27,7 @@ NOISES = [0, 0, 0.003, 0.01, 0.03, 0.1]
 DEEPEST_STACK = 20_000  # frames of CPython that the deepest request may take
 COUNTS = [10, 40, 100]
 SAMPLES = samples()
-RUNS = [["local"], ["run", "--batch", "1"], ["run", "--batch", "7", "--partitions", "3"], ["run", "--batch", "256", "--partitions", "64"]]
+RUNS = [["local"], ["run", "--batch", "1"], ["run", "--batch", "7", "--partitions", "3"], ["run", "--batch", "256", "--partitions", "64"], ["run", "--batch", "32", "--reorder"]]
 
 
 class Folder:

@@ -14,7 +14,7 @@ import sys
 import tempfile
 
 from drawn.calls import words_of
-from drawn.words import FILE_COMMANDS, NUMBERS, OPTIONS, USAGE, asked
+from drawn.words import FILE_COMMANDS, FILES, FLAGS, NEEDED, NUMBERS, OPTIONS, USAGE, asked
 
 PROGRAM = """from stateflow import entity
 
@@ -30,9 +30,10 @@ class E:
         return self.n
 """
 LINES = b'{"id":"a","class":"E","new":["e"]}\n' + b"".join(b'{"id":"%d","class":"E","key":"e","method":"add","args":[1]}\n' % number for number in range(5))
-FILES = ["e.py", "e.py", "e.py", "none.py", "é.py", "e py", "=", "e=1"]
+NAMES = ["e.py", "e.py", "e.py", "none.py", "é.py", "e py", "=", "e=1"]
 FOLDERS = ["s", "s", "none", "--", "-x", "é", "a b", "=", "", "-"]
-ODD = ["", "-", "--", "-b", "-batch", "--b", "--batch", "--batch=", "--=", "--=1", "---", "--Batch=1", "--help", "--version", "-h", "--trace=", "--trace=1", "--store", "1", "run", "\t"]
+PLAINLY = {"number": ["--number", "7"], "size": ["--size=30"], "store": ["--store", "s"]}
+ODD = ["", "-", "--", "-b", "-batch", "--b", "--batch", "--batch=", "--=", "--=1", "---", "--Batch=1", "--help", "--version", "-h", "--trace=", "--trace=1", "--reorder=", "--store", "1", "run", "\t"]
 
 
 def number_drawn(chance, name):
@@ -46,21 +47,19 @@ def number_drawn(chance, name):
 
 def option_drawn(chance, name):
     """An option with a value, in one of its two forms."""
-    if name == "trace":
-        return ["--trace"]
+    if name in FLAGS:
+        return [f"--{name}"]
     text = chance.choice(FOLDERS) if name == "store" else number_drawn(chance, name)
     return chance.choice([[f"--{name}={text}"], [f"--{name}", text]])
 
 
 def words_drawn(chance):
     """The words of a call, mostly such as are taken."""
-    command = chance.choice([*FILE_COMMANDS, "run", "run", "run", "gen", "gen"])
-    names = [name for name in [*OPTIONS.get(command, []), *(["trace"] if command == "run" else [])] if chance.random() < 0.4]
+    command = chance.choice([*FILE_COMMANDS, "run", "run", "run", "gen", "gen", "audit", "audit", "export", "export"])
+    names = [name for name in [*OPTIONS.get(command, []), *(FLAGS if command == "run" else [])] if chance.random() < 0.4]
     pieces = [option_drawn(chance, name) for name in names]
-    if command == "gen":
-        pieces += [["--number", "7"]] * ("number" not in names) + [["--size=30"]] * ("size" not in names)
-    else:
-        pieces.append([chance.choice(FILES)])
+    pieces += [PLAINLY[name] for name in NEEDED.get(command, []) if name not in names]
+    pieces += [[chance.choice(NAMES)] for _ in range(FILES[command])]
     chance.shuffle(pieces)
     return spoiled(chance, [command, *(word for piece in pieces for word in piece)])
 

@@ -4,9 +4,9 @@
 usage: growth_of_a_run.py PROGRAM [--step N]
 
 PROGRAM is the built program (./stateflow builds it), which takes its memory from the C library; `refuse_calls.c` beside this file is built with cc and
-stands before that. The sessions are the shop's: one without a store and with a trace, and two on a store, of one request and of batches with checkpoints. For
-each number of a growth there are two calls on folders of their own: one where that growth alone is refused, and one where all behind it are too. Each has to
-end with status 8, or with 0 where the program does without. Each refused sync has to end with status 5, and no batch's lines come without a sync before them.
+stands before that. The sessions are the shop's: one without a store and with a trace, two on a store, of one request and of batches with checkpoints, an
+export of such a store, and an audit of what that wrote. For each number of a growth there are two calls on folders of their own: one where that growth alone
+is refused, and one where all behind it are too. Each has to end with status 8, or with 0 where the program does without. Each refused sync has to end with status 5, and no batch's lines come without a sync before them.
 What was written has to be whole lines, the first ones of the whole run's output, and so has the trace; and the next run on the folder has to end with 0 and to
 write each of the lines again. Prints how many calls ended how. With --step only each Nth growth is tried."""
 import argparse
@@ -24,11 +24,13 @@ Kind = collections.namedtuple("Kind", "name setting statuses line")
 GROWTH = Kind("growth", {}, (0, 8), b"stateflow: out of memory\n")
 SYNC = Kind("sync", {"REFUSED_SYNCS": "1"}, (5,), b"stateflow: disk fault\n")
 
-Sitting = collections.namedtuple("Sitting", "name batch words requests is_stored")
+Sitting = collections.namedtuple("Sitting", "name command batch words requests is_stored")
 SITTINGS = [
-    Sitting("a session without a store", 1, ["--trace"], 8, False),
-    Sitting("one request on a store", 1, [], 1, True),
-    Sitting("batches and checkpoints on a store", 2, ["--every", "2"], 8, True),
+    Sitting("a session without a store", "run", 1, ["--batch", "1", "--trace"], 8, False),
+    Sitting("one request on a store", "run", 1, ["--batch", "1"], 1, True),
+    Sitting("batches and checkpoints on a store", "run", 2, ["--batch", "2", "--every", "2"], 8, True),
+    Sitting("an export of a store", "export", 2, ["--batch", "2", "--every", "2"], 8, True),
+    Sitting("an audit of an export", "audit", 2, ["--batch", "2", "--every", "2"], 8, True),
 ]
 
 
@@ -44,18 +46,34 @@ class Session:
             self.lines = b"".join(file.readlines()[: sitting.requests])
 
     def folder(self):
+        """A new folder: empty for a run, and with a store of a whole run, which is exported beside it, for the commands that look at one."""
         self.folders += 1
         name = os.path.join(self.room, f"{self.kind.name}{self.folders}")
         os.mkdir(name)
+        if self.sitting.command != "run":
+            subprocess.run(self.words("run", name), input=self.lines, check=True, stdout=subprocess.DEVNULL)
+            with open(f"{name}.jsonl", "wb") as exported:
+                subprocess.run(self.words("export", name), check=True, stdout=exported)
         return name
 
-    def run(self, folder, **refusal):
-        """The status of a run on a folder, and what it wrote on its two outputs."""
-        words = [self.program, "run", os.path.join(SHOP, "shop.py"), "--batch", str(self.sitting.batch), *self.sitting.words]
-        words += ["--store", folder] if self.sitting.is_stored else []
+    def words(self, command, folder):
+        head, store = [self.program, command, os.path.join(SHOP, "shop.py")], ["--store", folder]
+        if command == "audit":
+            return [*head, f"{folder}.jsonl"]
+        if command == "export":
+            return [*head, *store]
+        return [*head, *self.sitting.words, *(store if self.sitting.is_stored else [])]
+
+    def run(self, folder, command=None, **refusal):
+        """The status of a call on a folder, and what it wrote on its two outputs."""
         with_shim = dict(os.environ, LD_PRELOAD=self.shim, COUNT_FILE=self.count, **self.kind.setting, **refusal)
+        words = self.words(command or self.sitting.command, folder)
         done = subprocess.run(words, input=self.lines, capture_output=True, env=with_shim, timeout=SECONDS)
         return done.returncode, done.stdout, done.stderr
+
+    def asked(self, text):
+        """The lines of requests among those of an export."""
+        return set(text.splitlines()[::2]) if self.sitting.command == "export" else set()
 
     def calls(self):
         """How many calls of the kind the last run made."""
@@ -79,10 +97,10 @@ def fault_in(session, whole, refused, folder):
         return f"what it wrote is no first part of the whole: {out!r}"
     if not is_front(err.removesuffix(session.kind.line), whole[1]):
         return f"it told {err!r}"
-    if not session.sitting.is_stored:
+    if not session.sitting.is_stored or session.sitting.command == "audit":
         return None
-    behind, again, said = session.run(folder)
-    missing = set(out.splitlines()) - set(again.splitlines())
+    behind, again, said = session.run(folder, "run")
+    missing = set(out.splitlines()) - set(again.splitlines()) - session.asked(whole[0])
     if behind != 0 or missing:
         return f"the next run ended with {behind} {said!r}, and these lines are missing: {missing!r}"
     return None
@@ -132,7 +150,7 @@ def main():
     program = os.path.abspath(asked.program)
     are_right = True
     for sitting in SITTINGS:
-        for kind, step in [(SYNC, 1)] * sitting.is_stored + [(GROWTH, asked.step)]:
+        for kind, step in [(SYNC, 1)] * (sitting.is_stored and sitting.command == "run") + [(GROWTH, asked.step)]:
             with tempfile.TemporaryDirectory() as room:
                 are_right = refuse_each(Session(program, room, kind, sitting), step) and are_right
     return 0 if are_right else 1

@@ -148,7 +148,7 @@ status=$?
 compare "a closed error stream is a write fault" 4
 
 # A word has to be a text in UTF-8, and the name that the program is called by doesn't.
-wants "" "usage: stateflow check FILE | compile FILE | local FILE | run FILE [options] | gen [options]$line"
+wants "" "usage: stateflow check FILE | compile FILE | local FILE | run FILE [options] | gen [options] | audit FILE RUN | export FILE --store DIR$line"
 stateflow check "$(printf '\377')" >out 2>err
 status=$?
 compare "a word that is no text is told the usage line" 2

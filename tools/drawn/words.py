@@ -5,24 +5,26 @@ from dataclasses import dataclass, field
 
 FILE_COMMANDS = ["check", "compile", "local"]
 NUMBERS = {"batch": (1, 256), "partitions": (1, 64), "schedule": (0, 2**64 - 1), "history": (1, 2**32 - 1), "every": (1, 2**16 - 1), "number": (0, 2**64 - 1), "size": (1, 100_000)}
-OPTIONS = {"run": ["batch", "partitions", "schedule", "history", "store", "every"], "gen": ["number", "size", "batch", "partitions"]}
-NEEDED = {"gen": ["number", "size"]}
-USAGE = b"usage: stateflow check FILE | compile FILE | local FILE | run FILE [options] | gen [options]\n"
+OPTIONS = {"run": ["batch", "partitions", "schedule", "history", "store", "every"], "gen": ["number", "size", "batch", "partitions"], "export": ["store"]}
+FLAGS = ["reorder", "trace"]
+NEEDED = {"gen": ["number", "size"], "export": ["store"]}
+FILES = {**dict.fromkeys([*FILE_COMMANDS, "run", "export"], 1), "gen": 0, "audit": 2}
+USAGE = b"usage: stateflow check FILE | compile FILE | local FILE | run FILE [options] | gen [options] | audit FILE RUN | export FILE --store DIR\n"
 
 
 @dataclass
 class Asked:
     command: str
-    file: str = ""
+    files: list = field(default_factory=list)
     given: dict = field(default_factory=dict)
-    trace: bool = False
+    flags: list = field(default_factory=list)
 
     def words(self):
         """The same in one form: the options behind, each as two words, and numbers without zeros in front."""
-        words = [self.command, *([self.file] if self.file else [])]
+        words = [self.command, *self.files]
         for name, value in sorted(self.given.items()):
             words += [f"--{name}={value}"] if name == "store" else [f"--{name}", str(value)]
-        return words + ["--trace"] * self.trace
+        return words + [f"--{name}" for name in sorted(self.flags)]
 
 
 def number_of(name, text):
@@ -54,7 +56,7 @@ def parts_of(words):
         if not word.startswith("--"):
             return None
         name, equals, text = word[2:].partition("=")
-        if not equals and name != "trace":
+        if not equals and name not in FLAGS:
             if at == len(words) or words[at].startswith("-"):
                 return None
             text = words[at]
@@ -65,18 +67,18 @@ def parts_of(words):
 
 def asked(words):
     """What these words ask for, or None where they are none that a call takes."""
-    if not words or words[0] not in [*FILE_COMMANDS, "run", "gen"]:
+    if not words or words[0] not in FILES:
         return None
     command, parts = words[0], parts_of(words[1:])
     if parts is None:
         return None
     plain, options = parts
-    if len(plain) != (0 if command == "gen" else 1):
+    if len(plain) != FILES[command]:
         return None
-    found = Asked(command, *plain)
+    found = Asked(command, plain)
     for name, equals, text in options:
-        if name == "trace" and command == "run" and not equals and not found.trace:
-            found.trace = True
+        if name in FLAGS and command == "run" and not equals and name not in found.flags:
+            found.flags.append(name)
             continue
         if name not in OPTIONS.get(command, []) or name in found.given:
             return None

@@ -120,6 +120,7 @@ module _ (compiled : Compiled) (whole : IsWhole compiled) (s : RunSettings) (few
             core = h.ended.core;
             ran = counted (length h.counts) (length (batches_of compiled s start h.ended.first)) h.ended.ran;
           };
+          lacks = h.lacks;
           outcomes = outcomes_so t.steps;
         };
         tally_is = h.tally;
@@ -152,6 +153,7 @@ module _ (compiled : Compiled) (whole : IsWhole compiled) (s : RunSettings) (few
             core = inl (sym (ap (λ (x : Standing). x.core) did.stands));
             ran = counts_of_each v (batches_of compiled s start t.steps) did.counts started new.outside did.ran;
           };
+          lacks = inl did.traced;
           outcomes = outcomes_so t.steps;
         };
         tally_is = did.tally;

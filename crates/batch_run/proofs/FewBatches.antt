@@ -1,12 +1,12 @@
 -- A run has fewer batches than a count can hold: each line of its input has one at most, and then as many come as requests wait.
-use Rattle.std.proofs.Common.{◌≡◌, ℕ, zero, suc, ◌+◌, ◌-◌, ◌^◌, ◌<◌, ◌≤◌, ◌⊎◌, inl, inr, Bool, true, false, nat_eq, List, [], ◌∷◌, ◌++◌, length, take, replicate, if◌then◌else◌, refl, ap, ◌∙◌, subst, sym, arith}
+use Rattle.std.proofs.Common.{◌≡◌, ℕ, suc, ◌+◌, ◌-◌, ◌^◌, ◌<◌, ◌≤◌, ◌⊎◌, inl, inr, Bool, true, false, nat_eq, List, [], ◌∷◌, ◌++◌, length, take, if◌then◌else◌, refl, ap, ◌∙◌, subst, sym, arith}
 use Rattle.std.specs.declared.option.Option.{Option}
 use Rattle.std.proofs.lemmas.List.{length-append, length-map, length-take, length-replicate}
 use Rattle.request_json.specs.Actions.{Line, Ended, whole_from, rest_from, last_line, whole_lines, all_lines}
 use Rattle.block_step.specs.declared.compiled.Compiled.{Compiled}
 use Rattle.engine.specs.Cores.{Core, CoreFits}
 use Rattle.batch_output.specs.BatchOutput.{Standing, begun, has_no_place}
-use Rattle.batch_session.specs.Vocabulary.{Step, Answer, RunWaiting, Service, EndsAmong, program_of, answers, endings, whole_steps, all_steps, move_of, behind, ran_at, standing_after, ran_on}
+use Rattle.batch_session.specs.Vocabulary.{Step, Answer, RunWaiting, Service, program_of, answers, endings, whole_steps, all_steps, move_of, behind, ran_at, standing_after, ran_on}
 use Rattle.batch_session.specs.Served.{AreWhole, AreAll, AreFirst}
 use Rattle.batch_session.proofs.Vocabulary.{all_ran_over, ran-append}
 use Rattle.batch_run.specs.RunViews.{run_service}

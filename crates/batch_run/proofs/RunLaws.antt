@@ -1,5 +1,5 @@
 -- From an engine, and the session that it served, to what the run has done.
-use Rattle.std.proofs.Common.{◌≡◌, ℕ, ◌^◌, ◌≤◌, ◌<◌, inl, inr, List, length, Err, refl, subst}
+use Rattle.std.proofs.Common.{◌≡◌, ℕ, ◌^◌, ◌≤◌, ◌<◌, List, length, Err, refl, subst}
 use Rattle.std.specs.declared.option.Option.{Option}
 use Rattle.std.specs.declared.result.Result.{Result}
 use Rattle.sf_outside.specs.DiskModel.{DiskFacts}
@@ -19,7 +19,7 @@ use Rattle.batch_session.specs.Served.{View, first_point, point_at, Served, Serv
 use Rattle.batch_session.proofs.ServeLaws.{unwritten_told}
 use Rattle.batch_run.specs.RunViews.{Shown, run_service, rule_of}
 use Rattle.batch_run.specs.RunEvents.{Starts}
-use Rattle.batch_run.specs.Runs.{IsSerialRun, Ran, RanLogged, Runs}
+use Rattle.batch_run.specs.Runs.{IsSerialRun, Ran, RanLogged}
 use Rattle.batch_run.specs.declared.running.RunSettings.{RunSettings}
 use Rattle.batch_run.proofs.TextLaws.{at_begin, served_in_part, served_prints}
 use Rattle.batch_run.proofs.StandingLaws.{tables, goes_on, each_takes_writes}
@@ -71,7 +71,7 @@ module _ (compiled : Compiled) (s : RunSettings) (result : Result Tally SessionF
           serial = serial t;
         };
         logs = t.logs;
-        in_turn = subst (λ (tally : Tally). IsInTurn result kept tally.batches) told.tally_is by.in_turn;
+        in_turn = subst (λ (tally : Tally). IsInTurn s.trace result kept tally.batches) told.tally_is by.in_turn;
       }
 
 -- an engine with this core, of this program

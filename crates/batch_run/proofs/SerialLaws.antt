@@ -10,7 +10,6 @@ use Rattle.sf_outside.proofs.GainLaws.{joined-nil, joined-append}
 use Rattle.py_tree.specs.ClassRules.{tables_of}
 use Rattle.sf_value.specs.declared.Request.{Request}
 use Rattle.program_meaning.specs.ClassTables.{Source}
-use Rattle.reservations.specs.BatchRuleLaws.{batch_rule_is_lawful}
 use Rattle.request_json.specs.Actions.{action_of}
 use Rattle.block_step.specs.declared.compiled.Compiled.{Compiled}
 use Rattle.aria_batch.specs.BatchRun.{source_of}
@@ -25,6 +24,7 @@ use Rattle.batch_session.specs.Vocabulary.{next_core, Step, Answer, RunWaiting, 
 use Rattle.batch_session.specs.StopVariants as stop
 use Rattle.batch_session.proofs.Vocabulary.{prefix_whole, prefix_after, printed_placed, line_fits}
 use Rattle.batch_run.specs.RunViews.{run_limits, run_service, rule_of}
+use Rattle.batch_run.specs.RuleLaws.{rule_is_lawful}
 use Rattle.batch_run.specs.RunTexts.{PrintsOneRun, RepliesAllButOne}
 use Rattle.batch_run.specs.declared.running.RunSettings.{RunSettings}
 use Rattle.batch_run.proofs.LastCores.{HasMoved, HasRun, EndsAt, Ends, ends, move_history, run_core}
@@ -37,7 +37,7 @@ module _ (compiled : Compiled) (s : RunSettings) (few : s.batch ≤ 256) where
   v = run_service compiled s
 
   pub lawful : IsLawfulRule (rule_of s)
-  lawful batch few = batch_rule_is_lawful batch
+  lawful batch few = rule_is_lawful s.reorder batch
 
   abbrev pub Stands : Standing → Type 0
   Stands t = Holds src (rule_of s) (run_limits s) lawful t

@@ -1,4 +1,5 @@
 pub mod RunViews
+pub mod RuleLaws
 pub mod RunTexts
 pub mod RunEvents
 pub mod Runs

@@ -12,7 +12,7 @@ use Rattle.operator_graph.specs.Telling.{GraphTold, AlsoTold}
 use Rattle.operator_graph.specs.Turns.{Outside}
 use Rattle.engine.specs.Cores.{Core}
 use Rattle.batch_output.specs.BatchOutput.{begun}
-use Rattle.batch_session.specs.Vocabulary.{Tally, Step, EndsAmong, ran_on, no_batch, tally_after, trace_text, RunBatches, BeginBatches, BatchCounts, FlushesBatches}
+use Rattle.batch_session.specs.Vocabulary.{Tally, Step, EndsAmong, LacksALine, ran_on, no_batch, tally_after, trace_text, RunBatches, BeginBatches, BatchCounts, FlushesBatches}
 use Rattle.batch_session.specs.declared.serving.SessionFault.{SessionFault}
 use Rattle.batch_session.specs.declared.serving.SessionFault.TheVariants.{ReadFault, WriteFault, DiskFault, InputTooLong, HistoryFull, NoMemory}
 use Rattle.batch_run.specs.RunViews.{Shown, run_service}
@@ -61,7 +61,7 @@ module _ (compiled : Compiled) (s : RunSettings) where
 
   -- It started, and then the batches of these steps were told, along the picks made, traced, counted and flushed, each of which commits what its events ended with;
   -- and it ended behind the first of the steps, of which the batches were told,
-  -- fewer than a count can hold.
+  -- fewer than a count can hold; and of their lines the trace lacks one at most.
   pub record TellsRun (start last : Core) (steps : List Step) (result : Result Tally SessionFault) (old new : Shown) : Type 0 where
     pub started : Outside
     pub starts : Starts old.outside started
@@ -72,4 +72,6 @@ module _ (compiled : Compiled) (s : RunSettings) where
     pub counted : CountsBatches result counts
     pub flushes : FlushesBatches (run_service compiled s) steps (begun start) (length counts) old.held old.handed new.handed
     pub ended : EndsAmong (run_service compiled s) steps (begun start) last (AreTold result (length counts))
+    pub lacks : Appends old.said new.said (trace_text s.trace no_batch counts)
+        ⊎ LacksALine s.trace (trace_text s.trace no_batch) counts (length (batches_of start ended.first)) old.said new.said
     pub outcomes : AllByRecursion (CommitsWhatEnded compiled s.partitions) (batches_of start steps)

@@ -1,10 +1,11 @@
 -- A run of a compiled program from outside: its settings, what it serves, and what it shows.
-use Rattle.std.specs.Prelude.{ℕ, ◌≤◌, ◌^◌, List}
+use Rattle.std.specs.Prelude.{ℕ, ◌≤◌, ◌^◌, Bool, List, if◌then◌else◌}
 use Rattle.std.specs.declared.option.Option.{Option}
 use Rattle.sf_outside.specs.Choices.{Choices}
 use Rattle.reservations.specs.BatchRule.{batch_rule}
 use Rattle.reservations.specs.CommitRules.{Chosen}
 use Rattle.serial_order.specs.ConflictFree.{Access}
+use Rattle.batch_reorder.specs.Reordering.{reordered}
 use Rattle.block_step.specs.declared.compiled.Compiled.{Compiled}
 use Rattle.operator_graph.specs.Partitions.{IsParts}
 use Rattle.operator_graph.specs.Telling.{Told}
@@ -41,9 +42,13 @@ run_limits s = limits_of s.batch s.history
 abbrev pub Rule : Type 0
 Rule = List Access → Chosen
 
+-- requests commit in the order in which they came, or also in another one
+abbrev pub rule_by : Bool → Rule
+rule_by reorder = if reorder then reordered else batch_rule
+
 -- the rule of a run with these settings
 abbrev pub rule_of : RunSettings → Rule
-rule_of s = batch_rule
+rule_of s = rule_by s.reorder
 
 abbrev pub run_service : Compiled → RunSettings → Service
 run_service compiled s = record { compiled = compiled; parts = s.partitions; rule = rule_of s; limits = run_limits s }

@@ -47,7 +47,7 @@ pub record RanLogged (compiled : Compiled) (s : RunSettings) (store : Option Sto
     (logged logged' : Core) (facts facts' : DiskFacts) (kept : Option Store) : Type 0 where
   pub ran : Ran compiled s start last result old new
   pub logs : LogsSteps (run_service compiled s) store start 0 ran.steps logged logged' facts facts'
-  pub in_turn : IsInTurn result kept (tally_after no_batch ran.tells.counts).batches
+  pub in_turn : IsInTurn s.trace result kept (tally_after no_batch ran.tells.counts).batches
 
 -- memory was wanted before it began
 abbrev pub IsUnbegun : Core → Core → Result Tally SessionFault → Shown → Shown → Type 0

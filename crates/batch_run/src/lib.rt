@@ -2,6 +2,7 @@
 //! store.
 #![tactic(auto)]
 
+mod rule;
 mod running;
 
 pub use batch_session::{SessionFault, Tally, write_pieces};

@@ -11,11 +11,11 @@ ghost use Rattle.batch_session.specs.InTurn.{IsFlushedBy};
 ghost use Rattle.batch_run.specs.RunViews.{rule_of, shown, CanServe};
 ghost use Rattle.batch_run.specs.Runs.{RanLogged, Runs};
 
+use crate::rule::RunRule;
 use batch_session::{NoDisk, SessionFault, Settings, Store, Tally, serve};
 use block_step::Compiled;
 use engine::Engine;
 use operator_graph::Watch;
-use reservations::Rule1;
 use sf_outside::{Chooser, Disk, Sink, Source};
 use std::alloc::Global;
 
@@ -32,6 +32,8 @@ pub struct RunSettings {
     pub history: u32,
     /// How many bytes of input may come.
     pub limit: u64,
+    /// Whether the requests of a batch may commit in another order than they came.
+    pub reorder: bool,
     /// Whether a line about each batch goes to the error stream.
     pub trace: bool,
 }
@@ -161,7 +163,9 @@ pub fn run_opened<S: Source, K: Sink, E: Sink, D: Disk, C: Chooser, W: Watch>(
         out,
         err,
         disk,
-        &Rule1,
+        &RunRule {
+            reorder: settings.reorder,
+        },
         chooser,
         watch,
     )

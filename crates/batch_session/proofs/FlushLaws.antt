@@ -157,6 +157,7 @@ module _ (v : Service) (traces : Bool) (held handed : Option (List ℕ)) where
       between = between;
       did = did;
       stopped = inr (record {
+        asked = s.asked;
         counts = s.counts;
         committed = committed_kept v move held (moment between) (moment q) kept s.counts s.committed;
         tally = s.tally;

@@ -4,7 +4,7 @@ use Rattle.std.specs.Prelude.{OnOk, IfOk}
 use Rattle.std.proofs.lemmas.List.{take_at, length-append}
 use Rattle.std.proofs.KnownBytes.{Consumes-trans}
 use Rattle.std.specs.declared.result.Result.{Result}
-use Rattle.std.specs.Io.KnownBytes.{Consumes, IsAtEnd}
+use Rattle.std.specs.Io.KnownBytes.{IsAtEnd}
 use Rattle.sf_outside.specs.DiskModel.{DiskFacts}
 use Rattle.request_json.specs.RequestLines.{longest}
 use Rattle.request_json.specs.Actions.{Line, Ended, last_line, rest_from}
@@ -159,7 +159,7 @@ module _ (v : Service) (traces : Bool) (settings : Option StoreSettings) (limit 
     pub At-a-line : (e : EndsLine reader next l₁ new.left) (stop : Stop) (result : Result Tally SessionFault) → result ≡ Err (fault_of stop)
         → ((whole : List ℕ) → IsStart longest next.line whole
         → Reaches v traces settings {T = Unit {0}} (Err stop) (Answer (cut next.ended whole) ∷ []) q (point_at new count tally) b c g h)
-        → IsInTurnAt {T = Unit {0}} (Err stop) store tally.batches → ServedInTurn v traces settings limit result old new a c f h store
+        → IsInTurnAt traces {T = Unit {0}} (Err stop) store tally.batches → ServedInTurn v traces settings limit result old new a c f h store
     At-a-line e stop result same answered turn =
         let taken = Given-stop (Given-line w.read e).now in
         let m = line_stopped w stop e (point_at new count tally) c h answered in
@@ -181,7 +181,7 @@ module _ (v : Service) (traces : Bool) (settings : Option StoreSettings) (limit 
         } in
         let t : ServedInTurn v traces settings limit (Err (fault_of stop)) old new a c f h store = record {
           served = s;
-          in_turn = in_turn_stopped stop store tally.batches turn;
+          in_turn = in_turn_stopped traces stop store tally.batches turn;
         } in
         subst (λ x. ServedInTurn v traces settings limit x old new a c f h store) (sym same) t
 
@@ -189,7 +189,7 @@ module _ (v : Service) (traces : Bool) (settings : Option StoreSettings) (limit 
     pub At-the-end : (j : JoinsAll reader next l₁ new.left × IsAtEnd new.left) (r : Result (Unit {0}) Stop) (result : Result Tally SessionFault) → result ≡ finished r tally
         → OnOk r (new.core.pending ≡ [])
         → ((whole : List ℕ) → IsStart longest next.line whole → Reaches v traces settings r (last_steps v (going q) (last_line whole)) q (point_at new count tally) b c g h)
-        → IsInTurnAt r store tally.batches → ServedInTurn v traces settings limit result old new a c f h store
+        → IsInTurnAt traces r store tally.batches → ServedInTurn v traces settings limit result old new a c f h store
     At-the-end j r result same none ended turn =
         let all = Given-all w.read j.0 in
         let whole = no_more w j.0 in
@@ -213,15 +213,15 @@ module _ (v : Service) (traces : Bool) (settings : Option StoreSettings) (limit 
         } in
         let t : ServedInTurn v traces settings limit (finished r tally) old new a c f h store = record {
           served = s;
-          in_turn = in_turn_finished r tally store tally.batches turn;
+          in_turn = in_turn_finished traces r tally store tally.batches turn;
         } in
         subst (λ x. ServedInTurn v traces settings limit x old new a c f h store) (sym same) t
 
   module _ (old new : View) {l₁ : Option (List ℕ)} {reader next : Lines} (count : ℕ) (tally : Tally) {a b : Core} {f g : DiskFacts}
       (w : Going v traces settings limit old.left l₁ reader (first_point old) (point_at new count tally) a b f g) (store : Option Store) where
     -- memory was wanted for a line
-    pub At-no-memory : Joins reader next l₁ new.left → ServedInTurn v traces settings limit (Err fault.NoMemory) old new a b f g store
-    At-no-memory j =
+    pub At-no-memory : Joins reader next l₁ new.left → IsInCycle store tally.batches → ServedInTurn v traces settings limit (Err fault.NoMemory) old new a b f g store
+    At-no-memory j in_cycle =
         let taken = Given-stop (Given-none w.read j) in
         let m = line_wanted w j in
         let s : Served v traces settings limit (Err fault.NoMemory) old new a b f g = record {
@@ -240,7 +240,7 @@ module _ (v : Service) (traces : Bool) (settings : Option StoreSettings) (limit 
           none_waits = tt;
           logs = m.logs;
         } in
-        record { served = s; in_turn = tt }
+        record { served = s; in_turn = in_cycle }
 
     -- the input couldn't be read
     pub At-a-fault : JoinsAll reader next l₁ new.left → IsInCycle store tally.batches → ServedInTurn v traces settings limit (Err fault.ReadFault) old new a b f g store

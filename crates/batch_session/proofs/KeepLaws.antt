@@ -36,13 +36,19 @@ module _ (e : Engine) (none : fresh_of e ≡ 0) where
       (leaves_more store (source_of e) (core_of e) next facts left)
 
   module _ (store now : Option Store) (facts facts' : DiskFacts) (faults faults' : ℕ) (mounts mounts' : Mounts) where
-    ended_cause : (rule : List Access → Chosen) → Rose faults faults' ⊎ SnapshotEndsPast now (core_of e)
+    -- a checkpoint would have ended past the last place
+    abbrev HasPast : Type 0
+    HasPast = SnapshotEndsPast now (core_of e) × Keeps now (source_of e) (core_of e) facts'
+
+    ended_cause : (rule : List Access → Chosen) → Rose faults faults' ⊎ HasPast
         → Rose faults faults' ⊎ EndsPast rule now (source_of e) (core_of e) (fresh_of e) facts'
     ended_cause rule (inl rose) = inl rose
-    ended_cause rule (inr past) = inr (inr (subst (SnapshotEndsPast now) (sym (all_logged e none)) past))
+    ended_cause rule (inr past) =
+        let logged = sym (all_logged e none) in
+        inr (inr (subst (SnapshotEndsPast now) logged past.0), subst (λ core. Keeps now (source_of e) core facts') logged past.1)
 
     pub ended_goes : (failed : Bool) → CanGoOn (state_of e store facts faults mounts) → KeepsWhere failed now (source_of e) (core_of e) (core_of e) facts'
-        → settings_of now ≡ settings_of store → faults ≤ faults' → (failed ≡ true → Rose faults faults' ⊎ SnapshotEndsPast now (core_of e)) → mounts' ≡ mounts
+        → settings_of now ≡ settings_of store → faults ≤ faults' → (failed ≡ true → Rose faults faults' ⊎ HasPast) → mounts' ≡ mounts
         → (rule : List Access → Chosen) → GoesOn rule failed (state_of e store facts faults mounts) (state_of e now facts' faults' mounts')
     ended_goes failed ready kept settings later cause same rule = record {
       runs = record { compiled_is = refl; limit_is = refl };

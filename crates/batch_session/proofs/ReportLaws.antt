@@ -1,5 +1,5 @@
 -- A line or a batch that was done, and what its end came to.
-use Rattle.std.proofs.Common.{◌≡◌, ◌≢◌, ◌+◌, ◌<◌, inr, Bool, [], ◌∷◌, Some, Ok, Err, length, refl}
+use Rattle.std.proofs.Common.{◌≡◌, ◌≢◌, ◌+◌, ◌<◌, inr, Bool, true, [], ◌∷◌, Some, Ok, Err, length, refl}
 use Rattle.std.specs.declared.result.Result.{Result}
 use Rattle.std.specs.Io.KnownBytes.{Appends}
 use Rattle.sf_outside.specs.Handing.{IsHandedOn}
@@ -19,6 +19,7 @@ module _ (v : Service) (traces : Bool) (counts : BatchCounts) where
     pub tally : new.tally ≡ with_batch old.tally counts
     pub traced : TracedAs r old.traced new.traced (trace_text traces old.tally (counts ∷ []))
     pub placed : r ≢ Err HistoryFull
+    pub asked : r ≡ Err WriteFault → traces ≡ true
     pub stays : StaysHanded old.handed new.handed
     pub flushed : IsHandedOn new.handed new.held
 
@@ -30,22 +31,22 @@ module _ (v : Service) (traces : Bool) (counts : BatchCounts) where
     counted traced = record { tally = tally; traced = traced; stays = stays; flushed = flushed }
 
     step_ended : (r : Result (Unit {0}) Stop) → TracedAs r old.traced new.traced (trace_text traces old.tally (counts ∷ [])) → r ≢ Err HistoryFull
-        → Comes v traces r (step ∷ []) old new
-    step_ended (Ok value) traced placed = did (counted traced)
-    step_ended (Err HistoryFull) traced placed = absurd (placed refl)
-    step_ended (Err NoMemory) traced placed = inr (Between-behind v traces (step ∷ []) old new (did (counted traced)))
-    step_ended (Err DiskFault) traced placed = inr (Between-behind v traces (step ∷ []) old new (did (counted traced)))
-    step_ended (Err WriteFault) traced placed = Comes-one v traces {T = Unit {0}} (Err WriteFault) WriteFault step old new refl
-        (untraced (record { tally = tally; part = traced; stays = stays; flushed = flushed }))
+        → (r ≡ Err WriteFault → traces ≡ true) → Comes v traces r (step ∷ []) old new
+    step_ended (Ok value) traced placed asked = did (counted traced)
+    step_ended (Err HistoryFull) traced placed asked = absurd (placed refl)
+    step_ended (Err NoMemory) traced placed asked = inr (Between-behind v traces (step ∷ []) old new (did (counted traced)))
+    step_ended (Err DiskFault) traced placed asked = inr (Between-behind v traces (step ∷ []) old new (did (counted traced)))
+    step_ended (Err WriteFault) traced placed asked = Comes-one v traces {T = Unit {0}} (Err WriteFault) WriteFault step old new refl
+        (untraced (record { asked = asked refl; tally = tally; part = traced; stays = stays; flushed = flushed }))
 
   -- behind a line
   pub Line-ended : (r : Result (Unit {0}) Stop) (line : Line) (old new : Point) → new.lines ≡ old.lines + 1 → AnswersLine v (Ok (Some counts)) (before old.core (old.lines + 1)) line (moment old) (moment new)
       → Ends r old new → Comes v traces r (Answer line ∷ []) old new
   Line-ended r line old new lines a end = step_ended (Answer line) old new (Does-line v traces (Some counts) line old new lines a) (Untraced-line v traces counts line old new a)
-      end.tally end.stays end.flushed r end.traced end.placed
+      end.tally end.stays end.flushed r end.traced end.placed end.asked
 
   -- behind a batch of what waits
   pub Batch-ended : (r : Result (Unit {0}) Stop) (old new : Point) → new.lines ≡ old.lines → 0 < length old.core.pending → Answers (program_of v) v.rule v.limits (Ok counts) old.core new.core old.held new.held
       → TellsBatch (batch_on v.compiled old.core) v.parts (Ok counts) old.outside new.outside → Ends r old new → Comes v traces r (RunWaiting ∷ []) old new
   Batch-ended r old new lines some a told end = step_ended RunWaiting old new (Does-batch v traces counts old new lines some a told) (Untraced-batch v traces counts old new some a told)
-      end.tally end.stays end.flushed r end.traced end.placed
+      end.tally end.stays end.flushed r end.traced end.placed end.asked

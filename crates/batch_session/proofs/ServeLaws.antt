@@ -1,5 +1,5 @@
 -- What the last flush leaves of what is served, and what is known of a session by what it came to.
-use Rattle.std.proofs.Common.{◌≡◌, ◌⊎◌, inl, inr, ℕ, Bool, List, [], Option, Ok, Err, refl, sym, subst}
+use Rattle.std.proofs.Common.{◌≡◌, ◌⊎◌, inl, inr, ℕ, Bool, List, [], Option, Ok, Err, false, refl, sym, ap, ◌∙◌, subst}
 use Rattle.std.specs.Prelude.{IfOk}
 use Rattle.std.specs.declared.result.Result.{Result}
 use Rattle.std.specs.Io.KnownBytes.{Keeps}
@@ -12,9 +12,10 @@ use Rattle.session_steps.specs.Steps.{Step}
 use Rattle.session_steps.specs.declared.tally.Tally.{Tally}
 use Rattle.batch_session.specs.declared.serving.SessionFault.{SessionFault}
 use Rattle.batch_session.specs.declared.serving.SessionFault.TheVariants as fault
-use Rattle.batch_session.specs.Faults.{IsFlushed}
+use Rattle.batch_session.specs.Faults.{IsFlushed, disk_failed}
 use Rattle.batch_session.specs.Served.{View, point_at, first_point, AreWhole, AreAll, AreFirst, AreStepsBy, CameTo, EndsWith, Served, ServedInTurn}
 use Rattle.batch_session.proofs.FlushLaws.{Comes-flushed}
+use Rattle.batch_session.proofs.TurnLaws.{in_turn_unwritten}
 
 module _ (v : Service) (traces : Bool) (settings : Option StoreSettings) (limit : ℕ) where
   abbrev view_with : View → Option (List ℕ) → Option (List ℕ) → View
@@ -44,7 +45,7 @@ module _ (v : Service) (traces : Bool) (settings : Option StoreSettings) (limit 
     }
 
     -- whatever was served before the flush failed
-    served_unflushed : (served : Result Tally SessionFault) (new : View) → Serves served new → Serves (Err fault.WriteFault) new
+    abbrev served_unflushed : (served : Result Tally SessionFault) (new : View) → Serves served new → Serves (Err fault.WriteFault) new
     served_unflushed served new s = record {
       taken = s.taken;
       consumed = s.consumed;
@@ -69,12 +70,12 @@ module _ (v : Service) (traces : Bool) (settings : Option StoreSettings) (limit 
       turn_flushed : (served : Result Tally SessionFault) → Keeps mid.held held → InTurn served mid → InTurn served (view_with mid held handed)
       turn_flushed served kept t = record { served = same_flushed served kept t.served; in_turn = t.in_turn }
 
-      turn_unflushed : (served : Result Tally SessionFault) → Keeps mid.held held → InTurn served mid → InTurn (Err fault.WriteFault) (view_with mid held handed)
-      turn_unflushed served kept t = record { served = served_unflushed served (view_with mid held handed) (same_flushed served kept t.served); in_turn = tt }
+      turn_unflushed : (served : Result Tally SessionFault) → disk_failed served ≡ false → Keeps mid.held held → InTurn served mid → InTurn (Err fault.WriteFault) (view_with mid held handed)
+      turn_unflushed served whole kept t = record { served = served_unflushed served (view_with mid held handed) (same_flushed served kept t.served); in_turn = in_turn_unwritten traces served store t.served.tally.batches whole t.in_turn }
 
-      pub Served-flushed : (served result : Result Tally SessionFault) → IsFlushed served result → Keeps mid.held held → InTurn served mid → InTurn result (view_with mid held handed)
-      Served-flushed served result (inl is) kept t = subst (λ x. InTurn x (view_with mid held handed)) (sym is) (turn_flushed served kept t)
-      Served-flushed served result (inr is) kept t = subst (λ x. InTurn x (view_with mid held handed)) (sym is) (turn_unflushed served kept t)
+      pub Served-flushed : (served result : Result Tally SessionFault) → IsFlushed served result → disk_failed result ≡ disk_failed served → Keeps mid.held held → InTurn served mid → InTurn result (view_with mid held handed)
+      Served-flushed served result (inl is) same kept t = subst (λ x. InTurn x (view_with mid held handed)) (sym is) (turn_flushed served kept t)
+      Served-flushed served result (inr is) same kept t = subst (λ x. InTurn x (view_with mid held handed)) (sym is) (turn_unflushed served (sym same ∙ ap disk_failed is) kept t)
 
   -- what is known of a session by what it came to before the last flush
   module _ (result : Result Tally SessionFault) (old new : View) (first last : Core) (f g : DiskFacts) (s : Served v traces settings limit result old new first last f g) where

@@ -110,4 +110,4 @@ pub record Served (v : Service) (traces : Bool) (settings : Option StoreSettings
 pub record ServedInTurn (v : Service) (traces : Bool) (settings : Option StoreSettings) (limit : ℕ) (result : Result Tally SessionFault) (old new : View)
     (first last : Core) (facts facts' : DiskFacts) (store : Option Store) : Type 0 where
   pub served : Served v traces settings limit result old new first last facts facts'
-  pub in_turn : IsInTurn result store served.tally.batches
+  pub in_turn : IsInTurn traces result store served.tally.batches

@@ -45,7 +45,7 @@ pub(crate) fn run_waiting<R: CommitRule, K: Sink, E: Sink, D: Disk, C: Chooser, 
         (settings_of store.old) (core_of engine.old) lines (endings (open_at (core_of engine.old) lines))
         (logged_of engine.old) (logged_of engine.new) (D.facts disk.old) (D.facts disk.new) }
     ensures ready { OnOk result (IsReady (state_of engine.new store.new (D.facts disk.new) (D.faults disk.new) (D.mounts disk.new)) tally.new.batches) }
-    ensures in_turn { IsInTurnAt result store.new tally.new.batches }
+    ensures in_turn { IsInTurnAt terms.now.settings.now.trace result store.new tally.new.batches }
     ensures goes_on { GoesOn (R.choice terms.now.rule.now) (disk_failed result)
         (state_of engine.old store.old (D.facts disk.old) (D.faults disk.old) (D.mounts disk.old))
         (state_of engine.new store.new (D.facts disk.new) (D.faults disk.new) (D.mounts disk.new)) }
@@ -81,7 +81,7 @@ fn run_batch<R: CommitRule, K: Sink, E: Sink, D: Disk, C: Chooser, W: Watch>(
         (settings_of store.old) (core_of engine.old) lines (RunWaiting ∷ [])
         (logged_of engine.old) (logged_of engine.new) (D.facts disk.old) (D.facts disk.new) }
     ensures ready { OnOk result (IsReady (state_of engine.new store.new (D.facts disk.new) (D.faults disk.new) (D.mounts disk.new)) tally.new.batches) }
-    ensures in_turn { IsInTurnAt result store.new tally.new.batches }
+    ensures in_turn { IsInTurnAt terms.now.settings.now.trace result store.new tally.new.batches }
     ensures goes_on { GoesOn (R.choice terms.now.rule.now) (disk_failed result)
         (state_of engine.old store.old (D.facts disk.old) (D.faults disk.old) (D.mounts disk.old))
         (state_of engine.new store.new (D.facts disk.new) (D.faults disk.new) (D.mounts disk.new)) }

@@ -78,7 +78,7 @@ impl Intake {
             (logged_of engine.old) (logged_of engine.new) (D.facts disk.old) (D.facts disk.new) }
         ensures ready { OnOk result (IsReady
             (state_of engine.new store.new (D.facts disk.new) (D.faults disk.new) (D.mounts disk.new)) self.new.tally.batches) }
-        ensures in_turn { IsInTurnAt result store.new self.new.tally.batches }
+        ensures in_turn { IsInTurnAt terms.now.settings.now.trace result store.new self.new.tally.batches }
         ensures goes_on { GoesOn (R.choice terms.now.rule.now) (disk_failed result)
             (state_of engine.old store.old (D.facts disk.old) (D.faults disk.old) (D.mounts disk.old))
             (state_of engine.new store.new (D.facts disk.new) (D.faults disk.new) (D.mounts disk.new)) }
@@ -135,7 +135,7 @@ impl Intake {
             (logged_of engine.old) (logged_of engine.new) (D.facts disk.old) (D.facts disk.new) }
         ensures ready { OnOk result (IsReady
             (state_of engine.new store.new (D.facts disk.new) (D.faults disk.new) (D.mounts disk.new)) self.new.tally.batches) }
-        ensures in_turn { IsInTurnAt result store.new self.new.tally.batches }
+        ensures in_turn { IsInTurnAt terms.now.settings.now.trace result store.new self.new.tally.batches }
         ensures goes_on { GoesOn (R.choice terms.now.rule.now) (disk_failed result)
             (state_of engine.old store.old (D.facts disk.old) (D.faults disk.old) (D.mounts disk.old))
             (state_of engine.new store.new (D.facts disk.new) (D.faults disk.new) (D.mounts disk.new)) }
@@ -176,7 +176,7 @@ impl Intake {
             (logged_of engine.old) (logged_of engine.new) (D.facts disk.old) (D.facts disk.new) }
         ensures ready { OnOk result (IsReady
             (state_of engine.new store.new (D.facts disk.new) (D.faults disk.new) (D.mounts disk.new)) self.new.tally.batches) }
-        ensures in_turn { IsInTurnAt result store.new self.new.tally.batches }
+        ensures in_turn { IsInTurnAt terms.now.settings.now.trace result store.new self.new.tally.batches }
         ensures goes_on { GoesOn (R.choice terms.now.rule.now) (disk_failed result)
             (state_of engine.old store.old (D.facts disk.old) (D.faults disk.old) (D.mounts disk.old))
             (state_of engine.new store.new (D.facts disk.new) (D.faults disk.new) (D.mounts disk.new)) }

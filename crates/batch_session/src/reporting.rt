@@ -1,6 +1,6 @@
 //! What follows a batch once its replies are written: it is counted, traced where that is asked for, and a checkpoint is made where one is due.
 
-ghost use Rattle.std.specs.Prelude.{◌≡◌, ◌≢◌, ◌≤◌, List, [], ◌∷◌, OnOk, OnErr, Err};
+ghost use Rattle.std.specs.Prelude.{◌≡◌, ◌≢◌, ◌≤◌, true, List, [], ◌∷◌, OnOk, OnErr, Err};
 ghost use Rattle.std.specs.Io.KnownBytes.{Appends};
 ghost use Rattle.sf_outside.specs.Bytes.{AppendsPrefix};
 ghost use Rattle.sf_outside.specs.Causes.{HasCause, Rose};
@@ -8,6 +8,7 @@ ghost use Rattle.serial_order.specs.ConflictFree.{Access};
 ghost use Rattle.reservations.specs.CommitRules.{Chosen};
 ghost use Rattle.engine.specs.EngineViews.{source_of, fresh_of};
 ghost use Rattle.session_store.specs.Vocabulary.{logged_of};
+ghost use Rattle.session_store.specs.Cycles.{cycle_of};
 ghost use Rattle.session_store.specs.Stores.{settings_of};
 ghost use Rattle.session_steps.specs.Vocabulary.{state_of, disk_failed, GoesOn, Logs};
 ghost use Rattle.session_steps.specs.StepLaws.{TracedAs};
@@ -36,6 +37,8 @@ pub(crate) fn end_batch<E: Sink, D: Disk>(
     ensures traced { TracedAs result (E.held err.old) (E.held err.new) (trace_text settings.now.trace tally.old (counts ∷ [])) }
     ensures placed { result ≢ Err Stop.HistoryFull }
     ensures memory { result ≢ Err Stop.NoMemory }
+    ensures asked { result ≡ Err Stop.WriteFault → settings.now.trace ≡ true }
+    ensures cycle { result ≡ Err Stop.WriteFault → cycle_of store.new ≡ cycle_of store.old }
     ensures later_err { E.faults err.old ≤ E.faults err.new }
     ensures cause { result ≡ Err Stop.WriteFault → Rose (E.faults err.old) (E.faults err.new) }
     ensures logs { (rule : List Access → Chosen) → Logs (source_of engine.now) rule (settings_of store.old) []
@@ -64,6 +67,7 @@ fn report<E: Sink>(
     ensures counted { tally.new ≡ with_batch tally.old counts }
     ensures whole { OnOk result (Appends (E.held err.old) (E.held err.new) (trace_text traces tally.old (counts ∷ []))) }
     ensures part { OnErr result (AppendsPrefix (E.held err.old) (E.held err.new) (trace_text traces tally.old (counts ∷ []))) }
+    ensures asked { OnErr result (traces ≡ true) }
     ensures cause { HasCause (E.faults err.old) (E.faults err.new) result }
 {
     tally.count(counts);

@@ -2,6 +2,8 @@
 #![tactic(auto)]
 
 #[cfg(test)]
+mod reordering;
+#[cfg(test)]
 mod rule;
 #[cfg(test)]
 mod state;

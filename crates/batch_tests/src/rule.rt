@@ -28,12 +28,16 @@ const BATCHES: &str = "
     three sales of one item   | i>i;ui>ui;ui>ui     | [0] [1, 2]
 ";
 
-/// The places that are committed, and those that are carried.
-fn chosen(alloc: Global, works: &Works) -> Result<String, AllocError> {
+/// The places that a rule commits, and those that it carries.
+pub(crate) fn chosen<R: CommitRule>(
+    alloc: Global,
+    rule: &R,
+    works: &Works,
+) -> Result<String, AllocError> {
     if works.len() > MOST {
         return String::from_str(alloc, "too many");
     }
-    let choice = Rule1.choose(alloc, works)?;
+    let choice = rule.choose(alloc, works)?;
     format!(in alloc;
         "{:?} {:?}",
         choice.committed.as_slice(),
@@ -44,7 +48,7 @@ fn chosen(alloc: Global, works: &Works) -> Result<String, AllocError> {
 /// The same of a batch that is a text.
 fn told(alloc: Global, batch: &str) -> Result<String, Fail> {
     let works = works_of(alloc, batch)?;
-    let told = chosen(alloc, &works);
+    let told = chosen(alloc, &Rule1, &works);
     drop(works);
     Ok(told?)
 }

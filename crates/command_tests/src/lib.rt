@@ -1,7 +1,9 @@
-//! Tests of what the program says of a text: the line that `check` prints, the graph that `compile` prints, and the faults
-//! that both tell.
+//! Tests of what the program says of a text: the line that `check` prints, the graph that `compile` prints, the faults
+//! that both tell, and what `audit` says of a run.
 #![tactic(auto)]
 
+#[cfg(test)]
+mod audits;
 #[cfg(test)]
 mod broken_rules;
 #[cfg(test)]

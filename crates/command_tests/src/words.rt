@@ -6,7 +6,7 @@ use std::test::Fail;
 use test_support::{COUNTER, hold_table};
 
 const USAGE: &[u8] =
-    b"usage: stateflow check FILE | compile FILE | local FILE | run FILE [options] | gen [options]\n";
+    b"usage: stateflow check FILE | compile FILE | local FILE | run FILE [options] | gen [options] | audit FILE RUN | export FILE --store DIR\n";
 
 const GRAPH: &[u8] = b"class Counter: key k; 2 fields; 1 methods
 method Counter.add: 1 blocks

@@ -1,12 +1,12 @@
 -- What is read of words is what they ask for, and nothing else is asked for.
-use Rattle.std.proofs.Common.{◌≡◌, inl, inr, Bool, true, false, ◌&&◌, not, List, [], ◌∷◌, Option, Some, None, refl, sym, ap, ◌∙◌, subst}
+use Rattle.std.proofs.Common.{◌≡◌, inl, inr, Bool, true, false, ◌&&◌, not, List, [], ◌∷◌, Option, Some, None, refl, sym, ap, ◌∙◌, subst, codes}
 use Rattle.std.specs.Prelude.{IfSome, option_and_then, if◌then◌else◌, Result, Ok, Err}
 use Rattle.std.specs.Str.{bytes_eq}
 use Rattle.std.proofs.lemmas.Slice.Eq.{bytes_eq-Decides}
 use Rattle.clap.proofs.WalkLemmas.{both}
 use Rattle.command_words.specs.WordReading.{Text, Parts, Given, given_from, if_apart, are_apart}
 use Rattle.command_words.specs.Grammar.{Give}
-use Rattle.command_words.specs.Commands.{Texts, texts_in, Asked, Form, forms, ◌>>?◌, AskWith, AskOneOf, Ask, asked_by}
+use Rattle.command_words.specs.Commands.{Texts, texts_in, Asked, Form, forms, audit_of, ◌>>?◌, AskWith, AskOneOf, Ask, asked_by}
 use Rattle.command_words.specs.CommandReading.{asked_with, asked_of, asked_by_name, asked}
 use Rattle.command_words.specs.Readings.{Reads, ReadsOnly}
 use Rattle.command_words.specs.declared.command.Command.{Command}
@@ -56,7 +56,10 @@ sound_of (form ∷ more) name words =
 asked_sound : (words : List Text) → IfSome (asked words) (Ask words)
 unfolding asked_by_name
 asked_sound [] = tt
-asked_sound (name ∷ words) = sound_of forms name words
+asked_sound (name ∷ words) =
+    choose name (codes "audit") (audit_of words) (asked_of forms name words) (Ask (name ∷ words))
+    (λ is. some_is (audit_of words) (Ask (name ∷ words)) (λ a read. inr (is, read)))
+    (weaker (asked_of forms name words) (AskOneOf forms name words) (Ask (name ∷ words)) (λ a h. inl h) (sound_of forms name words))
 
 pub read_asks : (words : List Text) (a : Asked) → asked words ≡ Some a → Ask words a
 read_asks words a is = subst (λ (o : Option Asked). IfSome o (Ask words)) is (asked_sound words)
@@ -112,7 +115,13 @@ complete_of (form ∷ more) apart name words a (inr h) =
 pub asked_complete : (words : List Text) (a : Asked) → Ask words a → asked words ≡ Some a
 unfolding asked_by_name
 asked_complete [] a h = absurd h
-asked_complete (name ∷ words) a h = complete_of forms refl name words a h
+asked_complete (name ∷ words) a (inl h) =
+    ap (λ b. if b then audit_of words else asked_of forms name words) (by (bytes_eq name (codes "audit")) refl) ∙ complete_of forms refl name words a h
+  where
+    by : (b : Bool) → bytes_eq name (codes "audit") ≡ b → b ≡ false
+    by false e = refl
+    by true e = sym (subst (λ n. is_named forms n ≡ true) ((bytes_eq-Decides name (codes "audit")).0 e) (asked_named forms name words a h))
+asked_complete (name ∷ words) a (inr h) = ap (λ b. if b then audit_of words else asked_of forms name words) (same_name name (codes "audit") h.0) ∙ h.1
 
 -- ---- so it is the one thing that is asked for
 

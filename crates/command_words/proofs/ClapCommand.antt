@@ -14,7 +14,7 @@ use Rattle.clap.specs.Matches.{found_of}
 use Rattle.clap.proofs.WalkLemmas.{first_value-rows}
 use Rattle.clap.proofs.FaultLemmas.{leaf_fault}
 use Rattle.command_words.specs.WordReading.{Text, Parts, Given, given, given_from, form_of, is_formed, are_formed, if_apart, Form, Plain, Named, Neither, Says, Gives, Wants, Nothing, is_among, text_of, joined, said_by, behind_name}
-use Rattle.command_words.specs.Commands.{file_parts, run_parts, gen_parts}
+use Rattle.command_words.specs.Commands.{file_parts, run_parts, gen_parts, export_parts}
 use Rattle.command_words.specs.ClapCommands.{app_with}
 use Rattle.command_words.specs.Readings.{Finds, Matches}
 use Rattle.command_words.specs.declared.command.WordsError.{WordsError}
@@ -197,3 +197,6 @@ run_finds words r formed found = finds_with run_parts words r refl refl refl ref
 
 pub gen_finds : (words : List Text) (r : Result ArgMatches WordsError) → are_formed words ≡ true → Matches (app_with gen_parts) words r → Finds (given gen_parts words) r
 gen_finds words r formed found = finds_with gen_parts words r refl refl refl refl formed found
+
+pub export_finds : (words : List Text) (r : Result ArgMatches WordsError) → are_formed words ≡ true → Matches (app_with export_parts) words r → Finds (given export_parts words) r
+export_finds words r formed found = finds_with export_parts words r refl refl refl refl formed found

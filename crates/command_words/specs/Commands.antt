@@ -1,8 +1,8 @@
 -- What the words of a call ask for.
-use Rattle.std.specs.Prelude.{◌≡◌, ◌⊎◌, ℕ, Bool, false, true, ◌||◌, ◌==◌, length, is_some, List, [], ◌∷◌, Option, Some, None, option_map, codes, if◌then◌else◌}
+use Rattle.std.specs.Prelude.{◌≡◌, ◌⊎◌, ℕ, Bool, false, true, ◌||◌, ◌&&◌, ◌==◌, length, is_some, List, [], ◌∷◌, Option, Some, None, option_map, codes, if◌then◌else◌}
 use Rattle.std.specs.Str.{bytes_eq}
 use Rattle.command_words.specs.Parts.{Text, Parts, Given, are_apart, text_of}
-use Rattle.command_words.specs.Grammar.{Give}
+use Rattle.command_words.specs.Grammar.{Give, stands_alone}
 use Rattle.command_words.specs.Numbers.{number_of, count_of, or_usual}
 use Rattle.command_words.specs.declared.command.Command.{Command}
 use Rattle.command_words.specs.declared.command.Command.TheVariants as command
@@ -16,6 +16,7 @@ pub record RunSettings : Type 0 where
   pub store : Option Text
   pub every : ℕ
   pub history : ℕ
+  pub reorder : Bool
   pub trace : Bool
 
 pub record GenSettings : Type 0 where
@@ -30,6 +31,8 @@ pub data Asked : Type 0 where
   Local : Text → Asked
   Run : Text → RunSettings → Asked
   Gen : GenSettings → Asked
+  Export : Text → Text → Asked
+  Audit : Text → Text → Asked
 
 -- goes on with a value, where there is one
 infixl 10 ◌>>?◌
@@ -46,11 +49,14 @@ abbrev pub run_parts : Parts
 run_parts = record {
   file = true;
   options = codes "batch" ∷ codes "partitions" ∷ codes "schedule" ∷ codes "store" ∷ codes "every" ∷ codes "history" ∷ [];
-  flags = codes "trace" ∷ [];
+  flags = codes "reorder" ∷ codes "trace" ∷ [];
 }
 
 abbrev pub gen_parts : Parts
 gen_parts = record { file = false; options = codes "number" ∷ codes "size" ∷ codes "batch" ∷ codes "partitions" ∷ []; flags = [] }
+
+abbrev pub export_parts : Parts
+export_parts = record { file = true; options = codes "store" ∷ []; flags = [] }
 
 -- ---- the settings, by the texts that are given under names
 
@@ -82,8 +88,15 @@ folder_of text = if length text == 0 || bytes_eq text (codes "-") then None else
 abbrev pub store_in : Texts → Option (Option Text)
 store_in texts = or_usual folder_of None (texts (codes "store"))
 
+-- the folder of a store that must be named
+abbrev pub needed_store : Texts → Option Text
+needed_store texts = store_in texts >>? (λ store. store)
+
 abbrev pub trace_in : Texts → Bool
 trace_in texts = is_some (texts (codes "trace"))
+
+abbrev pub reorder_in : Texts → Bool
+reorder_in texts = is_some (texts (codes "reorder"))
 
 abbrev pub number_in : Texts → Option ℕ
 number_in texts = texts (codes "number") >>? number_of
@@ -101,6 +114,7 @@ run_settings texts =
       store = store;
       every = every;
       history = history;
+      reorder = reorder_in texts;
       trace = trace_in texts;
     })))))))
 
@@ -127,7 +141,17 @@ run_in texts = file_in texts >>? (λ file. option_map (Run file) (run_settings t
 abbrev pub gen_in : Texts → Option Asked
 gen_in texts = option_map Gen (gen_settings texts)
 
--- a command's name, what it can be given, and what it asks for by the texts that are given
+abbrev pub export_in : Texts → Option Asked
+export_in texts = file_in texts >>? (λ file. option_map (Export file) (needed_store texts))
+
+-- `audit` takes two words, neither of which begins with a hyphen: the program's file, and that of the run
+unfoldable pub audit_of : List Text → Option Asked
+audit_of [] = None
+audit_of (file ∷ []) = None
+audit_of (file ∷ run ∷ []) = if stands_alone file && stands_alone run then Some (Audit file run) else None
+audit_of (file ∷ run ∷ word ∷ more) = None
+
+-- of each command but `audit` its name, what it can be given, and what it asks for by the texts that are given
 pub record Form : Type 0 where
   pub name : Text
   pub parts : Parts
@@ -140,6 +164,7 @@ forms =
     ∷ record { name = codes "local"; parts = file_parts; read = with_file Local }
     ∷ record { name = codes "run"; parts = run_parts; read = run_in }
     ∷ record { name = codes "gen"; parts = gen_parts; read = gen_in }
+    ∷ record { name = codes "export"; parts = export_parts; read = export_in }
     ∷ []
 
 -- words that give texts, each name once, of which something is made
@@ -154,7 +179,7 @@ AskOneOf (form ∷ more) name words asked = ((name ≡ form.name) × AskWith for
 -- what the words of a call ask for, the first of them being the command's name
 abbrev pub Ask : List Text → Asked → Type 0
 Ask [] asked = ⊥
-Ask (name ∷ words) asked = AskOneOf forms name words asked
+Ask (name ∷ words) asked = AskOneOf forms name words asked ⊎ ((name ≡ codes "audit") × (audit_of words ≡ Some asked))
 
 -- ---- a command as it was read from the words
 
@@ -166,6 +191,7 @@ settings_by w = record {
   store = option_map (λ t. t.now) w.store;
   every = w.every;
   history = w.history;
+  reorder = w.reorder;
   trace = w.trace;
 }
 
@@ -178,3 +204,5 @@ asked_by (command.Compile file) = Compile file.now
 asked_by (command.Local file) = Local file.now
 asked_by (command.Run file settings) = Run file.now (settings_by settings)
 asked_by (command.Gen settings) = Gen (work_by settings)
+asked_by (command.Export file store) = Export file.now store.now
+asked_by (command.Audit file run) = Audit file.now run.now

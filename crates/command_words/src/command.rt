@@ -22,6 +22,16 @@ pub enum Command<'a> {
     },
     /// Serve generated work.
     Gen(GenWords),
+    /// Print the history of a store, as request lines and reply lines.
+    Export {
+        file: &'a str,
+        store: &'a str,
+    },
+    /// Judge such lines, of a file, by a serial run of their requests.
+    Audit {
+        file: &'a str,
+        run: &'a str,
+    },
 }
 
 /// How `run` serves its input.
@@ -39,6 +49,8 @@ pub struct RunWords<'a> {
     pub every: u32,
     /// The greatest number of committed requests.
     pub history: u32,
+    /// Whether the requests of a batch may commit in another order than they came.
+    pub reorder: bool,
     /// Whether a line about each batch goes to the error stream.
     pub trace: bool,
 }

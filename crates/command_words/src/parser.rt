@@ -3,7 +3,7 @@
 ghost use Rattle.std.specs.Prelude.{◌≡◌, map, IfOk, false};
 ghost use Rattle.clap.specs.Words.{app_of, rule_of};
 ghost use Rattle.command_words.specs.ClapCommands as spec;
-ghost use Rattle.command_words.specs.Commands.{file_parts, run_parts, gen_parts};
+ghost use Rattle.command_words.specs.Commands.{file_parts, run_parts, gen_parts, export_parts};
 
 use clap::{Arg, ArgAction, Command};
 use std::alloc::{AllocError, Global};
@@ -85,7 +85,7 @@ pub(crate) fn run_command<'a>(alloc: Global) -> Result<Command<'a>, AllocError>
         "history",
     ];
     let command = with_options(alloc, bare(alloc), &options)?;
-    with_flags(alloc, command, &["trace"])?.arg(Arg::new(alloc, "FILE"))
+    with_flags(alloc, command, &["reorder", "trace"])?.arg(Arg::new(alloc, "FILE"))
 }
 
 /// The command that reads the words of `gen`.
@@ -97,4 +97,11 @@ pub(crate) fn gen_command<'a>(alloc: Global) -> Result<Command<'a>, AllocError>
         bare(alloc),
         &["number", "size", "batch", "partitions"],
     )
+}
+
+/// The command that reads the words of `export`.
+pub(crate) fn export_command<'a>(alloc: Global) -> Result<Command<'a>, AllocError>
+    ensures { IfOk result (λ command. app_of command ≡ spec.app_with export_parts) }
+{
+    with_options(alloc, bare(alloc), &["store"])?.arg(Arg::new(alloc, "FILE"))
 }

@@ -4,11 +4,11 @@ ghost use Rattle.std.specs.Prelude.{◌≡◌, map, string_bytes, [], ◌⊎◌,
 ghost use Rattle.std.specs.List.{list_all};
 ghost use Rattle.clap.specs.Words.{app_of, fault_of, found_of, kind_of, matches_of, rows_of, is_simple_and_free};
 ghost use Rattle.command_words.specs.WordReading as spec;
-ghost use Rattle.command_words.specs.Commands.{file_parts, run_parts, gen_parts};
+ghost use Rattle.command_words.specs.Commands.{file_parts, run_parts, gen_parts, export_parts};
 ghost use Rattle.command_words.specs.Readings.{Finds, Matches, usage_or_memory};
 
 use crate::command::WordsError;
-use crate::parser::{file_command, gen_command, run_command};
+use crate::parser::{export_command, file_command, gen_command, run_command};
 use clap::error::ErrorKind;
 use clap::{ArgMatches, Command, Error};
 use std::alloc::{AllocError, Global};
@@ -95,6 +95,22 @@ pub(crate) fn gen_words<'a>(
         return Err(WordsError::Usage);
     }
     match gen_command(alloc) {
+        Ok(command) => matches_in(command, words),
+        Err(_) => Err(WordsError::NoMemory),
+    }
+}
+
+/// What the words of `export` give.
+pub(crate) fn export_words<'a>(
+    alloc: Global,
+    words: &'a [String],
+) -> Result<ArgMatches<'a>, WordsError>
+    ensures { Finds (spec.given export_parts (map string_bytes words.entry.now)) result }
+{
+    if !are_formed(words) {
+        return Err(WordsError::Usage);
+    }
+    match export_command(alloc) {
         Ok(command) => matches_in(command, words),
         Err(_) => Err(WordsError::NoMemory),
     }

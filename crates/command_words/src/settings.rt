@@ -1,4 +1,4 @@
-//! The settings of `run` and of `gen`, from the texts that their words give.
+//! The settings of commands, from the texts that their words give.
 
 ghost use Rattle.std.specs.Prelude.{◌≡◌, option_map, None};
 ghost use Rattle.clap.specs.Words.{first_value, found_of};
@@ -74,6 +74,13 @@ fn store_in<'a>(found: &ArgMatches<'a>) -> Option<Option<&'a str>>
     folder_or_none(found.get_str("store"))
 }
 
+/// The folder of a store that must be named.
+fn needed_store<'a>(found: &ArgMatches<'a>) -> Option<&'a str>
+    ensures { option_map (λ t. t.now) result ≡ spec.needed_store (first_value (found_of found.now)) }
+{
+    store_in(found)?
+}
+
 fn every_in(found: &ArgMatches) -> Option<u32>
     ensures { result ≡ spec.every_in (first_value (found_of found.now)) }
 {
@@ -90,6 +97,12 @@ fn trace_in(found: &ArgMatches) -> bool
     ensures { result ≡ spec.trace_in (first_value (found_of found.now)) }
 {
     found.get_str("trace").is_some()
+}
+
+fn reorder_in(found: &ArgMatches) -> bool
+    ensures { result ≡ spec.reorder_in (first_value (found_of found.now)) }
+{
+    found.get_str("reorder").is_some()
 }
 
 fn number_in(found: &ArgMatches) -> Option<u64>
@@ -114,6 +127,7 @@ fn run_settings<'a>(found: &ArgMatches<'a>) -> Option<RunWords<'a>>
     let store = store_in(found)?;
     let every = every_in(found)?;
     let history = history_in(found)?;
+    let reorder = reorder_in(found);
     let trace = trace_in(found);
     Some(RunWords {
         batch,
@@ -122,6 +136,7 @@ fn run_settings<'a>(found: &ArgMatches<'a>) -> Option<RunWords<'a>>
         store,
         every,
         history,
+        reorder,
         trace,
     })
 }
@@ -164,4 +179,13 @@ pub(crate) fn gen_in<'a>(found: &ArgMatches<'a>) -> Option<Command<'a>>
 {
     let settings = gen_settings(found)?;
     Some(Command::Gen(settings))
+}
+
+/// The command `export`, with its file and the folder of the store.
+pub(crate) fn export_in<'a>(found: &ArgMatches<'a>) -> Option<Command<'a>>
+    ensures { option_map spec.asked_by result ≡ spec.export_in (first_value (found_of found.now)) }
+{
+    let file = file_in(found)?;
+    let store = needed_store(found)?;
+    Some(Command::Export { file, store })
 }

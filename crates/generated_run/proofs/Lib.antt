@@ -3,4 +3,7 @@ pub mod LineCounts
 pub mod Places
 pub mod ServedLaws
 pub mod EntryCounts
+pub mod BalanceLaws
+pub mod LineLaws
+pub mod CountedRuns
 pub mod RunLaws

@@ -101,12 +101,11 @@ module _ (v : Service) (lawful : IsLawfulRule v.rule) where
   waited true s few = omega arith
   waited false s few = settles (has_no_place (program_of v) v.rule v.limits s.core) s few
 
-  behind_one : (step : Step) (s : Standing) → places_of s.core + lines_in (step ∷ []) < 2 ^ 32
+  -- a step, and then all
+  pub behind_one : (step : Step) (s : Standing) → places_of s.core + lines_in (step ∷ []) < 2 ^ 32
       → places_of (behind v s step).core ≤ places_of s.core + lines_in (step ∷ [])
   behind_one (Answer line) s few = omega (arith, answered s.is_full s line (omega arith))
   behind_one RunWaiting s few = omega (arith, waited (is_over (program_of v) v.rule v.limits s) s (omega arith))
-
-  -- Steps
 
   pub behind_all : (steps : List Step) (s : Standing) → places_of s.core + lines_in steps < 2 ^ 32
       → places_of (standing_after v s steps).core ≤ places_of s.core + lines_in steps

@@ -1,5 +1,5 @@
 -- A run on generated work, from its start to its sums.
-use Rattle.std.proofs.Common.{◌≡◌, ℕ, ◌≤◌, false, inl, inr, Option, Ok, Err, List, [], ◌∷◌, IfOk, subst, arith}
+use Rattle.std.proofs.Common.{◌≡◌, ℕ, ◌≤◌, inl, inr, Option, Ok, Err, List, [], ◌∷◌, IfOk, subst, arith}
 use Rattle.std.specs.declared.result.Result.{Result}
 use Rattle.std.specs.declared.alloc.AllocError.{AllocError}
 use Rattle.py_tree.specs.ClassRules.{PlainTable}
@@ -14,14 +14,14 @@ use Rattle.engine.specs.Cores.{Core, empty_core}
 use Rattle.engine.proofs.EmptyLaws.{empty_sound}
 use Rattle.batch_session.specs.Vocabulary.{Tally, Service, program_of, all_steps}
 use Rattle.batch_run.specs.BatchOutcomes.{CommitsWhatEnded}
-use Rattle.batch_run.specs.declared.running.RunSettings.{RunSettings}
 use Rattle.batch_run.proofs.EventLaws.{run_have_begun}
 use Rattle.batch_run.proofs.GrowthLaws.{each_batch}
 use Rattle.batch_run.proofs.OutcomeLaws.{commits_what_ended}
 use Rattle.generated_run.specs.declared.running.GenSettings.{GenSettings}
 use Rattle.generated_run.specs.declared.summing.Summary.{Summary}
-use Rattle.generated_run.specs.Summaries.{IsSummary}
-use Rattle.generated_run.specs.Generated.{service_by, input_of, history_limit, batch_cores, ServesAll, ServesSome, EachCommitsWhatEnded, Starts, Comes, Gives}
+use Rattle.generated_run.specs.Summaries.{counted_by, IsSummary}
+use Rattle.generated_run.specs.Generated.{service_by, input_of, batch_cores, ServesSome, Serves, EachCommitsWhatEnded, Starts, Comes, Gives}
+use Rattle.generated_run.proofs.CountedRuns.{run_of, counts_plain}
 
 -- the graph that was told is the one of these tables and blocks
 pub told_as : (old new : Option (List Told)) (tables tables' : List PlainTable) (blocks blocks' : List (List PlainBlock)) → tables ≡ tables' → blocks ≡ blocks'
@@ -29,18 +29,14 @@ pub told_as : (old new : Option (List Told)) (tables tables' : List PlainTable) 
 told_as old new tables tables' blocks blocks' same_tables same_blocks told =
     subst (λ t. AlsoTold old new (GraphTold t blocks' ∷ [])) same_tables (subst (λ b. AlsoTold old new (GraphTold tables b ∷ [])) same_blocks told)
 
--- the settings of a run that serves the work
-abbrev run_of : GenSettings → RunSettings
-run_of s = record { batch = s.batch; partitions = s.parts; schedule = s.number; history = history_limit; limit = 0; trace = false }
-
 -- nothing waits where the work begins, so each of its batches runs on a sound core
 each_commits : (s : GenSettings) (compiled : Compiled) → IsWhole compiled → s.batch ≤ 256 → EachCommitsWhatEnded s compiled
 each_commits s compiled whole few =
     each_batch compiled (run_of s) few (CommitsWhatEnded compiled s.parts) (λ core sound. commits_what_ended compiled whole core sound s.parts)
     empty_core (empty_sound (program_of (service_by s compiled))) (omega arith) (all_steps (service_by s compiled) empty_core (input_of s))
 
-module _ (s : GenSettings) (compiled made : Compiled) (same : made ≡ compiled) (whole : IsWhole compiled) (few : s.batch ≤ 256) (input : List ℕ) (is : input ≡ input_of s)
-    (old started new : Outside) (starts : Starts s compiled old started) where
+module _ (s : GenSettings) (compiled made : Compiled) (same : made ≡ compiled) (whole : IsWhole compiled) (least : s.size ≤ 100000) (few : s.batch ≤ 256)
+    (input : List ℕ) (is : input ≡ input_of s) (old started new : Outside) (starts : Starts s compiled old started) where
   -- the session wanted memory
   pub came_short : ServesSome (service_by s made) input started new → (error : AllocError) → Comes s compiled (Err error) old new
   came_short some error = inr record {
@@ -53,22 +49,25 @@ module _ (s : GenSettings) (compiled made : Compiled) (same : made ≡ compiled)
   }
 
   -- it served all, and that was summed up, or memory was wanted for the sum
-  pub came : (core : Core) (tally : Tally) → ServesAll (service_by s made) input core tally started new → (r : Result Summary AllocError)
-      → IfOk r (λ summary. IsSummary s.size core tally summary) → Comes s compiled r old new
-  came core tally all (Ok summary) sums = record {
-    started = started;
-    starts = starts;
-    core = core;
-    tally = tally;
-    served =
-        subst (λ c. ServesAll (service_by s c) (input_of s) core tally started new) same
-        (subst (λ bytes. ServesAll (service_by s made) bytes core tally started new) is all);
-    summed = sums;
-    outcomes = each_commits s compiled whole few;
-  }
+  pub came : (core : Core) (tally : Tally) → Serves (service_by s made) input (Ok tally) core started new → (r : Result Summary AllocError)
+      → IfOk r (λ summary. IsSummary s.size core (counted_by tally) summary) → Comes s compiled r old new
+  came core tally all (Ok summary) sums =
+      let served : Serves (service_by s compiled) (input_of s) (Ok tally) core started new =
+      subst (λ c. Serves (service_by s c) (input_of s) (Ok tally) core started new) same
+      (subst (λ bytes. Serves (service_by s made) bytes (Ok tally) core started new) is all) in
+      record {
+        started = started;
+        starts = starts;
+        core = core;
+        served = served.0;
+        summed =
+            subst (λ counted. IsSummary s.size core counted summary)
+            (counts_plain s compiled whole least few served.0.counts started new served.0.ran tally served.1) sums;
+        outcomes = each_commits s compiled whole few;
+      }
   came core tally all (Err error) sums =
       let v : Service = service_by s made in
-      came_short (record { counts = all.counts; begun_on = run_have_begun v (batch_cores v input) all.counts started new all.ran }) error
+      came_short (record { counts = all.0.counts; begun_on = run_have_begun v (batch_cores v input) all.0.counts started new all.0.ran }) error
 
 -- what came of a compiled program came of the bank's, where that is the one
 pub of_bank : (s : GenSettings) (compiled : Compiled) (old new : Outside) → IsCompiledOf work.program compiled → (r : Result Summary AllocError)

@@ -89,7 +89,7 @@ module _ (v : Service) (input : List ℕ) (old new : View) (rest : List ℕ) (em
     so : (r : Result Tally SessionFault) (s : ServedBy r) (e : Result (Unit {0}) SessionFault) → s.ended ≡ e → So r s e
     so r s e same = ended_at v false settings (length input) r old new first last f g s e same
 
-    serves_all : StepsPrint → (tally : Tally) → ServedBy (Ok tally) → IsSoundCore (program_of v) new.core → ServesAll v input new.core tally old.outside new.outside
+    serves_all : StepsPrint → (tally : Tally) → ServedBy (Ok tally) → IsSoundCore (program_of v) new.core → Serves v input (Ok tally) new.core old.outside new.outside
     serves_all prints tally s sound =
         let known = so (Ok tally) s (Ok (tt {0})) s.ends in
         let all : s.taken ≡ input = whole_taken s.taken s.consumed known.of_taken.1 in
@@ -101,15 +101,15 @@ module _ (v : Service) (input : List ℕ) (old new : View) (rest : List ℕ) (em
         let Stands : Core → List ℕ → Type 0 = λ core bytes. standing_after v (begun core) (all_steps v core bytes) ≡ end in
         let Ran : Core → List ℕ → Type 0 = λ core bytes. RunBatches v (ran_on v (begun core) (all_steps v core bytes)) did.counts old.outside new.outside in
         let stands : Stands empty_core input = subst (λ core. Stands core input) empty (subst (λ bytes. Stands old.core bytes) all did.stands) in
-        record {
+        let served : ServesAll v input new.core old.outside new.outside = record {
           lines = s.lines;
           stands = sym ((prints v).1 empty_core input).stands ∙ stands;
           none = known.none_waits;
           sound = sound;
           counts = did.counts;
           ran = subst (λ core. Ran core input) empty (subst (λ bytes. Ran old.core bytes) all did.ran);
-          tally_is = sym s.counted ∙ did.tally;
-        }
+        } in
+        (served, sym s.counted ∙ did.tally)
 
     -- a part of it was served
 

@@ -21,7 +21,7 @@ use Rattle.batch_session.specs.declared.serving.SessionFault.TheVariants as sess
 use Rattle.batch_run.specs.BatchOutcomes.{CommitsWhatEnded}
 use Rattle.generated_run.specs.declared.running.GenSettings.{GenSettings}
 use Rattle.generated_run.specs.declared.summing.Summary.{Summary}
-use Rattle.generated_run.specs.Summaries.{IsSummary}
+use Rattle.generated_run.specs.Summaries.{counts_of, IsSummary}
 
 -- nothing but want of memory stops the session
 abbrev pub IsNoFault : Result Tally SessionFault → Type 0
@@ -59,24 +59,23 @@ module _ (v : Service) (input : List ℕ) where
   abbrev pub batch_cores : List Core
   batch_cores = ran_on v (begun empty_core) (all_steps v empty_core input)
 
-  -- the whole input was served: this core stands behind it, nothing waits, and each batch was run, told and counted
-  pub record ServesAll (core : Core) (tally : Tally) (old new : Outside) : Type 0 where
+  -- the whole input was served: this core stands behind it, nothing waits, and each batch was run and told
+  pub record ServesAll (core : Core) (old new : Outside) : Type 0 where
     pub lines : ℕ
     pub stands : last_standing ≡ record { core = core; lines = lines; is_full = false }
     pub none : core.pending ≡ []
     pub sound : IsSoundCore (program_of v) core
     pub counts : List BatchCounts
     pub ran : RunBatches v batch_cores counts old new
-    pub tally_is : tally ≡ tally_after no_batch counts
 
   -- some first batches were run and told, and of the next one perhaps some events
   pub record ServesSome (old new : Outside) : Type 0 where
     pub counts : List BatchCounts
     pub begun_on : BeginBatches v batch_cores counts old new
 
-  -- it was served, or memory was wanted
+  -- it was served, and the batches were counted, or memory was wanted
   abbrev pub Serves : Result Tally AllocError → Core → Outside → Outside → Type 0
-  Serves (Ok tally) core old new = ServesAll core tally old new
+  Serves (Ok tally) core old new = (all : ServesAll core old new) × (tally ≡ tally_after no_batch all.counts)
   Serves (Err error) core old new = ServesSome old new
 
 -- the chooser was started with the number of the work, and the watch told the graph
@@ -89,14 +88,13 @@ module _ (s : GenSettings) (compiled : Compiled) where
   abbrev pub EachCommitsWhatEnded : Type 0
   EachCommitsWhatEnded = AllByRecursion (CommitsWhatEnded compiled s.parts) (batch_cores (service_by s compiled) (input_of s))
 
-  -- the work was served, and this is what it came to
+  -- the work was served, and this is what it came to: the batches that were run, and their events, are counted as they are
   pub record SumsUp (summary : Summary) (old new : Outside) : Type 0 where
     pub started : Outside
     pub starts : Starts s compiled old started
     pub core : Core
-    pub tally : Tally
-    pub served : ServesAll (service_by s compiled) (input_of s) core tally started new
-    pub summed : IsSummary s.size core tally summary
+    pub served : ServesAll (service_by s compiled) (input_of s) core started new
+    pub summed : IsSummary s.size core (counts_of served.counts) summary
     pub outcomes : EachCommitsWhatEnded
 
   -- the work was served in part

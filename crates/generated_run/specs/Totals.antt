@@ -1,7 +1,6 @@
 -- The sum of all balances.
 use Rattle.std.specs.Prelude.{◌≡◌, ℤ, pos, ◌+ℤ◌, true, List, [], ◌∷◌, Some, slice_get}
 use Rattle.std.specs.declared.option.Option.{Option}
-use Rattle.std.specs.Int.{saturate_signed, w128}
 use Rattle.std.specs.FinMap as finite
 use Rattle.sf_value.specs.declared.value.Value.{Value}
 use Rattle.sf_value.specs.declared.value.Value.TheVariants.{Int}
@@ -18,14 +17,10 @@ amount_in other = pos 0
 abbrev pub balance_of : Held → ℤ
 balance_of h = amount_in (slice_get h.fields.fields 1)
 
--- balances added to a number, one after another; a sum that is too great for 128 bits stays at the greatest that they hold, and one that is too
--- small at the least
-abbrev pub added_to : ℤ → List Held → ℤ
-added_to total [] = total
-added_to total (h ∷ more) = added_to (saturate_signed w128 (total +ℤ balance_of h)) more
-
-abbrev pub added_up : List Held → ℤ
-added_up records = added_to (pos 0) records
+-- the balances of these records, added up
+unfoldable pub added_up : List Held → ℤ
+added_up [] = pos 0
+added_up (h ∷ more) = balance_of h +ℤ added_up more
 
 -- the sum of the balances of all records of a state, each of them once
 pub record IsTotal (state : State) (total : ℤ) : Type 0 where

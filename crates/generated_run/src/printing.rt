@@ -10,6 +10,7 @@ use crate::summing::Summary;
 use batch_session::write_pieces;
 use itoa::Buffer;
 use sf_outside::{Failed, Sink};
+use wide_sums::Numeral;
 
 /// Writes the line of a summary. It takes no memory, and doesn't flush.
 pub fn write_summary<K: Sink>(out: &mut K, summary: &Summary) -> Result<(), Failed>
@@ -22,7 +23,8 @@ pub fn write_summary<K: Sink>(out: &mut K, summary: &Summary) -> Result<(), Fail
     let mut failed = Buffer::new();
     let mut batches = Buffer::new();
     let mut events = Buffer::new();
-    let mut total = Buffer::new();
+    let mut numeral = Numeral::new();
+    let total = numeral.format(&summary.total);
     write_pieces(
         out,
         &[
@@ -37,7 +39,9 @@ pub fn write_summary<K: Sink>(out: &mut K, summary: &Summary) -> Result<(), Fail
             b" events ",
             events.format(summary.events).as_bytes(),
             b" total ",
-            total.format(summary.total).as_bytes(),
+            total.sign,
+            total.front,
+            total.back,
             b"\n",
         ],
     )

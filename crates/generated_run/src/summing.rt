@@ -1,18 +1,20 @@
 //! What a run came to, summed up.
 
 ghost use Rattle.std.specs.Prelude.{◌≡◌, IfOk};
+ghost use Rattle.wide_sums.specs.Sums.{sum_of};
 ghost use Rattle.engine.specs.EngineViews.{core_of};
 ghost use Rattle.generated_run.specs.Totals.{balance_of, added_up, IsTotal};
-ghost use Rattle.generated_run.specs.Summaries.{IsSummary};
+ghost use Rattle.generated_run.specs.Summaries.{counted_by, IsSummary};
 
 use crate::counting::count_entries;
 use batch_session::Tally;
 use engine::Engine;
 use sf_value::{Held, Value};
 use std::alloc::{AllocError, Global};
+use wide_sums::Sum;
 
 /// What a run on generated work came to.
-#[derive(Clone, Copy, PartialEq, Eq, Debug)]
+#[derive(Drop)]
 pub struct Summary {
     pub requests: u32,
     pub committed: u32,
@@ -22,7 +24,7 @@ pub struct Summary {
     /// How many events operators handled.
     pub events: u64,
     /// The sum of all balances.
-    pub total: i128,
+    pub total: Sum,
 }
 
 /// What an account holds: the second field of its record.
@@ -35,20 +37,20 @@ fn balance_of(held: &Held) -> i128
     }
 }
 
-/// The sum of the balances of these records. It stays within 128 bits.
-fn added_up(records: &[Held]) -> i128
-    ensures { result ≡ added_up records.now }
+/// The sum of the balances of these records.
+fn added_up(records: &[Held]) -> Sum
+    ensures { sum_of result ≡ added_up records.now }
 {
-    let mut total: i128 = 0;
+    let mut total = Sum::nothing();
     for held in records {
-        total = total.saturating_add(balance_of(held));
+        total = total.plus(balance_of(held));
     }
     total
 }
 
 /// The sum of all balances in the state.
-fn total_of(alloc: Global, engine: &Engine) -> Result<i128, AllocError>
-    ensures { IfOk result (λ total. IsTotal (core_of engine.now).state total) }
+fn total_of(alloc: Global, engine: &Engine) -> Result<Sum, AllocError>
+    ensures { IfOk result (λ total. IsTotal (core_of engine.now).state (sum_of total)) }
 {
     let records = engine.state().records(alloc)?;
     let total = added_up(records.as_slice());
@@ -63,7 +65,7 @@ pub(crate) fn summary_of(
     requests: u32,
     tally: Tally,
 ) -> Result<Summary, AllocError>
-    ensures { IfOk result (λ summary. IsSummary requests (core_of engine.now) tally summary) }
+    ensures { IfOk result (λ summary. IsSummary requests (core_of engine.now) (counted_by tally) summary) }
 {
     let total = total_of(alloc, engine)?;
     let entries = count_entries(engine);

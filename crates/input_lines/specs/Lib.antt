@@ -1,3 +1,4 @@
 pub mod CutLaws
 pub mod Reads
 pub mod Given
+pub mod FileReads

@@ -4,11 +4,12 @@ ghost use Rattle.std.specs.Prelude.{◌≡◌, ◌≤◌, ℕ, List, false, Ok};
 ghost use Rattle.std.specs.declared.option.Option.{Option};
 ghost use Rattle.sf_outside.specs.Causes.{Rose};
 ghost use Rattle.input_lines.specs.Reads.{IsNew, Joins, Takes, Gives};
+ghost use Rattle.input_lines.specs.FileReads.{GivesOfFile};
 
-use crate::pieces::{Piece, goes_on};
+use crate::pieces::{Piece, goes_on, has_byte_at};
 use crate::start::LineStart;
 use memchr::memchr;
-use sf_outside::Source;
+use sf_outside::{Files, Source};
 use std::alloc::{AllocError, Global};
 
 /// What comes next of an input.
@@ -119,6 +120,41 @@ impl Lines {
                 };
             }
             match self.piece.fill(input, self.room) {
+                Ok(0) => return Ok(Next::End),
+                Ok(count) => self.room -= count as u64,
+                Err(_) => return Ok(Next::ReadFault),
+            }
+        }
+    }
+
+    /// Gives the next line of a file, of which the reader, made with this limit, has taken as much as its room is smaller. Else as `next`.
+    pub fn next_of_file<F: Files>(
+        &mut self,
+        files: &mut F,
+        name: &str,
+        limit: u64,
+    ) -> Result<Next, AllocError>
+        requires { self.old.room ≤ limit }
+        ensures gives { GivesOfFile limit (F.content files.old name.now) self.old self.new result }
+        ensures room { self.new.room ≤ self.old.room }
+        ensures kept { (q : List ℕ) → F.content files.new q ≡ F.content files.old q }
+        ensures later { (q : List ℕ) → F.faults files.old q ≤ F.faults files.new q }
+        ensures cause { result ≡ Ok Next.ReadFault → Rose (F.faults files.old name.now) (F.faults files.new name.now) }
+    {
+        self.begin();
+        'pieces: loop {
+            if self.take()? {
+                return Ok(Next::Line);
+            }
+            let at = limit - self.room;
+            if self.room == 0 {
+                return match has_byte_at(files, name, at) {
+                    Ok(true) => Ok(Next::TooLong),
+                    Ok(false) => Ok(Next::End),
+                    Err(_) => Ok(Next::ReadFault),
+                };
+            }
+            match self.piece.fill_at(files, name, at, self.room) {
                 Ok(0) => return Ok(Next::End),
                 Ok(count) => self.room -= count as u64,
                 Err(_) => return Ok(Next::ReadFault),

@@ -1,10 +1,11 @@
 //! The input, piece by piece.
 
-ghost use Rattle.std.specs.Prelude.{◌≡◌, ◌<◌, ◌≤◌, [], length, drop};
+ghost use Rattle.std.specs.Prelude.{◌≡◌, ◌<◌, ◌≤◌, ℕ, List, [], length, drop};
 ghost use Rattle.sf_outside.specs.Causes.{HasCause};
 ghost use Rattle.input_lines.specs.Reads.{Fills, AsksOne};
+ghost use Rattle.input_lines.specs.FileReads.{FillsAt, AsksAt};
 
-use sf_outside::{Failed, Source};
+use sf_outside::{Failed, Files, Source};
 use std::marker::Model;
 
 /// How many bytes one read may take.
@@ -76,6 +77,28 @@ impl Piece {
         self.to = count;
         Ok(count)
     }
+
+    /// Takes the piece at a place of a file in place of what stands, and answers how many bytes it has, 0 at the end.
+    pub(crate) fn fill_at<F: Files>(
+        &mut self,
+        files: &mut F,
+        name: &str,
+        at: u64,
+        room: u64,
+    ) -> Result<usize, Failed>
+        requires { 0 < room }
+        ensures fills { FillsAt room at (F.content files.old name.now) self.new result }
+        ensures kept { (q : List ℕ) → F.content files.new q ≡ F.content files.old q }
+        ensures cause { HasCause (F.faults files.old name.now) (F.faults files.new name.now) result }
+        ensures later { (q : List ℕ) → F.faults files.old q ≤ F.faults files.new q }
+    {
+        self.from = 0;
+        self.to = 0;
+        let most = next_piece(room);
+        let count = files.read_at(name, at, &mut self.bytes[..most])?;
+        self.to = count;
+        Ok(count)
+    }
 }
 
 /// How many bytes the next read may take, where so many may still be taken.
@@ -99,4 +122,15 @@ pub(crate) fn goes_on<S: Source>(input: &mut S) -> Result<bool, Failed>
 {
     let mut byte = [0; 1];
     Ok(input.read(&mut byte)? != 0)
+}
+
+/// Whether the file has a byte at a place.
+pub(crate) fn has_byte_at<F: Files>(files: &mut F, name: &str, at: u64) -> Result<bool, Failed>
+    ensures asks { AsksAt at (F.content files.old name.now) result }
+    ensures kept { (q : List ℕ) → F.content files.new q ≡ F.content files.old q }
+    ensures cause { HasCause (F.faults files.old name.now) (F.faults files.new name.now) result }
+    ensures later { (q : List ℕ) → F.faults files.old q ≤ F.faults files.new q }
+{
+    let mut one = [0; 1];
+    Ok(files.read_at(name, at, &mut one)? > 0)
 }

@@ -37,9 +37,9 @@ fn two_numbers(alloc: Global, program: &Checked) -> Result<Local, Fail> {
 }
 
 /// The keys of entities.
-fn keys_told(alloc: Global, entities: &[Ref]) -> Result<String, AllocError> {
+fn keys_told<V>(alloc: Global, entries: &[(Ref, V)]) -> Result<String, AllocError> {
     let mut told = String::new(alloc);
-    for at in entities {
+    for (at, _) in entries {
         if !told.is_empty() {
             told.push(',')?;
         }
@@ -52,14 +52,19 @@ fn keys_told(alloc: Global, entities: &[Ref]) -> Result<String, AllocError> {
 }
 
 /// What a request came to, what it read and wrote, and the steps that it left.
-fn attempt_told(alloc: Global, made: &Attempt) -> Result<String, AllocError> {
-    let outcome = outcome_told(alloc, &made.outcome)?;
-    let reads = keys_told(alloc, made.reads.as_slice())?;
-    let writes = keys_told(alloc, made.changed.keys().as_slice())?;
-    format!(in alloc;
-        "{outcome} reads {reads} writes {writes} leaves {}",
-        made.steps
-    )
+fn attempt_told(alloc: Global, made: Attempt) -> Result<String, AllocError> {
+    let Attempt {
+        outcome,
+        changed,
+        reads,
+        steps,
+    } = made;
+    let outcome = outcome_told(alloc, &outcome)?;
+    let reads = reads.into_list()?;
+    let reads = keys_told(alloc, reads.as_slice())?;
+    let changed = changed.into_list()?;
+    let writes = keys_told(alloc, changed.as_slice())?;
+    format!(in alloc; "{outcome} reads {reads} writes {writes} leaves {steps}")
 }
 
 /// What the request that is told comes to on a state.
@@ -77,9 +82,7 @@ fn told_with(alloc: Global, program: &Checked, told: &str) -> Result<String, Fai
     let made = attempted(alloc, program, &state, told);
     drop(state);
     let made = made?;
-    let told = attempt_told(alloc, &made);
-    drop(made);
-    Ok(told?)
+    Ok(attempt_told(alloc, made)?)
 }
 
 /// The same of the program of numbers.

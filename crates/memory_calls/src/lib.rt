@@ -45,18 +45,17 @@ pub fn words_of(alloc: Global, words: &[&str]) -> Result<Vec<String>, AllocError
     Ok(owned)
 }
 
-/// Makes a call with these words, where a file has this text, on an input of any kind and a disk, with whoever chooses the order of events.
+/// Makes a call with these words on these files, on an input of any kind and a disk, with whoever chooses the order of events.
 fn call_with<S: Source, C: Chooser>(
     alloc: Global,
     words: &[&str],
-    file: (&str, &[u8]),
+    mut files: MemFiles,
     input: &mut S,
     disk: &mut MemDisk,
     chooser: &mut C,
     faults: Faults<'_>,
 ) -> Result<Answer, AllocError> {
     let words = words_of(alloc, words)?;
-    let mut files = MemFiles::new(alloc, &[file.0], &[file.1], faults.file)?;
     let mut out = MemSink::new(alloc, 1000, faults.out)?;
     let mut err = MemSink::new(alloc, 1000, faults.err)?;
     let mut watch = MemWatch::new(alloc);
@@ -88,8 +87,9 @@ pub fn call_along<S: Source, C: Chooser>(
     chooser: &mut C,
     faults: Faults<'_>,
 ) -> Result<Answer, AllocError> {
+    let files = MemFiles::new(alloc, &[file.0], &[file.1], faults.file)?;
     let mut disk = MemDisk::new(alloc, 0, 0, &[])?;
-    call_with(alloc, words, file, input, &mut disk, chooser, faults)
+    call_with(alloc, words, files, input, &mut disk, chooser, faults)
 }
 
 /// Makes a call with these words, where a file has this text, on an input of any kind and this disk.
@@ -101,8 +101,37 @@ pub fn call_on<S: Source>(
     disk: &mut MemDisk,
     faults: Faults<'_>,
 ) -> Result<Answer, AllocError> {
+    let files = MemFiles::new(alloc, &[file.0], &[file.1], faults.file)?;
     let mut chooser = ListChooser::new(alloc, &[])?;
-    call_with(alloc, words, file, input, disk, &mut chooser, faults)
+    call_with(alloc, words, files, input, disk, &mut chooser, faults)
+}
+
+/// Makes a call with these words, where two files have these texts. Each read of the input is to fail.
+pub fn call_on_two(
+    alloc: Global,
+    words: &[&str],
+    first: (&str, &[u8]),
+    second: (&str, &[u8]),
+    faults: Faults<'_>,
+) -> Result<Answer, AllocError> {
+    let files = MemFiles::new(
+        alloc,
+        &[first.0, second.0],
+        &[first.1, second.1],
+        faults.file,
+    )?;
+    let mut input = MemSource::new(alloc, b"", faults.input)?;
+    let mut disk = MemDisk::new(alloc, 0, 0, &[])?;
+    let mut chooser = ListChooser::new(alloc, &[])?;
+    call_with(
+        alloc,
+        words,
+        files,
+        &mut input,
+        &mut disk,
+        &mut chooser,
+        faults,
+    )
 }
 
 /// Makes a call with these words, where a file has this text, on an input of any kind.

@@ -1,14 +1,17 @@
 -- The history that a head names, as it is read, and what it makes of a store.
-use Rattle.std.proofs.Common.{◌≡◌, inl, inr, ℕ, ◌+◌, ◌≤◌, ◌<◌, ◌^◌, List, [], ◌∷◌, ◌++◌, length, take, drop, min, refl, sym, ap, ◌∙◌, subst, arith, length-take, length-drop, Result, Ok, Err, IfSome}
+use Rattle.std.proofs.Common.{◌≡◌, inl, inr, ℕ, ◌+◌, ◌≤◌, ◌<◌, ◌^◌, List, [], ◌∷◌, ◌++◌, length, take, drop, min, refl, sym, ap, ◌∙◌, subst, arith, length-append, length-take, length-drop, Result, Ok, Err, IfSome}
 use Rattle.std.specs.declared.option.Option.{Option}
-use Rattle.std.specs.List.{AllByRecursion}
+use Rattle.std.specs.List.{AllByRecursion, flat_map, sum_by}
 use Rattle.std.proofs.lemmas.List.{take-take}
+use Rattle.std.proofs.lemmas.List.Sums.{sum_by-cons}
+use Rattle.byte_sizes.specs.Sizes.{entry_size}
 use Rattle.sf_bytes.specs.ByteForms.{entry_bytes}
 use Rattle.sf_bytes.specs.Entries.{EntriesTo, HistoryIs}
 use Rattle.sf_bytes.specs.Gates.{StandsAt}
 use Rattle.sf_bytes.specs.Reads.{BeginsWith}
 use Rattle.byte_sizes.specs.Spelt.{IsSpeltEntry, IsRealEntry, IsReadEntry, IsReadHead, IsReadSnapshot}
-use Rattle.sf_bytes.proofs.Histories.{run_then, run_reach, history_stays}
+use Rattle.sf_bytes.proofs.Histories.{run_end, run_then, run_reach, history_stays}
+use Rattle.sf_bytes.proofs.Lengths.{entry-sizes}
 use Rattle.sf_bytes.proofs.Stands.{Stands-same}
 use Rattle.sf_outside.specs.Bytes.{CopiedAll}
 use Rattle.sf_outside.specs.DiskModel.{Image}
@@ -21,6 +24,17 @@ use Rattle.recovery.specs.Answers.{Answers, AnswersHistory}
 use Rattle.recovery.specs.StoreImage.{KeepsSnapshot}
 use Rattle.recovery.specs.declared.fault.OpenFault.{OpenFault}
 use Rattle.recovery.specs.declared.fault.OpenFault.TheVariants.{Failed, Bad, NoMemory}
+
+-- ---- how many bytes they take
+
+pub entries_size : (entries : List Entry) → length (flat_map entry_bytes entries) ≡ sum_by entry_size entries
+entries_size [] = refl
+entries_size (entry ∷ entries) =
+    omega (arith, length-append (entry_bytes entry) (flat_map entry_bytes entries), entry-sizes entry, entries_size entries, sum_by-cons entry_size entry entries)
+
+-- those that stand in a file from its start on end where their bytes do
+pub run_size : (file : List ℕ) (entries : List Entry) (end : ℕ) → EntriesTo file 0 entries end → end ≡ sum_by entry_size entries
+run_size file entries end run = omega (arith, run_end file 0 entries end run, entries_size entries)
 
 -- ---- entry by entry
 

@@ -1,7 +1,8 @@
 -- What finding a store again answers.
 use Rattle.std.specs.Prelude.{ℕ, ◌≡◌, List, length, Result, Ok, Err}
-use Rattle.std.specs.List.{AllByRecursion}
+use Rattle.std.specs.List.{AllByRecursion, sum_by}
 use Rattle.sf_bytes.specs.Entries.{HistoryIs, HistoryBreaks}
+use Rattle.byte_sizes.specs.Sizes.{entry_size}
 use Rattle.byte_sizes.specs.Spelt.{IsReadEntry, IsReadBatch, IsReadSnapshot}
 use Rattle.sf_outside.specs.DiskModel.{Image}
 use Rattle.sf_outside.specs.declared.store_disk.StoreFile.{StoreFile}
@@ -33,10 +34,14 @@ pub record AreLogged (batches : List Placed) (at : ℕ) : Type 0 where
   pub read : AllByRecursion (λ placed. IsReadBatch placed.batch) batches
   pub places : ArePlaced 0 batches at
 
--- what is old can be kept and read
+-- these entries take so many bytes
+abbrev pub HaveBytes : List Entry → ℕ → Type 0
+HaveBytes entries bytes = bytes ≡ sum_by entry_size entries
+
+-- what is old can be kept and read, and its history takes the bytes that are told
 abbrev pub IsPlaced : Result Opened OpenFault → Type 0
 IsPlaced (Ok New) = Unit {0}
-IsPlaced (Ok (Old epoch kept bytes batches at)) = IsEpoch epoch × IsReadSnapshot kept × AreLogged batches at
+IsPlaced (Ok (Old epoch kept bytes batches at)) = IsEpoch epoch × IsReadSnapshot kept × HaveBytes kept.history bytes × AreLogged batches at
 IsPlaced (Err fault) = Unit {0}
 
 -- what holds wherever the disk didn't fail
@@ -69,10 +74,10 @@ AnswersHistory file kept bytes (Err (Bad named at)) = (named ≡ Hist) × Histor
 AnswersHistory file kept bytes (Err Failed) = Unit {0}
 AnswersHistory file kept bytes (Err NoMemory) = Unit {0}
 
--- there are so many entries, and each can be read
-abbrev pub AreEntries : ℕ → Result (List Entry) OpenFault → Type 0
-AreEntries kept (Ok entries) = (length entries ≡ kept) × AllByRecursion IsReadEntry entries
-AreEntries kept (Err fault) = Unit {0}
+-- there are so many entries, each can be read, and they take so many bytes
+abbrev pub AreEntries : ℕ → ℕ → Result (List Entry) OpenFault → Type 0
+AreEntries kept bytes (Ok entries) = (length entries ≡ kept) × AllByRecursion IsReadEntry entries × HaveBytes entries bytes
+AreEntries kept bytes (Err fault) = Unit {0}
 
 -- ---- one log
 

@@ -21,7 +21,7 @@ pub(crate) fn read_history<D: Disk>(
     bytes: u64,
 ) -> Result<Entries, OpenFault>
     ensures answer { IfSome (D.facts disk.old).seen (λ now. AnswersHistory (of_file StoreFile.Hist now) kept bytes result) }
-    ensures entries { AreEntries kept result }
+    ensures entries { AreEntries kept bytes result }
     ensures stays { Stays (D.facts disk.old) (D.facts disk.new) }
     ensures later { D.faults disk.old ≤ D.faults disk.new }
     ensures cause { IsErrOf result OpenFault.Failed → Rose (D.faults disk.old) (D.faults disk.new) }
@@ -37,7 +37,7 @@ pub(crate) fn read_history<D: Disk>(
 fn entries_in(alloc: Global, there: &[u8], kept: u32, bytes: u64) -> Result<Entries, OpenFault>
     requires { length there.now ≤ bytes }
     ensures answer { AnswersHistory there.now kept bytes result }
-    ensures entries { AreEntries kept result }
+    ensures entries { AreEntries kept bytes result }
     ensures no_disk { IsErrOf result OpenFault.Failed → ⊥ }
 {
     let mut entries = Sequence::new(alloc);

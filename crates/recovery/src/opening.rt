@@ -6,7 +6,7 @@ ghost use Rattle.sf_outside.specs.DiskModel.{Stays, LeavesNoMore, IsClean};
 ghost use Rattle.byte_sizes.specs.Spelt.{IsReadHead, IsReadSnapshot};
 ghost use Rattle.sf_value.specs.Heads.{snapshot_of};
 ghost use Rattle.snapshot_store.specs.SlotFile.{IsEpoch, IsNewest};
-ghost use Rattle.recovery.specs.Answers.{Answers, IsPlaced, UnlessFailed};
+ghost use Rattle.recovery.specs.Answers.{Answers, IsPlaced, HaveBytes, UnlessFailed};
 ghost use Rattle.recovery.specs.StoreImage.{KeepsSnapshot};
 
 use crate::fault::{OpenFault, log_fault};
@@ -97,6 +97,7 @@ fn with_log<D: Disk>(
     requires newest { IfSome (D.facts disk.old).seen (λ now. KeepsSnapshot now epoch kept bytes) }
     requires epoch { IsEpoch epoch }
     requires read { IsReadSnapshot kept }
+    requires bytes { HaveBytes kept.history bytes }
     ensures answer { IfSome (D.facts disk.old).seen (λ now. Answers now result) }
     ensures placed { IsPlaced result }
     ensures stays { Stays (D.facts disk.old) (D.facts disk.new) }

@@ -14,5 +14,5 @@ pub use laws::{
     fitting_things_have_spellings, lines_fit, lines_have_spellings, requests_read_back,
 };
 pub use read::read_line;
-pub use requests::write_request;
+pub use requests::{write_asked, write_request};
 pub use write::{write_bad, write_entry, write_reply};

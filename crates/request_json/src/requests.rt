@@ -14,21 +14,21 @@ use serde::{Described, Serialize, Serializer};
 use sf_value::{Act, Bytes, Request, Text, Value};
 use std::alloc::{AllocError, Global};
 
-/// A request, with the program that has the names of what it asks for.
+/// What is asked under an id, with the program that has the names of it.
 #[derive(Drop)]
 struct RequestMembers<'a> {
     program: &'a Checked,
-    request: &'a Request,
+    id: &'a Text,
+    act: &'a Act,
 }
 
 impl<'a> Described for RequestMembers<'a> {
-    ghost writes = { λ asked. SendsValue (spec.request_data (source_of asked.program.now) asked.request.now) };
+    ghost writes = { λ asked. SendsValue (spec.asked_data (source_of asked.program.now) asked.id.now asked.act.now) };
 }
 
 impl<'a> Serialize for RequestMembers<'a> {
     fn serialize<S: Serializer>(&self, out: &mut S) -> Result<(), S::Error> {
-        let id = &self.request.id;
-        match &self.request.act {
+        match self.act {
             Act::Call {
                 class,
                 key,
@@ -37,11 +37,11 @@ impl<'a> Serialize for RequestMembers<'a> {
             } => {
                 let class_name = class_called(self.program, *class);
                 let method_name = method_called(self.program, *class, *method);
-                send_call(id, class_name, key, method_name, args.as_slice(), out)
+                send_call(self.id, class_name, key, method_name, args.as_slice(), out)
             }
             Act::New { class, args } => {
                 let class_name = class_called(self.program, *class);
-                send_creation(id, class_name, args.as_slice(), out)
+                send_creation(self.id, class_name, args.as_slice(), out)
             }
         }
     }
@@ -112,6 +112,18 @@ fn send_creation<S: Serializer>(
     out.end_map()
 }
 
+/// The line of what is asked under an id: a request is lent by its two parts.
+pub fn write_asked(
+    alloc: Global,
+    program: &Checked,
+    id: &Text,
+    act: &Act,
+) -> Result<Bytes, AllocError>
+    ensures { IfOk result (λ line. line ≡ spec.request_line (source_of program.now) (record { id = id.now; act = act.now })) }
+{
+    line_of(alloc, &RequestMembers { program, id, act })
+}
+
 /// The line of a request. A request that fits the program is read back from it.
 pub fn write_request(
     alloc: Global,
@@ -120,5 +132,5 @@ pub fn write_request(
 ) -> Result<Bytes, AllocError>
     ensures { IfOk result (λ line. line ≡ spec.request_line (source_of program.now) request.now) }
 {
-    line_of(alloc, &RequestMembers { program, request })
+    write_asked(alloc, program, &request.id, &request.act)
 }

@@ -57,16 +57,16 @@ lines_begin src earlier (odd ∷ even ∷ ls) more =
 over : (most n : ℕ) → most < n → nat_le n most ≡ false
 over most n h = grind (arith, nat_tests)
 
-asks_nothing : (src : Source) (earlier : List (List ℕ)) (l : Line) → longest < length (bytes_of l) → asked_by src earlier l ≡ None
+pub asks_nothing : (src : Source) (earlier : List (List ℕ)) (l : Line) → longest < length (bytes_of l) → asked_by src earlier l ≡ None
 asks_nothing src earlier l long = ap (λ b. if b then result_ok (reading_of src (content_of l)) >>? if_new earlier else None) (over longest (length (bytes_of l)) long)
 
-long_odd : (src : Source) (extent : Extent) (earlier : List (List ℕ)) (l : Line) (more : List Line) → longest < length (bytes_of l)
+pub long_odd : (src : Source) (extent : Extent) (earlier : List (List ℕ)) (l : Line) (more : List Line) → longest < length (bytes_of l)
     → read_lines src extent earlier (l ∷ more) ≡ bad_line (2 * length earlier + 1)
 unfolding read_lines
 long_odd src extent earlier l [] long = ap (read_last extent (length earlier)) (asks_nothing src earlier l long)
 long_odd src extent earlier l (even ∷ more) long = ap (λ o. read_pair (length earlier) o even (λ r. read_lines src extent (earlier ++ r.id ∷ []) more)) (asks_nothing src earlier l long)
 
-long_even : (n : ℕ) (o : Option Request) (l l' : Line) (front full : Request → Reading) → longest_reply < length (bytes_of l) → longest_reply < length (bytes_of l') → read_pair n o l front ≡ read_pair n o l' full
+pub long_even : (n : ℕ) (o : Option Request) (l l' : Line) (front full : Request → Reading) → longest_reply < length (bytes_of l) → longest_reply < length (bytes_of l') → read_pair n o l front ≡ read_pair n o l' full
 long_even n None l l' front full long long' = refl
 long_even n (Some r) l l' front full long long' =
     ap (λ b. if b then behind_entry (record { asked = r; said = content_of l }) (front r) else bad_line (2 * n + 2)) (over longest_reply (length (bytes_of l)) long)

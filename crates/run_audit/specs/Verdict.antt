@@ -1,5 +1,6 @@
 -- The verdict on a file of request lines and reply lines.
-use Rattle.std.specs.Prelude.{ℕ, suc, ◌+◌, ◌*◌, Bool, ◌||◌, nat_le, bytes_eq, List, [], ◌∷◌, ◌++◌, length, map as over, Some, None, option_map, unwrap_or, if◌then◌else◌}
+use Rattle.std.specs.Prelude.{ℕ, suc, ◌+◌, ◌*◌, Bool, ◌||◌, nat_le, bytes_eq, if◌then◌else◌}
+use Rattle.std.specs.Prelude.{List, [], ◌∷◌, ◌++◌, length, map as over, Some, None, option_map, unwrap_or}
 use Rattle.std.specs.declared.option.Option.{Option}
 use Rattle.std.specs.Result.{result_ok}
 use Rattle.std.specs.List.{list_any}
@@ -80,7 +81,8 @@ read_pair n (Some r) even others = if is_reply even then behind_entry (record { 
 unfoldable pub read_lines : Source → Extent → List (List ℕ) → List Line → Reading
 read_lines src extent earlier [] = none_bad
 read_lines src extent earlier (odd ∷ []) = read_last extent (length earlier) (asked_by src earlier odd)
-read_lines src extent earlier (odd ∷ even ∷ more) = read_pair (length earlier) (asked_by src earlier odd) even (λ r. read_lines src extent (earlier ++ r.id ∷ []) more)
+read_lines src extent earlier (odd ∷ even ∷ more) =
+    read_pair (length earlier) (asked_by src earlier odd) even (λ r. read_lines src extent (earlier ++ r.id ∷ []) more)
 
 -- ---- judging, by the serial run of the requests
 

@@ -154,7 +154,47 @@ batch 4: pending 2, committed 1, events 10
 batch 5: pending 1, committed 1, events 5
 ";
 
-const ROWS: [Row; 8] = [
+/// Who asks for an item that isn't there yet goes before it is made, and purchases that come to nothing stand in nobody's way.
+const ASKED_BEFORE: Row = Row {
+    label: "carried by none",
+    program: SHOP,
+    options: &["--batch", "3", "--reorder", "--trace"],
+    input: CARRIED,
+    replies: r#"{"error":"NoEntity","id":"s","message":"","seq":1}
+{"id":"i","ok":"apple","seq":2}
+{"id":"u","ok":"ann","seq":3}
+{"id":"p1","ok":false,"seq":4}
+{"id":"p2","ok":false,"seq":5}
+{"id":"p3","ok":false,"seq":6}
+"#,
+    traced: "batch 1: pending 3, committed 3, events 3
+batch 2: pending 3, committed 3, events 15
+",
+};
+
+/// Who reads goes before who writes.
+const READ_BEFORE: Row = Row {
+    label: "read before it is written",
+    program: NUM,
+    options: &["--batch", "2", "--reorder", "--trace"],
+    input: r#"{"id":"a","class":"Num","new":["p",1]}
+{"id":"b","class":"Num","new":["q",2]}
+{"id":"w","class":"Num","key":"p","method":"put","args":[5]}
+{"id":"g","class":"Num","key":"p","method":"get","args":[]}
+"#,
+    replies: r#"{"id":"a","ok":"p","seq":1}
+{"id":"b","ok":"q","seq":2}
+{"id":"g","ok":1,"seq":3}
+{"id":"w","ok":null,"seq":4}
+"#,
+    traced: "batch 1: pending 2, committed 2, events 2
+batch 2: pending 2, committed 2, events 2
+",
+};
+
+const ROWS: [Row; 11] = [
+    ASKED_BEFORE,
+    READ_BEFORE,
     ONE_AT_A_TIME,
     CALLED_BACK,
     LOOP_OF_CALLS,
@@ -179,6 +219,19 @@ const ROWS: [Row; 8] = [
 "#,
         traced: "batch 1: pending 2, committed 1, events 2
 batch 2: pending 1, committed 1, events 1
+",
+    },
+    Row {
+        label: "failed before it is made",
+        program: SHOP,
+        options: &["--batch", "2", "--reorder", "--trace"],
+        input: r#"{"id":"a","class":"Item","new":["pear",4]}
+{"id":"b","class":"Item","key":"pear","method":"price","args":[]}
+"#,
+        replies: r#"{"error":"NoEntity","id":"b","message":"","seq":1}
+{"id":"a","ok":"pear","seq":2}
+"#,
+        traced: "batch 1: pending 2, committed 2, events 2
 ",
     },
     Row {

@@ -25,6 +25,7 @@ fn run_counter(
         schedule: 0,
         history: 10,
         limit: 3,
+        reorder: false,
         trace: true,
     };
     Ok(run_program(

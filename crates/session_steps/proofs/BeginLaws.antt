@@ -1,5 +1,5 @@
 -- What a session has come to, wherever it stopped.
-use Rattle.std.proofs.Common.{◌≡◌, ℕ, suc, ◌⊎◌, inl, inr, Bool, true, Option, Some, None, List, [], ◌∷◌, ◌++◌, length, length-append, take, Ok, Err, refl, sym, ap, ◌∙◌, subst, append-nil, append_assoc, ◌+◌, arith}
+use Rattle.std.proofs.Common.{◌≡◌, ℕ, ◌⊎◌, inl, inr, Bool, true, Option, Some, None, List, [], ◌∷◌, ◌++◌, length, length-append, take, Ok, Err, refl, sym, ap, ◌∙◌, subst, append-nil, append_assoc, ◌+◌, arith}
 use Rattle.std.specs.declared.result.Result.{Result}
 use Rattle.std.specs.Io.KnownBytes.{Appends}
 use Rattle.std.proofs.KnownBytes.{Appends-nil, Appends-trans}
@@ -18,7 +18,7 @@ use Rattle.session_steps.specs.Steps.{Step, move_of, behind, standing_after, pri
 use Rattle.session_steps.specs.Flushing.{FlushesBatches}
 use Rattle.session_steps.specs.Traces.{tally_after, trace_text}
 use Rattle.session_steps.specs.Doings.{Point, going, moment, IsUncounted, RunBatches, BeginBatches, Does, IsUntraced, StopsAt, StopsWithin, Comes}
-use Rattle.session_steps.specs.StepLaws.{WroteAs, WholeAs, ToldAs, TracedAs, StandsAs, IsAtNext, AreCounted, EndsAmong, HasBegun, ComesBegin}
+use Rattle.session_steps.specs.StepLaws.{WroteAs, WholeAs, ToldAs, TracedAs, StandsAs, IsAtNext, AreCounted, EndsAmong, LacksALine, HasBegun, ComesBegin}
 use Rattle.session_steps.proofs.PieceLaws.{prefix_whole, prefix_none, prefix_after}
 use Rattle.session_steps.proofs.StepFacts.{printed_is, printed_placed, printed_full, behind_full, behind_placed, ran_placed, ran_full, standing_over, all_printed_over, all_ran_over, standing-append, standing-one, printed-append, ran-append, printed-cons, ran-cons}
 use Rattle.session_steps.proofs.Composing.{tally-nil, tally-one, tally-append, trace-append, trace-nil, Ran-then, Begin-then, Begin-none, counts_of_each, flushes_behind}
@@ -89,17 +89,26 @@ module _ (v : Service) (traces : Bool) where
   abbrev Begun : Result (Unit {0}) Stop → List Step → Point → Point → Type 0
   Begun r steps p q = HasBegun v traces r steps p q
 
-  ended_after : (r : Result (Unit {0}) Stop) (xs ys : List Step) (p q z : Point) → (d : Does v traces xs p q) → (counts : List BatchCounts)
+  -- so many batches ran behind these steps, and so many were counted
+  ran_behind : (xs ys : List Step) (p q : Point) → Does v traces xs p q
+      → length (ran_on v (going p) (xs ++ ys)) ≡ length (ran_on v (going p) xs) + length (ran_on v (going q) ys)
+  ran_behind xs ys p q d =
+      let cores : ran_on v (going p) (xs ++ ys) ≡ ran_on v (going p) xs ++ ran_on v (going q) ys = ran-append v xs ys (going p)
+      ∙ ap (λ s. ran_on v (going p) xs ++ ran_on v s ys) d.stands in
+      ap length cores ∙ length-append (ran_on v (going p) xs) (ran_on v (going q) ys)
+
+  counted_behind : (xs : List Step) (p q : Point) (d : Does v traces xs p q) (counts : List BatchCounts)
+      → length (d.counts ++ counts) ≡ length (ran_on v (going p) xs) + length counts
+  counted_behind xs p q d counts = length-append d.counts counts
+      ∙ ap (λ n. n + length counts) (counts_of_each v (ran_on v (going p) xs) d.counts p.outside q.outside d.ran)
+
+  abbrev ended_after : (r : Result (Unit {0}) Stop) (xs ys : List Step) (p q z : Point) → (d : Does v traces xs p q) → (counts : List BatchCounts)
       → EndsAmong v ys (going q) z.core (AreCounted r (length counts)) → EndsAmong v (xs ++ ys) (going p) z.core (AreCounted r (length (d.counts ++ counts)))
   ended_after r xs ys p q z d counts e =
       let there : standing_after v (going p) (xs ++ e.first) ≡ standing_after v (going q) e.first = standing-append v xs e.first (going p)
       ∙ ap (λ s. standing_after v s e.first) d.stands in
-      let cores : ran_on v (going p) (xs ++ e.first) ≡ ran_on v (going p) xs ++ ran_on v (going q) e.first = ran-append v xs e.first (going p)
-      ∙ ap (λ s. ran_on v (going p) xs ++ ran_on v s e.first) d.stands in
-      let ran : length (ran_on v (going p) (xs ++ e.first)) ≡ length (ran_on v (going p) xs) + length (ran_on v (going q) e.first) = ap length cores
-      ∙ length-append (ran_on v (going p) xs) (ran_on v (going q) e.first) in
-      let counted : length (d.counts ++ counts) ≡ length (ran_on v (going p) xs) + length counts = length-append d.counts counts
-      ∙ ap (λ n. n + length counts) (counts_of_each v (ran_on v (going p) xs) d.counts p.outside q.outside d.ran) in
+      let ran = ran_behind xs e.first p q d in
+      let counted = counted_behind xs p q d counts in
       record {
         first = xs ++ e.first;
         rest = e.rest;
@@ -111,6 +120,35 @@ module _ (v : Service) (traces : Bool) where
             (counted_after r (length (ran_on v (going p) xs)) (length counts) (length (ran_on v (going q) e.first)) e.ran));
       }
 
+  -- what was traced of the batches behind those of steps that were done
+  trace_behind : (xs : List Step) (p q : Point) (d : Does v traces xs p q) (counts : List BatchCounts)
+      → trace_text traces p.tally (d.counts ++ counts) ≡ trace_text traces p.tally d.counts ++ trace_text traces q.tally counts
+  trace_behind xs p q d counts = trace-append traces d.counts counts p.tally ∙ ap (λ t. trace_text traces p.tally d.counts ++ trace_text traces t counts) (sym d.tally)
+
+  -- the trace of the batches of these steps, of which so many were counted, and of which so many ran
+  abbrev Lacks : Point → Point → List BatchCounts → ℕ → Type 0
+  Lacks p q counts ran = Appends p.traced q.traced (trace_text traces p.tally counts) ⊎ LacksALine traces (trace_text traces p.tally) counts ran p.traced q.traced
+
+  lacks_after : (xs ys : List Step) (p q z : Point) (d : Does v traces xs p q) (counts : List BatchCounts) → Lacks q z counts (length (ran_on v (going q) ys))
+      → Lacks p z (d.counts ++ counts) (length (ran_on v (going p) (xs ++ ys)))
+  lacks_after xs ys p q z d counts (inl whole) =
+      inl (subst (Appends p.traced z.traced) (sym (trace_behind xs p q d counts))
+      (Appends-trans p.traced q.traced z.traced (trace_text traces p.tally d.counts) (trace_text traces q.tally counts) d.traced whole))
+  lacks_after xs ys p q z d counts (inr l) =
+      let done = trace_text traces p.tally d.counts in
+      let texts : trace_text traces p.tally (d.counts ++ l.first) ++ l.more ≡ done ++ (trace_text traces q.tally l.first ++ l.more) =
+      ap (λ text. text ++ l.more) (trace_behind xs p q d l.first) ∙ append_assoc done (trace_text traces q.tally l.first) l.more in
+      inr (record {
+        asked = l.asked;
+        all = counted_behind xs p q d counts ∙ ap (λ n. length (ran_on v (going p) xs) + n) l.all ∙ sym (ran_behind xs ys p q d);
+        first = d.counts ++ l.first;
+        last = l.last;
+        split = ap (λ cs. d.counts ++ cs) l.split ∙ sym (append_assoc d.counts l.first (l.last ∷ []));
+        more = l.more;
+        wrote = subst (Appends p.traced z.traced) (sym texts)
+            (Appends-trans p.traced q.traced z.traced done (trace_text traces q.tally l.first ++ l.more) d.traced l.wrote);
+      })
+
   -- the first steps were done, and this was begun of the rest
   begun_after : (r : Result (Unit {0}) Stop) (xs ys : List Step) (p q z : Point) → Does v traces xs p q → Begun r ys q z → Begun r (xs ++ ys) p z
   begun_after r xs ys p q z d h =
@@ -118,8 +156,7 @@ module _ (v : Service) (traces : Bool) where
       ∙ ap (λ s. printed v (going p) xs ++ printed v s ys) d.stands in
       let cores : ran_on v (going p) (xs ++ ys) ≡ ran_on v (going p) xs ++ ran_on v (going q) ys = ran-append v xs ys (going p)
       ∙ ap (λ s. ran_on v (going p) xs ++ ran_on v s ys) d.stands in
-      let trace : trace_text traces p.tally (d.counts ++ h.counts) ≡ trace_text traces p.tally d.counts ++ trace_text traces q.tally h.counts =
-      trace-append traces d.counts h.counts p.tally ∙ ap (λ t. trace_text traces p.tally d.counts ++ trace_text traces t h.counts) (sym d.tally) in
+      let trace = trace_behind xs p q d h.counts in
       record {
         stands = subst (λ s. StandsAs r s (going z)) (sym (standing-append v xs ys (going p) ∙ ap (λ s. standing_after v s ys) d.stands)) h.stands;
         wrote =
@@ -138,6 +175,7 @@ module _ (v : Service) (traces : Bool) where
         tally = h.tally ∙ ap (λ t. tally_after t h.counts) d.tally ∙ sym (tally-append d.counts h.counts p.tally);
         flushes = flushes_behind v traces xs ys p q z d h.counts h.flushes;
         ended = ended_after r xs ys p q z d h.counts h.ended;
+        lacks = lacks_after xs h.ended.first p q z d h.counts h.lacks;
       }
 
   none_traced : (p q : Point) → q.traced ≡ p.traced → Appends p.traced q.traced (trace_text traces p.tally [])
@@ -156,6 +194,7 @@ module _ (v : Service) (traces : Bool) where
     tally = h.tally;
     flushes = h.flushes;
     ended = record { first = h.ended.first; rest = h.ended.rest; split = h.ended.split; core = h.ended.core; ran = h.ended.ran };
+    lacks = h.lacks;
   }
 
   -- no step was done: the core is the same, or has the request of the first one besides
@@ -176,6 +215,7 @@ module _ (v : Service) (traces : Bool) where
     tally = sym (tally-nil p.tally);
     flushes = flushes_none v (going p) p.held steps p.handed p.handed (stays_none p.handed);
     ended = ended_before (Err NoMemory) refl steps p p (inl refl);
+    lacks = inl (none_traced p p refl);
   }
 
   none_ran : (s : Standing) → ran_on v s [] ≡ []
@@ -228,18 +268,22 @@ module _ (v : Service) (traces : Bool) where
         → IsToldAlong (batch_on v.compiled move.core) v.parts None p.outside q.outside → BeginBatches v cores [] p.outside q.outside
     batch_begun due place t = subst (λ l. BeginBatches v l [] p.outside q.outside) (sym (cores_are due place)) (inr t)
 
+    -- it ran
+    one_ran : move.is_due ≡ true → HasPlace (program_of v) v.rule v.limits move.core → ran_on v (going p) (step ∷ []) ≡ move.core ∷ []
+    one_ran due place =
+        ran-cons v (going p) step [] ∙ ap (λ l. l ++ ran_on v (behind v (going p) step) []) (ran_placed v p.core p.lines step due place)
+        ∙ ap (λ l. move.core ∷ l) (none_ran (behind v (going p) step))
+
     -- the batch was committed, and something of it couldn't be written
-    ended_behind : (counted : ℕ) → AreCounted {T = Unit {0}} (Err WriteFault) counted 1 → move.is_due ≡ true → HasPlace (program_of v) v.rule v.limits move.core
+    abbrev ended_behind : (counted : ℕ) → AreCounted {T = Unit {0}} (Err WriteFault) counted 1 → move.is_due ≡ true → HasPlace (program_of v) v.rule v.limits move.core
         → q.core ≡ core_behind (program_of v) v.rule v.limits move.core → EndsAmong v (step ∷ rest) (going p) q.core (AreCounted {T = Unit {0}} (Err WriteFault) counted)
     ended_behind counted many due place core =
-        let one : ran_on v (going p) (step ∷ []) ≡ move.core ∷ [] = ran-cons v (going p) step [] ∙ ap (λ l. l ++ ran_on v (behind v (going p) step) []) (ran_placed v p.core p.lines step due place)
-        ∙ ap (λ l. move.core ∷ l) (none_ran (behind v (going p) step)) in
         record {
           first = step ∷ [];
           rest = rest;
           split = refl;
           core = inl (core ∙ sym (ap (λ (s : Standing). s.core) (standing-one v (going p) step ∙ behind_placed v p.core p.lines step due place)));
-          ran = subst (λ l. AreCounted {T = Unit {0}} (Err WriteFault) counted (length l)) (sym one) many;
+          ran = subst (λ l. AreCounted {T = Unit {0}} (Err WriteFault) counted (length l)) (sym (one_ran due place)) many;
         }
 
     -- The stops
@@ -279,6 +323,7 @@ module _ (v : Service) (traces : Bool) where
           tally = uncounted u;
           flushes = unflushed u;
           ended = ended_before (Err HistoryFull) refl (step ∷ rest) p q (inr a.core);
+          lacks = inl (untraced u);
         }
 
     at_untaken : IsUntaken (going p) move (moment p) (moment q) → IsUncounted p q → Begun (Err NoMemory) (step ∷ rest) p q
@@ -292,6 +337,7 @@ module _ (v : Service) (traces : Bool) where
       tally = uncounted u;
       flushes = unflushed u;
       ended = ended_before (Err NoMemory) refl (step ∷ rest) p q a.core;
+      lacks = inl (untraced u);
     }
 
     at_unplanned : IsUnplanned v move (moment p) (moment q) → IsUncounted p q → Begun (Err NoMemory) (step ∷ rest) p q
@@ -305,6 +351,7 @@ module _ (v : Service) (traces : Bool) where
       tally = uncounted u;
       flushes = unflushed u;
       ended = ended_before (Err NoMemory) refl (step ∷ rest) p q (inr a.core);
+      lacks = inl (untraced u);
     }
 
     -- all events of its batch are some first ones
@@ -324,6 +371,7 @@ module _ (v : Service) (traces : Bool) where
       tally = uncounted u;
       flushes = unflushed u;
       ended = ended_before (Err WriteFault) (inl refl) (step ∷ rest) p q (inr a.core);
+      lacks = inl (untraced u);
     }
 
     at_unreplied : IsUnreplied v move (moment p) (moment q) → IsUncounted p q → Begun (Err WriteFault) (step ∷ rest) p q
@@ -337,6 +385,7 @@ module _ (v : Service) (traces : Bool) where
       tally = uncounted u;
       flushes = unflushed u;
       ended = ended_behind 0 (inr refl) a.due a.place a.core;
+      lacks = inl (untraced u);
     }
 
     at_untraced : IsUntraced v traces step p q → Begun (Err WriteFault) (step ∷ rest) p q
@@ -354,6 +403,17 @@ module _ (v : Service) (traces : Bool) where
           tally = a.tally ∙ sym (tally-one p.tally a.counts);
           flushes = flushes_among v (going p) p.held (step ∷ []) rest 1 p.handed q.handed a.flushes;
           ended = ended_behind 1 (inl refl) c.due c.place c.core;
+          lacks = inr (record {
+            asked = a.asked;
+            all = ap length (sym (one_ran c.due c.place));
+            first = [];
+            last = a.counts;
+            split = refl;
+            more = take a.part.0 (trace_text traces p.tally (a.counts ∷ []));
+            wrote =
+                subst (λ text. Appends p.traced q.traced (text ++ take a.part.0 (trace_text traces p.tally (a.counts ∷ [])))) (sym (trace-nil traces p.tally))
+                a.part.1;
+          });
         }
 
     at_stop : (stop : Stop) → StopsAt v traces stop step p q → Begun (Err stop) (step ∷ rest) p q
@@ -393,6 +453,7 @@ module _ (v : Service) (traces : Bool) where
       core = inl (sym (ap (λ (s : Standing). s.core) d.stands));
       ran = counts_of_each v (ran_on v (going p) steps) d.counts p.outside q.outside d.ran;
     };
+    lacks = inl d.traced;
   }
   begins (Err HistoryFull) steps p q s = within HistoryFull steps p q s
   begins (Err NoMemory) steps p q (inl s) = within NoMemory steps p q s

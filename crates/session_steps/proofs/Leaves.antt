@@ -36,6 +36,7 @@ pub record IsCounted (traces : Bool) (counts : BatchCounts) (old new : Point) : 
 
 -- or it was traced in part
 pub record IsHalfTraced (traces : Bool) (counts : BatchCounts) (old new : Point) : Type 0 where
+  pub asked : traces ≡ true
   pub tally : new.tally ≡ with_batch old.tally counts
   pub part : AppendsPrefix old.traced new.traced (trace_text traces old.tally (counts ∷ []))
   pub stays : StaysHanded old.handed new.handed
@@ -124,7 +125,7 @@ module _ (v : Service) (traces : Bool) where
   pub Stops-untraced : (counts : BatchCounts) (step : Step) (old new : Point) → Moves v (Ok (Some counts)) (move_from old step) (moment old) (moment new)
       → IsHalfTraced traces counts old new → StopsAt v traces WriteFault step old new
   Stops-untraced counts step old new a u =
-      inr (record { counts = counts; committed = a; tally = u.tally; part = u.part; flushes = flushed_step counts step old new a u.stays u.flushed })
+      inr (record { asked = u.asked; counts = counts; committed = a; tally = u.tally; part = u.part; flushes = flushed_step counts step old new a u.stays u.flushed })
 
   -- A stop at one step is one of it alone
 

@@ -1,5 +1,5 @@
 -- What a session has done of its steps: of each in full, or up to the one at which it stopped.
-use Rattle.std.specs.Prelude.{◌≡◌, ℕ, ◌⊎◌, Bool, false, List, [], ◌∷◌, ◌++◌, length, None, Ok, Err}
+use Rattle.std.specs.Prelude.{◌≡◌, ℕ, ◌⊎◌, Bool, false, true, List, [], ◌∷◌, ◌++◌, length, None, Ok, Err}
 use Rattle.std.specs.declared.option.Option.{Option}
 use Rattle.std.specs.declared.result.Result.{Result}
 use Rattle.std.specs.Io.KnownBytes.{Appends}
@@ -74,8 +74,9 @@ module _ (v : Service) (traces : Bool) where
     pub traced : Appends old.traced new.traced (trace_text traces old.tally counts)
     pub flushes : FlushesBatches v steps (going old) (length counts) old.held old.handed new.handed
 
-  -- a batch was run, committed, answered and flushed, and its line of the trace was written in part
+  -- batches are traced, and one was run, committed, answered and flushed, and its line was written in part
   pub record IsUntraced (step : Step) (old new : Point) : Type 0 where
+    pub asked : traces ≡ true
     pub counts : BatchCounts
     pub committed : IsCommitted v (move_of v (going old) step) counts (moment old) (moment new)
     pub tally : new.tally ≡ with_batch old.tally counts

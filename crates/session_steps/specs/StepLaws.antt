@@ -96,8 +96,19 @@ pub record EndsAmong (v : Service) (steps : List Step) (old : Standing) (last : 
   pub core : (last ≡ (standing_after v old first).core) ⊎ IsAtNext v (standing_after v old first) rest last
   pub ran : Ran (length (ran_on v old first))
 
+-- Batches are traced, all that ran were counted, and the text of all but the last was traced, and perhaps more: the line of the last couldn't be written.
+pub record LacksALine (traces : Bool) (text : List BatchCounts → List ℕ) (counts : List BatchCounts) (ran : ℕ) (old new : Option (List ℕ)) : Type 0 where
+  pub asked : traces ≡ true
+  pub all : length counts ≡ ran
+  pub first : List BatchCounts
+  pub last : BatchCounts
+  pub split : counts ≡ first ++ last ∷ []
+  pub more : List ℕ
+  pub wrote : Appends old new (text first ++ more)
+
 -- a first part of what the steps print was printed, and of their batches some first ones were run, told, counted and traced; all of it where the
--- steps were done or the history was full. The tally is that of those that were counted, and the output was flushed behind the last of them.
+-- steps were done or the history was full. The tally is that of those that were counted, and the output was flushed behind the last of them. Of the lines
+-- of those the trace lacks one at most.
 pub record HasBegun {T : Type 0} (v : Service) (traces : Bool) (result : Result T Stop) (steps : List Step) (old new : Point) : Type 0 where
   pub stands : StandsAs result (standing_after v (going old) steps) (going new)
   pub wrote : WroteAs result old.held new.held (joined (printed v (going old) steps))
@@ -108,6 +119,8 @@ pub record HasBegun {T : Type 0} (v : Service) (traces : Bool) (result : Result 
   pub tally : new.tally ≡ tally_after old.tally counts
   pub flushes : FlushesBatches v steps (going old) (length counts) old.held old.handed new.handed
   pub ended : EndsAmong v steps (going old) new.core (AreCounted result (length counts))
+  pub lacks : Appends old.traced new.traced (trace_text traces old.tally counts)
+      ⊎ LacksALine traces (trace_text traces old.tally) counts (length (ran_on v (going old) ended.first)) old.traced new.traced
 
 abbrev pub ComesBegin : Type 0
 ComesBegin = (v : Service) (traces : Bool) (result : Result (Unit {0}) Stop) (steps : List Step) (old new : Point)

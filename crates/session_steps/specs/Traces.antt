@@ -25,6 +25,11 @@ unfoldable pub tally_after : Tally → List BatchCounts → Tally
 tally_after t [] = t
 tally_after t (counts ∷ more) = tally_after (with_batch t counts) more
 
+-- how many events operators handled for batches with these counts, however many there are
+unfoldable pub events_in : List BatchCounts → ℕ
+events_in [] = 0
+events_in (counts ∷ more) = counts.events + events_in more
+
 -- `batch B: pending Q, committed C, events E`
 abbrev pub trace_line : ℕ → BatchCounts → List ℕ
 trace_line number counts =

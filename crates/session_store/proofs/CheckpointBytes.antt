@@ -1,17 +1,16 @@
 -- What a checkpoint of a core writes, and what a disk keeps by it.
-use Rattle.std.proofs.Common.{◌≡◌, ◌⊎◌, ℕ, ◌+◌, ◌≤◌, ◌<◌, ◌^◌, true, inl, inr, Ok, Err, IfOk, OnErr, List, [], ◌∷◌, length, drop, refl, sym, ap, ◌∙◌, subst, arith, length-append, take-append-drop}
+use Rattle.std.proofs.Common.{◌≡◌, ◌⊎◌, ℕ, ◌+◌, ◌≤◌, ◌<◌, ◌^◌, true, inl, inr, Ok, Err, IfOk, OnErr, List, [], ◌∷◌, length, drop, refl, sym, ap, ◌∙◌, subst, arith, take-append-drop}
 use Rattle.std.specs.declared.result.Result.{Result}
 use Rattle.sf_outside.specs.declared.devices.Failed.{Failed}
-use Rattle.std.specs.List.{AllByRecursion, flat_map, sum_by}
+use Rattle.std.specs.List.{AllByRecursion, flat_map}
 use Rattle.std.proofs.lemmas.List.{take_all}
-use Rattle.std.proofs.lemmas.List.Sums.{sum_by-cons}
-use Rattle.byte_sizes.specs.Sizes.{entry_size, head_size}
+use Rattle.byte_sizes.specs.Sizes.{head_size}
 use Rattle.byte_sizes.specs.Spelt.{IsShortText, IsSpeltEntry, IsSpeltHead, IsRealEntry, IsRealHead, IsReadEntry}
 use Rattle.sf_bytes.specs.ByteForms.{entry_bytes, head_bytes}
 use Rattle.sf_bytes.specs.Entries.{EntriesTo}
 use Rattle.sf_bytes.specs.Gates.{StandsAt}
 use Rattle.sf_bytes.proofs.Histories.{bytes_run}
-use Rattle.sf_bytes.proofs.Lengths.{entry-sizes, head-sizes}
+use Rattle.sf_bytes.proofs.Lengths.{head-sizes}
 use Rattle.sf_outside.specs.DiskModel.{Image, DiskFacts, LeavesOnly}
 use Rattle.sf_outside.proofs.DiskLaws.{LeavesOnly-start, LeavesOnly-weaker}
 use Rattle.sf_value.specs.Heads.{snapshot_of}
@@ -22,6 +21,7 @@ use Rattle.keyed_state.specs.Works.{with_records, entities_differ}
 use Rattle.program_meaning.specs.Serial.{no_state}
 use Rattle.engine.proofs.KeptLaws.{snapshot_fits}
 use Rattle.store_meaning.specs.Vocabulary.{Engine, Core, CoreFits, core_of, core_of_snapshot, source_of, tables_of, SnapshotFits}
+use Rattle.store_meaning.proofs.Vocabulary.{entries_size}
 use Rattle.store_meaning.specs.declared.position.Position.{Position}
 use Rattle.store_meaning.specs.Checkpoints.{IsHeadOf, IsCheckpointOf, next_of}
 use Rattle.store_meaning.specs.Engines.{program_of}
@@ -52,11 +52,6 @@ entries_stand entries read =
     let stands : StandsAt all 0 all = take_all (length all) all (omega arith) in
     let end : 0 + length all ≡ length all = omega arith in
     subst (EntriesTo all 0 entries) end (bytes_run all 0 entries read stands)
-
-entries_size : (entries : List Entry) → length (flat_map entry_bytes entries) ≡ sum_by entry_size entries
-entries_size [] = refl
-entries_size (entry ∷ entries) =
-    omega (arith, length-append (entry_bytes entry) (flat_map entry_bytes entries), entry-sizes entry, entries_size entries, sum_by-cons entry_size entry entries)
 
 pub history_past : (core : Core) (position : Position) → 2 ^ 62 < position.bytes + length (behind_bytes core position.kept) → HistoryEndsPast position core
 history_past core position past = omega (arith, entries_size (behind core position.kept), past)

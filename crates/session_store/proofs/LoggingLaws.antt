@@ -18,6 +18,8 @@ use Rattle.store_meaning.specs.StandsFor.{Program}
 use Rattle.session_store.specs.declared.store.Store.{Store}
 use Rattle.session_store.specs.Stores.{program_with, StandsSomewhere, KeepsStored, RecordEndsPast}
 use Rattle.session_store.specs.Endings.{LeavesMeanwhile}
+use Rattle.session_store.specs.Places.{IsPlaced}
+use Rattle.session_store.proofs.PlaceLaws.{placed_logged}
 
 -- what holds anyway holds where a call failed
 pub on_err : {T E : Type 0} (result : Result T E) (P : Type 0) → P → OnErr result P
@@ -55,6 +57,9 @@ module _ (e : Engine) (p : Planned) (plan : IsPlanOf e p) (fits : CoreFits (tabl
       subst (λ core. KeepsCore of_store new core (behind store.position body)) replays.core (added of_store (logged_of e) p.batch kept.keeps follows) in
       record {
         keeps = subst (KeepsCore of_store new after) (sym place) keeps;
+        placed = subst (IsPlaced of_store after) (sym place)
+            (subst (λ core. IsPlaced of_store core (behind store.position body)) replays.core
+            (placed_logged of_store (logged_of e) store.position kept.placed p.batch body follows));
         epoch = subst (λ (q : Position). IsEpoch q.epoch) (sym place) kept.epoch;
         every = kept.every;
         text = kept.text;

@@ -20,8 +20,8 @@ none_storable core fresh empty none =
 -- no store comes of none, and without one nothing ends past a file's last place
 none_past : (rule : List Access → Chosen) (store : Option Store) (src : Source) (core : Core) (fresh : ℕ) (facts : DiskFacts) → settings_of store ≡ None
     → EndsPast rule store src core fresh facts → ⊥
-none_past rule None src core fresh facts none (inl past) = past.0
-none_past rule None src core fresh facts none (inr past) = past
+none_past rule None src core fresh facts none (inl past, kept) = past
+none_past rule None src core fresh facts none (inr past, kept) = past
 none_past rule (Some store) src core fresh facts none past = none-some store.settings (sym none)
 
 -- a disk that counts no fault hasn't failed then

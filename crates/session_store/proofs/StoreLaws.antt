@@ -79,7 +79,7 @@ module _ (e now : Engine) (runs : RunsProgram now (compiled_of e) (limit_of e)) 
 module _ (rule : List Access → Chosen) (store : Option Store) (src : Source) (core : Core) (fresh : ℕ) (facts : DiskFacts) where
   pub record_ends : (batch : BatchRecord) → batch.news ≡ news_of core fresh → batch.committed ≡ (rule (accesses_on src core)).committed → RecordEndsPast store batch
       → Keeps store src (settled core fresh) facts → EndsPast rule store src core fresh facts
-  record_ends batch news committed past kept = inl (subst (RecordEndsPast store) same past, kept)
+  record_ends batch news committed past kept = (inl (subst (RecordEndsPast store) same past), kept)
     where
       same : batch ≡ next_record rule src core fresh
       same = λ i. record { news = news i; committed = committed i }

@@ -21,6 +21,7 @@ use Rattle.store_meaning.specs.StandsFor.{Program, StandsFor}
 use Rattle.storable_cores.specs.Storable.{news_of}
 use Rattle.session_store.specs.declared.store.Store.{Store}
 use Rattle.session_store.specs.declared.store.StoreSettings.{StoreSettings}
+use Rattle.session_store.specs.Places.{IsPlaced}
 
 -- what stays of a store through a session
 abbrev pub settings_of : Option Store → Option StoreSettings
@@ -33,9 +34,10 @@ program_with store src = record { source = src; text = store.settings.program }
 
 -- ---- what a disk keeps
 
--- each image that a crash now may leave stands for this core, where the store is
+-- each image that a crash now may leave stands for this core, where the store is; and it is where the core's entries and batches say
 pub record KeepsStored (store : Store) (src : Source) (core : Core) (facts : DiskFacts) : Type 0 where
   pub keeps : KeepsCore (program_with store src) facts core store.position
+  pub placed : IsPlaced (program_with store src) core store.position
   pub epoch : IsEpoch store.position.epoch
   pub every : 1 ≤ store.settings.every
   pub text : IsShortText store.settings.program
@@ -95,7 +97,8 @@ abbrev pub SnapshotEndsPast : Option Store → Core → Type 0
 SnapshotEndsPast None core = ⊥
 SnapshotEndsPast (Some store) core = CheckpointEndsPast store.position store.settings.program core
 
--- one of the two: the record of the next batch of a core, or a checkpoint of what is logged of it, where so many requests came since the last batch
+-- One of the two: the record of the next batch of a core, or a checkpoint of what is logged of it, where so many requests came since the last batch;
+-- and the store is where what is logged says.
 abbrev pub EndsPast : (List Access → Chosen) → Option Store → Source → Core → ℕ → DiskFacts → Type 0
 EndsPast rule store src core fresh facts =
-    (RecordEndsPast store (next_record rule src core fresh) × Keeps store src (settled core fresh) facts) ⊎ SnapshotEndsPast store (settled core fresh)
+    (RecordEndsPast store (next_record rule src core fresh) ⊎ SnapshotEndsPast store (settled core fresh)) × Keeps store src (settled core fresh) facts

@@ -46,7 +46,8 @@ pub fn batch_ended<D: Disk>(
     ensures cycle { OnOk result (cycle_of store.new ≡ next_cycle (cycle_of store.old)) }
     ensures settings { settings_of store.new ≡ settings_of store.old }
     ensures later { D.faults disk.old ≤ D.faults disk.new }
-    ensures cause { OnErr result (Rose (D.faults disk.old) (D.faults disk.new) ⊎ SnapshotEndsPast store.new (core_of engine.now)) }
+    ensures cause { OnErr result (Rose (D.faults disk.old) (D.faults disk.new)
+        ⊎ (SnapshotEndsPast store.new (core_of engine.now) × Keeps store.new (source_of engine.now) (core_of engine.now) (D.facts disk.new))) }
     ensures mounts { D.mounts disk.new ≡ D.mounts disk.old }
 {
     match store {
@@ -67,7 +68,8 @@ fn count_batch<D: Disk>(disk: &mut D, store: &mut Store, engine: &Engine) -> Res
     ensures cycle { OnOk result (cycle_of (Some store.new) ≡ next_cycle (cycle_of (Some store.old))) }
     ensures settings { store.new.settings ≡ store.old.settings }
     ensures later { D.faults disk.old ≤ D.faults disk.new }
-    ensures cause { OnErr result (Rose (D.faults disk.old) (D.faults disk.new) ⊎ SnapshotEndsPast (Some store.new) (core_of engine.now)) }
+    ensures cause { OnErr result (Rose (D.faults disk.old) (D.faults disk.new)
+        ⊎ (SnapshotEndsPast (Some store.new) (core_of engine.now) × Keeps (Some store.new) (source_of engine.now) (core_of engine.now) (D.facts disk.new))) }
     ensures mounts { D.mounts disk.new ≡ D.mounts disk.old }
 {
     if store.since < store.settings.every - 1 {
@@ -101,7 +103,8 @@ pub fn keep_core<D: Disk>(
     ensures kept { OnOk result (KeepsCore (program_of engine.now text.now) (D.facts disk.new) (core_of engine.now) (kept_at position (core_of engine.now))) }
     ensures moments { LeavesOnly (D.facts disk.old) (D.facts disk.new) (λ image. StandsSomewhere (program_of engine.now text.now) image (core_of engine.now)) }
     ensures later { D.faults disk.old ≤ D.faults disk.new }
-    ensures cause { OnErr result (Rose (D.faults disk.old) (D.faults disk.new) ⊎ CheckpointEndsPast position text.now (core_of engine.now)) }
+    ensures cause { OnErr result (Rose (D.faults disk.old) (D.faults disk.new)
+        ⊎ (CheckpointEndsPast position text.now (core_of engine.now) × (disk.new ≡ disk.old))) }
     ensures mounts { D.mounts disk.new ≡ D.mounts disk.old }
 {
     let behind = EntriesBehind {

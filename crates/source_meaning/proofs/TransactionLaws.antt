@@ -1,15 +1,16 @@
 -- The records that a transaction has changed, over those of the state.
-use Rattle.std.proofs.Common.{◌≡◌, ℕ, Bool, true, false, cond, ◌||◌, List, [], ◌∷◌, ◌++◌, map, Option, Some, None, if◌then◌else◌, refl, sym, ap, ◌∙◌, position}
-use Rattle.std.specs.Prelude.{IfSome, is_some}
+use Rattle.std.proofs.Common.{◌≡◌, Bool, true, false, cond, ◌||◌, List, [], ◌∷◌, ◌++◌, map, Option, Some, None, if◌then◌else◌, refl, sym, ap, ◌∙◌}
+use Rattle.std.specs.Prelude.{⊤, IfSome, is_some}
 use Rattle.std.specs.List.{list_any}
 use Rattle.std.specs.FinMap as finite
 use Rattle.std.specs.FinSet as set
 use Rattle.std.specs.Map.{lookup}
 use Rattle.std.specs.Ordering.{eq_by_cmp}
 use Rattle.std.proofs.lemmas.List.{map-append}
-use Rattle.indexmap.specs.IndexMap.{insert_entry, set_value_at}
+use Rattle.indexmap.specs.IndexMap.{insert_entry}
 use Rattle.indexmap.specs.IndexSet.{insert_key}
-use Rattle.indexmap.proofs.MapLemmas.{Found-position, insert_entry-first}
+use Rattle.indexmap.proofs.SetLemmas.{keys_insert_entry}
+use Rattle.few_entities.specs.Entries.{refs_of}
 use Rattle.sf_value.specs.Keys.{Key, key_cmp, key_of}
 use Rattle.sf_value.specs.declared.value.Value.{Value}
 use Rattle.sf_value.specs.declared.value.Ref.{Ref}
@@ -111,13 +112,11 @@ now_read refs k = by (list_any (ref_eq k) refs) refl
     by false h = ap set.from_list (map-append key_of refs (k ∷ [])) ∙ set.from_list_push key_total key_exact (map key_of refs) (key_of k)
 
 -- the world after an entity is read
-pub world_read : (s : State) (writes : Keys) (refs more : List Ref) (k : Ref) → more ≡ insert_key ref_eq refs k
-    → record { state = s; reads = keys_of more; writes = writes } ≡ reading (record { state = s; reads = keys_of refs; writes = writes }) (key_of k)
-world_read s writes refs more k is = ap (λ l. record { state = s; reads = keys_of l; writes = writes }) is ∙ (λ i. record { state = s; reads = now_read refs k i; writes = writes })
-
--- a record that is written in its place
-pub in_place : (es : List (Ref × List Value)) (k : Ref) (v : List Value) (i : ℕ) → position (ref_eq k) (entities_of es) ≡ Some i → set_value_at es i v ≡ insert_entry ref_eq es k v
-in_place es k v i is = sym (insert_entry-first ref_eq k v es i (Found-position (ref_eq k) es i is).first)
+pub world_read : (s : State) (writes : Keys) (es more : List (Ref × ⊤)) (k : Ref) → more ≡ insert_entry ref_eq es k tt
+    → record { state = s; reads = keys_of (refs_of more); writes = writes } ≡ reading (record { state = s; reads = keys_of (refs_of es); writes = writes }) (key_of k)
+world_read s writes es more k is =
+    let refs : refs_of more ≡ insert_key ref_eq (refs_of es) k = ap refs_of is ∙ keys_insert_entry ref_eq es k tt in
+    ap (λ l. record { state = s; reads = keys_of l; writes = writes }) refs ∙ (λ i. record { state = s; reads = now_read (refs_of es) k i; writes = writes })
 
 some_or : {A : Type 0} (b : Bool) (x : A) (o : Option A) (c : Bool) → is_some o ≡ c → is_some (cond b (Some x) o) ≡ (b || c)
 some_or true x o c same = refl

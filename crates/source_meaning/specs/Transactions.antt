@@ -5,6 +5,7 @@ use Rattle.std.specs.FinSet as set
 use Rattle.sf_value.specs.Keys.{key_of}
 use Rattle.sf_value.specs.declared.value.Value.{Value}
 use Rattle.sf_value.specs.declared.value.Ref.{Ref}
+use Rattle.few_entities.specs.Entries.{refs_of}
 use Rattle.source_meaning.specs.declared.transaction.Transaction.{Transaction}
 use Rattle.program_meaning.specs.World.{State, Keys, World}
 
@@ -21,4 +22,4 @@ entities_of entries = map (λ (e : Ref × List Value). e.0) entries
 
 -- the world that a transaction sees that began with this state
 abbrev pub world_of : State → Transaction → World
-world_of s t = record { state = with_records s t.changed.entries; reads = keys_of t.read.keys; writes = keys_of (entities_of t.changed.entries) }
+world_of s t = record { state = with_records s t.changed; reads = keys_of (refs_of t.read); writes = keys_of (entities_of t.changed) }

@@ -77,7 +77,7 @@ pub fn run_here(
     };
     let ended = execute_all(&site, code.as_slice(), vars, &mut run);
     *steps = run.steps;
-    let written = run.tx.into_written(me);
+    let written = run.tx.into_written(alloc, me);
     put_back(held, wrote, written);
     ended_here(ended)
 }
@@ -120,7 +120,7 @@ pub fn eval_here(
     };
     let given = evaluate(&site, expr, vars, &mut run);
     *steps = run.steps;
-    let written = run.tx.into_written(me);
+    let written = run.tx.into_written(alloc, me);
     put_back(held, wrote, written);
     outcome_here(given)
 }

@@ -1,6 +1,8 @@
 //! The state of all entities, and requests run on it one at a time.
 
-ghost use Rattle.std.specs.Prelude.{◌≡◌, IfOk, OnOk, OnErr};
+ghost use Rattle.std.specs.Prelude.{◌≡◌, ◌≤◌, length, IfOk, OnOk, OnErr};
+ghost use Rattle.indexmap.specs.IndexMap.{insert_all, spare};
+ghost use Rattle.few_entities.specs.Entries.{is_ref};
 ghost use Rattle.std.specs.FinMap as finite;
 ghost use Rattle.std.specs.List.{list_any};
 ghost use Rattle.std.specs.Option.{option_copied};
@@ -22,7 +24,8 @@ use crate::records::Records;
 use crate::run::Run;
 use crate::site::{DEPTH_LIMIT, Room, Site};
 use crate::transaction::begin;
-use indexmap::{IndexMap, IndexSet};
+use few_entities::ByEntity;
+use indexmap::IndexMap;
 use py_tree::Checked;
 use sf_list::TryClone;
 use sf_value::{Act, Failure, Outcome, Ref, Request, Value, Values, text_weight, weight};
@@ -61,9 +64,9 @@ pub struct Attempt {
     /// The value that it gives, or its failure.
     pub outcome: Outcome,
     /// The record of each entity that it wrote. A request that fails has written nothing.
-    pub changed: IndexMap<Ref, Values>,
+    pub changed: ByEntity<Values>,
     /// Each entity that was called or created, also where it was found missing or the request then failed.
-    pub reads: IndexSet<Ref>,
+    pub reads: ByEntity<()>,
     /// The steps that are left of 100,000.
     pub steps: u32,
 }
@@ -113,7 +116,7 @@ impl Local {
             }),
             Err(Stop::Failed(failure)) => Ok(Attempt {
                 outcome: Outcome::Failed(failure),
-                changed: IndexMap::new(alloc),
+                changed: ByEntity::new(alloc),
                 reads: tx.read,
                 steps,
             }),
@@ -152,12 +155,14 @@ impl Local {
     }
 
     /// Gives entities the records of a transaction, all of them or none.
-    fn commit(&mut self, mut changed: IndexMap<Ref, Values>) -> Result<(), AllocError>
-        ensures ok { OnOk result (self.new ≡ with_records self.old changed.entries) }
+    fn commit(&mut self, changed: ByEntity<Values>) -> Result<(), AllocError>
+        ensures ok { OnOk result (self.new ≡ with_records self.old changed) }
         ensures err { OnErr result (self.new ≡ self.old) }
     {
-        self.records.reserve(changed.len())?;
-        self.records.append(&mut changed)
+        let entries = changed.into_list()?;
+        self.records.reserve(entries.len())?;
+        put_all(&mut self.records, entries);
+        Ok(())
     }
 
     /// Runs one request. A request that fails leaves the state as it was; so does want of memory.
@@ -174,6 +179,16 @@ impl Local {
         let made = self.attempt(alloc, program, &request.act)?;
         self.commit(made.changed)?;
         Ok(made.outcome)
+    }
+}
+
+/// Gives entities these records, for which there is room.
+fn put_all(records: &mut IndexMap<Ref, Values>, entries: Vec<(Ref, Values)>)
+    requires { length entries.items ≤ spare records.old }
+    ensures { records.new.entries ≡ insert_all is_ref records.old.entries entries.items }
+{
+    for (at, fields) in entries {
+        records.insert(at, fields).unwrap();
     }
 }
 
@@ -213,8 +228,8 @@ fn too_heavy(alloc: Global) -> Result<Attempt, AllocError>
     };
     Ok(Attempt {
         outcome: Outcome::Failed(failure),
-        changed: IndexMap::new(alloc),
-        reads: IndexSet::new(alloc),
+        changed: ByEntity::new(alloc),
+        reads: ByEntity::new(alloc),
         steps: STEPS,
     })
 }

@@ -13,7 +13,7 @@ ghost use Rattle.source_meaning.specs.Transactions.{world_of};
 use crate::records::Records;
 use crate::site::Site;
 use crate::vars::set_field;
-use indexmap::{IndexMap, IndexSet};
+use few_entities::ByEntity;
 use py_tree::Name;
 use sf_list::{Sequence, TryClone};
 use sf_value::{Ref, Value, Values};
@@ -23,9 +23,9 @@ use std::alloc::{AllocError, Global};
 #[derive(Drop)]
 pub(crate) struct Transaction {
     /// The record of each entity that was written.
-    pub(crate) changed: IndexMap<Ref, Values>,
+    pub(crate) changed: ByEntity<Values>,
     /// Each entity that was called or created, also where it was found missing.
-    pub(crate) read: IndexSet<Ref>,
+    pub(crate) read: ByEntity<()>,
 }
 
 /// A transaction that has done nothing yet. It takes no memory.
@@ -33,8 +33,8 @@ pub(crate) fn begin(alloc: Global) -> Transaction
     ensures { (s : State) → world_of s result ≡ at_first s }
 {
     Transaction {
-        changed: IndexMap::new(alloc),
-        read: IndexSet::new(alloc),
+        changed: ByEntity::new(alloc),
+        read: ByEntity::new(alloc),
     }
 }
 
@@ -61,16 +61,14 @@ impl Transaction {
     pub(crate) fn mark_read(&mut self, at: Ref) -> Result<(), AllocError>
         ensures { (s : State) → OnOk result (world_of s self.new ≡ reading (world_of s self.old) (key_of at)) }
     {
-        self.read.insert(at)?;
-        Ok(())
+        self.read.put(at, ())
     }
 
     /// Gives an entity its record.
     pub(crate) fn put(&mut self, at: Ref, fields: Values) -> Result<(), AllocError>
         ensures { (s : State) → OnOk result (world_of s self.new ≡ writing (world_of s self.old) (key_of at) fields) }
     {
-        self.changed.insert(at, fields)?;
-        Ok(())
+        self.changed.put(at, fields)
     }
 
     /// A copy of the fields of an entity.
@@ -99,9 +97,10 @@ impl Transaction {
             ≡ writing (world_of site.now.state.now self.old) (key_of site.now.me.now)
             (with_field (map (λ x. x.0) site.now.fields.now) (record_at (world_of site.now.state.now self.old) (key_of site.now.me.now)) name.0 value)) }
     {
-        match self.changed.get_index_of(site.me) {
-            Some(i) => {
-                set_field(site.fields, &mut self.changed[i], name, value);
+        match self.changed.replace(site.me, Sequence::new(site.alloc)) {
+            Some(mut fields) => {
+                set_field(site.fields, &mut fields, name, value);
+                self.changed.replace(site.me, fields);
                 Ok(())
             }
             None => {
@@ -118,9 +117,10 @@ impl Transaction {
             ≡ writing (world_of site.now.state.now self.old) (key_of site.now.me.now)
             (record_at (world_of site.now.state.now self.old) (key_of site.now.me.now) ++ value ∷ [])) }
     {
-        match self.changed.get_index_of(site.me) {
-            Some(i) => {
-                self.changed[i].push(site.alloc, value)?;
+        match self.changed.replace(site.me, Sequence::new(site.alloc)) {
+            Some(mut fields) => {
+                fields.push(site.alloc, value)?;
+                self.changed.replace(site.me, fields);
                 Ok(())
             }
             None => {
@@ -132,10 +132,10 @@ impl Transaction {
     }
 
     /// The record of an entity, where the transaction wrote it. All else that it changed is dropped.
-    pub(crate) fn into_written(mut self, at: &Ref) -> Option<Values>
+    pub(crate) fn into_written(mut self, alloc: Global, at: &Ref) -> Option<Values>
         ensures written { (s : State) → is_some result ≡ set.contains (world_of s self).writes (key_of at.now) }
         ensures fields { (s : State) → IfSome result (λ fields. finite.get (world_of s self).state (key_of at.now) ≡ Some fields) }
     {
-        self.changed.swap_remove(at)
+        self.changed.replace(at, Sequence::new(alloc))
     }
 }

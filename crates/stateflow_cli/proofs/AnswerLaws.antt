@@ -1,5 +1,5 @@
 -- From an ending that was told to what the call promises.
-use Rattle.std.proofs.Common.{◌≡◌, ℕ, ◌≤◌, ◌⊎◌, inl, inr, List, [], Some, None, sym, ap, ◌∙◌, subst, arith}
+use Rattle.std.proofs.Common.{◌≡◌, ℕ, ◌≤◌, ◌⊎◌, inl, inr, List, [], Some, None, refl, sym, ap, ◌∙◌, subst, arith}
 use Rattle.std.specs.declared.option.Option.{Option}
 use Rattle.std.specs.Io.KnownBytes.{Appends}
 use Rattle.sf_outside.specs.DiskModel.{DiskFacts}
@@ -9,7 +9,9 @@ use Rattle.stateflow_cli.proofs.ReportEndings.{report_cause, report_err, report_
 use Rattle.stateflow_cli.proofs.LocalEndings.{local_cause, local_err, local_does}
 use Rattle.stateflow_cli.proofs.StoreEndings.{not_fewer, run_cause, run_later, run_does}
 use Rattle.stateflow_cli.proofs.GenEndings.{gen_cause, gen_status, gen_done, gen_prints, gen_silent, gen_unread, gen_tells}
-use Rattle.stateflow_cli.specs.Words.{Asked, Local, Run, Gen}
+use Rattle.stateflow_cli.proofs.AuditEndings.{not_unwritten, audit_front, audit_cause, audit_verdict, audit_nothing, audit_told, one_of_audit}
+use Rattle.stateflow_cli.proofs.ExportEndings.{export_store, export_front, export_cause, export_found, export_all, export_whole, export_nothing, export_told, export_bad, one_of_export}
+use Rattle.stateflow_cli.specs.Words.{Asked, Local, Run, Gen, Export, Audit}
 use Rattle.stateflow_cli.specs.Devices.{Devices, Output, with_err}
 use Rattle.stateflow_cli.specs.Endings.{Report, ReportEnds, GenEnds}
 use Rattle.stateflow_cli.specs.StatusLines.{status_of, line_of}
@@ -24,6 +26,11 @@ use Rattle.stateflow_cli.specs.ReportPromise.{ReportPromise}
 use Rattle.stateflow_cli.specs.LocalPromise.{at_once, LocalPromise}
 use Rattle.stateflow_cli.specs.RunPromise.{RunCause, RunPromise}
 use Rattle.stateflow_cli.specs.GenPromise.{GenPromise}
+use Rattle.stateflow_cli.specs.StoredRuns.{DiskRose}
+use Rattle.stateflow_cli.specs.ExportPromise as of_export
+use Rattle.stateflow_cli.specs.ExportPromise.{OfStore, ExportPromise}
+use Rattle.stateflow_cli.specs.AuditEnds.{FilesRose}
+use Rattle.stateflow_cli.specs.AuditPromise.{OfRun, AreTold, AuditPromise}
 use Rattle.stateflow_cli.specs.Promise.{Answers}
 use Rattle.stateflow_cli.specs.declared.ending.Ending.{Ending}
 use Rattle.stateflow_cli.specs.declared.ending.Ending.TheVariants.{Misused, NoMemory}
@@ -182,4 +189,55 @@ module _ (limit : ℕ) (before after : Devices) (was now : DiskFacts) (status : 
       causes = has_its_status (λ k. k ≡ 0) (λ k. Unit {0}) (IsFault ⊥ ⊥ before after) status (λ k m known is same. is ∙ sym same)
           (told_cause (status ≡ 0) ⊥ ⊥ a.behind (line_of (file_of (Gen w)) a.ending) (status_of a.ending) a.told (not_fewer before.err a.behind a.ends.err)
           (λ is. gen_cause w before after a.behind status a.ending a.ends is));
+    }
+
+  -- ---- an export
+
+  module _ (file dir : List ℕ) (a : Answers limit (Some (Export file dir)) before after was now status) where
+    line_of_export : (n : ℕ) → status ≡ n → (4 ≡ n → ⊥) → Appends before.err.held after.err.held (line_of file a.ending)
+    line_of_export n s d = subst (λ (o : Output). Appends o.held after.err.held (line_of file a.ending)) a.ends.err (line (Some (Export file dir)) a n s d)
+
+    pub export_promise : ExportPromise file dir before after was now status
+    export_promise = record {
+      input = a.ends.input;
+      outside = a.ends.outside;
+      store = export_store before after was now a.behind file dir a.ending a.ends;
+      found = export_found before after was now a.behind file dir a.ending a.ends status (own_or_unwritten (Some (Export file dir)) a);
+      all = export_all before after was now a.behind file dir a.ending a.ends status (own_or_unwritten (Some (Export file dir)) a);
+      whole = export_whole before after was now a.behind file dir a.ending a.ends status (own_or_unwritten (Some (Export file dir)) a);
+      front = export_front before after was now a.behind file dir a.ending a.ends;
+      nothing = export_nothing before after was now a.behind file dir a.ending a.ends status (own_or_unwritten (Some (Export file dir)) a);
+      told = λ s. export_told before after was now a.behind file dir a.ending a.ends status (line_of_export 1 s (λ z. omega (arith, z)))
+          (own (Some (Export file dir)) a 1 s (λ z. omega (arith, z)));
+      bad = λ s. export_bad before after was now a.behind file dir a.ending a.ends status (line_of_export 6 s (λ z. omega (arith, z)))
+          (own (Some (Export file dir)) a 6 s (λ z. omega (arith, z)));
+      line = line_alone file before.err a.behind after.err a.ending status a.ends.err a.told;
+      causes = has_its_status (OfText (before.content file) (OfStore dir before)) (of_export.AreTold file dir before)
+          (IsFault (FileRose file before after) (DiskRose dir before.disk after.disk) before after) status (one_of_export file dir before)
+          (told_cause (OfText (before.content file) (OfStore dir before) status) (FileRose file before after) (DiskRose dir before.disk after.disk) a.behind (line_of file a.ending)
+          (status_of a.ending) a.told (not_fewer before.err a.behind a.ends.err) (λ is. export_cause before after was now a.behind file dir a.ending a.ends status is));
+    }
+
+  -- ---- an audit
+
+  module _ (file run : List ℕ) (a : Answers limit (Some (Audit file run)) before after was now status) where
+    -- the line was written behind what the error stream held before
+    line_of_audit : (n : ℕ) → status ≡ n → (4 ≡ n → ⊥) → Appends before.err.held after.err.held (line_of file a.ending)
+    line_of_audit n s d = subst (λ (o : Output). Appends o.held after.err.held (line_of file a.ending)) a.ends.err (line (Some (Audit file run)) a n s d)
+
+    pub audit_promise : AuditPromise limit file run before after status
+    audit_promise = record {
+      input = a.ends.input;
+      outside = a.ends.outside;
+      verdict = λ one. audit_verdict limit before after a.behind file run a.ending a.ends status (own_or_unwritten (Some (Audit file run)) a) one
+          (line_of_audit status refl (λ four. not_unwritten status one (sym four)));
+      told = λ s. audit_told limit before after a.behind file run a.ending a.ends status s (own (Some (Audit file run)) a 1 s (λ z. omega (arith, z)))
+          (line_of_audit 1 s (λ z. omega (arith, z)));
+      front = audit_front limit before after a.behind file run a.ending a.ends;
+      nothing = audit_nothing limit before after a.behind file run a.ending a.ends status (own_or_unwritten (Some (Audit file run)) a);
+      line = line_alone file before.err a.behind after.err a.ending status a.ends.err a.told;
+      causes = has_its_status (OfText (before.content file) (OfRun limit run before)) (AreTold file run before) (IsFault (FilesRose file run before after) ⊥ before after) status
+          (one_of_audit limit file run before)
+          (told_cause (OfText (before.content file) (OfRun limit run before) status) (FilesRose file run before after) ⊥ a.behind (line_of file a.ending) (status_of a.ending) a.told
+          (not_fewer before.err a.behind a.ends.err) (λ is. audit_cause limit before after a.behind file run a.ending a.ends status is));
     }

@@ -6,7 +6,7 @@ use Rattle.std.specs.List.{AllByRecursion}
 use Rattle.std.specs.declared.option.Option.{Option}
 use Rattle.sf_outside.specs.DiskModel.{DiskFacts}
 use Rattle.command_words.specs.WordReading.{Text}
-use Rattle.command_words.specs.Commands.{Asked, Check, Compile, Local, Run, Gen, GenSettings, Form, forms, AskOneOf, Ask, asked_by, Texts, texts_in}
+use Rattle.command_words.specs.Commands.{Asked, Check, Compile, Local, Run, Gen, Export, Audit, GenSettings, Form, forms, AskOneOf, Ask, asked_by, Texts, texts_in}
 use Rattle.command_words.specs.Readings.{ReadsOnly}
 use Rattle.command_words.specs.declared.command.Command.{Command as Given}
 use Rattle.command_words.specs.declared.command.WordsError.{WordsError}
@@ -16,13 +16,15 @@ use Rattle.stateflow_cli.specs.CompiledText.{IsCompiledText}
 use Rattle.stateflow_cli.specs.Endings.{GenEnds, longest_input}
 use Rattle.stateflow_cli.specs.StatusLines.{status_of, line_of}
 use Rattle.stateflow_cli.specs.Telling.{Told}
+use Rattle.stateflow_cli.specs.AuditEnds.{WantsMemory}
+use Rattle.stateflow_cli.specs.ExportEnds as of_export
 use Rattle.stateflow_cli.specs.Deeds.{deed, file_of, IsInRange, EndsOn, LeavesUnasked, DoesAsked}
 use Rattle.stateflow_cli.specs.Promise.{Answers}
 use Rattle.stateflow_cli.specs.declared.ending.Ending.{Ending}
 use Rattle.stateflow_cli.specs.declared.ending.Ending.TheVariants.{Misused, NoMemory}
-use Rattle.stateflow_cli.proofs.WordLaws.{file_in_range, run_in_range, gen_in_range}
+use Rattle.stateflow_cli.proofs.WordLaws.{file_in_range, run_in_range, gen_in_range, export_in_range, audit_in_range}
 use Rattle.stateflow_cli.proofs.StoreEndings.{untouched}
-use Rattle.stateflow_cli.proofs.AnswerLaws.{words_promise, report_promise, local_promise, run_promise, gen_promise}
+use Rattle.stateflow_cli.proofs.AnswerLaws.{words_promise, report_promise, local_promise, run_promise, gen_promise, export_promise, audit_promise}
 
 nothing_done : (devices : Devices) → IsStill devices devices
 nothing_done devices = record { idle = record { left = Keeps-refl devices.input.left; held = Keeps-refl devices.out.held }; err = refl; outside = refl }
@@ -74,6 +76,18 @@ done limit (Gen s) = record {
   spared_behind = λ before after behind aside. tt;
   unread = λ before facts. nothing_made s before;
 }
+done limit (Export file dir) = record {
+  does = λ before after was now status a aside. export_promise limit before after was now status file dir a;
+  spared_before = λ before err. tt;
+  spared_behind = λ before after behind aside. tt;
+  unread = λ before facts. record { input = refl; err = refl; outside = refl; ways = of_export.WantsMemory refl (untouched before.disk facts) refl };
+}
+done limit (Audit file run) = record {
+  does = λ before after was now status a aside. audit_promise limit before after was now status file run a;
+  spared_before = λ before err. tt;
+  spared_behind = λ before after behind aside. tt;
+  unread = λ before facts. record { input = refl; err = refl; outside = refl; ways = WantsMemory refl refl };
+}
 
 -- ---- what words ask for is in range
 
@@ -83,7 +97,7 @@ GivesInRange form = (texts : Texts) (a : Asked) → form.read texts ≡ Some a �
 all_in_range : AllByRecursion GivesInRange forms
 all_in_range = (
   file_in_range Check (λ file. tt),
-  (file_in_range Compile (λ file. tt), (file_in_range Local (λ file. tt), (run_in_range, (gen_in_range, tt)))),
+  (file_in_range Compile (λ file. tt), (file_in_range Local (λ file. tt), (run_in_range, (gen_in_range, (export_in_range, tt))))),
 )
 
 one_in_range : (fs : List Form) → AllByRecursion GivesInRange fs → (name : Text) (words : List Text) (a : Asked) → AskOneOf fs name words a → IsInRange a
@@ -93,7 +107,8 @@ one_in_range (form ∷ more) all name words a (inr h) = one_in_range more all.1 
 
 asked_in_range : (words : List Text) (a : Asked) → Ask words a → IsInRange a
 asked_in_range [] a h = absurd h
-asked_in_range (name ∷ words) a h = one_in_range forms all_in_range name words a h
+asked_in_range (name ∷ words) a (inl h) = one_in_range forms all_in_range name words a h
+asked_in_range (name ∷ words) a (inr h) = audit_in_range words a h.1
 
 pub command_in_range : (words : List Text) (r : Result Given WordsError) → ReadsOnly asked_by (Ask words) r → IfOk r (λ c. IsInRange (asked_by c))
 command_in_range words (Ok c) h = asked_in_range words (asked_by c) h.0

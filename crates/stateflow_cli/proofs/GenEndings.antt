@@ -27,7 +27,7 @@ use Rattle.stateflow_cli.specs.Causes.{IsFault, WasUnwritten, WantedMemory}
 use Rattle.stateflow_cli.specs.GenClauses.{TellsWork, WorkTells}
 use Rattle.stateflow_cli.specs.StatusLines.{status_of, line_of}
 use Rattle.stateflow_cli.specs.declared.ending.Ending.{Ending}
-use Rattle.stateflow_cli.specs.declared.ending.Ending.TheVariants.{Misused, Refused, FileFault, NoMemory, Printed, Unprinted, Served, Stopped, Unopened}
+use Rattle.stateflow_cli.specs.declared.ending.Ending.TheVariants.{Misused, Refused, FileFault, NoMemory, Printed, Unprinted, Served, Stopped, Unopened, Found}
 
 module _ (s : words.GenSettings) (before after : Devices) (behind : Output) where
   abbrev mid : Devices
@@ -46,6 +46,7 @@ module _ (s : words.GenSettings) (before after : Devices) (behind : Output) wher
   by_ending P whole front none Served ends = absurd ends.sums
   by_ending P whole front none (Stopped stop) ends = absurd ends.sums
   by_ending P whole front none (Unopened stop) ends = absurd ends.sums
+  by_ending P whole front none (Found finding) ends = absurd ends.sums
 
   printed_whole : PrintsSummary s before mid → PrintsSummary s before after
   printed_whole p = record { summary = p.summary; gives = p.gives; wrote = p.wrote }

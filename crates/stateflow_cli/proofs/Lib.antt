@@ -15,5 +15,8 @@ pub mod SessionEndings
 pub mod StoreEndings
 pub mod ServedRuns
 pub mod GenEndings
+pub mod AuditEndings
+pub mod ExportEndings
+pub mod ExportedStores
 pub mod AnswerLaws
 pub mod DeedLaws

@@ -25,7 +25,7 @@ use Rattle.stateflow_cli.specs.declared.loading.CompiledText.{CompiledText}
 use Rattle.stateflow_cli.specs.declared.loading.LoadStop.{LoadStop}
 use Rattle.stateflow_cli.specs.declared.loading.LoadStop.TheVariants as stop
 use Rattle.stateflow_cli.specs.declared.printing.Counts.{Counts}
-use Rattle.stateflow_cli.specs.Loading.{MayBegin, ReadsAs, Gives, IsCounted, IsChecked, IsCompiledWith, load_stop}
+use Rattle.stateflow_cli.specs.Loading.{MayBegin, ReadsAs, Gives, IsCounted, IsChecked, IsCompiledWith, AreKept, load_stop}
 use Rattle.stateflow_cli.proofs.CountLaws.{classes_counted, methods_counted}
 
 pub MayBegin-none : (content : Option (List ℕ)) → MayBegin content 0 []
@@ -126,3 +126,15 @@ read_more E content now text buf rest new at n h k z r w e =
     let is : new ≡ text ++ take n buf = e ∙ ap (λ l. text ++ l) front in
     let long : length text + n ≡ length new = sym (ap length is ∙ length-append text (take n buf) ∙ ap (λ k. length text + k) (length-take-le n buf w)) in
     subst (λ k. MayBegin content k new) long (subst (MayBegin content (length text + n)) (sym is) more)
+
+-- ---- the files
+
+pub kept_at_first : (content : List ℕ → Option (List ℕ)) (faults : List ℕ → ℕ) → AreKept content content faults faults
+kept_at_first content faults = record { content = λ q. refl; later = λ q. omega arith }
+
+pub kept_then : (was mid is : List ℕ → Option (List ℕ)) (before between after : List ℕ → ℕ) → AreKept was mid before between
+    → ((q : List ℕ) → is q ≡ mid q) → ((q : List ℕ) → between q ≤ after q) → AreKept was is before after
+kept_then was mid is before between after kept same later = record {
+  content = λ q. same q ∙ kept.content q;
+  later = λ q. omega (arith, kept.later q, later q);
+}

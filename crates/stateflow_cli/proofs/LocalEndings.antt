@@ -27,7 +27,7 @@ use Rattle.stateflow_cli.specs.SessionText.{PrintsText}
 use Rattle.stateflow_cli.specs.RunPromise.{RunCause, Begins, IsUnbegun}
 use Rattle.stateflow_cli.specs.LocalPromise.{at_once, LocalSession, LocalHeadline}
 use Rattle.stateflow_cli.specs.declared.ending.Ending.{Ending}
-use Rattle.stateflow_cli.specs.declared.ending.Ending.TheVariants.{Misused, Refused, FileFault, NoMemory, Printed, Unprinted, Served, Stopped, Unopened}
+use Rattle.stateflow_cli.specs.declared.ending.Ending.TheVariants.{Misused, Refused, FileFault, NoMemory, Printed, Unprinted, Served, Stopped, Unopened, Found}
 
 -- no stop has a status below
 pub no_stop : (stopped : SessionFault) (n : ℕ) → n < 3 → status_of (Stopped stopped) ≡ n → ⊥
@@ -80,6 +80,7 @@ module _ (limit : ℕ) (before after : Devices) (behind : Output) (file : List �
   }
   local_told (Stopped stopped) ends wrote s = absurd (no_stop stopped 1 (omega arith) s)
   local_told (Unopened stopped) ends wrote s = absurd ends
+  local_told (Found finding) ends wrote s = absurd ends
   local_told e ends wrote s = absurd (omega (arith, s))
 
   no_stop_at_six : (stopped : SessionFault) → status_of (Stopped stopped) ≡ 6 → ⊥
@@ -93,6 +94,7 @@ module _ (limit : ℕ) (before after : Devices) (behind : Output) (file : List �
   never_bad : (e : Ending) → LocalEnded e → status_of e ≡ 6 → ⊥
   never_bad (Stopped stopped) ends s = no_stop_at_six stopped s
   never_bad (Unopened stopped) ends s = absurd ends
+  never_bad (Found finding) ends s = absurd ends
   never_bad e ends s = omega (arith, s)
 
   -- no store is named
@@ -114,6 +116,7 @@ module _ (limit : ℕ) (before after : Devices) (behind : Output) (file : List �
   local_err (Stopped stop.HistoryFull) ends = ends.err
   local_err (Stopped stop.NoMemory) ends = ends.err
   local_err (Unopened stopped) ends = absurd ends
+  local_err (Found finding) ends = absurd ends
 
   -- Why it has its status
 
@@ -146,6 +149,7 @@ module _ (limit : ℕ) (before after : Devices) (behind : Output) (file : List �
         let r = ran (Err local.HistoryFull) ends in
         session_comes (Err local.HistoryFull) ends (KeepsNoMore n (run_fills (source_for (Err local.HistoryFull) ends) (settings_for limit at_once) empty_core before.input.left after.input.left before.out.held after.out.held r.taken r.wrote.last r.consumed r.prints))
     local_cause (Unopened stopped) ends n = absurd ends
+    local_cause (Found finding) ends n = absurd ends
 
   -- A session, by its result
 
@@ -315,3 +319,4 @@ module _ (limit : ℕ) (before after : Devices) (was now : DiskFacts) (behind : 
   local_does (Stopped stop.DiskFault) own line one ends said = absurd ends
   local_does (Stopped stop.WriteFault) own line one ends said = served (Err local.WriteFault) own one ends said
   local_does (Unopened stopped) own line one ends said = absurd ends
+  local_does (Found finding) own line one ends said = absurd ends

@@ -8,7 +8,6 @@ use Rattle.std.specs.Io.KnownBytes.{Appends, Consumes, IsAtEnd}
 use Rattle.sf_outside.specs.Bytes.{AppendsPrefix}
 use Rattle.sf_outside.specs.Gains.{joined}
 use Rattle.program_meaning.specs.ClassTables.{Source}
-use Rattle.reservations.specs.BatchRuleLaws.{batch_rule_is_lawful}
 use Rattle.request_json.specs.Actions.{Line, whole_lines, all_lines}
 use Rattle.engine.specs.Cores.{Core, IsSoundCore, empty_core}
 use Rattle.engine.proofs.EmptyLaws.{empty_sound}
@@ -22,6 +21,7 @@ use Rattle.session.specs.Stops as once
 use Rattle.session.specs.Served.{Answered, AnsweredOver, OfWhole, OfAll, OfLimit, Served}
 use Rattle.session.proofs.StopLaws.{prefix_written}
 use Rattle.batch_run.specs.RunViews.{rule_of, run_limits}
+use Rattle.batch_run.specs.RuleLaws.{rule_is_lawful}
 use Rattle.batch_run.specs.RunTexts.{stands_behind, stands_at_end, whole_text, all_text, AnswersAll, AnswersWhole, AnswersFirst, FillsAtLine, FillsAtEnd, AnswersSome, AnswersInPart}
 use Rattle.batch_run.specs.GrownCores.{GoesOnSerially}
 use Rattle.batch_run.specs.declared.running.RunSettings.{RunSettings}
@@ -57,7 +57,7 @@ no_memory_not_unwritten : local.NoMemory ≡ local.WriteFault → ⊥
 no_memory_not_unwritten same = cc
 
 lawful_rule : (s : RunSettings) → IsLawfulRule (rule_of s)
-lawful_rule s batch few = batch_rule_is_lawful batch
+lawful_rule s batch few = rule_is_lawful s.reorder batch
 
 module _ (limit : ℕ) (src : Source) where
   abbrev pub s : RunSettings

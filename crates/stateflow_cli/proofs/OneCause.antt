@@ -32,13 +32,13 @@ has_its_status Cause Known Fault status one came = record { only = came; all = �
     by k cause known (inr fault) = inr fault
 
 -- what holds of a thing, if that is told, holds of the thing that is told
-told_of : {X : Type 0} (o : Option X) (known : IsTold o) (P : X → Type 0) → IfSome o P → P known.0
+pub told_of : {X : Type 0} (o : Option X) (known : IsTold o) (P : X → Type 0) → IfSome o P → P known.0
 told_of o known P holds = subst (λ p. IfSome p P) known.1 holds
 
 -- ---- the text
 
 module _ (content : Option (List ℕ)) (Next : Source → List ℕ → ℕ → Type 0) (known : IsTold content) where
-  one_of_text : (k m : ℕ) → ((src : Source) (text : List ℕ) → Next src text k → Next src text m → k ≡ m) → OfText content Next k → OfText content Next m → k ≡ m
+  pub one_of_text : (k m : ℕ) → ((src : Source) (text : List ℕ) → Next src text k → Next src text m → k ≡ m) → OfText content Next k → OfText content Next m → k ≡ m
   one_of_text k m one (HasNoProgram f is refused) (HasNoProgram g same other) = is ∙ sym same
   one_of_text k m one (HasNoProgram f is refused) (HasProgram holds next) = never_both content known.0 known.1 f refused holds
   one_of_text k m one (HasProgram holds next) (HasNoProgram f is refused) = never_both content known.0 known.1 f refused holds
@@ -118,24 +118,24 @@ same_dir store a b p q = same_some (sym p ∙ q)
 
 -- an image has one meaning
 module _ (p : Program) (image : Image) where
-  abbrev IsBad : StoreFile → ℕ → Type 0
+  abbrev pub IsBad : StoreFile → ℕ → Type 0
   IsBad file at = Means p image (meaning.Bad file at) ⊎ Means p image (meaning.Wrong file at)
 
-  abbrev IsOther : Type 0
+  abbrev pub IsOther : Type 0
   IsOther = (text : List ℕ) × Means p image (meaning.Differs text)
 
-  abbrev Stands : Core → Type 0
+  abbrev pub Stands : Core → Type 0
   Stands core = (place : Position) × StandsFor p image core place
 
-  bad_not_other : (file : StoreFile) (at : ℕ) → IsBad file at → IsOther → ⊥
+  pub bad_not_other : (file : StoreFile) (at : ℕ) → IsBad file at → IsOther → ⊥
   bad_not_other file at (inl bad) other = bad_or_differs (one_meaning p image (meaning.Bad file at) (meaning.Differs other.0) bad other.1)
   bad_not_other file at (inr wrong) other = wrong_or_differs (one_meaning p image (meaning.Wrong file at) (meaning.Differs other.0) wrong other.1)
 
-  bad_not_core : (file : StoreFile) (at : ℕ) (core : Core) → IsBad file at → Stands core → ⊥
+  pub bad_not_core : (file : StoreFile) (at : ℕ) (core : Core) → IsBad file at → Stands core → ⊥
   bad_not_core file at core (inl bad) stands = bad_or_stands (one_meaning p image (meaning.Bad file at) (meaning.Stands core stands.0) bad stands.1)
   bad_not_core file at core (inr wrong) stands = wrong_or_stands (one_meaning p image (meaning.Wrong file at) (meaning.Stands core stands.0) wrong stands.1)
 
-  other_not_core : (core : Core) → IsOther → Stands core → ⊥
+  pub other_not_core : (core : Core) → IsOther → Stands core → ⊥
   other_not_core core other stands = differs_or_stands (one_meaning p image (meaning.Differs other.0) (meaning.Stands core stands.0) other.1 stands.1)
 
   one_core : (core other : Core) → Stands core → Stands other → core ≡ other
@@ -143,10 +143,10 @@ module _ (p : Program) (image : Image) where
 
 -- so has what was found in a folder, where that is told
 module _ (p : Program) (found : List ℕ → Option Image) (dir : List ℕ) (known : IsTold (found dir)) where
-  bad_so : (file : StoreFile) (at : ℕ) → IfSome (found dir) (λ image. Means p image (meaning.Bad file at) ⊎ Means p image (meaning.Wrong file at)) → IsBad p known.0 file at
+  pub bad_so : (file : StoreFile) (at : ℕ) → IfSome (found dir) (λ image. Means p image (meaning.Bad file at) ⊎ Means p image (meaning.Wrong file at)) → IsBad p known.0 file at
   bad_so file at bad = told_of (found dir) known (λ image. IsBad p image file at) bad
 
-  other_so : IfSome (found dir) (λ image. (text : List ℕ) × Means p image (meaning.Differs text)) → IsOther p known.0
+  pub other_so : IfSome (found dir) (λ image. (text : List ℕ) × Means p image (meaning.Differs text)) → IsOther p known.0
   other_so other = told_of (found dir) known (λ image. IsOther p image) other
 
   core_so : (core : Core) → BeginsWith (Some dir) found p core → Stands p known.0 core

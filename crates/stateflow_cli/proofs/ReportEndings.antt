@@ -11,7 +11,7 @@ use Rattle.stateflow_cli.specs.ReportPromise.{PrintsFront, IsSilent}
 use Rattle.stateflow_cli.specs.Loading.{Refuses}
 use Rattle.program_text.specs.declared.fault.ProgramFault.{ProgramFault}
 use Rattle.stateflow_cli.specs.declared.ending.Ending.{Ending}
-use Rattle.stateflow_cli.specs.declared.ending.Ending.TheVariants.{Misused, Refused, FileFault, NoMemory, Printed, Unprinted, Served, Stopped, Unopened}
+use Rattle.stateflow_cli.specs.declared.ending.Ending.TheVariants.{Misused, Refused, FileFault, NoMemory, Printed, Unprinted, Served, Stopped, Unopened, Found}
 
 -- nothing was done before the line of the status was told
 module _ (before after : Devices) (behind : Output) where
@@ -40,6 +40,7 @@ module _ (Is : Report) (before after : Devices) (behind : Output) (file : List �
   report_cause status Served ends s = absurd ends
   report_cause status (Stopped stopped) ends s = absurd ends
   report_cause status (Unopened stopped) ends s = absurd ends
+  report_cause status (Found finding) ends s = absurd ends
 
   -- what it said, printed, chose and told, whatever the ending
   pub report_err : (e : Ending) → ReportEnds Is file before mid e → behind ≡ before.err
@@ -52,6 +53,7 @@ module _ (Is : Report) (before after : Devices) (behind : Output) (file : List �
   report_err Served ends = absurd ends
   report_err (Stopped stopped) ends = absurd ends
   report_err (Unopened stopped) ends = absurd ends
+  report_err (Found finding) ends = absurd ends
 
   pub report_prints : (e : Ending) → ReportEnds Is file before mid e → IsSilent before after ⊎ PrintsFront Is file before after
   report_prints Misused ends = absurd ends
@@ -63,6 +65,7 @@ module _ (Is : Report) (before after : Devices) (behind : Output) (file : List �
   report_prints Served ends = absurd ends
   report_prints (Stopped stopped) ends = absurd ends
   report_prints (Unopened stopped) ends = absurd ends
+  report_prints (Found finding) ends = absurd ends
 
   pub report_silent : (e : Ending) → ReportEnds Is file before mid e → (status_of e ≡ 0 → ⊥) → (status_of e ≡ 4 → ⊥) → IsSilent before after
   report_silent Misused ends a b = absurd ends
@@ -74,6 +77,7 @@ module _ (Is : Report) (before after : Devices) (behind : Output) (file : List �
   report_silent Served ends a b = absurd ends
   report_silent (Stopped stopped) ends a b = absurd ends
   report_silent (Unopened stopped) ends a b = absurd ends
+  report_silent (Found finding) ends a b = absurd ends
 
   pub report_done : (e : Ending) (said said' : Option (List ℕ)) → ReportEnds Is file before mid e → Appends said said' (line_of file e) → status_of e ≡ 0
       → Prints Is file before after × Appends said said' []
@@ -81,6 +85,7 @@ module _ (Is : Report) (before after : Devices) (behind : Output) (file : List �
   report_done Served said said' ends wrote s = absurd ends
   report_done (Stopped stopped) said said' ends wrote s = absurd ends
   report_done (Unopened stopped) said said' ends wrote s = absurd ends
+  report_done (Found finding) said said' ends wrote s = absurd ends
   report_done e said said' ends wrote s = absurd (omega (arith, s))
 
   pub report_told : (e : Ending) (said said' : Option (List ℕ)) → ReportEnds Is file before mid e → Appends said said' (line_of file e) → status_of e ≡ 1
@@ -88,4 +93,5 @@ module _ (Is : Report) (before after : Devices) (behind : Output) (file : List �
   report_told (Refused f) said said' ends wrote s = (f, ends.refused, wrote)
   report_told (Stopped stopped) said said' ends wrote s = absurd ends
   report_told (Unopened stopped) said said' ends wrote s = absurd ends
+  report_told (Found finding) said said' ends wrote s = absurd ends
   report_told e said said' ends wrote s = absurd (omega (arith, s))

@@ -52,7 +52,7 @@ use Rattle.stateflow_cli.specs.Starts.{program_of, rule_for, BeginsWith}
 use Rattle.stateflow_cli.specs.StoredRuns.{IsUntouched, DiskRose, settings_by, RanOpened, RunMoments, MomentsIn, KeepsRun, KeepsIn}
 use Rattle.stateflow_cli.specs.Endings.{RunEnds, RunsFile, GivesUp, shown_of, settings_for, run_ending}
 use Rattle.stateflow_cli.specs.declared.ending.Ending.{Ending}
-use Rattle.stateflow_cli.specs.declared.ending.Ending.TheVariants.{Misused, Refused, FileFault, NoMemory, Printed, Unprinted, Served, Stopped, Unopened}
+use Rattle.stateflow_cli.specs.declared.ending.Ending.TheVariants.{Misused, Refused, FileFault, NoMemory, Printed, Unprinted, Served, Stopped, Unopened, Found}
 use Rattle.stateflow_cli.proofs.GainedLaws.{Rose-earlier}
 use Rattle.stateflow_cli.proofs.StoreEndings.{untouched}
 
@@ -163,6 +163,7 @@ module _ (limit : ℕ) (file : List ℕ) (s : words.RunSettings) (before after :
       inl (record { is = g.is; idle = g.idle; said = g.said; outside = g.outside; err_later = g.err_later; untouched = untouched_too })
   ends_alone (Stopped stopped) (inr r) = inr (ran_alone (Err stopped) r)
   ends_alone (Unopened stopped) ends = absurd (not_named ends.dir ends.named)
+  ends_alone (Found finding) ends = absurd ends
 
 -- from a run without a store to how it ends the call: memory was wanted before it began, or it came to a result
 module _ (limit : ℕ) (file : List ℕ) (w : words.RunSettings) (before after : Devices) (facts : DiskFacts) (alone : w.store ≡ None) (same : after.disk ≡ before.disk) (compiled : Compiled)
@@ -289,10 +290,10 @@ module _ (limit : ℕ) (file dir : List ℕ) (w : words.RunSettings) (before aft
     where
       by : Rose before.disk.faults after.disk.faults
           ⊎ (Rose (before.disk.mounts.refused dir) (after.disk.mounts.refused dir) ⊎ (IfSome (before.disk.found dir) IsNew × HasSnapshotPast made.text empty_core))
-          → DiskRose dir before.disk after.disk ⊎ HasSnapshotPast (chars holds.text) empty_core
+          → DiskRose dir before.disk after.disk ⊎ (IfSome (before.disk.found dir) IsNew × HasSnapshotPast (chars holds.text) empty_core)
       by (inl rose) = inl (inl rose)
       by (inr (inl rose)) = inl (inr rose)
-      by (inr (inr past)) = inr (subst (λ t. HasSnapshotPast t empty_core) holds.is.characters past.1)
+      by (inr (inr past)) = inr (past.0, subst (λ t. HasSnapshotPast t empty_core) holds.is.characters past.1)
 
   -- it was, and a run on it came to a result
   module _ (opened : OpenedStore) (settings : OpenSettings) (ready : IsReady made.compiled settings opened) (program : settings.program ≡ made.text) (every : settings.every ≡ w.every)
@@ -327,10 +328,12 @@ module _ (limit : ℕ) (file dir : List ℕ) (w : words.RunSettings) (before aft
       cause_so : disk_failed result ≡ true → DiskRose dir before.disk after.disk ⊎ EndsPast (rule_for w) (Some ran.store) (source_of made.compiled) ran.last ran.fresh now
       cause_so failed = by (ran.cause failed)
         where
-          by : Rose faults after.disk.faults ⊎ EndsPast (rule_for w) (Some ran.store) (engine.source_of opened.engine) ran.last ran.fresh now
+          by : Rose faults after.disk.faults ⊎ EndsPast (rule_of s) (Some ran.store) (engine.source_of opened.engine) ran.last ran.fresh now
               → DiskRose dir before.disk after.disk ⊎ EndsPast (rule_for w) (Some ran.store) (source_of made.compiled) ran.last ran.fresh now
           by (inl rose) = inl (inl (Rose-earlier before.disk.faults faults after.disk.faults later rose))
-          by (inr past) = inr (subst (λ src. EndsPast (rule_for w) (Some ran.store) src ran.last ran.fresh now) source_so past)
+          by (inr past) =
+              inr (subst (λ (t : RunSettings). EndsPast (rule_of t) (Some ran.store) (source_of made.compiled) ran.last ran.fresh now) is
+              (subst (λ src. EndsPast (rule_of s) (Some ran.store) src ran.last ran.fresh now) source_so past))
 
       -- what was logged, in this run's own terms
       abbrev Logged : Compiled → RunSettings → StoreSettings → Type 0
@@ -353,7 +356,10 @@ module _ (limit : ℕ) (file dir : List ℕ) (w : words.RunSettings) (before aft
         settings = ran.settings ∙ same_settings;
         fresh = ran.fresh;
         storable = ran.storable;
-        kept = subst (λ src. KeepsWhere (disk_failed result) (Some ran.store) src (settled ran.last ran.fresh) (next_core (rule_for w) src ran.last) now) source_so ran.kept;
+        kept =
+            subst (λ (t : RunSettings). KeepsWhere (disk_failed result) (Some ran.store) (source_of made.compiled) (settled ran.last ran.fresh)
+            (next_core (rule_of t) (source_of made.compiled) ran.last) now) is
+            (subst (λ src. KeepsWhere (disk_failed result) (Some ran.store) src (settled ran.last ran.fresh) (next_core (rule_of s) src ran.last) now) source_so ran.kept);
         in_cycle = ran.in_cycle;
         in_turn = logs_so.in_turn;
         cause = cause_so;

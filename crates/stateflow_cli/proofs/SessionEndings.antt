@@ -1,5 +1,5 @@
 -- From a run that came to a result to its session, and the headline of that.
-use Rattle.std.proofs.Common.{◌≡◌, ℕ, ◌+◌, ◌-◌, ◌^◌, ◌<◌, ◌/◌, ◌⊎◌, inl, inr, Bool, true, false, List, [], ◌∷◌, length, take, min, Some, Ok, Err, refl, sym, ap, ◌∙◌, subst, arith}
+use Rattle.std.proofs.Common.{◌≡◌, ℕ, ◌+◌, ◌-◌, ◌^◌, ◌<◌, ◌/◌, ◌⊎◌, inl, inr, Bool, true, false, true≢false, List, [], ◌∷◌, ◌++◌, length, length-append, take, min, Some, Ok, Err, refl, sym, ap, ◌∙◌, subst, arith}
 use Rattle.std.proofs.Math.Seq.{take-nil}
 use Rattle.std.specs.Str.{chars}
 use Rattle.std.specs.declared.result.Result.{Result}
@@ -18,7 +18,7 @@ use Rattle.session_store.specs.declared.store.StoreSettings.{StoreSettings}
 use Rattle.session_store.specs.Endings.{KeepsWhere, next_core}
 use Rattle.session_store.specs.Cycles.{IsInCycle}
 use Rattle.session_store.specs.Stores.{Keeps, StandsSomewhere}
-use Rattle.batch_run.specs.Vocabulary.{Tally, Service, no_batch, numbered_text, tally_after, trace_text, SessionFault, IsFlushedBy, disk_failed, AreStepsBy, EndsWith, AreWhole, AreAll}
+use Rattle.batch_run.specs.Vocabulary.{Tally, BatchCounts, LacksALine, Service, no_batch, numbered_text, tally_after, trace_text, SessionFault, IsFlushedBy, OwesOne, disk_failed, AreStepsBy, EndsWith, AreWhole, AreAll}
 use Rattle.batch_run.specs.SessionFaultVariants as stop
 use Rattle.batch_run.specs.RunViews.{run_service}
 use Rattle.batch_run.specs.RunTexts.{AnswersSome, Prints}
@@ -35,7 +35,7 @@ use Rattle.stateflow_cli.specs.StatusLines.{status_of, line_of}
 use Rattle.stateflow_cli.specs.Telling.{Told}
 use Rattle.stateflow_cli.specs.Session.{IsOneOf, AreStepsFor, Session}
 use Rattle.stateflow_cli.specs.SessionText.{IsSerial, PrintsText}
-use Rattle.stateflow_cli.specs.Headline.{FlushesOutput, TracesBatches, RunsGraph, KeepsCommitted, KeepsAll, KeepsInTurn, Headline}
+use Rattle.stateflow_cli.specs.Headline.{FlushesOutput, TracesBatches, RunsGraph, KeepsCommitted, KeepsAll, KeepsInTurn, OwesACheckpoint, Headline}
 use Rattle.stateflow_cli.specs.declared.ending.Ending.{Ending}
 use Rattle.stateflow_cli.proofs.LocalEndings.{no_stop}
 use Rattle.stateflow_cli.proofs.RunEndings.{all_told, most_told, begun_of, whole_of, part_traced, whole_traced, served_is, unread_is, unlogged_is, wanting_is, too_long_is, full_is}
@@ -268,6 +268,26 @@ module _ (limit : ℕ) (before after : Devices) (now : DiskFacts) (behind : Outp
       below_most : (tally_after no_batch r.runs.tells.counts).batches < 2 ^ 64 - 1
       below_most = let few : length r.runs.tells.counts < 2 ^ 64 - 1 = r.runs.tells.few in omega (arith, few, counted)
 
+      -- of the lines of these batches the trace lacks one at most
+      abbrev Lacks : (List BatchCounts → List ℕ) → Type 0
+      Lacks text = Appends before.err.held behind.held (text r.runs.tells.counts)
+          ⊎ LacksALine s.trace text r.runs.tells.counts (length (batches_of r.compiled (settings_for limit s) r.start r.runs.tells.ended.first)) before.err.held behind.held
+
+      lacks_so : Lacks (trace_text s.trace no_batch) → Lacks (numbered_text s.trace)
+      lacks_so (inl whole) = inl (subst (Appends before.err.held behind.held) numbered whole)
+      lacks_so (inr l) =
+          let counted_all : length r.runs.tells.counts ≡ length l.first + 1 = ap length l.split ∙ length-append l.first (l.last ∷ []) in
+          let few : length r.runs.tells.counts < 2 ^ 64 = few_told in
+          inr (record {
+            asked = l.asked;
+            all = l.all;
+            first = l.first;
+            last = l.last;
+            split = l.split;
+            more = l.more;
+            wrote = subst (λ text. Appends before.err.held behind.held (text ++ l.more)) (text_plain s.trace l.first (omega (arith, counted_all, few))) l.wrote;
+          })
+
       trace : Told (line_of file e) (status_of e) behind.held after.err.held behind.faults after.err.faults status → TracesBatches session
       trace told = record {
         behind = behind;
@@ -275,6 +295,7 @@ module _ (limit : ℕ) (before after : Devices) (now : DiskFacts) (behind : Outp
             (part_traced r.compiled (settings_for limit s) r.runs.tells.counts before.err.held behind.held result r.runs.tells.traced);
         whole = λ p. subst (Appends before.err.held behind.held) numbered
             (whole_traced r.compiled (settings_for limit s) r.runs.tells.counts before.err.held behind.held result (not_unwritten p) r.runs.tells.traced);
+        lacks = lacks_so r.runs.tells.lacks;
         line = record { ending = e; told = told };
       }
 
@@ -298,15 +319,16 @@ module _ (limit : ℕ) (before after : Devices) (now : DiskFacts) (behind : Outp
 
       -- where checkpoints came in their turn
 
-      own_turn : IsOneOf status (3 ∷ 9 ∷ 10 ∷ []) → IsOneOf (status_of (run_ending result)) (3 ∷ 9 ∷ 10 ∷ [])
+      own_turn : IsOneOf status (3 ∷ 8 ∷ 9 ∷ 10 ∷ []) → IsOneOf (status_of (run_ending result)) (3 ∷ 8 ∷ 9 ∷ 10 ∷ [])
       own_turn (inl n) = inl (own_result 3 n (λ z. omega (arith, z)))
-      own_turn (inr (inl n)) = inr (inl (own_result 9 n (λ z. omega (arith, z))))
-      own_turn (inr (inr (inl n))) = inr (inr (inl (own_result 10 n (λ z. omega (arith, z)))))
-      own_turn (inr (inr (inr none))) = absurd none
+      own_turn (inr (inl n)) = inr (inl (own_result 8 n (λ z. omega (arith, z))))
+      own_turn (inr (inr (inl n))) = inr (inr (inl (own_result 9 n (λ z. omega (arith, z)))))
+      own_turn (inr (inr (inr (inl n)))) = inr (inr (inr (inl (own_result 10 n (λ z. omega (arith, z))))))
+      own_turn (inr (inr (inr (inr none)))) = absurd none
 
       module _ (dir : List ℕ) (k : KeepsRun dir s (batch.source_of r.compiled) r.holds.text r.start r.last before.disk after.disk now result r.runs.tells.counts)
-          (kept : Keeps (Some k.store) (batch.source_of r.compiled) (settled r.last k.fresh) now) (turn : IsInCycle (Some k.store) (tally_after no_batch r.runs.tells.counts).batches) where
-        kept_in_turn : KeepsInTurn session dir now
+          (kept : Keeps (Some k.store) (batch.source_of r.compiled) (settled r.last k.fresh) now) (batches : ℕ) (few : batches < 2 ^ 64 - 1) (turn : IsInCycle (Some k.store) batches) where
+        kept_in_turn : KeepsInTurn session dir now batches
         kept_in_turn = record {
           opened = k.opened;
           found = k.found;
@@ -317,34 +339,69 @@ module _ (limit : ℕ) (before after : Devices) (now : DiskFacts) (behind : Outp
             each = λ image leaves.
                 subst (λ t. StandsFor (record { source = batch.source_of r.compiled; text = t }) image (settled r.last k.fresh) k.store.position)
                 (ap (λ (x : StoreSettings). x.program) k.settings) (kept.keeps.each image leaves);
-            epoch =
-                subst (λ n. k.store.position.epoch ≡ min (k.opened.epoch + n / s.every) (2 ^ 63 - 1)) counted
-                (subst (λ (x : StoreSettings). k.store.position.epoch ≡ min (x.opened + (tally_after no_batch r.runs.tells.counts).batches / x.every) (2 ^ 63 - 1)) k.settings
-                (turn below_most).epoch);
+            epoch = subst (λ (x : StoreSettings). k.store.position.epoch ≡ min (x.opened + batches / x.every) (2 ^ 63 - 1)) k.settings (turn few).epoch;
           };
         }
 
-    none_of : (m : ℕ) → (m ≡ 3 → ⊥) → (m ≡ 9 → ⊥) → (m ≡ 10 → ⊥) → IsOneOf m (3 ∷ 9 ∷ 10 ∷ []) → ⊥
-    none_of m three nine ten (inl n) = three n
-    none_of m three nine ten (inr (inl n)) = nine n
-    none_of m three nine ten (inr (inr (inl n))) = ten n
-    none_of m three nine ten (inr (inr (inr none))) = none
+    none_of : (m : ℕ) → (m ≡ 3 → ⊥) → (m ≡ 8 → ⊥) → (m ≡ 9 → ⊥) → (m ≡ 10 → ⊥) → IsOneOf m (3 ∷ 8 ∷ 9 ∷ 10 ∷ []) → ⊥
+    none_of m three eight nine ten (inl n) = three n
+    none_of m three eight nine ten (inr (inl n)) = eight n
+    none_of m three eight nine ten (inr (inr (inl n))) = nine n
+    none_of m three eight nine ten (inr (inr (inr (inl n)))) = ten n
+    none_of m three eight nine ten (inr (inr (inr (inr none)))) = none
+
+    -- as many batches as were told
+    told_turn : (result : Result Tally SessionFault) (r : Came result) (is : status_of e ≡ status_of (run_ending result)) (dir : List ℕ)
+        (k : KeepsRun dir s (batch.source_of r.compiled) r.holds.text r.start r.last before.disk after.disk now result r.runs.tells.counts)
+        → Keeps (Some k.store) (batch.source_of r.compiled) (settled r.last k.fresh) now → IsInCycle (Some k.store) (tally_after no_batch r.runs.tells.counts).batches
+        → KeepsInTurn (session result r is) dir now (length r.runs.tells.counts)
+    told_turn result r is dir k kept turn = kept_in_turn result r is dir k kept (length r.runs.tells.counts) r.runs.tells.few
+        (subst (λ n. IsInCycle (Some k.store) n) (counted result r is) turn)
 
     in_turn : (result : Result Tally SessionFault) (r : Came result) (is : status_of e ≡ status_of (run_ending result)) (dir : List ℕ) → s.store ≡ Some dir
-        → IsOneOf status (3 ∷ 9 ∷ 10 ∷ []) → KeepsInTurn (session result r is) dir now
-    in_turn (Err stop.ReadFault) r is dir named n =
-        let k = kept_run (Err stop.ReadFault) r is dir named in kept_in_turn (Err stop.ReadFault) r is dir k k.kept k.in_turn
-    in_turn (Err stop.InputTooLong) r is dir named n =
-        let k = kept_run (Err stop.InputTooLong) r is dir named in kept_in_turn (Err stop.InputTooLong) r is dir k k.kept k.in_turn
-    in_turn (Err stop.HistoryFull) r is dir named n =
-        let k = kept_run (Err stop.HistoryFull) r is dir named in kept_in_turn (Err stop.HistoryFull) r is dir k k.kept k.in_turn
-    in_turn (Ok tally) r is dir named n = absurd (none_of 0 (λ z. omega (arith, z)) (λ z. omega (arith, z)) (λ z. omega (arith, z)) (own_turn (Ok tally) r is n))
+        → IsOneOf status (3 ∷ 8 ∷ 9 ∷ 10 ∷ []) → KeepsInTurn (session result r is) dir now (length r.runs.tells.counts)
+    in_turn (Err stop.ReadFault) r is dir named n = let k = kept_run (Err stop.ReadFault) r is dir named in told_turn (Err stop.ReadFault) r is dir k k.kept k.in_turn
+    in_turn (Err stop.InputTooLong) r is dir named n = let k = kept_run (Err stop.InputTooLong) r is dir named in told_turn (Err stop.InputTooLong) r is dir k k.kept k.in_turn
+    in_turn (Err stop.HistoryFull) r is dir named n = let k = kept_run (Err stop.HistoryFull) r is dir named in told_turn (Err stop.HistoryFull) r is dir k k.kept k.in_turn
+    in_turn (Err stop.NoMemory) r is dir named n = let k = kept_run (Err stop.NoMemory) r is dir named in told_turn (Err stop.NoMemory) r is dir k k.kept k.in_turn
+    in_turn (Ok tally) r is dir named n =
+        absurd (none_of 0 (λ z. omega (arith, z)) (λ z. omega (arith, z)) (λ z. omega (arith, z)) (λ z. omega (arith, z)) (own_turn (Ok tally) r is n))
     in_turn (Err stop.WriteFault) r is dir named n =
-        absurd (none_of 4 (λ z. omega (arith, z)) (λ z. omega (arith, z)) (λ z. omega (arith, z)) (own_turn (Err stop.WriteFault) r is n))
+        absurd (none_of 4 (λ z. omega (arith, z)) (λ z. omega (arith, z)) (λ z. omega (arith, z)) (λ z. omega (arith, z)) (own_turn (Err stop.WriteFault) r is n))
     in_turn (Err stop.DiskFault) r is dir named n =
-        absurd (none_of 5 (λ z. omega (arith, z)) (λ z. omega (arith, z)) (λ z. omega (arith, z)) (own_turn (Err stop.DiskFault) r is n))
-    in_turn (Err stop.NoMemory) r is dir named n =
-        absurd (none_of 8 (λ z. omega (arith, z)) (λ z. omega (arith, z)) (λ z. omega (arith, z)) (own_turn (Err stop.NoMemory) r is n))
+        absurd (none_of 5 (λ z. omega (arith, z)) (λ z. omega (arith, z)) (λ z. omega (arith, z)) (λ z. omega (arith, z)) (own_turn (Err stop.DiskFault) r is n))
+
+    -- where something couldn't be written, perhaps but for the last batch
+    abbrev Owing : (result : Result Tally SessionFault) (r : Came result) (is : status_of e ≡ status_of (run_ending result)) → List ℕ → Type 0
+    Owing result r is dir = KeepsInTurn (session result r is) dir now (length r.runs.tells.counts)
+        ⊎ OwesACheckpoint (session result r is) dir now
+
+    owing : (result : Result Tally SessionFault) (r : Came result) (is : status_of e ≡ status_of (run_ending result)) (dir : List ℕ) → s.store ≡ Some dir
+        → disk_failed result ≡ false → Owing result r is dir
+    owing (Ok tally) r is dir named whole = let k = kept_run (Ok tally) r is dir named in inl (told_turn (Ok tally) r is dir k k.kept k.in_turn)
+    owing (Err stop.ReadFault) r is dir named whole = let k = kept_run (Err stop.ReadFault) r is dir named in inl (told_turn (Err stop.ReadFault) r is dir k k.kept k.in_turn)
+    owing (Err stop.InputTooLong) r is dir named whole = let k = kept_run (Err stop.InputTooLong) r is dir named in inl (told_turn (Err stop.InputTooLong) r is dir k k.kept k.in_turn)
+    owing (Err stop.HistoryFull) r is dir named whole = let k = kept_run (Err stop.HistoryFull) r is dir named in inl (told_turn (Err stop.HistoryFull) r is dir k k.kept k.in_turn)
+    owing (Err stop.NoMemory) r is dir named whole = let k = kept_run (Err stop.NoMemory) r is dir named in inl (told_turn (Err stop.NoMemory) r is dir k k.kept k.in_turn)
+    owing (Err stop.DiskFault) r is dir named whole = absurd (true≢false whole)
+    owing (Err stop.WriteFault) r is dir named whole = by k.in_turn
+      where
+        k : KeepsRun dir s (batch.source_of r.compiled) r.holds.text r.start r.last before.disk after.disk now (Err stop.WriteFault) r.runs.tells.counts
+        k = kept_run (Err stop.WriteFault) r is dir named
+
+        by : IsInCycle (Some k.store) (tally_after no_batch r.runs.tells.counts).batches ⊎ OwesOne s.trace (Some k.store) (tally_after no_batch r.runs.tells.counts).batches
+            → Owing (Err stop.WriteFault) r is dir
+        by (inl turn) = inl (told_turn (Err stop.WriteFault) r is dir k k.kept turn)
+        by (inr o) =
+            let few : length r.runs.tells.counts < 2 ^ 64 - 1 = r.runs.tells.few in
+            let all = counted (Err stop.WriteFault) r is in
+            let one_more : o.before + 1 ≡ length r.runs.tells.counts = omega (arith, few, all, o.one_more) in
+            inr (record {
+              asked = o.asked;
+              all_but_one = o.before;
+              one_more = one_more;
+              keeps = kept_in_turn (Err stop.WriteFault) r is dir k k.kept o.before (omega (arith, few, one_more)) o.in_cycle;
+            })
 
     -- where all was served
     module _ (tally : Tally) (r : Came (Ok tally)) (is : status_of e ≡ status_of (run_ending (Ok tally))) (dir : List ℕ)
@@ -394,5 +451,6 @@ module _ (limit : ℕ) (before after : Devices) (now : DiskFacts) (behind : Outp
       since = moments result r is;
       kept = keeps_committed result r is;
       in_turn = in_turn result r is;
+      owing = λ dir named four. owing result r is dir named;
       final = final result r is;
     }

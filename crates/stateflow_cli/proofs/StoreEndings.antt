@@ -1,6 +1,6 @@
 -- Why a run has its status, and what it did: no session began, or there is one, of which the headline holds.
 use Rattle.std.proofs.Common.{◌≡◌, ℕ, ◌≤◌, ◌⊎◌, inl, inr, List, [], ◌∷◌, None, Some, Ok, Err, refl, sym, ap, ◌∙◌, subst, arith}
-use Rattle.std.specs.Prelude.{decimal}
+use Rattle.std.specs.Prelude.{decimal, IfSome}
 use Rattle.std.specs.Str.{chars}
 use Rattle.std.specs.declared.option.Option.{Option}
 use Rattle.std.specs.declared.result.Result.{Result}
@@ -11,6 +11,7 @@ use Rattle.sf_outside.specs.declared.store_disk.StoreFile.{StoreFile}
 use Rattle.block_step.specs.declared.compiled.Compiled.{Compiled}
 use Rattle.aria_batch.specs.BatchRun.{source_of}
 use Rattle.entity_compiler.specs.Compiling.{IsCompiledOf}
+use Rattle.snapshot_store.specs.SlotFile.{IsNew}
 use Rattle.engine.specs.Cores.{empty_core}
 use Rattle.store_meaning.specs.StandsFor.{Program}
 use Rattle.session_store.specs.declared.store.StoreSettings.{StoreSettings}
@@ -38,7 +39,7 @@ use Rattle.stateflow_cli.specs.Session.{Session}
 use Rattle.stateflow_cli.specs.Headline.{Headline}
 use Rattle.stateflow_cli.specs.RunPromise.{RunCause, FindsBad, FindsAnother, Begins, IsUnbegun}
 use Rattle.stateflow_cli.specs.declared.ending.Ending.{Ending}
-use Rattle.stateflow_cli.specs.declared.ending.Ending.TheVariants.{Misused, Refused, FileFault, NoMemory, Printed, Unprinted, Served, Stopped, Unopened}
+use Rattle.stateflow_cli.specs.declared.ending.Ending.TheVariants.{Misused, Refused, FileFault, NoMemory, Printed, Unprinted, Served, Stopped, Unopened, Found}
 use Rattle.stateflow_cli.proofs.GainedLaws.{Rose-later, Told-before}
 use Rattle.stateflow_cli.proofs.PrintLaws.{holds_compiled}
 use Rattle.stateflow_cli.proofs.ReportEndings.{still_idle}
@@ -90,7 +91,7 @@ module _ (limit : ℕ) (before after : Devices) (was now : DiskFacts) (behind : 
   stopped_fails (Some dir) named r keeps = record { dir = dir; named = named; holds = holds_compiled (before.content file) r.compiled r.holds; cause = by (keeps.cause refl) }
     where
       by : DiskRose dir before.disk after.disk ⊎ EndsPast (rule_for s) (Some keeps.store) (source_of r.compiled) r.last keeps.fresh now
-          → DiskRose dir before.disk after.disk ⊎ (RunEndsPast limit file s before after now ⊎ HasSnapshotPast (chars r.holds.text) empty_core)
+          → DiskRose dir before.disk after.disk ⊎ (RunEndsPast limit file s before after now ⊎ (IfSome (before.disk.found dir) IsNew × HasSnapshotPast (chars r.holds.text) empty_core))
       by (inl rose) = inl rose
       by (inr past) =
           inr (inl (record {
@@ -111,12 +112,13 @@ module _ (limit : ℕ) (before after : Devices) (was now : DiskFacts) (behind : 
   unopened_fails : WasNotOpened of_store.DiskFault → DiskFails limit file s before after now
   unopened_fails u = record { dir = u.dir; named = u.named; holds = holds_compiled (before.content file) u.compiled u.holds; cause = by (u.fails.cause refl) }
     where
-      by : DiskRose u.dir before.disk after.disk ⊎ HasSnapshotPast (chars u.holds.text) empty_core
-          → DiskRose u.dir before.disk after.disk ⊎ (RunEndsPast limit file s before after now ⊎ HasSnapshotPast (chars u.holds.text) empty_core)
+      by : DiskRose u.dir before.disk after.disk ⊎ (IfSome (before.disk.found u.dir) IsNew × HasSnapshotPast (chars u.holds.text) empty_core)
+          → DiskRose u.dir before.disk after.disk
+          ⊎ (RunEndsPast limit file s before after now ⊎ (IfSome (before.disk.found u.dir) IsNew × HasSnapshotPast (chars u.holds.text) empty_core))
       by (inl rose) = inl rose
       by (inr past) = inr (inr past)
 
-  pub run_bad : (e : Ending) → RunEnded e → Appends behind.held after.err.held (line_of file e) → status_of e ≡ 6 → TellsBadStore file s before after
+  pub run_bad : (e : Ending) → RunEnded e → Appends behind.held after.err.held (line_of file e) → status_of e ≡ 6 → TellsBadStore file s.store before after
   run_bad (Unopened (of_store.Bad bad at)) ends wrote n = record {
     dir = ends.dir;
     named = ends.named;
@@ -129,6 +131,7 @@ module _ (limit : ℕ) (before after : Devices) (was now : DiskFacts) (behind : 
   run_bad (Unopened of_store.DiskFault) ends wrote n = absurd (omega (arith, n))
   run_bad (Unopened of_store.OtherProgram) ends wrote n = absurd (omega (arith, n))
   run_bad (Unopened of_store.NoMemory) ends wrote n = absurd (omega (arith, n))
+  run_bad (Found finding) ends wrote n = absurd ends
   run_bad (Stopped stop.DiskFault) ends wrote n = absurd (omega (arith, n))
   run_bad (Stopped stop.ReadFault) ends wrote n = absurd (omega (arith, n))
   run_bad (Stopped stop.WriteFault) ends wrote n = absurd (omega (arith, n))
@@ -148,6 +151,7 @@ module _ (limit : ℕ) (before after : Devices) (was now : DiskFacts) (behind : 
   run_told (Unopened (of_store.Bad bad at)) ends wrote n = absurd (omega (arith, n))
   run_told (Unopened of_store.OtherProgram) ends wrote n = absurd (omega (arith, n))
   run_told (Unopened of_store.NoMemory) ends wrote n = absurd (omega (arith, n))
+  run_told (Found finding) ends wrote n = absurd ends
   run_told e ends wrote n = absurd (omega (arith, n))
 
   -- why it has its status
@@ -194,6 +198,7 @@ module _ (limit : ℕ) (before after : Devices) (was now : DiskFacts) (behind : 
     run_cause (Stopped stopped) (inl g) n = inr (WantedMemory (n ∙ ap (λ x. status_of (Stopped x)) g.is))
     run_cause (Stopped stopped) (inr r) n = stopped_comes stopped r n
     run_cause (Unopened stopped) ends n = unopened_comes stopped ends n
+    run_cause (Found finding) ends n = absurd ends
 
   -- ---- where no session began
 
@@ -209,6 +214,7 @@ module _ (limit : ℕ) (before after : Devices) (was now : DiskFacts) (behind : 
   run_later (Stopped stopped) (inl g) = g.err_later
   run_later (Stopped stopped) (inr r) = r.err_later
   run_later (Unopened stopped) ends = not_fewer before.err behind ends.still.err
+  run_later (Found finding) ends = absurd ends
 
   module _ (status : ℕ) where
     abbrev Leaves : List ℕ → Type 0
@@ -406,3 +412,4 @@ module _ (limit : ℕ) (before after : Devices) (was now : DiskFacts) (behind : 
   run_does (Unopened stopped) at line own one ends told =
       inl (still_unbegun limit before after was now behind file s status (Unopened stopped) at line ends told (among_unopened limit before after was now behind file s status stopped one) ends.still
       (left_unopened limit before after was now behind file s status stopped ends one))
+  run_does (Found finding) at line own one ends told = absurd ends

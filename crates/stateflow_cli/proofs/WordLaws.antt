@@ -1,10 +1,11 @@
 -- What words ask for is in range.
-use Rattle.std.proofs.Common.{◌≡◌, ℕ, ◌≤◌, Bool, true, false, ◌&&◌, nat_le, Option, Some, None, refl, ap, subst, arith}
+use Rattle.std.proofs.Common.{◌≡◌, ℕ, ◌≤◌, Bool, true, false, ◌&&◌, nat_le, List, [], ◌∷◌, Option, Some, None, refl, ap, subst, arith}
 use Rattle.std.specs.Prelude.{option_map, option_and_then, if◌then◌else◌}
 use Rattle.std.proofs.lemmas.Bool.Decides.{nat_tests}
 use Rattle.command_words.specs.WordReading.{Text}
+use Rattle.command_words.specs.Grammar.{stands_alone}
 use Rattle.command_words.specs.Numbers.{number_of, at_least_one, count_of, or_usual}
-use Rattle.command_words.specs.Commands.{Asked, Run, Gen, RunSettings, GenSettings, Texts, ◌>>?◌, with_file, run_settings, gen_settings, run_in, gen_in, file_in, batch_in, partitions_in, schedule_in, store_in, every_in, history_in, trace_in, number_in, size_in}
+use Rattle.command_words.specs.Commands.{Asked, Run, Gen, Export, Audit, audit_of, RunSettings, GenSettings, Texts, ◌>>?◌, with_file, run_settings, gen_settings, run_in, gen_in, export_in, needed_store, file_in, batch_in, partitions_in, schedule_in, store_in, every_in, history_in, reorder_in, trace_in, number_in, size_in}
 use Rattle.stateflow_cli.specs.Words.{AreInRange, IsWorkInRange}
 use Rattle.stateflow_cli.specs.Deeds.{IsInRange}
 
@@ -42,7 +43,7 @@ count_range most usual (Some text) n least less e = by (number_of text) e
     by (Some m) e = counted most m n e
 
 -- what is made of several texts has what was read of the first two and of the fifth
-own_three : (batch partitions schedule : Option ℕ) (store : Option (Option Text)) (every history : Option ℕ) (trace : Bool) (s : RunSettings)
+own_three : (batch partitions schedule : Option ℕ) (store : Option (Option Text)) (every history : Option ℕ) (reorder trace : Bool) (s : RunSettings)
     → (batch >>? (λ b. partitions >>? (λ p. schedule >>? (λ c. store >>? (λ t. every >>? (λ e. history >>? (λ h. Some (record {
       batch = b;
       partitions = p;
@@ -50,22 +51,23 @@ own_three : (batch partitions schedule : Option ℕ) (store : Option (Option Tex
       store = t;
       every = e;
       history = h;
+      reorder = reorder;
       trace = trace;
     })))))))) ≡ Some s → (batch ≡ Some s.batch) × (partitions ≡ Some s.partitions) × (every ≡ Some s.every)
-own_three None p c t e h trace s is = none_some s is
-own_three (Some b) None c t e h trace s is = none_some s is
-own_three (Some b) (Some p) None t e h trace s is = none_some s is
-own_three (Some b) (Some p) (Some c) None e h trace s is = none_some s is
-own_three (Some b) (Some p) (Some c) (Some t) None h trace s is = none_some s is
-own_three (Some b) (Some p) (Some c) (Some t) (Some e) None trace s is = none_some s is
-own_three (Some b) (Some p) (Some c) (Some t) (Some e) (Some h) trace s is =
-    let same = some_same (record { batch = b; partitions = p; schedule = c; store = t; every = e; history = h; trace = trace }) s is in
+own_three None p c t e h reorder trace s is = none_some s is
+own_three (Some b) None c t e h reorder trace s is = none_some s is
+own_three (Some b) (Some p) None t e h reorder trace s is = none_some s is
+own_three (Some b) (Some p) (Some c) None e h reorder trace s is = none_some s is
+own_three (Some b) (Some p) (Some c) (Some t) None h reorder trace s is = none_some s is
+own_three (Some b) (Some p) (Some c) (Some t) (Some e) None reorder trace s is = none_some s is
+own_three (Some b) (Some p) (Some c) (Some t) (Some e) (Some h) reorder trace s is =
+    let same = some_same (record { batch = b; partitions = p; schedule = c; store = t; every = e; history = h; reorder = reorder; trace = trace }) s is in
     (ap (λ (x : RunSettings). Some x.batch) same, ap (λ (x : RunSettings). Some x.partitions) same, ap (λ (x : RunSettings). Some x.every) same)
 
 settings_range : (texts : Texts) (s : RunSettings) → run_settings texts ≡ Some s → AreInRange s
 unfolding run_settings
 settings_range texts s is =
-    let two = own_three (batch_in texts) (partitions_in texts) (schedule_in texts) (store_in texts) (every_in texts) (history_in texts) (trace_in texts) s is in
+    let two = own_three (batch_in texts) (partitions_in texts) (schedule_in texts) (store_in texts) (every_in texts) (history_in texts) (reorder_in texts) (trace_in texts) s is in
     let batch = count_range 256 64 _ s.batch (omega arith) (omega arith) two.0 in
     let partitions = count_range 64 4 _ s.partitions (omega arith) (omega arith) two.1 in
     let every = count_range 65535 64 _ s.every (omega arith) (omega arith) two.2 in
@@ -117,3 +119,22 @@ file_in_range command fine texts a is = by (file_in texts) is
     by : (o : Option Text) → option_map command o ≡ Some a → IsInRange a
     by None e = none_some a e
     by (Some file) e = subst IsInRange (some_same (command file) a e) (fine file)
+
+pub audit_in_range : (words : List Text) (a : Asked) → audit_of words ≡ Some a → IsInRange a
+unfolding audit_of
+audit_in_range [] a is = none_some a is
+audit_in_range (file ∷ []) a is = none_some a is
+audit_in_range (file ∷ run ∷ word ∷ more) a is = none_some a is
+audit_in_range (file ∷ run ∷ []) a is = by (stands_alone file && stands_alone run) is
+  where
+    by : (b : Bool) → (if b then Some (Audit file run) else None) ≡ Some a → IsInRange a
+    by false e = none_some a e
+    by true e = subst IsInRange (some_same (Audit file run) a e) tt
+
+pub export_in_range : (texts : Texts) (a : Asked) → export_in texts ≡ Some a → IsInRange a
+export_in_range texts a is = by (file_in texts) (needed_store texts) is
+  where
+    by : (o r : Option Text) → (o >>? (λ f. option_map (Export f) r)) ≡ Some a → IsInRange a
+    by None r e = none_some a e
+    by (Some f) None e = none_some a e
+    by (Some f) (Some dir) e = subst IsInRange (some_same (Export f dir) a e) tt

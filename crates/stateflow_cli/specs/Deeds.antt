@@ -2,7 +2,7 @@
 use Rattle.std.specs.Prelude.{ℕ, ◌≡◌, ◌⊎◌, List, [], None, Some, ⊤, codes}
 use Rattle.std.specs.declared.option.Option.{Option}
 use Rattle.sf_outside.specs.DiskModel.{DiskFacts}
-use Rattle.command_words.specs.Commands.{Asked, Check, Compile, Local, Run, Gen}
+use Rattle.command_words.specs.Commands.{Asked, Check, Compile, Local, Run, Gen, Export, Audit}
 use Rattle.stateflow_cli.specs.Words.{AreInRange, IsWorkInRange}
 use Rattle.stateflow_cli.specs.CheckLine.{IsCheckLine}
 use Rattle.stateflow_cli.specs.CompiledText.{IsCompiledText}
@@ -13,6 +13,10 @@ use Rattle.stateflow_cli.specs.ReportPromise.{ReportPromise}
 use Rattle.stateflow_cli.specs.LocalPromise.{LocalPromise}
 use Rattle.stateflow_cli.specs.RunPromise.{RunPromise}
 use Rattle.stateflow_cli.specs.GenPromise.{GenPromise}
+use Rattle.stateflow_cli.specs.ExportEnds.{ExportEnds}
+use Rattle.stateflow_cli.specs.ExportPromise.{ExportPromise}
+use Rattle.stateflow_cli.specs.AuditEnds.{AuditEnds}
+use Rattle.stateflow_cli.specs.AuditPromise.{AuditPromise}
 use Rattle.stateflow_cli.specs.declared.ending.Ending.{Ending}
 use Rattle.stateflow_cli.specs.declared.ending.Ending.TheVariants.{Misused, NoMemory}
 
@@ -41,7 +45,7 @@ reports Is file = record {
 }
 
 -- `check` and `compile` report on the program; `local` and `run` serve the input, of which so many bytes are taken; `gen` serves its own work, whose
--- program stands in no file
+-- program stands in no file; `export` writes the history of a store; `audit` judges a run, of which so many bytes count
 abbrev pub deed : ℕ → Asked → Deed
 deed limit (Check file) = reports IsCheckLine file
 deed limit (Compile file) = reports IsCompiledText file
@@ -68,6 +72,22 @@ deed limit (Gen s) = record {
   Ends = λ before after was now ending. GenEnds s before after ending;
   Spares = λ before after. ⊤;
   Does = λ before after was now status. GenPromise s before after status;
+}
+deed limit (Export file dir) = record {
+  file = file;
+  store = Some dir;
+  InRange = ⊤;
+  Ends = λ before after was now ending. ExportEnds file dir before after was now ending;
+  Spares = λ before after. ⊤;
+  Does = λ before after was now status. ExportPromise file dir before after was now status;
+}
+deed limit (Audit file run) = record {
+  file = file;
+  store = None;
+  InRange = ⊤;
+  Ends = λ before after was now ending. AuditEnds limit file run before after ending;
+  Spares = λ before after. ⊤;
+  Does = λ before after was now status. AuditPromise limit file run before after status;
 }
 
 -- ---- what words name

@@ -35,7 +35,7 @@ use Rattle.py_tree.specs.PlainProgram.{PlainProgram}
 use Rattle.operator_graph.specs.Turns.{Outside}
 use Rattle.program_text.specs.declared.fault.ProgramFault.{ProgramFault}
 use Rattle.stateflow_cli.specs.declared.ending.Ending.{Ending}
-use Rattle.stateflow_cli.specs.declared.ending.Ending.TheVariants.{Misused, Refused, FileFault, NoMemory, Printed, Unprinted, Served, Stopped, Unopened}
+use Rattle.stateflow_cli.specs.declared.ending.Ending.TheVariants.{Misused, Refused, FileFault, NoMemory, Printed, Unprinted, Served, Stopped, Unopened, Found}
 
 -- the most bytes of input that a call takes in, 2^40, and the most entries of the history that `local` keeps
 abbrev pub longest_input : ℕ
@@ -83,7 +83,7 @@ shown_of d = record { left = d.input.left; held = d.out.held; handed = d.out.han
 -- the settings that words give, with the most bytes of input that count
 abbrev pub settings_for : ℕ → words.RunSettings → RunSettings
 settings_for limit s =
-    record { batch = s.batch; partitions = s.partitions; schedule = s.schedule; history = s.history; limit = limit; trace = s.trace }
+    record { batch = s.batch; partitions = s.partitions; schedule = s.schedule; history = s.history; limit = limit; reorder = s.reorder; trace = s.trace }
 
 -- the file's program was compiled and run on the input, from the core that the run began with to the last one
 pub record RunsFile (limit : ℕ) (file : List ℕ) (s : words.RunSettings) (before after : Devices) (now : DiskFacts)
@@ -161,6 +161,7 @@ ReportEnds Is file before after Unprinted = PrintsInPart Is file before after ×
 ReportEnds Is file before after Served = ⊥
 ReportEnds Is file before after (Stopped stop) = ⊥
 ReportEnds Is file before after (Unopened stop) = ⊥
+ReportEnds Is file before after (Found finding) = ⊥
 
 -- what serves the input prints nothing of what it found of the program
 abbrev pub LocalEnds : ℕ → List ℕ → Devices → Devices → Ending → Type 0
@@ -178,6 +179,7 @@ LocalEnds limit file before after (Stopped cause.NoMemory) = Interprets limit fi
 LocalEnds limit file before after (Stopped WriteFault) = Interprets limit file before after (Err local.WriteFault)
 LocalEnds limit file before after (Stopped cause.DiskFault) = ⊥
 LocalEnds limit file before after (Unopened stop) = ⊥
+LocalEnds limit file before after (Found finding) = ⊥
 
 abbrev pub RunEnds : ℕ → List ℕ → words.RunSettings → Devices → Devices → DiskFacts → DiskFacts → Ending → Type 0
 RunEnds limit file s before after was now Misused = ⊥
@@ -189,6 +191,7 @@ RunEnds limit file s before after was now Unprinted = ⊥
 RunEnds limit file s before after was now Served = (tally : Tally) × RunsFile limit file s before after now (Ok tally)
 RunEnds limit file s before after was now (Stopped stop) = GivesUp before after was now stop ⊎ RunsFile limit file s before after now (Err stop)
 RunEnds limit file s before after was now (Unopened stop) = IsUnopened file s before after was now stop
+RunEnds limit file s before after was now (Found finding) = ⊥
 
 -- what serves generated work prints the line that sums it up, or nothing; its program has no fault
 abbrev pub SumsUpBy : words.GenSettings → Devices → Devices → Ending → Type 0
@@ -201,6 +204,7 @@ SumsUpBy s before after Unprinted = PrintsSummaryFront s before after × Rose be
 SumsUpBy s before after Served = ⊥
 SumsUpBy s before after (Stopped stop) = ⊥
 SumsUpBy s before after (Unopened stop) = ⊥
+SumsUpBy s before after (Found finding) = ⊥
 
 -- it reads no file and no input, and says nothing
 pub record GenEnds (s : words.GenSettings) (before after : Devices) (ending : Ending) : Type 0 where

@@ -9,7 +9,7 @@ use Rattle.stateflow_cli.specs.GenClauses.{SumsUpByStatus, WorkTells}
 pub record GenPromise (s : words.GenSettings) (before after : Devices) (status : ℕ) : Type 0 where
   -- nothing of the files and of the input was touched
   pub unread : AreUnread before after
-  -- what was printed, by the status; what was chosen and told; and the line of the status
+  -- what was printed, by the status, in counts and a sum that stop at no greatest number; what was chosen and told; and the line of the status
   pub text : SumsUpByStatus s before after status
   pub events : WorkTells s before after status
   pub line : TellsStatus (codes "gen") before.err after.err status

@@ -1,5 +1,5 @@
 -- What a run promises of its session: the replies are those of the source methods, run one request after another, and what is left of a store stands for them.
-use Rattle.std.specs.Prelude.{ℕ, ◌≡◌, ◌⊎◌, true, false, List, [], ◌∷◌, length, Some, IfSome}
+use Rattle.std.specs.Prelude.{ℕ, ◌≡◌, ◌+◌, ◌⊎◌, true, false, List, [], ◌∷◌, length, Some, IfSome}
 use Rattle.std.specs.List.{AllByRecursion}
 use Rattle.std.specs.Io.KnownBytes.{Appends}
 use Rattle.sf_outside.specs.Bytes.{AppendsPrefix}
@@ -17,7 +17,7 @@ use Rattle.session_store.specs.Endings.{next_core}
 use Rattle.session_store.specs.Stores.{StandsSomewhere}
 use Rattle.session_store.specs.Vocabulary.{IsStorable}
 use Rattle.store_opening.specs.Openings.{WasAt}
-use Rattle.batch_run.specs.Vocabulary.{numbered_text, RunBatches, BeginBatches, FlushesBatches, begun}
+use Rattle.batch_run.specs.Vocabulary.{LacksALine, numbered_text, RunBatches, BeginBatches, FlushesBatches, begun}
 use Rattle.batch_run.specs.RunViews.{run_service}
 use Rattle.batch_run.specs.RunEvents.{Starts}
 use Rattle.batch_run.specs.BatchOutcomes.{CommitsWhatEnded}
@@ -40,11 +40,13 @@ module _ {limit : ℕ} {file : List ℕ} {s : words.RunSettings} {before after :
     pub batches : FlushesBatches (run_service it.compiled (settings_of it)) it.steps (begun it.start) (length it.counts) before.out.held before.out.handed after.out.handed
 
   -- The error stream gained the lines of the batches that were told to their ends, where they are to be traced, and then a line of the status. With that of a
-  -- write fault a part of those lines.
+  -- write fault a part of those lines: all but that of the last batch, of which a part, and then all batches that were committed were told; or all.
   pub record TracesBatches : Type 0 where
     pub behind : Output
     pub part : AppendsPrefix before.err.held behind.held (numbered_text s.trace it.counts)
     pub whole : (status ≡ 4 → ⊥) → Appends before.err.held behind.held (numbered_text s.trace it.counts)
+    pub lacks : Appends before.err.held behind.held (numbered_text s.trace it.counts)
+        ⊎ LacksALine s.trace (numbered_text s.trace) it.counts (length (committed it)) before.err.held behind.held
     pub line : TellsStatus file behind after.err status
 
   -- The chooser was started once, and the watch was told one graph, which fits the file's program and means it, and whose blocks behind the first of a method have
@@ -78,14 +80,22 @@ module _ {limit : ℕ} {file : List ℕ} {s : words.RunSettings} {before after :
         (λ image. (place : Position) × WasAt place opened × StandsFor (program_of (source_of it) it.holds.text) image it.start place)
     pub keeps : KeepsLast (program_of (source_of it) it.holds.text) it.last now opened.epoch s.every (length it.counts)
 
-  -- So it is of the core but for the requests that came since the last batch, where the input couldn't be read or was too long, or the history came to be full.
-  pub record KeepsInTurn (dir : List ℕ) (now : DiskFacts) : Type 0 where
+  -- So it is, behind so many batches, of the core but for the requests that came since the last batch.
+  pub record KeepsInTurn (dir : List ℕ) (now : DiskFacts) (batches : ℕ) : Type 0 where
     pub opened : Position
     pub found : IfSome (before.disk.found dir)
         (λ image. (place : Position) × WasAt place opened × StandsFor (program_of (source_of it) it.holds.text) image it.start place)
     pub fresh : ℕ
     pub storable : IsStorable it.last fresh
-    pub keeps : KeepsLast (program_of (source_of it) it.holds.text) (settled it.last fresh) now opened.epoch s.every (length it.counts)
+    pub keeps : KeepsLast (program_of (source_of it) it.holds.text) (settled it.last fresh) now opened.epoch s.every batches
+
+  -- batches are traced, and so it is behind all that were told but the last: the checkpoint that may be due behind that one, whose line couldn't be written, isn't
+  -- made
+  pub record OwesACheckpoint (dir : List ℕ) (now : DiskFacts) : Type 0 where
+    pub asked : s.trace ≡ true
+    pub all_but_one : ℕ
+    pub one_more : all_but_one + 1 ≡ length it.counts
+    pub keeps : KeepsInTurn dir now all_but_one
 
   pub record Headline (now : DiskFacts) : Type 0 where
     -- The entries of the batches that were committed, in turn, and the last state are those of running their requests one after another, and each line is that
@@ -100,11 +110,12 @@ module _ {limit : ℕ} {file : List ℕ} {s : words.RunSettings} {before after :
     pub trace : TracesBatches
     -- what was chosen and told
     pub events : RunsGraph
-    -- Where the words name a store: it was mounted once; what a crash may have left since; what one may leave now, and where checkpoints came in their turn; and
-    -- where all is served
+    -- Where the words name a store: it was mounted once; what a crash may have left since; what one may leave now; where checkpoints came in their turn, and with
+    -- the status of a write fault, where no disk failed, perhaps but for the last batch; and where all is served
     pub mounted : (dir : List ℕ) → s.store ≡ Some dir → MountsOnce dir before after now
     pub since : (dir : List ℕ) → s.store ≡ Some dir
         → RunMoments it.compiled (settings_of it) it.holds.text it.start it.steps (before.disk.found dir) after.disk.mounts.moment now
     pub kept : (dir : List ℕ) → s.store ≡ Some dir → KeepsCommitted now
-    pub in_turn : (dir : List ℕ) → s.store ≡ Some dir → IsOneOf status (3 ∷ 9 ∷ 10 ∷ []) → KeepsInTurn dir now
+    pub in_turn : (dir : List ℕ) → s.store ≡ Some dir → IsOneOf status (3 ∷ 8 ∷ 9 ∷ 10 ∷ []) → KeepsInTurn dir now (length it.counts)
+    pub owing : (dir : List ℕ) → s.store ≡ Some dir → status ≡ 4 → it.failed ≡ false → KeepsInTurn dir now (length it.counts) ⊎ OwesACheckpoint dir now
     pub final : (dir : List ℕ) → s.store ≡ Some dir → status ≡ 0 → KeepsAll dir now

@@ -21,5 +21,10 @@ pub mod ReportPromise
 pub mod RunPromise
 pub mod LocalPromise
 pub mod GenPromise
+pub mod Verdicts
+pub mod AuditEnds
+pub mod AuditPromise
+pub mod ExportEnds
+pub mod ExportPromise
 pub mod Deeds
 pub mod Promise

@@ -1,5 +1,5 @@
 -- From a file to its program, or to its fault.
-use Rattle.std.specs.Prelude.{ℕ, ◌≡◌, List, length, take, None, Some, Result, Ok, Err, ⊤}
+use Rattle.std.specs.Prelude.{ℕ, ◌≡◌, ◌≤◌, List, length, take, None, Some, Result, Ok, Err, ⊤}
 use Rattle.std.specs.Str.{chars}
 use Rattle.std.specs.declared.option.Option.{Option}
 use Rattle.py_tree.specs.declared.checked.Checked.{Checked}
@@ -72,6 +72,11 @@ pub record Holds (content : Option (List ℕ)) : Type 0 where
 
 abbrev pub source_in : (content : Option (List ℕ)) → Holds content → Source
 source_in content h = record { program = h.program; names = h.names }
+
+-- the files have what they had, and no count of their faults fell
+pub record AreKept (was is : List ℕ → Option (List ℕ)) (before after : List ℕ → ℕ) : Type 0 where
+  pub content : (q : List ℕ) → is q ≡ was q
+  pub later : (q : List ℕ) → before q ≤ after q
 
 -- the file holds a text that has this fault
 abbrev pub Refuses : Option (List ℕ) → ProgramFault → Type 0

@@ -22,7 +22,7 @@ use Rattle.stateflow_cli.specs.RunPromise.{RunCause, IsUnbegun}
 
 -- the words that would ask a run for the same: a batch is one request, and there is no store. On the others nothing of what is promised here depends.
 abbrev pub at_once : words.RunSettings
-at_once = record { batch = 1; partitions = 1; schedule = 0; store = None; every = 1; history = local_history; trace = false }
+at_once = record { batch = 1; partitions = 1; schedule = 0; store = None; every = 1; history = local_history; reorder = false; trace = false }
 
 -- these are lines of what was taken: the whole ones of its first bytes, as many as may come; or, where the input had ended and no more than that came, all
 abbrev pub AreLinesOf : ℕ → List ℕ → Option (List ℕ) → List Line → Type 0

@@ -36,7 +36,7 @@ pub record IsUnbegun (file : List ℕ) (s : words.RunSettings) (before after : D
   pub outside : after.outside ≡ before.outside
   pub line : TellsStatus file before.err after.err status
   pub told : status ≡ 1 → TellsFault file before after
-  pub bad : status ≡ 6 → TellsBadStore file s before after
+  pub bad : status ≡ 6 → TellsBadStore file s.store before after
   pub store : (dir : List ℕ) → s.store ≡ Some dir → IsUnmounted dir before after was now status ⊎ LeavesUnopened file dir before after now status
 
 pub record RunPromise (limit : ℕ) (file : List ℕ) (s : words.RunSettings) (before after : Devices) (was now : DiskFacts) (status : ℕ) : Type 0 where

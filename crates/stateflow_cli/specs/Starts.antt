@@ -8,8 +8,7 @@ use Rattle.engine.specs.Cores.{Core, empty_core}
 use Rattle.store_meaning.specs.declared.position.Position.{Position}
 use Rattle.store_meaning.specs.StandsFor.{Program, StandsFor}
 use Rattle.command_words.specs.Commands as words
-use Rattle.reservations.specs.BatchRule.{batch_rule}
-use Rattle.batch_run.specs.RunViews.{Rule}
+use Rattle.batch_run.specs.RunViews.{Rule, rule_by}
 use Rattle.stateflow_cli.specs.Devices.{Devices}
 
 -- a program with the bytes of its text
@@ -18,7 +17,7 @@ program_of src text = record { source = src; text = chars text }
 
 -- the rule that says what each batch commits
 abbrev pub rule_for : words.RunSettings → Rule
-rule_for s = batch_rule
+rule_for s = rule_by s.reorder
 
 -- what was found under a name stands for this core, where that is told; without a name nothing is committed
 abbrev pub BeginsWith : Option (List ℕ) → (List ℕ → Option Image) → Program → Core → Type 0

@@ -17,7 +17,9 @@ use Rattle.program_text.specs.declared.fault.ProgramFault.{ProgramFault}
 use Rattle.program_text.specs.declared.fault.ProgramFault.TheVariants as program
 use Rattle.program_text.specs.Readings.{place_of}
 use Rattle.stateflow_cli.specs.declared.ending.Ending.{Ending}
-use Rattle.stateflow_cli.specs.declared.ending.Ending.TheVariants.{Misused, Refused, FileFault, NoMemory, Printed, Unprinted, Served, Stopped, Unopened}
+use Rattle.stateflow_cli.specs.declared.ending.Ending.TheVariants.{Misused, Refused, FileFault, NoMemory, Printed, Unprinted, Served, Stopped, Unopened, Found}
+use Rattle.stateflow_cli.specs.declared.ending.Finding.{Finding}
+use Rattle.stateflow_cli.specs.declared.ending.Finding.TheVariants as of_found
 
 abbrev pub status_of : Ending → ℕ
 status_of Misused = 2
@@ -37,9 +39,13 @@ status_of (Unopened of_store.DiskFault) = 5
 status_of (Unopened (of_store.Bad file at)) = 6
 status_of (Unopened of_store.OtherProgram) = 7
 status_of (Unopened of_store.NoMemory) = 8
+status_of (Found of_found.NoStore) = 11
+status_of (Found (of_found.NotSerial entry)) = 13
+status_of (Found (of_found.BadRun line)) = 14
+status_of (Found of_found.TooLong) = 9
 
 abbrev pub usage_line : List ℕ
-usage_line = codes "usage: stateflow check FILE | compile FILE | local FILE | run FILE [options] | gen [options]\n"
+usage_line = codes "usage: stateflow check FILE | compile FILE | local FILE | run FILE [options] | gen [options] | audit FILE RUN | export FILE --store DIR\n"
 
 abbrev pub lex_name : LexKind → List ℕ
 lex_name lex.TooLong = codes "TooLong"
@@ -133,6 +139,19 @@ open_line (of_store.Bad file at) = bad_store_line (file_name file) (decimal at)
 open_line of_store.OtherProgram = other_program_line
 open_line of_store.NoMemory = no_memory_line
 
+abbrev pub no_store_line : List ℕ
+no_store_line = codes "stateflow: no store\n"
+
+-- `stateflow: WHAT NUMBER`
+abbrev pub numbered_line : List ℕ → List ℕ → List ℕ
+numbered_line what digits = concat (codes "stateflow: " ∷ what ∷ digits ∷ codes "\n" ∷ [])
+
+abbrev pub finding_line : Finding → List ℕ
+finding_line of_found.NoStore = no_store_line
+finding_line (of_found.NotSerial entry) = numbered_line (codes "not serial: entry ") (decimal entry)
+finding_line (of_found.BadRun line) = numbered_line (codes "bad run: line ") (decimal line)
+finding_line of_found.TooLong = too_long_line
+
 abbrev pub stop_line : SessionFault → List ℕ
 stop_line stop.ReadFault = read_fault_line
 stop_line stop.WriteFault = write_fault_line
@@ -152,3 +171,4 @@ line_of file Unprinted = write_fault_line
 line_of file Served = []
 line_of file (Stopped fault) = stop_line fault
 line_of file (Unopened stop) = open_line stop
+line_of file (Found finding) = finding_line finding

@@ -1,6 +1,7 @@
 -- What a call leaves of the store that its words name, by its status, and why it doesn't serve on it.
 use Rattle.std.specs.Prelude.{ℕ, ◌≡◌, ◌≤◌, ◌⊎◌, ◌+◌, ◌-◌, ◌^◌, ◌/◌, min, List, Some, IfSome, Err, decimal}
 use Rattle.std.specs.Str.{chars}
+use Rattle.std.specs.declared.option.Option.{Option}
 use Rattle.std.specs.Io.KnownBytes.{Appends}
 use Rattle.sf_outside.specs.Causes.{Rose}
 use Rattle.sf_outside.specs.DiskModel.{Image, DiskFacts, Stays, IsClean, mounted}
@@ -8,6 +9,7 @@ use Rattle.sf_outside.specs.declared.store_disk.StoreFile.{StoreFile}
 use Rattle.aria_batch.specs.BatchRun.{source_of}
 use Rattle.block_step.specs.declared.compiled.Compiled.{Compiled}
 use Rattle.entity_compiler.specs.Compiling.{IsCompiledOf}
+use Rattle.snapshot_store.specs.SlotFile.{IsNew}
 use Rattle.engine.specs.Cores.{Core, empty_core}
 use Rattle.store_meaning.specs.declared.position.Position.{Position}
 use Rattle.store_meaning.specs.Meanings as meaning
@@ -44,16 +46,17 @@ abbrev pub IsOfAnother : List ℕ → Devices → Program → Type 0
 IsOfAnother dir before p = IfSome (before.disk.found dir) (λ image. (text : List ℕ) × Means p image (meaning.Differs text))
 
 -- what was found in the folder that is named is bad, and the place was told
-pub record TellsBadStore (file : List ℕ) (s : words.RunSettings) (before after : Devices) : Type 0 where
+pub record TellsBadStore (file : List ℕ) (store : Option (List ℕ)) (before after : Devices) : Type 0 where
   pub dir : List ℕ
-  pub named : s.store ≡ Some dir
+  pub named : store ≡ Some dir
   pub bad : StoreFile
   pub at : ℕ
   pub is : OfStored file before (IsBadAt dir before bad at)
   pub line : Appends before.err.held after.err.held (bad_store_line (file_name bad) (decimal at))
   pub idle : IsIdle before after
 
--- a run was broken off, since the next record, or a snapshot, of its last core would end past place 2^62
+-- A run was broken off, since the next record of its last core, or a checkpoint of it, would end past place 2^62 of the file that it goes to. The store
+-- is where the entries and the batches of what is logged say, also on a disk that tells nothing; and each image that a crash now may leave has it there.
 pub record RunEndsPast (limit : ℕ) (file : List ℕ) (s : words.RunSettings) (before after : Devices) (now : DiskFacts) : Type 0 where
   pub compiled : Compiled
   pub holds : HoldsOne (λ text. IsCompiledOf text compiled) (before.content file)
@@ -69,12 +72,13 @@ pub record RunEndsPast (limit : ℕ) (file : List ℕ) (s : words.RunSettings) (
   pub past : EndsPast (rule_for s) (Some store) (source_of compiled) last fresh now
 
 -- The program is accepted; and a fault of the disk, or of a mount of the folder that is named, was counted; or a run would write past the last place; or
--- so would the first snapshot of a new store.
+-- what was found is new, and so would its first snapshot.
 pub record DiskFails (limit : ℕ) (file : List ℕ) (s : words.RunSettings) (before after : Devices) (now : DiskFacts) : Type 0 where
   pub dir : List ℕ
   pub named : s.store ≡ Some dir
   pub holds : Holds (before.content file)
-  pub cause : DiskRose dir before.disk after.disk ⊎ (RunEndsPast limit file s before after now ⊎ HasSnapshotPast (chars holds.holds.text) empty_core)
+  pub cause : DiskRose dir before.disk after.disk ⊎ (RunEndsPast limit file s before after now
+      ⊎ (IfSome (before.disk.found dir) IsNew × HasSnapshotPast (chars holds.holds.text) empty_core))
 
 -- ---- what is left
 

@@ -8,6 +8,7 @@ use Rattle.sf_outside.specs.DiskModel.{Image, DiskFacts, Stays, mounted}
 use Rattle.program_meaning.specs.ClassTables.{Source}
 use Rattle.block_step.specs.declared.compiled.Compiled.{Compiled}
 use Rattle.aria_batch.specs.BatchRun as batch
+use Rattle.snapshot_store.specs.SlotFile.{IsNew}
 use Rattle.engine.specs.Cores.{Core, IsSoundCore, empty_core}
 use Rattle.engine.specs.EngineViews.{core_of, source_of, compiled_of}
 use Rattle.engine.specs.Replays.{settled}
@@ -48,7 +49,7 @@ settings_by s text epoch = record { program = chars text; every = s.every; opene
 
 -- A run had a store in this folder, from one core to another: the folder was mounted once; each image that a crash now may leave stands for what
 -- was logged of the last core, and where the disk failed perhaps for the core behind the batch that was next; a checkpoint followed behind each so many of the
--- batches that were told, unless something failed or memory was wanted; and a fault of the disk has a cause
+-- batches that were told, unless the disk failed, and where something couldn't be written perhaps but for the last one; and a fault of the disk has a cause
 pub record KeepsRun (dir : List ℕ) (s : words.RunSettings) (src : Source) (text : List ℕ) (start last : Core) (before after : StoreDisk) (now : DiskFacts)
     (result : Result Tally SessionFault) (counts : List BatchCounts) : Type 0 where
   pub moment : ℕ
@@ -63,7 +64,7 @@ pub record KeepsRun (dir : List ℕ) (s : words.RunSettings) (src : Source) (tex
   pub storable : IsStorable last fresh
   pub kept : KeepsWhere (disk_failed result) (Some store) src (settled last fresh) (next_core (rule_for s) src last) now
   pub in_cycle : IfOk result (λ tally. IsInCycle (Some store) tally.batches)
-  pub in_turn : IsInTurn result (Some store) (tally_after no_batch counts).batches
+  pub in_turn : IsInTurn s.trace result (Some store) (tally_after no_batch counts).batches
   pub cause : disk_failed result ≡ true → DiskRose dir before after ⊎ EndsPast (rule_for s) (Some store) src last fresh now
 
 -- a run of an engine on the store that was opened for it: from the engine's core to the last one, and what the store keeps then
@@ -103,10 +104,10 @@ KeepsIn None s src text start last before after now result counts = disk_failed 
 KeepsIn (Some dir) s src text start last before after now result counts = KeepsRun dir s src text start last before after now result counts
 
 -- the store in this folder wasn't opened: what was found is bad at this place, or of another program; or a fault of the disk or of its mount was
--- counted, or the first snapshot of a new store would end past the last place; or memory was wanted
+-- counted, or what was found is new and its first snapshot would end past the last place; or memory was wanted
 pub record FailsToOpen (dir : List ℕ) (src : Source) (text : List ℕ) (before after : StoreDisk) (was now : DiskFacts) (stop : OpenStop) : Type 0 where
   pub answer : IfSome (before.found dir) (AnswersFound (Err stop) (program_of src text))
   pub unchanged : KeepsFound (Err stop) (before.found dir) now
   pub mounts : MountsFor {T = OpenedStore} (Err stop) dir (LeavesFound (program_of src text) (before.found dir)) before.mounts after.mounts
       before.faults after.faults was now
-  pub cause : stop ≡ of_store.DiskFault → DiskRose dir before after ⊎ HasSnapshotPast (chars text) empty_core
+  pub cause : stop ≡ of_store.DiskFault → DiskRose dir before after ⊎ (IfSome (before.found dir) IsNew × HasSnapshotPast (chars text) empty_core)

@@ -2,7 +2,7 @@
 use Rattle.std.specs.Prelude.{◌≤◌}
 use Rattle.operator_graph.specs.Partitions.{IsParts}
 use Rattle.command_words.specs.Commands as words
-pub use Rattle.command_words.specs.Commands.{Asked, Check, Compile, Local, Run, Gen}
+pub use Rattle.command_words.specs.Commands.{Asked, Check, Compile, Local, Run, Gen, Export, Audit}
 
 -- batches of 1 to 256 requests, as many partitions as there may be, and a checkpoint behind each so many batches
 pub record AreInRange (settings : words.RunSettings) : Type 0 where

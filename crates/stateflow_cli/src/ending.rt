@@ -7,6 +7,19 @@ use batch_run::SessionFault;
 use program_text::ProgramFault;
 use store_opening::OpenStop;
 
+/// What was found of a store, or of a run's lines, where that is no result.
+#[derive(Clone, Copy, PartialEq, Eq, Debug)]
+pub enum Finding {
+    /// The folder that is named holds no store.
+    NoStore,
+    /// This entry of the run has another reply than a serial run gives.
+    NotSerial { entry: u32 },
+    /// This line of the run is no request or no reply, or is missing.
+    BadRun { line: u64 },
+    /// The run has more bytes than count, and those that count decide nothing.
+    TooLong,
+}
+
 #[derive(Clone, Copy, PartialEq, Eq, Debug)]
 pub enum Ending {
     /// The words ask for nothing that can be done.
@@ -27,6 +40,8 @@ pub enum Ending {
     Stopped(SessionFault),
     /// The store that is named wasn't opened.
     Unopened(OpenStop),
+    /// What was looked at gives this in place of a result.
+    Found(Finding),
 }
 
 impl Ending {
@@ -45,8 +60,11 @@ impl Ending {
             Ending::NoMemory
             | Ending::Stopped(SessionFault::NoMemory)
             | Ending::Unopened(OpenStop::NoMemory) => 8,
-            Ending::Stopped(SessionFault::InputTooLong) => 9,
+            Ending::Stopped(SessionFault::InputTooLong) | Ending::Found(Finding::TooLong) => 9,
             Ending::Stopped(SessionFault::HistoryFull) => 10,
+            Ending::Found(Finding::NoStore) => 11,
+            Ending::Found(Finding::NotSerial { .. }) => 13,
+            Ending::Found(Finding::BadRun { .. }) => 14,
         }
     }
 }

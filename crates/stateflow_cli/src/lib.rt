@@ -1,9 +1,11 @@
 //! The top call of StateFlow: from words, files, an input and two outputs to a status.
 #![tactic(auto)]
 
+mod auditing;
 mod checking;
 mod compiling;
 mod ending;
+mod exporting;
 mod fault;
 mod generating;
 mod generator;

@@ -4,7 +4,7 @@ ghost use Rattle.std.specs.Prelude.{◌≡◌, ◌≤◌, ◌<◌, min, IfOk, Er
 ghost use Rattle.std.specs.Str.{chars};
 ghost use Rattle.sf_outside.specs.Causes.{Rose};
 ghost use Rattle.entity_compiler.specs.Compiling.{IsCompiledOf};
-ghost use Rattle.stateflow_cli.specs.Loading.{MayBegin, ReadsAs, Gives, IsCounted, IsChecked, IsCompiledWith};
+ghost use Rattle.stateflow_cli.specs.Loading.{MayBegin, ReadsAs, Gives, IsCounted, IsChecked, IsCompiledWith, AreKept};
 ghost use Rattle.program_text.specs.declared.fault.ProgramFault.{ProgramFault as AFault};
 
 use crate::printing::Counts;
@@ -82,7 +82,7 @@ fn read_first<F: Files>(
     name: &str,
 ) -> Result<Vec<u8>, LoadStop>
     ensures begins { IfOk result (λ text. MayBegin (F.content files.old name.now) bound text.items) }
-    ensures later { F.faults files.old name.now ≤ F.faults files.new name.now }
+    ensures stays { AreKept (F.content files.old) (F.content files.new) (F.faults files.old) (F.faults files.new) }
     ensures cause { result ≡ Err LoadStop.FileFault → Rose (F.faults files.old name.now) (F.faults files.new name.now) }
     ensures refused { (fault : AFault) → result ≡ Err (LoadStop.Refused fault) → ⊥ }
 {
@@ -164,6 +164,7 @@ pub(crate) fn count<F: Files>(alloc: Global, files: &mut F, name: &str) -> Resul
 /// Reads a file's program.
 pub(crate) fn load<F: Files>(alloc: Global, files: &mut F, name: &str) -> Result<Checked, LoadStop>
     ensures gives { Gives IsChecked (F.content files.old name.now) result }
+    ensures stays { AreKept (F.content files.old) (F.content files.new) (F.faults files.old) (F.faults files.new) }
     ensures cause { result ≡ Err LoadStop.FileFault → Rose (F.faults files.old name.now) (F.faults files.new name.now) }
 {
     let text = read_first(alloc, LONGEST_READ, files, name)?;

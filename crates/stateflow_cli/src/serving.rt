@@ -37,6 +37,7 @@ fn settings_of(words: RunWords<'_>) -> RunSettings
         schedule: words.schedule,
         history: words.history,
         limit: LONGEST_INPUT,
+        reorder: words.reorder,
         trace: words.trace,
     }
 }

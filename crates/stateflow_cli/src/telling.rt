@@ -4,10 +4,10 @@ ghost use Rattle.std.specs.Prelude.{◌≡◌, ◌≤◌, OnOk, OnErr, decimal};
 ghost use Rattle.std.specs.Io.KnownBytes.{Appends};
 ghost use Rattle.sf_outside.specs.Bytes.{AppendsPrefix};
 ghost use Rattle.sf_outside.specs.Causes.{HasCause};
-ghost use Rattle.stateflow_cli.specs.StatusLines.{status_of, line_of, stop_line, placed_line, fault_line, file_name, bad_store_line, open_line};
+ghost use Rattle.stateflow_cli.specs.StatusLines.{status_of, line_of, stop_line, placed_line, fault_line, file_name, bad_store_line, open_line, numbered_line, finding_line};
 ghost use Rattle.stateflow_cli.specs.Telling.{Told};
 
-use crate::ending::Ending;
+use crate::ending::{Ending, Finding};
 use crate::fault::fault_name_of;
 use batch_run::{SessionFault, write_pieces};
 use itoa::Buffer;
@@ -19,7 +19,7 @@ use store_opening::OpenStop;
 const WRITE_FAULT: u8 = 4;
 
 const USAGE_LINE: &[u8] =
-    b"usage: stateflow check FILE | compile FILE | local FILE | run FILE [options] | gen [options]\n";
+    b"usage: stateflow check FILE | compile FILE | local FILE | run FILE [options] | gen [options] | audit FILE RUN | export FILE --store DIR\n";
 
 const READ_FAULT_LINE: &[u8] = b"stateflow: read fault\n";
 
@@ -32,6 +32,8 @@ const TOO_LONG_LINE: &[u8] = b"stateflow: input too long\n";
 const HISTORY_FULL_LINE: &[u8] = b"stateflow: history full\n";
 
 const DISK_FAULT_LINE: &[u8] = b"stateflow: disk fault\n";
+
+const NO_STORE_LINE: &[u8] = b"stateflow: no store\n";
 
 const OTHER_PROGRAM_LINE: &[u8] = b"stateflow: the store holds another program\n";
 
@@ -142,6 +144,37 @@ fn say_unopened<E: Sink>(err: &mut E, stop: OpenStop) -> Result<(), Failed>
     }
 }
 
+/// Says a number, where its digits are given.
+fn say_digits<E: Sink>(err: &mut E, what: &[u8], digits: &[u8]) -> Result<(), Failed>
+    ensures whole { OnOk result (Appends (E.held err.old) (E.held err.new) (numbered_line what.now digits.now)) }
+    ensures part { OnErr result (AppendsPrefix (E.held err.old) (E.held err.new) (numbered_line what.now digits.now)) }
+    ensures cause { HasCause (E.faults err.old) (E.faults err.new) result }
+{
+    write_pieces(err, &[b"stateflow: ", what, digits, b"\n"])
+}
+
+fn say_number<E: Sink>(err: &mut E, what: &[u8], number: u64) -> Result<(), Failed>
+    ensures whole { OnOk result (Appends (E.held err.old) (E.held err.new) (numbered_line what.now (decimal number))) }
+    ensures part { OnErr result (AppendsPrefix (E.held err.old) (E.held err.new) (numbered_line what.now (decimal number))) }
+    ensures cause { HasCause (E.faults err.old) (E.faults err.new) result }
+{
+    let mut digits = Buffer::new();
+    say_digits(err, what, digits.format(number).as_bytes())
+}
+
+fn say_finding<E: Sink>(err: &mut E, finding: Finding) -> Result<(), Failed>
+    ensures whole { OnOk result (Appends (E.held err.old) (E.held err.new) (finding_line finding)) }
+    ensures part { OnErr result (AppendsPrefix (E.held err.old) (E.held err.new) (finding_line finding)) }
+    ensures cause { HasCause (E.faults err.old) (E.faults err.new) result }
+{
+    match finding {
+        Finding::NoStore => err.write(NO_STORE_LINE),
+        Finding::NotSerial { entry } => say_number(err, b"not serial: entry ", entry as u64),
+        Finding::BadRun { line } => say_number(err, b"bad run: line ", line),
+        Finding::TooLong => err.write(TOO_LONG_LINE),
+    }
+}
+
 fn say<E: Sink>(err: &mut E, file: &str, ending: Ending) -> Result<(), Failed>
     ensures whole { OnOk result (Appends (E.held err.old) (E.held err.new) (line_of file.now ending)) }
     ensures part { OnErr result (AppendsPrefix (E.held err.old) (E.held err.new) (line_of file.now ending)) }
@@ -157,6 +190,7 @@ fn say<E: Sink>(err: &mut E, file: &str, ending: Ending) -> Result<(), Failed>
         Ending::Served => Ok(()),
         Ending::Stopped(stop) => say_stop(err, stop),
         Ending::Unopened(stop) => say_unopened(err, stop),
+        Ending::Found(finding) => say_finding(err, finding),
     }
 }
 

@@ -8,9 +8,11 @@ ghost use Rattle.stateflow_cli.specs.Deeds.{EndsOn, IsInRange, LeavesUnasked, st
 ghost use Rattle.stateflow_cli.specs.Devices.{Devices};
 ghost use Rattle.stateflow_cli.specs.Promise.{Answers, Promise};
 
+use crate::auditing::audit_file;
 use crate::checking::check_file;
 use crate::compiling::compile_file;
 use crate::ending::Ending;
+use crate::exporting::export_file;
 use crate::generating::serve_generated;
 use crate::running::interpret_file;
 use crate::serving::run_file;
@@ -52,6 +54,8 @@ fn perform<F: Files, S: Source, K: Sink, E: Sink, D: Disk, C: Chooser, W: Watch>
             alloc, file, settings, files, input, out, err, disk, chooser, watch,
         ),
         Command::Gen(words) => serve_generated(alloc, words, out, chooser, watch),
+        Command::Export { file, store } => export_file(alloc, file, store, files, out, disk),
+        Command::Audit { file, run } => audit_file(alloc, file, run, files, out),
     }
 }
 
@@ -89,7 +93,8 @@ fn run_words<F: Files, S: Source, K: Sink, E: Sink, D: Disk, C: Chooser, W: Watc
 /// StateFlow: `check FILE` checks the program in FILE; `compile FILE` prints its graph, and tells it to the watch; `local FILE` runs
 /// the request lines of `input` on it, each request at once; `run FILE` runs them in batches, along what is chosen, and tells the watch
 /// the graph and its events: without a store from nothing committed on, and else from the core of the store in the folder that is named,
-/// which keeps what is committed; `gen` does so with a program and requests that it makes, and prints one line that sums up what came of it.
+/// which keeps what is committed; `gen` does so with a program and requests that it makes, and prints one line that sums up what came of it;
+/// `audit FILE RUN` judges the request lines and reply lines of RUN by a serial run of the program in FILE.
 pub fn stateflow<F: Files, S: Source, K: Sink, E: Sink, D: Disk, C: Chooser, W: Watch>(
     alloc: Global,
     words: &[String],

@@ -20,6 +20,8 @@ pub(crate) fn program_name<'a>(command: &Command<'a>) -> &'a str
         Command::Local { file } => file,
         Command::Run { file, .. } => file,
         Command::Gen(_) => "gen",
+        Command::Export { file, .. } => file,
+        Command::Audit { file, .. } => file,
     }
 }
 

@@ -19,8 +19,11 @@ use Rattle.store_meaning.specs.Checkpoints.{start_of}
 use Rattle.store_meaning.specs.Keeping.{KeepsCore}
 use Rattle.store_meaning.specs.StandsFor.{Program, new_position, OldStandsFor, StandsFor}
 use Rattle.store_meaning.proofs.Opening.{seen_new, clean_keeps}
+use Rattle.session_store.specs.Checkpoints.{kept_at}
+use Rattle.session_store.specs.Places.{IsPlaced}
 use Rattle.session_store.specs.Stores.{program_with, StandsSomewhere, HasSnapshotPast, CheckpointEndsPast}
 use Rattle.session_store.proofs.NoStore.{none_storable}
+use Rattle.session_store.proofs.PlaceLaws.{placed_first}
 use Rattle.store_opening.specs.declared.finding.FoundStore.TheVariants.{Old}
 use Rattle.store_opening.specs.declared.opened_store.OpenSettings.{OpenSettings}
 use Rattle.store_opening.specs.declared.opened_store.OpenedStore.{OpenedStore}
@@ -41,10 +44,13 @@ module _ (compiled : Compiled) (settings : OpenSettings) (made : OpenedStore) (r
   }
 
   pub keeps_opened : (facts : DiskFacts) (position : Position) → made.store.position ≡ position → IsEpoch position.epoch → IsShortText settings.program → 1 ≤ settings.every
-      → KeepsCore (program_for compiled settings.program) facts (core_of made.engine) position → KeepsOpened facts made
-  keeps_opened facts position place in_range short every keeps = record {
+      → KeepsCore (program_for compiled settings.program) facts (core_of made.engine) position → IsPlaced (program_for compiled settings.program) (core_of made.engine) position
+      → KeepsOpened facts made
+  keeps_opened facts position place in_range short every keeps placed = record {
     keeps = subst (λ q. KeepsCore (program_with made.store (source_of made.engine)) facts (core_of made.engine) q) (sym place)
         (subst (λ p. KeepsCore p facts (core_of made.engine) position) same_program keeps);
+    placed = subst (IsPlaced (program_with made.store (source_of made.engine)) (core_of made.engine)) (sym place)
+        (subst (λ p. IsPlaced p (core_of made.engine) position) same_program placed);
     epoch = subst (λ (q : Position). IsEpoch q.epoch) (sym place) in_range;
     every = subst (λ s. 1 ≤ s.every) (sym ready.settings_are) every;
     text = subst (λ s. IsShortText s.program) (sym ready.settings_are) short;
@@ -86,7 +92,7 @@ module _ (compiled : Compiled) (settings : OpenSettings) (made : OpenedStore) (g
   old_kept facts left short every =
       let seen : IfSome facts.seen Stands = subst (λ s. IfSome s Stands) (sym left.1) (if_one found (Judges (Ok (Old made)) of_text) Stands (λ image old. inr old) judged) in
       keeps_opened compiled settings made given.0 facts made.store.position refl given.1 short every
-      (clean_keeps of_text facts (core_of made.engine) made.store.position seen left.0)
+      (clean_keeps of_text facts (core_of made.engine) made.store.position seen left.0) given.2
 
 -- ---- where nothing is written
 
@@ -125,9 +131,9 @@ module _ (text : List ℕ) (core : Core) (empty : core ≡ empty_core) where
       by (inl head) = head
       by (inr history) = let none : sum_by entry_size (drop 0 []) ≡ 0 = refl in absurd (omega (arith, history, none))
 
-  pub first_cause : (old new : ℕ) → Rose old new ⊎ CheckpointEndsPast new_position text core → Rose old new ⊎ HasSnapshotPast text empty_core
+  pub first_cause : {Same : Type 0} (old new : ℕ) → Rose old new ⊎ (CheckpointEndsPast new_position text core × Same) → Rose old new ⊎ HasSnapshotPast text empty_core
   first_cause old new (inl rose) = inl rose
-  first_cause old new (inr past) = inr (first_past past)
+  first_cause old new (inr past) = inr (first_past past.0)
 
 -- ---- an engine of a new store
 
@@ -143,3 +149,16 @@ new_ready settings made core fresh limit fits stays since = record {
   settings_are = stays;
   since = since;
 }
+
+-- which is where its first checkpoint left it
+module _ (settings : OpenSettings) (made : OpenedStore) (ready : IsReady (compiled_of made.engine) settings made) (facts : DiskFacts) (empty : core_of made.engine ≡ empty_core) where
+  abbrev of_new : Program
+  of_new = program_for (compiled_of made.engine) settings.program
+
+  pub first_kept : made.store.position ≡ kept_at new_position (core_of made.engine) → IsShortText settings.program → 1 ≤ settings.every
+      → KeepsCore of_new facts (core_of made.engine) (kept_at new_position (core_of made.engine)) → KeepsOpened facts made
+  first_kept place short every keeps =
+      let in_range : IsEpoch 1 = (omega arith, omega arith) in
+      let placed : IsPlaced of_new (core_of made.engine) (kept_at new_position (core_of made.engine)) =
+      subst (λ core. IsPlaced of_new core (kept_at new_position core)) (sym empty) (placed_first of_new) in
+      keeps_opened (compiled_of made.engine) settings made ready facts (kept_at new_position (core_of made.engine)) place in_range short every keeps placed

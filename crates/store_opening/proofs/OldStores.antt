@@ -1,7 +1,11 @@
 -- What an old store is told to be, from its snapshot and its batches.
-use Rattle.std.proofs.Common.{◌≡◌, ◌≤◌, ℕ, List, length, Ok, Err, IfOk, IfErr, IsErrOf, sym, ◌∙◌, subst}
+use Rattle.std.proofs.Common.{◌≡◌, ◌≤◌, ℕ, ◌+◌, List, [], ◌∷◌, length, Ok, Err, IfOk, IfErr, IsErrOf, sym, ap, ◌∙◌, subst, arith}
+use Rattle.std.specs.List.{sum_by}
 use Rattle.std.specs.declared.result.Result.{Result}
+use Rattle.std.proofs.lemmas.List.Sums.{sum_by-cons}
+use Rattle.byte_sizes.specs.Sizes.{batch_size}
 use Rattle.byte_sizes.specs.Spelt.{IsReadSnapshot}
+use Rattle.sf_bytes.proofs.Lengths.{batch-sizes}
 use Rattle.sf_outside.specs.DiskModel.{Image}
 use Rattle.sf_outside.specs.declared.store_disk.StoreFile.{StoreFile}
 use Rattle.sf_value.specs.declared.Snapshot.{Snapshot}
@@ -10,7 +14,8 @@ use Rattle.block_step.specs.declared.compiled.Compiled.{Compiled}
 use Rattle.block_step.specs.CompiledViews.{compiled_program, compiled_names}
 use Rattle.quiet_methods.specs.MarksKeepWithin.{source}
 use Rattle.recovery.specs.declared.opened.Placed.{Placed}
-use Rattle.recovery.specs.StoreImage.{batches_of, IsOld}
+use Rattle.recovery.specs.Answers.{AreLogged, HaveBytes}
+use Rattle.recovery.specs.StoreImage.{batches_of, ArePlaced, IsOld}
 use Rattle.engine.specs.declared.engine.Engine.{Engine}
 use Rattle.engine.specs.declared.restore_error.RestoreError.{RestoreError}
 use Rattle.engine.specs.declared.restore_error.RestoreError.TheVariants as of_snapshot
@@ -25,6 +30,7 @@ use Rattle.store_meaning.specs.StandsFor.{Program, found_at, Replays, StandsFor}
 use Rattle.store_meaning.proofs.Opening.{of_other, wrong_snapshot, wrong_batch, old_stands}
 use Rattle.storable_cores.specs.Storable.{IsStorable}
 use Rattle.storable_cores.proofs.KeptLaws.{snapshots_are_storable}
+use Rattle.session_store.specs.Places.{record_size, IsPlaced}
 use Rattle.store_opening.specs.declared.opened_store.OpenedStore.{OpenedStore}
 use Rattle.store_opening.specs.declared.stop.OpenStop.{OpenStop}
 use Rattle.store_opening.specs.declared.stop.OpenStop.TheVariants.{DiskFault, Bad, OtherProgram, NoMemory}
@@ -97,3 +103,39 @@ module _ (compiled : Compiled) (text : List ℕ) (position : Position) (kept : S
           let BreaksOf : Compiled → Core → Type 0 = λ k from. IfErr result (IsBrokenOff (program_for k text) from batches position.epoch) in
           replays_told result (subst (ReplaysOf compiled) core (subst (λ k. ReplaysOf k (core_of e)) runs replays)) place
           (subst (BreaksOf compiled) core (subst (λ k. BreaksOf k (core_of e)) runs stop))
+
+-- ---- where it is
+
+-- the records of batches that have places from one place of a log on end at another
+logged_size : (at : ℕ) (batches : List Placed) (end : ℕ) → ArePlaced at batches end → end ≡ at + sum_by record_size (batches_of batches)
+logged_size at [] end placed = omega (arith, placed)
+logged_size at (placed ∷ batches) end are =
+    let body = are.0 in
+    let size : length body ≡ batch_size placed.batch = ap length (sym are.2.1) ∙ batch-sizes placed.batch in
+    omega (arith, size, logged_size (at + 5 + length body) batches end are.3, sum_by-cons record_size placed.batch (batches_of batches))
+
+module _ (compiled : Compiled) (text : List ℕ) (position : Position) (kept : Snapshot) (batches : List Placed) (count : position.kept ≡ length kept.history)
+    (bytes : HaveBytes kept.history position.bytes) (logged : AreLogged batches position.at) where
+  abbrev placed_in : OpenedStore → Type 0
+  placed_in made = IsPlaced (program_for compiled text) (core_of made.engine) made.store.position
+
+  placed_there : (made : OpenedStore) → Replays (program_for compiled text) (core_of_snapshot kept) (batches_of batches) (core_of made.engine)
+      → IsPlaced (program_for compiled text) (core_of made.engine) position
+  placed_there made replays = record {
+    kept = core_of_snapshot kept;
+    batches = batches_of batches;
+    replays = replays;
+    count = count;
+    bytes = bytes;
+    at = omega (arith, logged_size 0 batches position.at logged.places);
+  }
+
+  -- an engine that was restored from the snapshot and has run the batches again is where they say
+  pub old_placed : (e : Engine) → compiled_of e ≡ compiled → core_of e ≡ core_of_snapshot kept → (result : Result OpenedStore OpenStop)
+      → IfOk result (λ made. Replays (program_of e text) (core_of e) (batches_of batches) (core_of made.engine)) → IfOk result (λ made. made.store.position ≡ position)
+      → IfOk result placed_in
+  old_placed e runs core (Ok made) replays place =
+      let From : Compiled → Core → Type 0 = λ k from. Replays (program_for k text) from (batches_of batches) (core_of made.engine) in
+      subst (IsPlaced (program_for compiled text) (core_of made.engine)) (sym place)
+      (placed_there made (subst (From compiled) core (subst (λ k. From k (core_of e)) runs replays)))
+  old_placed e runs core (Err stop) replays place = tt

@@ -7,11 +7,12 @@ use Rattle.snapshot_store.specs.SlotFile.{IsEpoch, IsNew}
 use Rattle.block_step.specs.declared.compiled.Compiled.{Compiled}
 use Rattle.engine.specs.EngineViews.{core_of}
 use Rattle.store_meaning.specs.StandsFor.{Program, OldStandsFor}
+use Rattle.session_store.specs.Places.{IsPlaced}
 use Rattle.store_opening.specs.declared.finding.FoundStore.{FoundStore}
 use Rattle.store_opening.specs.declared.finding.FoundStore.TheVariants.{New, Old}
 use Rattle.store_opening.specs.declared.opened_store.OpenSettings.{OpenSettings}
 use Rattle.store_opening.specs.declared.stop.OpenStop.{OpenStop}
-use Rattle.store_opening.specs.OpenedStores.{IsReady}
+use Rattle.store_opening.specs.OpenedStores.{program_for, IsReady}
 use Rattle.store_opening.specs.Openings.{TellsWhy, LeavesAsFound, StoppedAsFound}
 
 -- what was found is new; or it is old, and stands for the core of the engine, where the store is; or it is bad at exactly this place, or of another
@@ -21,10 +22,12 @@ Judges (Ok (New compiled settings)) p image = IsNew image
 Judges (Ok (Old made)) p image = OldStandsFor p image (core_of made.engine) made.store.position
 Judges (Err stop) p image = TellsWhy stop p image
 
--- where nothing was kept yet, what the store was looked for with is given back; and with an old store a session can begin
+-- where nothing was kept yet, what the store was looked for with is given back; and with an old store a session can begin, from where its entries and
+-- batches say
 abbrev pub IsFoundFor : Compiled → OpenSettings → FoundStore → Type 0
 IsFoundFor compiled settings (New given kept) = (given ≡ compiled) × (kept ≡ settings)
-IsFoundFor compiled settings (Old made) = IsReady compiled settings made × IsEpoch made.store.position.epoch
+IsFoundFor compiled settings (Old made) =
+    IsReady compiled settings made × IsEpoch made.store.position.epoch × IsPlaced (program_for compiled settings.program) (core_of made.engine) made.store.position
 
 -- an image is what was found
 abbrev pub IsAsFound : Option Image → Image → Type 0

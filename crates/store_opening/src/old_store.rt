@@ -5,12 +5,14 @@ ghost use Rattle.std.specs.List.{AllByRecursion};
 ghost use Rattle.byte_sizes.specs.Spelt.{IsReadBatch, IsReadSnapshot};
 ghost use Rattle.sf_outside.specs.DiskModel.{Image};
 ghost use Rattle.block_step.specs.CompiledViews.{IsWhole};
+ghost use Rattle.recovery.specs.Answers.{AreLogged, HaveBytes};
 ghost use Rattle.recovery.specs.StoreImage.{batches_of, IsOld};
 ghost use Rattle.engine.specs.Cores.{CoreFits};
 ghost use Rattle.engine.specs.EngineViews.{core_of, tables_of, compiled_of, limit_of, fresh_of, RunsProgram};
 ghost use Rattle.store_meaning.specs.Engines.{program_of};
 ghost use Rattle.store_meaning.specs.StandsFor.{Replays};
 ghost use Rattle.storable_cores.specs.Storable.{IsStorable};
+ghost use Rattle.session_store.specs.Places.{IsPlaced};
 ghost use Rattle.store_opening.specs.Openings.{AnswersOld};
 ghost use Rattle.store_opening.specs.OpenedStores.{program_for, IsReady};
 ghost use Rattle.store_opening.specs.Replayed.{IsBrokenOff};
@@ -39,9 +41,11 @@ pub fn go_on(
     requires whole { IsWhole compiled }
     requires kept { IsReadSnapshot kept }
     requires count { position.kept ≡ length kept.history }
-    requires read { AllByRecursion (λ placed. IsReadBatch placed.batch) batches }
+    requires bytes { HaveBytes kept.history position.bytes }
+    requires logged { AreLogged batches position.at }
     ensures ready { IfOk result (IsReady compiled settings) }
     ensures position { IfOk result (λ made. made.store.position ≡ position) }
+    ensures placed { IfOk result (λ made. IsPlaced (program_for compiled settings.program) (core_of made.engine) made.store.position) }
     ensures answer { (image : Image) → IsOld image position.epoch kept position.bytes batches position.at → AnswersOld result (program_for compiled settings.program) image }
     ensures no_disk { IsErrOf result OpenStop.DiskFault → ⊥ }
 {

@@ -55,7 +55,7 @@ fn run_behind_on(
 }
 
 /// The same on a disk of its own.
-fn run_behind(alloc: Global, first: &str, second: &str, run: &Run) -> Result<(), Fail> {
+pub fn run_behind(alloc: Global, first: &str, second: &str, run: &Run) -> Result<(), Fail> {
     let mut disk = disk(alloc, &[])?;
     let ran = run_behind_on(alloc, &mut disk, first, second, run);
     drop(disk);

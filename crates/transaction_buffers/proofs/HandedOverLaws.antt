@@ -1,5 +1,5 @@
 -- What is handed over, where no entity has two entries.
-use Rattle.std.proofs.Common.{◌≡◌, ◌∙◌, Bool, true, false, cond, ◌||◌, List, [], ◌∷◌, ◌++◌, map as over, filter, Option, Some, None, refl, sym, ap}
+use Rattle.std.proofs.Common.{◌≡◌, ◌∙◌, Bool, true, false, cond, ◌||◌, List, [], ◌∷◌, ◌++◌, map as over, filter, Option, Some, None, Result, Ok, Err, IfOk, refl, sym, ap}
 use Rattle.std.specs.Prelude.{option_map}
 use Rattle.std.specs.Option.{option_or}
 use Rattle.std.proofs.lemmas.List.{append-nil}
@@ -13,7 +13,7 @@ use Rattle.sf_value.specs.declared.value.Record.{Record}
 use Rattle.sf_value.specs.declared.Held.{Held}
 use Rattle.sf_value.proofs.Maps.{key_total, key_exact, ref_eq, ref_ties, tied_key}
 use Rattle.keyed_state.specs.declared.Work.{Work}
-use Rattle.keyed_state.specs.Works.{keys_of, held_record}
+use Rattle.keyed_state.specs.Works.{Keys, keys_of, held_record}
 use Rattle.transaction_buffers.specs.declared.buffers.Touched.{Touched}
 use Rattle.transaction_buffers.specs.Touches.{own_fields}
 use Rattle.transaction_buffers.specs.HandingOver.{IsHandedOver, written, record_of, all_records, records_of}
@@ -116,3 +116,8 @@ handed_over entries work distinct reads writes held = record {
 -- where nothing is left, what is done with is the whole
 pub all_done : {A B : Type 0} (f : List A → List B) (done : List B) (left whole : List A) → done ++ f left ≡ f whole → left ≡ [] → f [] ≡ [] → done ≡ f whole
 all_done f done left whole is none empty = sym (append-nil done) ∙ ap (λ l. done ++ l) (sym (ap f none ∙ empty)) ∙ is
+
+-- a work that hands these entries over has read what the buffers have
+pub reads_handed : {E : Type 0} (r : Result Work E) (list entries : List (Ref × Touched)) (reads : Keys) → list ≡ entries → keys_of (refs_of entries) ≡ reads → IfOk r (IsHandedOver list) → IfOk r (λ work. keys_of work.reads ≡ reads)
+reads_handed (Ok work) list entries reads same is over = over.reads ∙ ap (λ l. keys_of (refs_of l)) same ∙ is
+reads_handed (Err e) list entries reads same is over = tt

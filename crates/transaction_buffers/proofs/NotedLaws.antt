@@ -1,13 +1,12 @@
 -- An event is noted: the entry of its entity is written anew, in its place or behind the others.
-use Rattle.std.proofs.Common.{◌≡◌, ◌∙◌, ℕ, Bool, true, false, true≢false, cond, ◌||◌, List, map as over, position, Option, Some, None, refl, sym, ap}
+use Rattle.std.proofs.Common.{◌≡◌, ◌∙◌, Bool, true, false, cond, ◌||◌, List, map as over, Option, Some, None, refl, sym, ap}
 use Rattle.std.specs.Prelude.{is_some, if◌then◌else◌, option_map}
 use Rattle.std.specs.Option.{option_or}
 use Rattle.std.specs.Map.{lookup}
 use Rattle.std.specs.Ordering.{eq_by_cmp}
 use Rattle.std.specs.FinMap as finite
 use Rattle.std.specs.FinSet as set
-use Rattle.indexmap.specs.IndexMap.{insert_entry, set_value_at}
-use Rattle.indexmap.proofs.MapLemmas.{Found-position, insert_entry-first}
+use Rattle.indexmap.specs.IndexMap.{insert_entry}
 use Rattle.sf_value.specs.Keys.{Key, key_cmp, key_of}
 use Rattle.sf_value.specs.declared.value.Value.{Value}
 use Rattle.sf_value.specs.declared.value.Ref.{Ref}
@@ -18,12 +17,8 @@ use Rattle.keyed_state.specs.Contents.{Contents}
 use Rattle.keyed_state.specs.Works.{Keys, keys_of}
 use Rattle.transaction_buffers.specs.declared.buffers.Touched.{Touched}
 use Rattle.transaction_buffers.specs.Buffered.{noted}
-use Rattle.transaction_buffers.specs.Touches.{with_event, own_fields, own_in, written_in, buffered_in}
+use Rattle.transaction_buffers.specs.Touches.{with_event, next_touched, own_fields, own_in, written_in, buffered_in}
 use Rattle.transaction_buffers.proofs.FoundLaws.{found, own_found, wrote_found, get-own_in, contains-written_in, contains-read}
-
--- an entry that was written in its place
-pub in_place : (entries : List (Ref × Touched)) (at : Ref) (new : Touched) (i : ℕ) → position (ref_eq at) (over (λ (e : Ref × Touched). e.0) entries) ≡ Some i → set_value_at entries i new ≡ insert_entry ref_eq entries at new
-in_place entries at new i is = sym (insert_entry-first ref_eq at new entries i (Found-position (ref_eq at) entries i is).first)
 
 abbrev pub fields_if : Option Record → Option (List Value)
 fields_if = option_map (λ r. r.fields)
@@ -33,23 +28,23 @@ pub record IsNext (before : Option Touched) (held : Option Record) (wrote : Bool
   pub own : own_fields new ≡ option_or (fields_if held) (own_found before)
   pub written : new.wrote ≡ (wrote_found before || wrote)
 
-pub next_of_old : (old : Touched) (held : Option Record) (wrote : Bool) → IsNext (Some old) held wrote (with_event old held wrote)
+next_of_old : (old : Touched) (held : Option Record) (wrote : Bool) → IsNext (Some old) held wrote (with_event old held wrote)
 next_of_old old held wrote = record { own = own held; written = refl }
   where
     own : (l : Option Record) → own_fields (with_event old l wrote) ≡ option_or (fields_if l) (own_fields old)
     own None = refl
     own (Some r) = refl
 
-pub next_of_none : (held : Option Record) (wrote : Bool) → IsNext None held wrote (record { own = held; wrote = wrote })
+next_of_none : (held : Option Record) (wrote : Bool) → IsNext None held wrote (record { own = held; wrote = wrote })
 next_of_none held wrote = record { own = own held; written = refl }
   where
     own : (l : Option Record) → fields_if l ≡ option_or (fields_if l) None
     own None = refl
     own (Some r) = refl
 
-pub none_there : {A : Type 0} (o : Option A) → false ≡ is_some o → None ≡ o
-none_there None h = refl
-none_there (Some x) h = absurd (true≢false (sym h))
+pub next_is : (before : Option Touched) (held : Option Record) (wrote : Bool) → IsNext before held wrote (next_touched before held wrote)
+next_is None held wrote = next_of_none held wrote
+next_is (Some old) held wrote = next_of_old old held wrote
 
 -- What is noted, at each entity
 

@@ -1,4 +1,4 @@
--- The entries of the table as a work.
+-- The entries as a work.
 use Rattle.std.specs.Prelude.{◌≡◌, true, List, [], ◌∷◌, ◌++◌, map as over, filter, Some, None}
 use Rattle.std.specs.declared.option.Option.{Option}
 use Rattle.std.specs.FinMap as finite

@@ -1,4 +1,4 @@
--- The entries of the table as what a transaction buffers. Of two entries of one entity the first counts.
+-- The entries as what a transaction buffers. Of two entries of one entity the first counts.
 use Rattle.std.specs.Prelude.{Bool, if◌then◌else◌, ◌||◌, List, [], ◌∷◌, map as over, Some, None, option_map}
 use Rattle.std.specs.declared.option.Option.{Option}
 use Rattle.std.specs.Option.{option_or}
@@ -16,6 +16,11 @@ use Rattle.transaction_buffers.specs.Buffered.{Buffered}
 -- one more event of an entity: its record is what the event left, and it stays written once it was
 abbrev pub with_event : Touched → Option Record → Bool → Touched
 with_event t held wrote = record { own = option_or held t.own; wrote = t.wrote || wrote }
+
+-- what is done with an entity, once one more event of it is noted
+abbrev pub next_touched : Option Touched → Option Record → Bool → Touched
+next_touched None held wrote = record { own = held; wrote = wrote }
+next_touched (Some t) held wrote = with_event t held wrote
 
 -- Entries
 

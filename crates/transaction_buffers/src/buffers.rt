@@ -1,4 +1,4 @@
-//! The buffers of a transaction: what it has done with each entity, found by hash.
+//! The buffers of a transaction: what it has done with each entity.
 
 ghost use Rattle.std.specs.Prelude.{◌≡◌, true, IfOk, OnOk, option_map};
 ghost use Rattle.std.specs.Option.{option_copied};
@@ -7,10 +7,10 @@ ghost use Rattle.std.specs.FinSet as set;
 ghost use Rattle.sf_value.specs.Keys.{Key, key_of};
 ghost use Rattle.keyed_state.specs.Works.{keys_of, held_record};
 ghost use Rattle.transaction_buffers.specs.Buffered.{no_buffers, seen, noted};
-ghost use Rattle.transaction_buffers.specs.Touches.{with_event};
+ghost use Rattle.transaction_buffers.specs.Touches.{with_event, next_touched};
 
 use crate::handing_over::{reads_of, work_of};
-use indexmap::IndexMap;
+use few_entities::ByEntity;
 use keyed_state::{Keyed, Work};
 use sf_value::{Record, Ref};
 use std::alloc::{AllocError, Global};
@@ -28,7 +28,7 @@ pub(crate) struct Touched {
 /// read and written.
 #[derive(Drop)]
 pub struct Buffers {
-    entities: IndexMap<Ref, Touched>,
+    entities: ByEntity<Touched>,
 }
 
 impl Model for Buffers {
@@ -40,7 +40,7 @@ impl Model for Buffers {
 
     ghost use Rattle.transaction_buffers.specs.Touches.{buffered_in};
 
-    ghost view = { λ buffers. buffered_in buffers.entities.entries };
+    ghost view = { λ buffers. buffered_in buffers.entities };
 }
 
 impl Touched {
@@ -55,13 +55,26 @@ impl Touched {
     }
 }
 
+/// What a transaction has done with an entity, once one more event is noted.
+fn touched_again(before: Option<Touched>, held: Option<Record>, wrote: bool) -> Touched
+    ensures { result ≡ next_touched before held wrote }
+{
+    match before {
+        Some(mut touched) => {
+            touched.add(held, wrote);
+            touched
+        }
+        None => Touched { own: held, wrote },
+    }
+}
+
 impl Buffers {
     /// The buffers of a transaction that has done nothing yet. It takes no memory.
     pub fn new(alloc: Global) -> Buffers
         ensures { result ≡ no_buffers }
     {
         Buffers {
-            entities: IndexMap::new(alloc),
+            entities: ByEntity::new(alloc),
         }
     }
 
@@ -84,7 +97,7 @@ impl Buffers {
     }
 
     /// Notes that an event of an entity was handled: the record that it left, if it left one, and whether
-    /// it wrote it. The table keeps its own allocator, so `alloc` is unused.
+    /// it wrote it. The entries keep their own allocator, so `alloc` is unused.
     pub fn note(
         &mut self,
         _alloc: Global,
@@ -94,16 +107,12 @@ impl Buffers {
     ) -> Result<(), AllocError>
         ensures { OnOk result (self.new ≡ noted self.old (key_of at) (option_map (λ r. r.fields) held) wrote) }
     {
-        match self.entities.get_index_of(&at) {
-            Some(i) => {
-                self.entities[i].add(held, wrote);
-                Ok(())
-            }
-            None => {
-                self.entities.insert(at, Touched { own: held, wrote })?;
-                Ok(())
-            }
-        }
+        let blank = Touched {
+            own: None,
+            wrote: false,
+        };
+        let before = self.entities.replace(&at, blank);
+        self.entities.put(at, touched_again(before, held, wrote))
     }
 
     /// What the transaction has read and written, and its records of what it wrote. The entities stand
@@ -113,7 +122,7 @@ impl Buffers {
         ensures writes { IfOk result (λ w. keys_of w.writes ≡ self.writes) }
         ensures held { IfOk result (λ w. (q : Key) → set.contains self.writes q ≡ true → held_record w.held q ≡ finite.get self.own q) }
     {
-        work_of(alloc, self.entities)
+        work_of(alloc, self.entities.into_list()?)
     }
 
     /// The same of a transaction that failed: it has read what it has read, and written nothing.
@@ -121,6 +130,6 @@ impl Buffers {
         ensures reads { IfOk result (λ w. keys_of w.reads ≡ self.reads) }
         ensures writes { IfOk result (λ w. keys_of w.writes ≡ set.empty) }
     {
-        reads_of(alloc, self.entities)
+        reads_of(alloc, self.entities.into_list()?)
     }
 }

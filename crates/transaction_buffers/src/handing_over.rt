@@ -1,19 +1,20 @@
 //! What a transaction has done, handed over as a work.
 
 ghost use Rattle.std.specs.Prelude.{◌≡◌, [], ◌∷◌, ◌++◌, IfOk, OnOk};
-ghost use Rattle.indexmap.specs.IndexMap.{keys};
+ghost use Rattle.std.specs.List.{IsDistinct};
+ghost use Rattle.few_entities.specs.Entries.{is_ref, refs_of};
 ghost use Rattle.transaction_buffers.specs.HandingOver.{IsHandedOver, written, records_of, record_of};
 
 use crate::buffers::Touched;
-use indexmap::IndexMap;
 use keyed_state::Work;
 use sf_list::TryClone;
 use sf_value::{Held, Record, Ref};
 use std::alloc::{AllocError, Global};
 
 /// The work of a transaction that has done this with these entities.
-pub(crate) fn work_of(alloc: Global, entities: IndexMap<Ref, Touched>) -> Result<Work, AllocError>
-    ensures { IfOk result (IsHandedOver entities.entries) }
+pub(crate) fn work_of(alloc: Global, entities: Vec<(Ref, Touched)>) -> Result<Work, AllocError>
+    requires { IsDistinct is_ref (refs_of entities.items) }
+    ensures { IfOk result (IsHandedOver entities.items) }
 {
     let mut work = Work::new(alloc);
     for (at, touched) in entities {
@@ -52,12 +53,12 @@ fn add_written(
 }
 
 /// The work of a transaction that failed: it has read these entities, and written nothing.
-pub(crate) fn reads_of(alloc: Global, entities: IndexMap<Ref, Touched>) -> Result<Work, AllocError>
-    ensures reads { IfOk result (λ w. w.reads ≡ keys entities) }
+pub(crate) fn reads_of(alloc: Global, entities: Vec<(Ref, Touched)>) -> Result<Work, AllocError>
+    ensures reads { IfOk result (λ w. w.reads ≡ refs_of entities.items) }
     ensures writes { IfOk result (λ w. w.writes ≡ []) }
 {
     let mut work = Work::new(alloc);
-    for at in entities.into_keys() {
+    for (at, _) in entities {
         work.reads.push(alloc, at)?;
     }
     Ok(work)

@@ -1,8 +1,8 @@
 //! What one transaction of a batch has done so far: for each entity that it handled an event of, its own
 //! record over the snapshot's, and whether it wrote it.
 //!
-//! Entities are found by hash. An event costs one look-up here, and what a transaction hands over in the
-//! end costs as much as it has touched entities.
+//! Few entities stand in a list, and many are found by hash. What a transaction hands over in the end costs as
+//! much as it has touched entities.
 #![tactic(auto)]
 
 mod buffers;

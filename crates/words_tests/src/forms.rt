@@ -35,6 +35,8 @@ const RUNS: &str = "
     history apart            | run a.py --history 6        | run a.py 64 4 0 none 64 6 false
     history joined           | run a.py --history=6        | run a.py 64 4 0 none 64 6 false
     trace                    | run a.py --trace            | run a.py 64 4 0 none 64 16777216 true
+    reorder                  | run a.py --reorder          | run a.py 64 4 0 none 64 16777216 false reorder
+    both of them             | run --reorder a.py --trace  | run a.py 64 4 0 none 64 16777216 true reorder
     all of them              | run --trace --history=6 --every 5 a.py --store s --schedule=3 --partitions 2 --batch=1 | run a.py 1 2 3 s 5 6 true
     the file first           | run a.py --trace --batch 1  | run a.py 1 4 0 none 64 16777216 true
     the file last            | run --trace --batch 1 a.py  | run a.py 1 4 0 none 64 16777216 true
@@ -47,7 +49,7 @@ const RUNS: &str = "
 
 #[test]
 fn run_takes_its_options(rt: HostRuntime) -> Result<(), Fail> {
-    hold_table(rt.alloc(), RUNS, 21, asked)
+    hold_table(rt.alloc(), RUNS, 23, asked)
 }
 
 const WORKS: &str = "
@@ -62,4 +64,21 @@ const WORKS: &str = "
 #[test]
 fn gen_takes_its_options(rt: HostRuntime) -> Result<(), Fail> {
     hold_table(rt.alloc(), WORKS, 6, asked)
+}
+
+const HISTORIES: &str = "
+    a run of a file          | audit a.py r                | audit a.py r
+    the other way round      | audit r a.py                | audit r a.py
+    one file for both        | audit a.py a.py             | audit a.py a.py
+    a command for the run    | audit a.py audit            | audit a.py audit
+    a run with a hyphen within | audit a.py r-=1           | audit a.py r-=1
+    a store apart            | export a.py --store s       | export a.py s
+    a store joined           | export a.py --store=s       | export a.py s
+    a store before the file  | export --store s a.py       | export a.py s
+    a folder of two hyphens  | export a.py --store=--      | export a.py --
+";
+
+#[test]
+fn a_history_is_named_by_its_store_or_its_lines(rt: HostRuntime) -> Result<(), Fail> {
+    hold_table(rt.alloc(), HISTORIES, 9, asked)
 }

@@ -45,13 +45,14 @@ const REPEATS: &str = "
     history                  | run a.py --history 1 --history 1 | usage
     trace                    | run a.py --trace --trace     | usage
     trace around the file    | run --trace a.py --trace     | usage
+    reorder                  | run a.py --reorder --reorder | usage
     number                   | gen --number 7 --size 3 --number 7 | usage
     size                     | gen --number 7 --size 3 --size=3 | usage
 ";
 
 #[test]
 fn an_option_stands_once(rt: HostRuntime) -> Result<(), Fail> {
-    hold_table(rt.alloc(), REPEATS, 12, asked)
+    hold_table(rt.alloc(), REPEATS, 13, asked)
 }
 
 const HYPHENS: &str = "
@@ -92,6 +93,8 @@ const OPTIONS: &str = "
     an option of local       | local a.py --batch 1        | usage
     every of gen             | gen --number 7 --size 3 --every 1 | usage
     trace of gen             | gen --number 7 --size 3 --trace | usage
+    reorder of gen           | gen --number 7 --size 3 --reorder | usage
+    reorder of local         | local a.py --reorder        | usage
     schedule of gen          | gen --number 7 --size 3 --schedule 1 | usage
     number of run            | run a.py --number 7         | usage
     gen without a size       | gen --number 7              | usage
@@ -107,6 +110,8 @@ const OPTIONS: &str = "
     an empty value of trace  | run a.py --trace=           | usage
     true as a value of trace | run a.py --trace=true       | usage
     a word behind trace      | run a.py --trace true       | usage
+    a value of reorder       | run a.py --reorder=x        | usage
+    a word behind reorder    | run a.py --reorder true     | usage
     help                     | run --help                  | usage
     help beside a file       | run a.py --help             | usage
     help, shortened          | run a.py -h                 | usage
@@ -117,5 +122,33 @@ const OPTIONS: &str = "
 
 #[test]
 fn other_options_are_refused(rt: HostRuntime) -> Result<(), Fail> {
-    hold_table(rt.alloc(), OPTIONS, 26, asked)
+    hold_table(rt.alloc(), OPTIONS, 30, asked)
+}
+
+const HISTORIES: &str = "
+    audit without a file     | audit                       | usage
+    audit without a run      | audit a.py                  | usage
+    three files of audit     | audit a.py r s              | usage
+    an empty file of audit   | audit '' r                  | usage
+    an empty run             | audit a.py ''               | usage
+    a hyphen for the run     | audit a.py -                | usage
+    two hyphens before the run | audit a.py -- r           | usage
+    two hyphens for the run  | audit a.py --               | usage
+    an option for the file   | audit --trace r             | usage
+    a store of audit         | audit a.py --store s        | usage
+    a store besides the run  | audit a.py r --store=s      | usage
+    export without a store   | export a.py                 | usage
+    export without a file    | export --store s            | usage
+    two files of export      | export a.py b.py --store s  | usage
+    a store without a folder | export a.py --store         | usage
+    an empty folder          | export a.py --store=        | usage
+    a hyphen for the folder  | export a.py --store=-       | usage
+    a store twice            | export a.py --store s --store s | usage
+    a batch of export        | export a.py --store s --batch 1 | usage
+    trace of export          | export a.py --store s --trace | usage
+";
+
+#[test]
+fn a_history_takes_nothing_else(rt: HostRuntime) -> Result<(), Fail> {
+    hold_table(rt.alloc(), HISTORIES, 20, asked)
 }

@@ -17,7 +17,7 @@ fn words_of(alloc: Global, text: &str) -> Result<Vec<String>, AllocError> {
     Ok(words)
 }
 
-/// A run as its file, batch, partitions, schedule, store, every, history and trace.
+/// A run as its file, batch, partitions, schedule, store, every, history and trace, and whether it reorders.
 fn run_told(alloc: Global, file: &str, run: RunWords) -> Result<String, AllocError> {
     let RunWords {
         batch,
@@ -26,11 +26,13 @@ fn run_told(alloc: Global, file: &str, run: RunWords) -> Result<String, AllocErr
         store,
         every,
         history,
+        reorder,
         trace,
     } = run;
     let store = store.unwrap_or("none");
+    let order = if reorder { " reorder" } else { "" };
     format!(in alloc;
-        "run {file} {batch} {partitions} {schedule} {store} {every} {history} {trace}"
+        "run {file} {batch} {partitions} {schedule} {store} {every} {history} {trace}{order}"
     )
 }
 
@@ -52,6 +54,8 @@ fn command_told(alloc: Global, command: Command) -> Result<String, AllocError> {
         Command::Local { file } => format!(in alloc; "local {file}"),
         Command::Run { file, settings } => run_told(alloc, file, settings),
         Command::Gen(work) => gen_told(alloc, work),
+        Command::Export { file, store } => format!(in alloc; "export {file} {store}"),
+        Command::Audit { file, run } => format!(in alloc; "audit {file} {run}"),
     }
 }
 

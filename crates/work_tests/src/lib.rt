@@ -9,3 +9,5 @@ mod calls;
 mod generated;
 #[cfg(test)]
 mod runs;
+#[cfg(test)]
+mod totals;

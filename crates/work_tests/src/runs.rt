@@ -11,7 +11,7 @@ use std::test::Fail;
 use test_support::hold_text;
 
 /// The line of a summary.
-fn summary_told(alloc: Global, summary: &Summary) -> Result<String, Fail> {
+pub(crate) fn summary_told(alloc: Global, summary: &Summary) -> Result<String, Fail> {
     let mut out = MemSink::new(alloc, 1000, &[])?;
     let written = write_summary(&mut out, summary);
     let told = String::from_str(alloc, str::from_utf8(out.bytes()).unwrap_or("no text"));

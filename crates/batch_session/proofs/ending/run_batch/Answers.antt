@@ -2,6 +2,8 @@ use Rattle.std.proofs.Common.{◌<◌, length, refl, ap, inl, inr, Err, arith}
 use Rattle.engine.specs.EngineViews.{core_of, source_of, limit_of}
 use Rattle.session_store.specs.Stores.{settings_of}
 use Rattle.session_store.specs.Vocabulary.{logged_of}
+use Rattle.session_store.proofs.CycleLaws.{cycle_kept}
+use Rattle.session_steps.specs.declared.tally.Tally.{Tally}
 use Rattle.session_steps.specs.Vocabulary.{Service, service_of, runs_on}
 use Rattle.session_steps.specs.Steps.{RunWaiting}
 use Rattle.session_steps.specs.Doings.{Point}
@@ -30,6 +32,7 @@ returns-in-Ok-clause-runs_one g c = λ lines.
       tally = said.counted;
       traced = said.traced;
       placed = said.placed;
+      asked = said.asked;
       stays = c.answer_batch.ensures.flushes.stays;
       flushed = c.in-Ok.ensures.flushes.all;
     })
@@ -100,8 +103,11 @@ returns-in-Err-clause-writes g c = record {
 }
 
 pub returns-in-Ok-clause-in_turn : goal.returns-in-Ok-clause-in_turn
-returns-in-Ok-clause-in_turn g c = in_turn_ended c.end_batch.result _ _ c.end_batch.ensures.ready c.end_batch.ensures.placed
+returns-in-Ok-clause-in_turn g c =
+    in_turn_ended c.args.terms.now.settings.now.trace c.end_batch.result _ c.answer_batch.new.store c.args.tally.now.batches _ c.end_batch.ensures.ready c.end_batch.ensures.placed c.end_batch.ensures.memory
+    (ap (λ (t : Tally). t.batches) c.end_batch.ensures.counted)
+    (cycle_kept c.args.store.now c.answer_batch.new.store c.args.tally.now.batches c.answer_batch.ensures.cycle c.requires.ready.in_cycle) c.end_batch.ensures.asked c.end_batch.ensures.cycle
 
 pub returns-in-Err-clause-in_turn : goal.returns-in-Err-clause-in_turn
 returns-in-Err-clause-in_turn g c =
-    in_turn_still {T = Unit {0}} (Err c.in-Err.stop) c.args.store.now c.answer_batch.new.store c.args.tally.now.batches c.answer_batch.ensures.cycle c.requires.ready.in_cycle
+    in_turn_still c.args.terms.now.settings.now.trace {T = Unit {0}} (Err c.in-Err.stop) c.args.store.now c.answer_batch.new.store c.args.tally.now.batches c.answer_batch.ensures.cycle c.requires.ready.in_cycle

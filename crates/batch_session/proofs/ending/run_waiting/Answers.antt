@@ -100,7 +100,7 @@ returns-clause-logs g c = λ lines.
 pub returns-in_err-run_batch-clause-in_turn : goal.returns-in_err-run_batch-clause-in_turn
 returns-in_err-run_batch-clause-in_turn g c =
     let p = err_from_is_err_and c.from_residual.result c.from_residual.ensures.1 in
-    in_turn_passed c.from_residual.result _ _ _ (p.1 ∙ ap Err p.2) c.in_err-run_batch.ensures.in_turn
+    in_turn_passed c.args.terms.now.settings.now.trace c.from_residual.result _ _ _ (p.1 ∙ ap Err p.2) c.in_err-run_batch.ensures.in_turn
 
 pub returns-clause-in_turn : goal.returns-clause-in_turn
 returns-clause-in_turn g c = c.batches.invariant.ready.in_cycle

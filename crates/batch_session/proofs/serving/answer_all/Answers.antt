@@ -188,4 +188,4 @@ returns-in-Err-clause-serves g c =
     let v : Service = service_of e (g.R.CommitRule.choice c.args.terms.now.rule.now) c.args.terms.now.settings.now.batch c.args.terms.now.settings.now.parts in
     let old : View = view_of e (g.S.Source.left c.args.input.now) (g.K.Sink.held c.args.out.now) (g.K.Sink.handed c.args.out.now) (g.E.Sink.held c.args.err.now) (g.C.Chooser.choices c.args.chooser.now) (g.W.Watch.told c.args.watch.now) in
     let new : View = view_of s.engine (g.S.Source.left c.next.new.input) (g.K.Sink.held s.out) (g.K.Sink.handed s.out) (g.E.Sink.held s.err) (g.C.Chooser.choices s.chooser) (g.W.Watch.told s.watch) in
-    At-no-memory v c.args.terms.now.settings.now.trace (settings_of c.args.store.now) c.args.terms.now.settings.now.limit old new s.intake.lines s.intake.tally s.invariant.going s.store c.in-Err.ensures.gives
+    At-no-memory v c.args.terms.now.settings.now.trace (settings_of c.args.store.now) c.args.terms.now.settings.now.limit old new s.intake.lines s.intake.tally s.invariant.going s.store c.in-Err.ensures.gives s.invariant.ready.in_cycle

@@ -1,4 +1,3 @@
-use Rattle.session_steps.proofs.Vocabulary.{stays_none}
 use Rattle.batch_session.proofs.TurnLaws.{all_flushed, not_all_flushed}
 use Rattle.batch_session.proofs.serving.flushed.Goals as goal
 

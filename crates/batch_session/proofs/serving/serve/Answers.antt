@@ -15,7 +15,7 @@ returns-clause-served g c =
     let made = c.answer_all-served.new in
     let mid = view_of made.engine (g.S.Source.left made.input) (g.K.Sink.held made.out) (g.K.Sink.handed made.out) (g.E.Sink.held made.err) (g.C.Chooser.choices made.chooser) (g.W.Watch.told made.watch) in
     Served-flushed v c.args.settings.now.trace (settings_of c.args.store.now) c.args.settings.now.limit old mid (g.K.Sink.held c.flushed.new.out) (g.K.Sink.handed c.flushed.new.out) c.flushed.ensures.stays _ _ _ _ made.store
-    c.answer_all-served.result c.flushed.result c.flushed.ensures.flushed c.flushed.ensures.kept c.answer_all-served.ensures.serves
+    c.answer_all-served.result c.flushed.result c.flushed.ensures.flushed c.flushed.ensures.disk c.flushed.ensures.kept c.answer_all-served.ensures.serves
 
 pub answer_all-served-requires-clause-range : goal.answer_all-served-requires-clause-range
 answer_all-served-requires-clause-range g c = record { batch = c.requires.batch; parts = c.requires.parts }

@@ -24,7 +24,7 @@ returns-in_err-tally g c =
     } in
     let back = err_from_is_err_and c.from_residual-in_err-tally.result c.from_residual-in_err-tally.ensures.1 in
     rw (back.1)
-    (came_short c.args.settings.now c.args.compiled c.in_ok-engine.engine.compiled c.in_ok-engine.ensures.runs.compiled_is c.requires.whole c.requires.batch
+    (came_short c.args.settings.now c.args.compiled c.in_ok-engine.engine.compiled c.in_ok-engine.ensures.runs.compiled_is c.requires.whole c.requires.size c.requires.batch
     c.args.input.now c.requires.input old started new starts c.in_err-tally.ensures back.0)
 
 pub returns : goal.returns
@@ -39,5 +39,5 @@ returns g c =
           (c.graph.ensures.tables ∙ ap compiled_tables (c.compiled.ensures ∙ c.in_ok-engine.ensures.runs.compiled_is))
           (c.graph.ensures.blocks ∙ ap compiled_blocks (c.compiled.ensures ∙ c.in_ok-engine.ensures.runs.compiled_is)) c.begin.ensures.graph;
     } in
-    came c.args.settings.now c.args.compiled c.in_ok-engine.engine.compiled c.in_ok-engine.ensures.runs.compiled_is c.requires.whole c.requires.batch
+    came c.args.settings.now c.args.compiled c.in_ok-engine.engine.compiled c.in_ok-engine.ensures.runs.compiled_is c.requires.whole c.requires.size c.requires.batch
     c.args.input.now c.requires.input old started new starts _ c.in_ok-tally.tally c.in_ok-tally.ensures c.summary_of.result c.summary_of.ensures

@@ -5,7 +5,7 @@ use Rattle.sf_bytes.specs.Entries.{EntriesTo}
 use Rattle.sf_bytes.specs.Reads.{Reads}
 use Rattle.sf_bytes.specs.Spelt.{IsReadEntry}
 use Rattle.sf_bytes.proofs.Histories.{run_read}
-use Rattle.recovery.proofs.NamedEntries.{one_read, read_within}
+use Rattle.recovery.proofs.NamedEntries.{one_read, read_within, run_size}
 use Rattle.recovery.proofs.history.entries_in.Goals as goal
 
 pub loop-preserved : goal.loop-preserved
@@ -26,4 +26,9 @@ loop-preserved c =
     }
 
 pub returns-clause-entries : goal.returns-clause-entries
-returns-clause-entries c = (omega (arith, c.loop.invariant.count), run_read c.args.there.now 0 c.loop.entries c.loop.at c.loop.invariant.run)
+returns-clause-entries c =
+    let size = run_size c.args.there.now c.loop.entries c.loop.at c.loop.invariant.run in (
+      omega (arith, c.loop.invariant.count),
+      run_read c.args.there.now 0 c.loop.entries c.loop.at c.loop.invariant.run,
+      omega (arith, size, c.loop.invariant.within, c.requires),
+    )

@@ -1,5 +1,7 @@
 use Rattle.std.proofs.Common.{IfSome, sym, subst}
 use Rattle.byte_sizes.specs.Spelt.{IsReadSnapshot}
+use Rattle.sf_value.specs.declared.Snapshot.{Snapshot}
+use Rattle.recovery.specs.Answers.{HaveBytes}
 use Rattle.recovery.specs.StoreImage.{KeepsSnapshot}
 use Rattle.recovery.proofs.NamedEntries.{seen_broken, seen_snapshot, snapshot_read}
 use Rattle.recovery.proofs.opening.with_history.Goals as goal
@@ -16,6 +18,7 @@ with_log-requires g c =
       newest = subst (λ seen. IfSome seen (λ now. KeepsSnapshot now epoch c.snapshot_of.result head.bytes)) (sym c.read_history.ensures.stays.seen) found;
       epoch = c.requires.epoch;
       read = subst IsReadSnapshot whole (snapshot_read head history c.requires.read c.in-Ok.ensures.entries.0 c.in-Ok.ensures.entries.1);
+      bytes = subst (λ (kept : Snapshot). HaveBytes kept.history head.bytes) whole c.in-Ok.ensures.entries.2;
     }
 
 pub returns-in-Err-clause-answer : goal.returns-in-Err-clause-answer

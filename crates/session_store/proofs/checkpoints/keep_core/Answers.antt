@@ -1,4 +1,4 @@
-use Rattle.std.proofs.Common.{◌≡◌, ◌∙◌, ◌⊎◌, ◌+◌, ◌<◌, ◌^◌, inr, ap, arith, length}
+use Rattle.std.proofs.Common.{◌≡◌, ◌∙◌, ◌⊎◌, ◌+◌, ◌<◌, ◌^◌, inl, inr, refl, ap, arith, length}
 use Rattle.sf_outside.specs.Causes.{Rose}
 use Rattle.sf_outside.proofs.ImageSteps.{on_ok}
 use Rattle.sf_bytes.specs.ByteForms.{head_bytes}
@@ -18,7 +18,7 @@ returns-then-bytes-gt-END-clause-cause g c =
     let core = core_of c.args.engine.now in
     let past : 2 ^ 62 < c.args.position.bytes + length (behind_bytes core c.args.position.kept) =
     omega (arith, c.saturating_add-bytes.ensures, c.size_of.ensures.size, c.if-bytes-gt-END.true) in
-    inr (inr (history_past core c.args.position past))
+    inr (inr (history_past core c.args.position past), refl)
 
 pub size_of-requires-2 : goal.size_of-requires-2
 size_of-requires-2 g c =
@@ -138,6 +138,10 @@ returns-clause-cause g c =
     let is = is_checkpoint e text position head lent c.requires.fits c.requires.few c.requires.storable c.requires.text c.size_of.ensures.real c.size_of-2.ensures.real in
     let old = g.D.Disk.facts c.args.disk.now in
     let new = g.D.Disk.facts c.keep_head.new.disk in
-    if_past c.keep_head.result (Rose (g.D.Disk.faults c.args.disk.now) (g.D.Disk.faults c.keep_head.new.disk))
-    ((2 ^ 62 < 17 + length (head_bytes head)) ⊎ (2 ^ 62 < position.bytes + length (behind_bytes core position.kept))) (CheckpointEndsPast position text core)
-    (checkpoint_past (program_of e text) core position old new c.requires.kept (head_bytes head) is) c.keep_head.ensures.cause
+    let HeadPast = 2 ^ 62 < 17 + length (head_bytes head) in
+    let MorePast = 2 ^ 62 < position.bytes + length (behind_bytes core position.kept) in
+    let still : HeadPast ⊎ MorePast → c.keep_head.new.disk ≡ c.args.disk.now = λ past.
+    elim past [ inl head_past ↦ (c.keep_head.ensures.past_end head_past).1 | inr more_past ↦ (c.keep_head.ensures.history_past_end more_past).1 ] in
+    if_past c.keep_head.result (Rose (g.D.Disk.faults c.args.disk.now) (g.D.Disk.faults c.keep_head.new.disk)) (HeadPast ⊎ MorePast)
+    (CheckpointEndsPast position text core × (c.keep_head.new.disk ≡ c.args.disk.now))
+    (λ past. (checkpoint_past (program_of e text) core position old new c.requires.kept (head_bytes head) is past, still past)) c.keep_head.ensures.cause

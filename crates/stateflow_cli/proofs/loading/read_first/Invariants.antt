@@ -1,5 +1,5 @@
 use Rattle.std.proofs.Common.{◌≡◌, ◌≤◌, ◌-◌, length}
-use Rattle.stateflow_cli.specs.Loading.{MayBegin}
+use Rattle.stateflow_cli.specs.Loading.{MayBegin, AreKept}
 use Rattle.stateflow_cli.proofs.loading.read_first.Given as goal
 
 abbrev pub decreases-loop-piece : goal.decreases-loop-piece
@@ -12,4 +12,5 @@ invariant-loop-piece g l = record {
   within : length l.text.items ≤ l.bound;
   kept : g.F.Files.content l.files l.name ≡ g.F.Files.content l.fn.files l.name;
   later : g.F.Files.faults l.fn.files l.name ≤ g.F.Files.faults l.files l.name;
+  stays : AreKept (g.F.Files.content l.fn.files) (g.F.Files.content l.files) (g.F.Files.faults l.fn.files) (g.F.Files.faults l.files);
 }

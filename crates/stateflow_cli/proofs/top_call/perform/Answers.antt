@@ -32,3 +32,17 @@ returns-in-Run-clause-aside g c = rw c.in-Run.is tt
 
 pub returns-in-Gen-clause-aside : goal.returns-in-Gen-clause-aside
 returns-in-Gen-clause-aside g c = rw c.in-Gen.is tt
+
+pub returns-in-Export-clause-ends : goal.returns-in-Export-clause-ends
+returns-in-Export-clause-ends g c = rw c.in-Export.is (c.export_file.ensures
+    (source (g.S.Source.left c.args.input.now) (g.S.Source.faults c.args.input.now)) (sink (g.E.Sink.held c.args.err.now) (g.E.Sink.handed c.args.err.now) (g.E.Sink.faults c.args.err.now)) (outside (g.C.Chooser.choices c.args.chooser.now) (g.W.Watch.told c.args.watch.now)))
+
+pub returns-in-Export-clause-aside : goal.returns-in-Export-clause-aside
+returns-in-Export-clause-aside g c = rw c.in-Export.is tt
+
+pub returns-in-Audit-clause-ends : goal.returns-in-Audit-clause-ends
+returns-in-Audit-clause-ends g c = rw c.in-Audit.is (c.audit_file.ensures
+    (source (g.S.Source.left c.args.input.now) (g.S.Source.faults c.args.input.now)) (sink (g.E.Sink.held c.args.err.now) (g.E.Sink.handed c.args.err.now) (g.E.Sink.faults c.args.err.now)) (outside (g.C.Chooser.choices c.args.chooser.now) (g.W.Watch.told c.args.watch.now)) (store_disk (g.D.Disk.found c.args.disk.now) (g.D.Disk.faults c.args.disk.now) (g.D.Disk.mounts c.args.disk.now)))
+
+pub returns-in-Audit-clause-aside : goal.returns-in-Audit-clause-aside
+returns-in-Audit-clause-aside g c = rw c.in-Audit.is tt

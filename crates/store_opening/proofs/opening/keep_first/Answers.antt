@@ -5,7 +5,8 @@ use Rattle.session_store.proofs.NoStore.{none_storable}
 use Rattle.store_meaning.specs.StandsFor.{new_position}
 use Rattle.session_store.specs.Checkpoints.{kept_at}
 use Rattle.store_opening.specs.OpenedStores.{settings_at}
-use Rattle.store_opening.proofs.Found.{new_keeps, new_found, new_left, new_ready, first_cause}
+use Rattle.store_opening.specs.declared.opened_store.OpenedStore.{OpenedStore}
+use Rattle.store_opening.proofs.Found.{new_keeps, new_found, new_left, new_ready, first_kept, first_cause}
 use Rattle.store_opening.proofs.opening.keep_first.Goals as goal
 
 pub keep_core-requires-clause-storable : goal.keep_core-requires-clause-storable
@@ -25,6 +26,14 @@ returns-in-Ok-clause-ready g c =
     let place = ap (λ q. settings_at c.args.settings q.epoch) (sym c.store_at.ensures.position) in
     new_ready c.args.settings (record { engine = c.args.engine; store = c.store_at.result }) c.requires.core c.requires.fresh c.requires.limit c.requires.fits
     (c.store_at.ensures.settings ∙ place) c.store_at.ensures.since
+
+pub returns-in-Ok-clause-kept : goal.returns-in-Ok-clause-kept
+returns-in-Ok-clause-kept g c =
+    let place = ap (λ q. settings_at c.args.settings q.epoch) (sym c.store_at.ensures.position) in
+    let made : OpenedStore = record { engine = c.args.engine; store = c.store_at.result } in
+    let ready = new_ready c.args.settings made c.requires.core c.requires.fresh c.requires.limit c.requires.fits (c.store_at.ensures.settings ∙ place) c.store_at.ensures.since in
+    first_kept c.args.settings made ready (g.D.Disk.facts c.keep_core.new.disk) c.requires.core (c.store_at.ensures.position ∙ c.in-Ok.ensures.next) c.requires.short c.requires.every
+    c.in-Ok.ensures.kept
 
 pub returns-in-Ok-clause-moments : goal.returns-in-Ok-clause-moments
 returns-in-Ok-clause-moments g c =

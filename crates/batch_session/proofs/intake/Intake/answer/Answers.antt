@@ -3,6 +3,8 @@ use Rattle.request_json.specs.Actions.{Line}
 use Rattle.engine.specs.EngineViews.{core_of, source_of}
 use Rattle.session_store.specs.Stores.{settings_of}
 use Rattle.session_store.specs.Vocabulary.{logged_of}
+use Rattle.session_store.proofs.CycleLaws.{cycle_kept}
+use Rattle.session_steps.specs.declared.tally.Tally.{Tally}
 use Rattle.session_steps.specs.Vocabulary.{cut, before, move_at, ran_by, Service, service_of}
 use Rattle.session_steps.specs.Steps.{Answer}
 use Rattle.session_steps.specs.Doings.{Point, moment}
@@ -33,6 +35,7 @@ returns-in-Some-clause-answers g c = λ line start.
       tally = said.counted;
       traced = said.traced;
       placed = said.placed;
+      asked = said.asked;
       stays = c.answer_line.ensures.flushes.stays;
       flushed = (rw c.in-Some.is at c.in-Ok.ensures.flushes).all refl;
     })
@@ -144,12 +147,15 @@ returns-in-Err-clause-writes g c = record {
 }
 
 pub returns-in-Some-clause-in_turn : goal.returns-in-Some-clause-in_turn
-returns-in-Some-clause-in_turn g c = in_turn_ended c.end_batch.result _ _ c.end_batch.ensures.ready c.end_batch.ensures.placed
+returns-in-Some-clause-in_turn g c =
+    in_turn_ended c.args.terms.now.settings.now.trace c.end_batch.result _ c.answer_line.new.store c.args.self.now.tally.batches _ c.end_batch.ensures.ready c.end_batch.ensures.placed c.end_batch.ensures.memory
+    (ap (λ (t : Tally). t.batches) c.end_batch.ensures.counted)
+    (cycle_kept c.args.store.now c.answer_line.new.store c.args.self.now.tally.batches c.answer_line.ensures.cycle c.requires.ready.in_cycle) c.end_batch.ensures.asked c.end_batch.ensures.cycle
 
 pub returns-in-None-clause-in_turn : goal.returns-in-None-clause-in_turn
 returns-in-None-clause-in_turn g c =
-    in_turn_still {T = Unit {0}} (Ok (tt {0})) c.args.store.now c.answer_line.new.store c.args.self.now.tally.batches c.answer_line.ensures.cycle c.requires.ready.in_cycle
+    in_turn_still c.args.terms.now.settings.now.trace {T = Unit {0}} (Ok (tt {0})) c.args.store.now c.answer_line.new.store c.args.self.now.tally.batches c.answer_line.ensures.cycle c.requires.ready.in_cycle
 
 pub returns-in-Err-clause-in_turn : goal.returns-in-Err-clause-in_turn
 returns-in-Err-clause-in_turn g c =
-    in_turn_still {T = Unit {0}} (Err c.in-Err.stop) c.args.store.now c.answer_line.new.store c.args.self.now.tally.batches c.answer_line.ensures.cycle c.requires.ready.in_cycle
+    in_turn_still c.args.terms.now.settings.now.trace {T = Unit {0}} (Err c.in-Err.stop) c.args.store.now c.answer_line.new.store c.args.self.now.tally.batches c.answer_line.ensures.cycle c.requires.ready.in_cycle

@@ -1,6 +1,7 @@
 use Rattle.std.proofs.Common.{◌≡◌, ◌∙◌, sym, ap, subst, IfOk}
 use Rattle.sf_value.specs.declared.Outcome.TheVariants as outcome
 use Rattle.program_meaning.specs.RequestRun.{begin, ended}
+use Rattle.few_entities.specs.Entries.{refs_of}
 use Rattle.source_meaning.specs.Agrees.{FallsIn}
 use Rattle.source_meaning.specs.Attempts.{ran_of}
 use Rattle.program_meaning.specs.Sources.{source_of}
@@ -19,5 +20,5 @@ returns-in-Ok c = sym (run_light (source_of c.args.program.now) c.args.self.now 
 
 pub returns-in-Err-Failed : goal.returns-in-Err-Failed
 returns-in-Err-Failed c =
-    (λ i. record { outcome = outcome.Failed c.in-Err-Failed.failure; state = with_records c.args.self.now (c.new.ensures.empty i); reads = keys_of c.first_call-given.new.run.tx.read.keys; writes = keys_of (entities_of (c.new.ensures.empty i)); steps = c.first_call-given.new.run.steps })
+    (λ i. record { outcome = outcome.Failed c.in-Err-Failed.failure; state = with_records c.args.self.now (c.new.ensures i); reads = keys_of (refs_of c.first_call-given.new.run.tx.read); writes = keys_of (entities_of (c.new.ensures i)); steps = c.first_call-given.new.run.steps })
     ∙ sym (run_light (source_of c.args.program.now) c.args.self.now c.args.asked.now (sym c.is_heavy.ensures ∙ c.if-is_heavy.false) ∙ ap (ended c.args.self.now) (subst (λ stop. FallsIn stop (world_of c.args.self.now c.first_call-given.new.run.tx) c.first_call-given.new.run.steps (begin (source_of c.args.program.now) c.args.asked.now c.args.self.now)) c.in-Err-Failed.field-0-is c.in-Err-Failed.ensures))

@@ -2,8 +2,10 @@ use Rattle.std.proofs.Common.{◌∙◌, sym, ap, [], ◌∷◌, ◌++◌}
 use Rattle.std.specs.Prelude.{unwrap_or}
 use Rattle.sf_value.specs.Keys.{key_of}
 use Rattle.program_meaning.specs.World.{writing}
+use Rattle.few_entities.specs.Entries.{refs_of}
+use Rattle.few_entities.proofs.ListLaws.{put_in_place}
 use Rattle.source_meaning.specs.Transactions.{world_of, keys_of}
-use Rattle.source_meaning.proofs.TransactionLaws.{changed_record, world_written, in_place}
+use Rattle.source_meaning.proofs.TransactionLaws.{changed_record, world_written}
 use Rattle.source_meaning.proofs.transaction.Transaction.push_field.Goals as goal
 
 pub returns-in_ok-push-in-Some : goal.returns-in_ok-push-in-Some
@@ -11,9 +13,9 @@ returns-in_ok-push-in-Some c =
     let t = c.args.self.now in
     let state = c.args.site.now.state.now in
     let at = c.args.site.now.me.now in
-    let es = t.changed.entries in
-    let old = c.index_mut.result.now in
-    let held = changed_record state es at old (sym c.in-Some.ensures.value ∙ c.index_mut.ensures.value) in
+    let es = t.changed in
+    let old = c.in-Some.fields in
+    let held = changed_record state es at old (sym c.in-Some.ensures.value) in
     let made = c.push.new.self in
-    world_written state (keys_of t.read.keys) es _ at made (in_place es at made c.in-Some.i (sym c.in-Some.ensures.index))
+    world_written state (keys_of (refs_of t.read)) es _ at made (put_in_place at c.new.result made c.replace-in-Some.result es c.replace.new.self c.replace-in-Some.new.self c.in-Some.ensures.entries c.replace-in-Some.ensures.value c.replace-in-Some.ensures.entries)
     ∙ ap (writing (world_of state t) (key_of at)) (c.in_ok-push-in-Some.ensures.ok ∙ ap (λ fields. fields ++ c.args.value ∷ []) (sym (ap (λ o. unwrap_or o []) held)))

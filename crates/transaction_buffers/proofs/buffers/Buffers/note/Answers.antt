@@ -1,23 +1,19 @@
-use Rattle.std.proofs.Common.{ap, sym, ◌∙◌, subst, Some}
+use Rattle.std.proofs.Common.{ap, sym, ◌∙◌, subst}
+use Rattle.indexmap.proofs.MapLemmas.{OnOk-map}
 use Rattle.sf_value.specs.Keys.{key_of}
+use Rattle.few_entities.proofs.ListLaws.{put_back}
 use Rattle.transaction_buffers.specs.Buffered.{noted}
-use Rattle.transaction_buffers.specs.declared.buffers.Touched.{Touched}
-use Rattle.transaction_buffers.proofs.NotedLaws.{IsNext, fields_if, in_place, next_of_old, next_of_none, none_there, noted_after}
+use Rattle.transaction_buffers.proofs.NotedLaws.{IsNext, fields_if, next_is, noted_after}
 use Rattle.transaction_buffers.proofs.buffers.Buffers.note.Goals as goal
 
-pub returns-in-Some : goal.returns-in-Some
-returns-in-Some c =
-    let entries = c.self.inside.entities.entries in
-    let old = c.index_mut.result.now in
-    let next = subst (λ before. IsNext before c.args.held c.args.wrote c.add.new.self) (sym c.index_mut.ensures.value ∙ c.in-Some.ensures.value)
-    (subst (λ new. IsNext (Some old) c.args.held c.args.wrote new) (sym c.add.ensures) (next_of_old old c.args.held c.args.wrote)) in
-    noted_after entries c.args.at c.args.held c.args.wrote c.add.new.self next _ (in_place entries c.args.at c.add.new.self c.in-Some.i (sym c.in-Some.ensures.index))
-    ∙ ap (λ b. noted b (key_of c.args.at) (fields_if c.args.held) c.args.wrote) c.self.view_is
-
-pub returns-in_ok-insert-in-None : goal.returns-in_ok-insert-in-None
-returns-in_ok-insert-in-None c =
-    let entries = c.self.inside.entities.entries in
-    let new : Touched = record { own = c.args.held; wrote = c.args.wrote } in
-    let next = subst (λ before. IsNext before c.args.held c.args.wrote new) (none_there _ c.in-None.ensures.found) (next_of_none c.args.held c.args.wrote) in
-    noted_after entries c.args.at c.args.held c.args.wrote new next c.insert.new.self.entries c.in_ok-insert-in-None.ensures.entries
-    ∙ ap (λ b. noted b (key_of c.args.at) (fields_if c.args.held) c.args.wrote) c.self.view_is
+pub returns : goal.returns
+returns c =
+    let es = c.self.inside.entities in
+    let at = c.args.at in
+    let new = c.touched_again.result in
+    let old = c.replace-before.result in
+    let made = subst (λ t. IsNext old c.args.held c.args.wrote t) (sym c.touched_again.ensures) (next_is old c.args.held c.args.wrote) in
+    let next = subst (λ before. IsNext before c.args.held c.args.wrote new) c.replace-before.ensures.value made in
+    OnOk-map c.put.result _ _ (λ is.
+    noted_after es at c.args.held c.args.wrote new next _ (is ∙ put_back at _ new old es c.replace-before.new.self c.replace-before.ensures.entries c.replace-before.ensures.unchanged)
+    ∙ ap (λ b. noted b (key_of at) (fields_if c.args.held) c.args.wrote) c.self.view_is) c.put.ensures.ok

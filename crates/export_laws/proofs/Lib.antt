@@ -1,0 +1,3 @@
+mod ShortReplies
+mod ExportedLines
+mod SerialExports

@@ -1,0 +1,2 @@
+pub mod LighterTurns
+pub mod FewEvents

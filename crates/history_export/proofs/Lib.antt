@@ -1,0 +1,2 @@
+mod TwoLines
+mod EntryLaws
