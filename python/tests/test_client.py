@@ -244,6 +244,8 @@ class Serving(Room):
             with ThreadPoolExecutor(10) as threads:
                 list(threads.map(lambda place: bank.call("Account", accounts[place % 10], "give", 1, accounts[place % 7]), range(300)))
                 puts = list(threads.map(lambda place: bank.call("Account", "a9", "put", 1), range(50)))
+            while bank.children == 1:
+                bank.call("Account", "a0", "put", 0)
         finally:
             done.set()
             killer.join()

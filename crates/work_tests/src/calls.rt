@@ -157,17 +157,21 @@ fn hold_prefix(alloc: Global, call: u64, written: &[u8]) -> Result<(), Fail> {
     hold_call(alloc, "a failed output", made, wanted)
 }
 
-/// The thirteen parts of the line are written one after another, and then the output is flushed.
+/// The fifteen parts of the line, of which the total's sign and front digits are empty here, are written one after another, and then the output is flushed.
 #[test]
 fn failed_output_leaves_a_prefix_of_the_line(rt: HostRuntime) -> Result<(), Fail> {
-    let rows: [(u64, &[u8]); 4] = [
+    let rows: [(u64, &[u8]); 5] = [
         (1, b""),
         (2, b"requests "),
         (
-            13,
+            14,
+            b"requests 3 committed 3 failed 0 batches 1 events 3 total ",
+        ),
+        (
+            15,
             b"requests 3 committed 3 failed 0 batches 1 events 3 total 300",
         ),
-        (14, THREE_OPENED),
+        (16, THREE_OPENED),
     ];
     for (call, written) in rows {
         hold_prefix(rt.alloc(), call, written)?;
