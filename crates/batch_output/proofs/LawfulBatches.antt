@@ -8,7 +8,6 @@ use Rattle.std.proofs.lemmas.List.Elements.{All-cons, All-head, All-tail}
 use Rattle.std.proofs.lemmas.List.FromFn.{length-range_with_len, get_or-range_with_len}
 use Rattle.std.proofs.lemmas.List.Sorted.{All-permutation}
 use Rattle.sf_value.specs.declared.Request.{Request}
-use Rattle.py_tree.specs.ClassRules.{tables_of}
 use Rattle.program_meaning.specs.ClassTables.{Source}
 use Rattle.program_meaning.specs.World.{State}
 use Rattle.program_meaning.specs.RequestRun.{run}
@@ -19,13 +18,14 @@ use Rattle.serial_order.proofs.SerialOrder.{conflict_free_serial}
 use Rattle.reservations.specs.Accesses.{access_at}
 use Rattle.reservations.specs.CommitRules.{Chosen, IsLawful}
 use Rattle.engine.specs.Cores.{Core, IsSoundCore}
+use Rattle.engine.specs.Growth.{GoesOnSerially}
 use Rattle.engine.specs.Vocabulary.{acts_of, own_outcomes}
 use Rattle.engine.specs.Batches.{requests_at, other_places, IsSplit, entry_on, batch_entries, after_batch}
 use Rattle.engine.specs.RanBatches.{accesses_on}
 use Rattle.engine.proofs.PlaceLaws.{count_once}
 use Rattle.engine.proofs.CarriedLaws.{carried_are}
-use Rattle.engine.proofs.BatchLaws.{batch_sound}
-use Rattle.engine.proofs.MadeLaws.{batch_ids}
+use Rattle.engine.proofs.BatchLaws.{batch_goes_on}
+use Rattle.engine.proofs.GrowthLaws.{goes_on_sound}
 use Rattle.batch_output.specs.BatchOutput.{Limits, committed}
 use Rattle.batch_output.specs.SerialBatches.{IsLawfulRule}
 
@@ -122,9 +122,13 @@ module _ (src : Source) (rule : List Access → Chosen) (limits : Limits) (lawfu
       ∙ sym (conflict_free_serial src core.state (acts_of (requests_at core.pending chosen.committed)) (subst IsConflictFree committed_accesses is_lawful.apart)).outcomes
       ∙ ap (serial_outcomes src core.state) (sym (entry_acts src core.state (requests_at core.pending chosen.committed)))
 
+  -- the core behind the batch goes on serially by its entries
+  pub batch_goes : GoesOnSerially src core (after_batch src core (committed src rule limits core)) (batch_entries src core (committed src rule limits core))
+  batch_goes = batch_goes_on src core chosen.committed is_split serial_outcomes_of_batch
+
   pub stays_sound : IsSoundCore src core → IsSoundCore src (after_batch src core (committed src rule limits core))
   stays_sound sound =
-      batch_sound src core chosen.committed is_split serial_outcomes_of_batch (batch_ids src core chosen.committed (tables_of src.names src.program) is_split sound.pending) sound
+      goes_on_sound src core (after_batch src core (committed src rule limits core)) (batch_entries src core (committed src rule limits core)) sound batch_goes
 
   -- fewer wait behind it
   pub fewer_wait : 0 < length core.pending → length (after_batch src core (committed src rule limits core)).pending < length core.pending

@@ -21,7 +21,8 @@ use Rattle.engine.specs.declared.arrival.Arrival.TheVariants as arrival
 use Rattle.engine.specs.Cores.{Core, IsSoundCore}
 use Rattle.engine.specs.Arrivals.{arrival_of, joined, Says}
 use Rattle.engine.specs.Batches.{batch_entries, after_batch}
-use Rattle.engine.proofs.ArrivalLaws.{arrivals_say, arrival_sound}
+use Rattle.engine.proofs.ArrivalLaws.{arrivals_say, arrival_grows}
+use Rattle.engine.proofs.GrowthLaws.{grows_sound}
 use Rattle.batch_output.specs.BatchOutput.{Limits, Standing, begun, waits, entry_lines, kept_line, reused, answer_on, answer, taken, fills, is_due, committed, has_no_place, settled, batch_lines, with_line, settled_if, lines_if, step, reply, after, replies, ended, last_replies, at_end, end_replies}
 use Rattle.batch_output.specs.SerialBatches.{Refused, Again, text_of_entry, IsLawfulRule, PrintsSerially, SerialBatches}
 use Rattle.batch_output.specs.BatchesEnd.{BatchesEnd}
@@ -97,7 +98,7 @@ module _ (src : Source) (core : Core) (sound : IsSoundCore src core) (number : �
   pub answered : (action : Action) → ((r : Request) → action ≡ Ask r → RequestFits (tables_of src.names src.program) r) → Goes src core (taken core action) number (number + 1) (answer core (number + 1) action)
   answered Skip fits = nothing
   answered (Refuse cause) fits = refused (cause_text cause)
-  answered (Ask r) fits = met r (arrival_of core r) (arrivals_say core r) (arrival_sound src core r (fits r refl) sound)
+  answered (Ask r) fits = met r (arrival_of core r) (arrivals_say core r) (grows_sound src core (joined core r (arrival_of core r)) sound (arrival_grows src core r (fits r refl)))
 
 -- How many wait
 

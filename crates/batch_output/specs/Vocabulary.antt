@@ -2,6 +2,7 @@
 pub use Rattle.engine.specs.Batches.{IsSplit, after_batch, batch_entries, entry_on, other_places, replies_from, requests_at}
 pub use Rattle.engine.specs.Cores.{Core, CoreFits, IsSoundCore}
 pub use Rattle.engine.specs.EngineViews.{RunsProgram, compiled_of, core_of, fresh_of, limit_of, source_of, tables_of}
+pub use Rattle.engine.specs.Growth.{GoesOnSerially, GrowsSerially}
 pub use Rattle.engine.specs.Plans.{IsPlanOf}
 pub use Rattle.engine.specs.RanBatches.{accesses_on}
 pub use Rattle.engine.specs.Replays.{settled}

@@ -7,7 +7,8 @@ use Rattle.sf_outside.specs.Causes.{Rose}
 use Rattle.sf_outside.specs.DiskModel.{DiskFacts, Mounts}
 use Rattle.serial_order.specs.ConflictFree.{Access}
 use Rattle.reservations.specs.CommitRules.{Chosen}
-use Rattle.batch_output.specs.Vocabulary.{Engine, CoreFits, IsSoundCore, core_of, source_of, tables_of, compiled_of, limit_of, fresh_of, RunsProgram, settled}
+use Rattle.batch_output.specs.Vocabulary.{Engine, CoreFits, GrowsSerially, core_of, source_of, tables_of, compiled_of, limit_of, fresh_of, RunsProgram, settled}
+use Rattle.batch_output.proofs.Vocabulary.{grows_same, grows_then}
 use Rattle.session_store.specs.declared.store.Store.{Store}
 use Rattle.session_store.specs.Vocabulary.{logged_of, IsStorable}
 use Rattle.session_store.proofs.StoreLaws.{same_source, keeps_same}
@@ -15,7 +16,7 @@ use Rattle.batch_replies.specs.declared.stops.Stop.{Stop}
 use Rattle.batch_replies.specs.declared.stops.Stop.TheVariants.{WriteFault}
 use Rattle.batch_replies.specs.Stops.{is_disk_fault, disk_failed}
 use Rattle.batch_replies.specs.GoingOn.{SessionState, state_of, CanGoOn, GoesOn}
-use Rattle.batch_replies.proofs.SameProgram.{runs_itself, whole_on, fits_on, fits_back, sound_on, sound_back, runs_on}
+use Rattle.batch_replies.proofs.SameProgram.{runs_itself, whole_on, fits_on, fits_back, grows_back, runs_on}
 
 -- ---- counts of faults
 
@@ -46,7 +47,7 @@ module _ (rule : List Access → Chosen) where
   stays s ready = record {
     runs = runs_itself s.engine;
     fits = ready.fits;
-    sound = λ sound. sound;
+    grows = grows_same (source_of s.engine) (core_of s.engine);
     storable = ready.storable;
     kept = ready.kept;
     settings = refl;
@@ -57,13 +58,13 @@ module _ (rule : List Access → Chosen) where
 
   -- nothing was done but by the engine, which logged nothing
   pub moved : (e now : Engine) → RunsProgram now (compiled_of e) (limit_of e) → CoreFits (tables_of e) (core_of now)
-      → (IsSoundCore (source_of e) (core_of e) → IsSoundCore (source_of e) (core_of now)) → IsStorable (core_of now) (fresh_of now) → logged_of now ≡ logged_of e
+      → GrowsSerially (source_of e) (core_of e) (core_of now) → IsStorable (core_of now) (fresh_of now) → logged_of now ≡ logged_of e
       → (store : Option Store) (facts : DiskFacts) (faults : ℕ) (mounts : Mounts) → CanGoOn (state_of e store facts faults mounts)
       → GoesOn rule false (state_of e store facts faults mounts) (state_of now store facts faults mounts)
-  moved e now runs fits sound storable logged store facts faults mounts ready = record {
+  moved e now runs fits grows storable logged store facts faults mounts ready = record {
     runs = runs;
     fits = fits;
-    sound = sound;
+    grows = grows;
     storable = storable;
     kept = keeps_same store (source_of e) (source_of now) (logged_of e) (logged_of now) facts (same_source e now runs) (sym logged) ready.kept;
     settings = refl;
@@ -77,7 +78,7 @@ module _ (rule : List Access → Chosen) where
       → (store : Option Store) (facts : DiskFacts) (faults : ℕ) (mounts : Mounts) → CanGoOn (state_of e store facts faults mounts)
       → GoesOn rule false (state_of e store facts faults mounts) (state_of now store facts faults mounts)
   asked e now runs core fresh store facts faults mounts ready =
-      moved e now runs (subst (CoreFits (tables_of e)) (sym core) ready.fits) (λ sound. subst (IsSoundCore (source_of e)) (sym core) sound)
+      moved e now runs (subst (CoreFits (tables_of e)) (sym core) ready.fits) (subst (GrowsSerially (source_of e) (core_of e)) (sym core) (grows_same (source_of e) (core_of e)))
       (same_storable e now core fresh ready.storable) (same_logged e now core fresh) store facts faults mounts ready
 
   -- ---- and another
@@ -95,7 +96,9 @@ module _ (rule : List Access → Chosen) where
   then_goes failed old mid new first next = record {
     runs = runs_on old.engine mid.engine first.runs new.engine next.runs;
     fits = fits_back old.engine mid.engine first.runs (core_of new.engine) next.fits;
-    sound = λ sound. sound_back old.engine mid.engine first.runs (core_of new.engine) (next.sound (sound_on old.engine mid.engine first.runs (core_of mid.engine) (first.sound sound)));
+    grows =
+        grows_then (source_of old.engine) (core_of old.engine) (core_of mid.engine) (core_of new.engine) first.grows
+        (grows_back old.engine mid.engine first.runs (core_of mid.engine) (core_of new.engine) next.grows);
     storable = next.storable;
     kept = next.kept;
     settings = next.settings ∙ first.settings;

@@ -1,4 +1,4 @@
--- What a batch commits is a serial run from the state of its core on, whatever core that is.
+-- The state behind a batch takes the writes of what it commits, whatever core the batch runs on.
 use Rattle.std.proofs.Common.{◌≡◌, ℕ, zero, suc, ◌<◌, ◌^◌, Bool, true, false, true≢false, nat_eq, List, [], ◌∷◌, map as over, length, refl, sym, ap, ◌∙◌, subst, arith}
 use Rattle.std.specs.Prelude.{◌&&◌, not, nat_lt}
 use Rattle.std.specs.FinMap as map
@@ -9,7 +9,6 @@ use Rattle.sf_value.specs.declared.Request.{Request}
 use Rattle.program_meaning.specs.ClassTables.{Source}
 use Rattle.program_meaning.specs.World.{State}
 use Rattle.program_meaning.specs.RequestRun.{Ran, run}
-use Rattle.program_meaning.specs.Serial.{outcomes_of, serial_outcomes}
 use Rattle.program_meaning.specs.Serial as serial
 use Rattle.keyed_state.specs.Works.{are_places}
 use Rattle.serial_order.specs.ConflictFree.{Access, access_of, runs_on, IsConflictFree}
@@ -19,7 +18,7 @@ use Rattle.reservations.specs.CommitRules.{Chosen, IsLawful}
 use Rattle.reservations.proofs.Lawful.{committed_places}
 use Rattle.engine.specs.Cores.{Core}
 use Rattle.engine.specs.Vocabulary.{acts_of}
-use Rattle.engine.specs.Batches.{requests_at, entry_on, batch_entries}
+use Rattle.engine.specs.Batches.{requests_at, entry_on}
 use Rattle.engine.specs.RanBatches.{accesses_on}
 use Rattle.batch_output.specs.SerialBatches.{IsLawfulRule}
 use Rattle.batch_run.specs.GrownCores.{TakesWrites}
@@ -57,10 +56,6 @@ module _ (src : Source) (s : State) where
   acts_on [] = refl
   acts_on (r ∷ rs) = ap (λ l. r.act ∷ l) (acts_on rs)
 
-  outcomes_on : (rs : List Request) → outcomes_of (over (entry_on src s) rs) ≡ over (λ (ran : Ran). ran.outcome) (runs_on src s (acts_of rs))
-  outcomes_on [] = refl
-  outcomes_on (r ∷ rs) = ap (λ l. (run src s r.act).outcome ∷ l) (outcomes_on rs)
-
 module _ (src : Source) (rule : List Access → Chosen) (lawful : IsLawfulRule rule) (core : Core) (few : length core.pending < 2 ^ 32) where
   abbrev chosen : Chosen
   chosen = rule (accesses_on src core)
@@ -88,13 +83,7 @@ module _ (src : Source) (rule : List Access → Chosen) (lawful : IsLawfulRule r
       ∙ sym (each_access src core.state picked))
       is_lawful.apart
 
-  pub batch_is_serial : outcomes_of (batch_entries src core chosen.committed) ≡ serial_outcomes src core.state (serial.acts_of (batch_entries src core chosen.committed))
-  batch_is_serial =
-      outcomes_on src core.state picked
-      ∙ sym (conflict_free_serial src core.state (acts_of picked) free).outcomes
-      ∙ ap (serial_outcomes src core.state) (sym (acts_on src core.state picked))
-
-  -- and the state behind it takes the writes of what it commits
+  -- the state behind it takes the writes of what it commits
   pub batch_takes_writes : TakesWrites src rule core
   batch_takes_writes = record {
     records = λ q.

@@ -11,11 +11,10 @@ use Rattle.sf_value.specs.declared.Request.{Request}
 use Rattle.program_meaning.specs.ClassTables.{Source}
 use Rattle.program_meaning.specs.World.{State}
 use Rattle.program_meaning.specs.Fits.{StateFits, ActFits}
-use Rattle.program_meaning.specs.NothingGoesWrong.{ActsFit, no_act, one_act}
 use Rattle.program_meaning.specs.RequestRun.{Ran, run}
 use Rattle.program_meaning.specs.Serial as serial
-use Rattle.program_meaning.proofs.Soundness.{checked_are_known, histories_fit}
-use Rattle.request_history.specs.SoundHistory.{RequestFits, RequestsFit}
+use Rattle.program_meaning.proofs.Soundness.{checked_are_known}
+use Rattle.request_history.specs.SoundHistory.{RequestFits}
 use Rattle.block_step.specs.declared.compiled.Compiled.{Compiled}
 use Rattle.block_step.specs.CompiledViews.{compiled_program, compiled_names, compiled_tables, compiled_blocks, IsWhole}
 use Rattle.operator_graph.specs.BatchEvents.{batch_after}
@@ -23,15 +22,11 @@ use Rattle.operator_graph.specs.FirstFlights.{acts_of}
 use Rattle.batch_events.specs.BatchRuns.{come_to, ComesToRuns}
 use Rattle.batch_events.proofs.OwnRuns.{batches_come_to_their_runs}
 use Rattle.aria_batch.specs.BatchRun.{source_of, batch_of, running_along}
-use Rattle.engine.specs.Cores.{Core, CoreFits, IsSoundCore}
+use Rattle.engine.specs.Cores.{Core, CoreFits}
 use Rattle.engine.specs.Batches.{entry_on}
 use Rattle.batch_run.specs.BatchOutcomes.{ended_with, CommitsWhatEnded}
 
 -- What fits
-
-committed_fit : (tables : List PlainTable) (es : List Entry) → RequestsFit tables es → ActsFit tables (serial.acts_of es)
-committed_fit tables [] fit = no_act
-committed_fit tables (e ∷ es) fit = one_act fit.0.act (committed_fit tables es fit.1)
 
 waiting_fit : (tables : List PlainTable) (rs : List Request) → AllByRecursion (RequestFits tables) rs → AllByRecursion (ActFits tables) (acts_of rs)
 waiting_fit tables [] fit = tt
@@ -94,12 +89,3 @@ module _ (compiled : Compiled) (whole : IsWhole compiled) (core : Core) where
 
   pub fitting_commits : CoreFits tables core → (parts : ℕ) → CommitsWhatEnded compiled parts core
   fitting_commits fits parts = commits fits.state fits.pending.requests parts
-
-  pub commits_what_ended : IsSoundCore (source_of compiled) core → (parts : ℕ) → CommitsWhatEnded compiled parts core
-  commits_what_ended sound parts = commits state_fits sound.pending.requests parts
-    where
-      state_fits : StateFits tables core.state
-      state_fits =
-          subst (StateFits tables) (sym sound.committed.run.state)
-          (histories_fit (compiled_names compiled) (compiled_program compiled) (checked_are_known compiled.program) (serial.acts_of core.history)
-          (committed_fit tables core.history sound.committed.requests))

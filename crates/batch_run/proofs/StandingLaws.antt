@@ -2,15 +2,11 @@
 use Rattle.std.proofs.Common.{◌≡◌, ℕ, ◌+◌, ◌<◌, ◌≤◌, ◌^◌, ◌⊎◌, inl, inr, Bool, true, false, true≢false, not, ◌||◌, List, [], ◌∷◌, ◌++◌, length, if◌then◌else◌, refl, sym, ap, ◌∙◌, subst, append_assoc, append-nil, arith}
 use Rattle.std.specs.List.{AllByRecursion}
 use Rattle.std.proofs.lemmas.Bool.{ltb-true, leb-false}
-use Rattle.std.proofs.lemmas.List.{length-append, map-append}
+use Rattle.std.proofs.lemmas.List.{length-append}
 use Rattle.py_tree.specs.ClassRules.{PlainTable, tables_of}
-use Rattle.sf_value.specs.declared.Act.{Act}
 use Rattle.sf_value.specs.declared.Entry.{Entry}
 use Rattle.sf_value.specs.declared.Request.{Request}
 use Rattle.program_meaning.specs.ClassTables.{Source}
-use Rattle.program_meaning.specs.World.{State}
-use Rattle.program_meaning.specs.RequestRun.{run}
-use Rattle.program_meaning.specs.Serial.{acts_of, serial_outcomes, serial_state}
 use Rattle.program_meaning.proofs.Soundness.{checked_are_known}
 use Rattle.request_json.specs.Actions.{Line, Action, Skip, Refuse, Ask, action_of}
 use Rattle.block_step.specs.declared.compiled.Compiled.{Compiled}
@@ -18,65 +14,29 @@ use Rattle.block_step.specs.CompiledViews.{compiled_program, compiled_names}
 use Rattle.aria_batch.specs.BatchRun.{source_of}
 use Rattle.engine.specs.declared.arrival.Arrival.{Arrival}
 use Rattle.engine.specs.declared.arrival.Arrival.TheVariants as arrival
-use Rattle.engine.specs.Cores.{Core, CoreFits}
+use Rattle.engine.specs.Cores.{Core, PendingFits, CoreFits}
+use Rattle.engine.specs.Growth.{GoesOnSerially}
 use Rattle.engine.specs.Arrivals as engine
 use Rattle.engine.specs.Batches.{batch_entries}
 use Rattle.engine.specs.RanBatches.{accesses_on}
-use Rattle.engine.proofs.ArrivalLaws.{arrival_fits}
+use Rattle.engine.proofs.ArrivalLaws.{arrival_fits, arrival_pending_fits}
 use Rattle.engine.proofs.BatchLaws.{batch_fits}
+use Rattle.engine.proofs.GrowthLaws.{goes_none, goes_then}
 use Rattle.batch_output.specs.BatchOutput.{Limits, Standing, begun, waits, fills, is_due, taken, with_line, settled, settled_if, has_no_place, committed}
-use Rattle.batch_output.proofs.LawfulBatches.{is_split, fewer_wait}
+use Rattle.batch_output.proofs.LawfulBatches.{is_split, batch_goes, fewer_wait}
 use Rattle.batch_output.proofs.SessionLaws.{at_most_one_more}
 use Rattle.batch_session.specs.Vocabulary.{next_core, Step, Answer, RunWaiting, EndsAmong, IsAtNext, move_of, behind, ran_at, standing_after, ran_on, ActionFits, Service}
 use Rattle.batch_session.proofs.Vocabulary.{each_joined, line_fits}
 use Rattle.batch_run.specs.RunViews.{Rule, run_limits, run_service, rule_of}
-use Rattle.batch_run.specs.GrownCores.{GoesOnSerially, TakesWrites, entries_of}
+use Rattle.batch_run.specs.GrownCores.{TakesWrites, entries_of}
 use Rattle.batch_run.specs.declared.running.RunSettings.{RunSettings}
-use Rattle.batch_run.proofs.CommittedLaws.{batch_is_serial, batch_takes_writes}
+use Rattle.batch_run.proofs.CommittedLaws.{batch_takes_writes}
 use Rattle.batch_run.proofs.LastCores.{move_history}
 use Rattle.batch_run.proofs.SerialLaws.{lawful}
 
--- Requests run one after another, in two parts
+-- The entries of batches, in two parts
 
 module _ (src : Source) where
-  outcomes-append : (xs ys : List Act) (s : State) → serial_outcomes src s (xs ++ ys) ≡ serial_outcomes src s xs ++ serial_outcomes src (serial_state src s xs) ys
-  unfolding serial_outcomes serial_state
-  outcomes-append [] ys s = refl
-  outcomes-append (x ∷ xs) ys s = ap (λ l. (run src s x).outcome ∷ l) (outcomes-append xs ys (run src s x).state)
-
-  state-append : (xs ys : List Act) (s : State) → serial_state src s (xs ++ ys) ≡ serial_state src (serial_state src s xs) ys
-  unfolding serial_state
-  state-append [] ys s = refl
-  state-append (x ∷ xs) ys s = state-append xs ys (run src s x).state
-
-  no_outcomes : (s : State) → serial_outcomes src s [] ≡ []
-  unfolding serial_outcomes
-  no_outcomes s = refl
-
-  no_acts : (s : State) → serial_state src s [] ≡ s
-  unfolding serial_state
-  no_acts s = refl
-
-  goes_none : (old new : Core) → new.history ≡ old.history → new.state ≡ old.state → GoesOnSerially src old new []
-  goes_none old new history state =
-      record { history = history ∙ sym (append-nil old.history); outcomes = sym (no_outcomes old.state); state = state ∙ sym (no_acts old.state) }
-
-  goes_then : (old middle new : Core) (xs ys : List Entry) → GoesOnSerially src old middle xs → GoesOnSerially src middle new ys → GoesOnSerially src old new (xs ++ ys)
-  goes_then old middle new xs ys first later = record {
-    history = later.history ∙ ap (λ history. history ++ ys) first.history ∙ append_assoc old.history xs ys;
-    outcomes =
-        map-append (λ (e : Entry). e.outcome) xs ys
-        ∙ (λ i. first.outcomes i ++ (later.outcomes ∙ ap (λ state. serial_outcomes src state (acts_of ys)) first.state) i)
-        ∙ sym (outcomes-append (acts_of xs) (acts_of ys) old.state)
-        ∙ ap (serial_outcomes src old.state) (sym (map-append (λ (e : Entry). e.request.act) xs ys));
-    state =
-        later.state
-        ∙ ap (λ state. serial_state src state (acts_of ys)) first.state
-        ∙ sym (state-append (acts_of xs) (acts_of ys) old.state)
-        ∙ ap (serial_state src old.state) (sym (map-append (λ (e : Entry). e.request.act) xs ys));
-  }
-
-  -- the entries of batches, in two parts
   entries-append : (rule : Rule) (xs ys : List Core) → entries_of src rule (xs ++ ys) ≡ entries_of src rule xs ++ entries_of src rule ys
   entries-append rule [] ys = refl
   entries-append rule (core ∷ more) ys =
@@ -118,6 +78,22 @@ module _ (compiled : Compiled) (s : RunSettings) (few : s.batch ≤ 256) where
   move_state : (t : Standing) (step : Step) → (move_of v t step).core.state ≡ t.core.state
   move_state t (Answer line) = taken_state t.core (action_of src line)
   move_state t RunWaiting = refl
+
+  taken_pending : (core : Core) (action : Action) → ActionFits tables action → PendingFits tables core → PendingFits tables (taken core action)
+  taken_pending core Skip fit fits = fits
+  taken_pending core (Refuse cause) fit fits = fits
+  taken_pending core (Ask r) fit fits = arrival_pending_fits tables core r fit fits
+
+  move_pending : (t : Standing) (step : Step) → PendingFits tables t.core → PendingFits tables (move_of v t step).core
+  move_pending t (Answer line) fits = taken_pending t.core (action_of src line) (line_fits src line) fits
+  move_pending t RunWaiting fits = fits
+
+  -- a step's move commits nothing
+  pub goes_moved : (t : Standing) (step : Step) → GoesOnSerially src t.core (move_of v t step).core []
+  goes_moved t step = goes_none src t.core (move_of v t step).core (move_history v s.trace t step) (move_state t step) (move_pending t step)
+
+  goes_same : (core : Core) → GoesOnSerially src core core []
+  goes_same core = goes_none src core core refl refl (λ fits. fits)
 
   -- How many wait
 
@@ -170,7 +146,7 @@ module _ (compiled : Compiled) (s : RunSettings) (few : s.batch ≤ 256) where
   leads_by_room : (full : Bool) (core : Core) (lines : ℕ) → CoreFits tables core → 0 < length core.pending → length core.pending ≤ 256
       → Leads core (by_room full core lines) (if full then [] else core ∷ [])
   leads_by_room true core lines fits some most =
-      record { holds = record { fits = fits; wait = λ goes. absurd (true≢false goes) }; goes = goes_none src core core refl refl; each = tt }
+      record { holds = record { fits = fits; wait = λ goes. absurd (true≢false goes) }; goes = goes_same core; each = tt }
   leads_by_room false core lines fits some most =
       let small : length core.pending < 2 ^ 32 = omega (arith, most) in
       let fewer = fewer_wait src rule limits (lawful compiled s few) core small some in
@@ -182,7 +158,7 @@ module _ (compiled : Compiled) (s : RunSettings) (few : s.batch ≤ 256) where
         };
         goes =
             subst (GoesOnSerially src core (next_core rule src core)) (sym (append-nil (batch_entries src core (committed src rule limits core))))
-            (record { history = refl; outcomes = batch_is_serial src rule (lawful compiled s few) core small; state = refl });
+            (batch_goes src rule limits (lawful compiled s few) core small);
         each = (record { fits = fits; small = small }, tt);
       }
 
@@ -195,7 +171,7 @@ module _ (compiled : Compiled) (s : RunSettings) (few : s.batch ≤ 256) where
   line_leads : (t : Standing) (line : Line) (full due : Bool) → t.is_full ≡ full → is_due src rule limits t.core (action_of src line) ≡ due → Holds t
       → Leads t.core (if full then t else settled_if src rule limits due (with_line src rule limits t (action_of src line)))
       (if full then [] else (if due then (if has_no_place src rule limits (taken t.core (action_of src line)) then [] else taken t.core (action_of src line) ∷ []) else []))
-  line_leads t line true due is over h = record { holds = h; goes = goes_none src t.core t.core refl refl; each = tt }
+  line_leads t line true due is over h = record { holds = h; goes = goes_same t.core; each = tt }
   line_leads t line false false is undue h =
       let moved : Core = taken t.core (action_of src line) in
       record {
@@ -203,7 +179,7 @@ module _ (compiled : Compiled) (s : RunSettings) (few : s.batch ≤ 256) where
           fits = taken_fits t.core (action_of src line) (line_fits src line) h.fits;
           wait = λ goes. undue_few t.core (action_of src line) (h.wait is) undue;
         };
-        goes = goes_none src t.core moved (move_history v s.trace t (Answer line)) (move_state t (Answer line));
+        goes = goes_moved t (Answer line);
         each = tt;
       }
   line_leads t line false true is due h =
@@ -216,26 +192,26 @@ module _ (compiled : Compiled) (s : RunSettings) (few : s.batch ≤ 256) where
         holds = next.holds;
         goes =
             goes_then src t.core moved (by_room full moved (t.lines + 1)).core [] (entries_of src rule (if full then [] else moved ∷ []))
-            (goes_none src t.core moved (move_history v s.trace t (Answer line)) (move_state t (Answer line))) next.goes;
+            (goes_moved t (Answer line)) next.goes;
         each = next.each;
       }
 
   waiting_leads : (t : Standing) (full some : Bool) → t.is_full ≡ full → waits t.core ≡ some → Holds t
       → Leads t.core (if full || not some then t else settled src rule limits t)
       (if full then [] else (if some then (if has_no_place src rule limits t.core then [] else t.core ∷ []) else []))
-  waiting_leads t true some is waiting h = record { holds = h; goes = goes_none src t.core t.core refl refl; each = tt }
-  waiting_leads t false false is waiting h = record { holds = h; goes = goes_none src t.core t.core refl refl; each = tt }
+  waiting_leads t true some is waiting h = record { holds = h; goes = goes_same t.core; each = tt }
+  waiting_leads t false false is waiting h = record { holds = h; goes = goes_same t.core; each = tt }
   waiting_leads t false true is waiting h =
       let below : length t.core.pending < 256 = h.wait is in
       leads_by_room (has_no_place src rule limits t.core) t.core t.lines h.fits (ltb-true 0 (length t.core.pending) waiting) (omega (arith, below))
 
-  leads_one : (step : Step) (t : Standing) → Holds t → Leads t.core (behind v t step) (ran_at v t step)
+  pub leads_one : (step : Step) (t : Standing) → Holds t → Leads t.core (behind v t step) (ran_at v t step)
   leads_one (Answer line) t h = line_leads t line t.is_full (is_due src rule limits t.core (action_of src line)) refl refl h
   leads_one RunWaiting t h = waiting_leads t t.is_full (waits t.core) refl refl h
 
   leads_all : (steps : List Step) (t : Standing) → Holds t → Leads t.core (standing_after v t steps) (ran_on v t steps)
   unfolding standing_after ran_on
-  leads_all [] t h = record { holds = h; goes = goes_none src t.core t.core refl refl; each = tt }
+  leads_all [] t h = record { holds = h; goes = goes_same t.core; each = tt }
   leads_all (step ∷ steps) t h =
       let next : Standing = behind v t step in
       let end : Standing = standing_after v next steps in
@@ -282,4 +258,4 @@ module _ (compiled : Compiled) (s : RunSettings) (few : s.batch ≤ 256) where
             let entries : List Entry = entries_of src rule (ran_on v (begun start) e.first) in
             subst (λ core. Goes start core (ran_on v (begun start) e.first)) (sym at)
             (subst (GoesOnSerially src start moved) (append-nil entries)
-            (goes_then src start t.core moved entries [] (from_start e.first).goes (goes_none src t.core moved (move_history v s.trace t step) (move_state t step))))
+            (goes_then src start t.core moved entries [] (from_start e.first).goes (goes_moved t step)))

@@ -4,32 +4,18 @@ use Rattle.std.specs.FinMap as map
 use Rattle.sf_value.specs.Keys.{Key}
 use Rattle.sf_value.specs.declared.Entry.{Entry}
 use Rattle.program_meaning.specs.ClassTables.{Source}
-use Rattle.program_meaning.specs.Serial.{acts_of, outcomes_of, serial_outcomes, serial_state}
 use Rattle.serial_order.specs.ConflictFree.{runs_on, record_after}
-use Rattle.engine.specs.Cores.{Core, IsSoundCore}
+use Rattle.engine.specs.Cores.{Core}
 use Rattle.engine.specs.Vocabulary as requests
 use Rattle.engine.specs.Batches.{batch_entries, requests_at}
 use Rattle.engine.specs.RanBatches.{accesses_on}
 use Rattle.batch_session.specs.Vocabulary.{next_core}
 use Rattle.batch_run.specs.RunViews.{Rule}
 
--- a core is sound, and its history is that of another and then perhaps more
-pub record GrowsFrom (src : Source) (old new : Core) : Type 0 where
-  pub sound : IsSoundCore src new
-  pub added : List Entry
-  pub history : new.history ≡ old.history ++ added
-
 -- the entries that batches on these cores commit, one batch after another
 abbrev pub entries_of : Source → Rule → List Core → List Entry
 entries_of src rule [] = []
 entries_of src rule (core ∷ more) = batch_entries src core (rule (accesses_on src core)).committed ++ entries_of src rule more
-
--- a core goes on from another by these entries: they have the outcomes of their requests, run one after another on the state of the other core, and the
--- state is the one after them
-pub record GoesOnSerially (src : Source) (old new : Core) (added : List Entry) : Type 0 where
-  pub history : new.history ≡ old.history ++ added
-  pub outcomes : outcomes_of added ≡ serial_outcomes src old.state (acts_of added)
-  pub state : new.state ≡ serial_state src old.state (acts_of added)
 
 -- the state behind a batch is the one before it with what the committed requests write, each run by itself on the state before
 pub record TakesWrites (src : Source) (rule : Rule) (core : Core) : Type 0 where

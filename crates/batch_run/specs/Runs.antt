@@ -8,6 +8,7 @@ use Rattle.sf_outside.specs.DiskModel.{DiskFacts}
 use Rattle.block_step.specs.declared.compiled.Compiled.{Compiled}
 use Rattle.aria_batch.specs.BatchRun.{source_of}
 use Rattle.engine.specs.Cores.{Core, IsSoundCore}
+use Rattle.engine.specs.Growth.{GoesOnSerially}
 use Rattle.batch_session.specs.Vocabulary.{Tally, Step, Store, StoreSettings, LogsSteps, no_batch, tally_after}
 use Rattle.batch_session.specs.InTurn.{IsInTurn}
 use Rattle.batch_session.specs.Served.{AreStepsBy, EndsWith}
@@ -16,7 +17,7 @@ use Rattle.batch_session.specs.declared.serving.SessionFault.TheVariants.{NoMemo
 use Rattle.batch_run.specs.RunViews.{Shown, run_service, rule_of}
 use Rattle.batch_run.specs.RunTexts.{AnswersInPart, Prints, PrintsOneRun, RepliesAllButOne}
 use Rattle.batch_run.specs.RunEvents.{TellsRun, batches_of}
-use Rattle.batch_run.specs.GrownCores.{GoesOnSerially, TakesWrites, entries_of}
+use Rattle.batch_run.specs.GrownCores.{TakesWrites, entries_of}
 use Rattle.batch_run.specs.declared.running.RunSettings.{RunSettings}
 
 -- what was printed from a sound core on is one serial run's

@@ -3,7 +3,8 @@
 ghost use Rattle.std.specs.Prelude.{◌≡◌, ◌≤◌, ◌<◌, ◌⊎◌, true, false, length, IfOk, Err};
 ghost use Rattle.sf_outside.specs.Causes.{Rose};
 ghost use Rattle.block_step.specs.CompiledViews.{IsWhole};
-ghost use Rattle.engine.specs.Cores.{Core, CoreFits, IsSoundCore, empty_core};
+ghost use Rattle.engine.specs.Cores.{Core, CoreFits, empty_core};
+ghost use Rattle.engine.specs.Growth.{GrowsSerially};
 ghost use Rattle.engine.specs.EngineViews.{core_of, source_of, tables_of, compiled_of, limit_of, fresh_of, RunsProgram};
 ghost use Rattle.batch_session.specs.Vocabulary.{logged_of, IsStorable, IsInCycle, KeepsWhere, next_core, settings_of, Keeps, EndsPast};
 ghost use Rattle.batch_session.specs.Faults.{disk_failed};
@@ -141,7 +142,7 @@ pub fn run_opened<S: Source, K: Sink, E: Sink, D: Disk, C: Chooser, W: Watch>(
     ensures write_cause { result ≡ Err SessionFault.WriteFault → Rose (K.faults out.old) (K.faults out.new) ⊎ Rose (E.faults err.old) (E.faults err.new) }
     ensures program { RunsProgram stored.new.engine (compiled_of stored.old.engine) (limit_of stored.old.engine) }
     ensures core_fits { CoreFits (tables_of stored.old.engine) (core_of stored.new.engine) }
-    ensures sound { IsSoundCore (source_of stored.old.engine) (core_of stored.old.engine) → IsSoundCore (source_of stored.old.engine) (core_of stored.new.engine) }
+    ensures grows { GrowsSerially (source_of stored.old.engine) (core_of stored.old.engine) (core_of stored.new.engine) }
     ensures storable { IsStorable (core_of stored.new.engine) (fresh_of stored.new.engine) }
     ensures kept { KeepsWhere (disk_failed result) stored.new.store (source_of stored.new.engine) (logged_of stored.new.engine)
         (next_core (rule_of settings.now) (source_of stored.new.engine) (core_of stored.new.engine)) (D.facts disk.new) }

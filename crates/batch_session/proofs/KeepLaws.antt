@@ -8,6 +8,7 @@ use Rattle.reservations.specs.CommitRules.{Chosen}
 use Rattle.engine.specs.declared.engine.Engine.{Engine}
 use Rattle.engine.specs.Cores.{Core}
 use Rattle.engine.specs.EngineViews.{core_of, source_of, fresh_of}
+use Rattle.engine.proofs.GrowthLaws.{grows_same}
 use Rattle.session_store.specs.Vocabulary.{logged_of}
 use Rattle.session_store.specs.declared.store.Store.{Store}
 use Rattle.session_store.specs.Cycles.{cycle_of, next_cycle, IsInCycle}
@@ -53,7 +54,7 @@ module _ (e : Engine) (none : fresh_of e ≡ 0) where
     ended_goes failed ready kept settings later cause same rule = record {
       runs = record { compiled_is = refl; limit_is = refl };
       fits = ready.fits;
-      sound = λ sound. sound;
+      grows = grows_same (source_of e) (core_of e);
       storable = ready.storable;
       kept = ended_kept failed now facts' (next_core rule (source_of e) (core_of e)) kept;
       settings = settings;

@@ -5,7 +5,8 @@ ghost use Rattle.std.specs.Io.KnownBytes.{Keeps as KeepsBytes};
 ghost use Rattle.sf_outside.specs.Causes.{Rose};
 ghost use Rattle.block_step.specs.CompiledViews.{IsWhole};
 ghost use Rattle.operator_graph.specs.Partitions.{IsParts};
-ghost use Rattle.engine.specs.Cores.{CoreFits, IsSoundCore};
+ghost use Rattle.engine.specs.Cores.{CoreFits};
+ghost use Rattle.engine.specs.Growth.{GrowsSerially};
 ghost use Rattle.engine.specs.EngineViews.{core_of, source_of, tables_of, compiled_of, limit_of, fresh_of, RunsProgram};
 ghost use Rattle.session_store.specs.Vocabulary.{logged_of, IsStorable};
 ghost use Rattle.session_store.specs.Cycles.{IsInCycle};
@@ -85,7 +86,7 @@ pub fn serve<R: CommitRule, S: Source, K: Sink, E: Sink, D: Disk, C: Chooser, W:
     ensures write_cause { result ≡ Err SessionFault.WriteFault → Rose (K.faults out.old) (K.faults out.new) ⊎ Rose (E.faults err.old) (E.faults err.new) }
     ensures runs { RunsProgram engine.new (compiled_of engine.old) (limit_of engine.old) }
     ensures core_fits { CoreFits (tables_of engine.old) (core_of engine.new) }
-    ensures sound { IsSoundCore (source_of engine.old) (core_of engine.old) → IsSoundCore (source_of engine.old) (core_of engine.new) }
+    ensures grows { GrowsSerially (source_of engine.old) (core_of engine.old) (core_of engine.new) }
     ensures storable { IsStorable (core_of engine.new) (fresh_of engine.new) }
     ensures kept { KeepsWhere (disk_failed result) store.new (source_of engine.new) (logged_of engine.new)
         (next_core (R.choice rule.now) (source_of engine.new) (core_of engine.new)) (D.facts disk.new) }

@@ -21,7 +21,9 @@ use Rattle.request_history.specs.SoundHistory.{RequestFits}
 use Rattle.request_history.proofs.RepeatLaws.{stands, not_committed, same_act-Decides}
 use Rattle.engine.specs.declared.arrival.Arrival.{Arrival}
 use Rattle.engine.specs.declared.arrival.Arrival.TheVariants as arrival
-use Rattle.engine.specs.Cores.{Core, ids_of, PendingFits, CoreFits, IsSoundCore}
+use Rattle.engine.specs.Cores.{Core, ids_of, PendingFits, CoreFits}
+use Rattle.engine.specs.Growth.{GrowsSerially}
+use Rattle.engine.proofs.GrowthLaws.{goes_none, grows_same}
 use Rattle.engine.specs.Arrivals.{waiting_with, meets, arrival_of, joined, after_arrival, counted, fresh_after, requests_of, Says, ArrivalsSay}
 
 -- Among the requests that wait
@@ -137,18 +139,24 @@ module _ (tables : List PlainTable) (core : Core) (r : Request) (fits : RequestF
   core_fits arrival.Waiting says c = c
   core_fits arrival.Reused says c = c
 
+  pub arrival_pending_fits : PendingFits tables core → PendingFits tables (joined core r (arrival_of core r))
+  arrival_pending_fits = pending_fits (arrival_of core r) (arrivals_say core r)
+
   pub arrival_fits : CoreFits tables core → CoreFits tables (joined core r (arrival_of core r))
   arrival_fits = core_fits (arrival_of core r) (arrivals_say core r)
 
 module _ (src : Source) (core : Core) (r : Request) (fits : RequestFits (tables_of src.names src.program) r) where
-  core_sound : (a : Arrival) → Says core r a → IsSoundCore src core → IsSoundCore src (joined core r a)
-  core_sound arrival.New says s = record { committed = s.committed; pending = pending_fits (tables_of src.names src.program) core r fits arrival.New says s.pending }
-  core_sound (arrival.Again place) says s = s
-  core_sound arrival.Waiting says s = s
-  core_sound arrival.Reused says s = s
+  joined_grows : (a : Arrival) → Says core r a → GrowsSerially src core (joined core r a)
+  joined_grows arrival.New says = record {
+    added = [];
+    goes_on = goes_none src core (joined core r arrival.New) refl refl (pending_fits (tables_of src.names src.program) core r fits arrival.New says);
+  }
+  joined_grows (arrival.Again place) says = grows_same src core
+  joined_grows arrival.Waiting says = grows_same src core
+  joined_grows arrival.Reused says = grows_same src core
 
-  pub arrival_sound : IsSoundCore src core → IsSoundCore src (joined core r (arrival_of core r))
-  arrival_sound = core_sound (arrival_of core r) (arrivals_say core r)
+  pub arrival_grows : GrowsSerially src core (joined core r (arrival_of core r))
+  arrival_grows = joined_grows (arrival_of core r) (arrivals_say core r)
 
 -- Looking through those that wait
 

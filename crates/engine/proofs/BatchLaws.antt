@@ -1,4 +1,4 @@
--- A core that fits, or is sound, does so behind a batch.
+-- A core that fits does so behind a batch, and it goes on serially to the one behind it.
 use Rattle.std.proofs.Common.{◌≡◌, ℕ, true, List, [], ◌∷◌, ◌++◌, map as over, length, get_or, drop, refl, sym, ap, ◌∙◌, subst, append_assoc, append-nil}
 use Rattle.std.specs.Prelude.{bytes_eq}
 use Rattle.std.specs.List.{AllByRecursion}
@@ -21,7 +21,8 @@ use Rattle.program_meaning.proofs.SerialLaws.{IsSound-more}
 use Rattle.program_meaning.proofs.Soundness.{runs_fit}
 use Rattle.request_history.specs.SoundHistory.{RequestFits, RequestsFit, EntriesFit}
 use Rattle.request_history.proofs.IdLaws.{new_among}
-use Rattle.engine.specs.Cores.{Core, ids_of, PendingFits, CoreFits, IsSoundCore}
+use Rattle.engine.specs.Cores.{Core, ids_of, PendingFits, CoreFits}
+use Rattle.engine.specs.Growth.{GoesOnSerially}
 use Rattle.engine.specs.Batches.{requests_at, other_places, IsSplit, entry_on, batch_entries, after_batch}
 use Rattle.engine.proofs.PlaceLaws.{requests_once, each_at}
 
@@ -45,10 +46,9 @@ module _ (src : Source) where
 
 -- What fits
 
-requests_fit : (tables : List PlainTable) (src : Source) (s : State) (history : List Entry) (rs : List Request) → RequestsFit tables history → AllByRecursion (RequestFits tables) rs → RequestsFit tables (history ++ over (entry_on src s) rs)
-requests_fit tables src s [] [] fit all = tt
-requests_fit tables src s [] (r ∷ rs) fit all = (all.0, requests_fit tables src s [] rs fit all.1)
-requests_fit tables src s (e ∷ history) rs fit all = (fit.0, requests_fit tables src s history rs fit.1 all)
+requests_fit : (tables : List PlainTable) (src : Source) (s : State) (rs : List Request) → AllByRecursion (RequestFits tables) rs → RequestsFit tables (over (entry_on src s) rs)
+requests_fit tables src s [] all = tt
+requests_fit tables src s (r ∷ rs) all = (all.0, requests_fit tables src s rs all.1)
 
 ids_of_entries : (src : Source) (s : State) (rs : List Request) → over (λ (e : Entry). e.request.id) (over (entry_on src s) rs) ≡ over (λ (r : Request). r.id) rs
 ids_of_entries src s [] = refl
@@ -80,16 +80,16 @@ module _ (src : Source) (core : Core) (committed : List ℕ) (split : IsSplit co
     ids = IsDistinct-IsPermutation bytes_eq nat_list_eq_equiv.symm (ids_of core) (ids_of (after_batch src core committed)) ids_moved fits.ids;
   }
 
-  pub batch_sound : outcomes_of (batch_entries src core committed) ≡ serial_outcomes src core.state (acts_of (batch_entries src core committed)) → ids_differ (core.history ++ batch_entries src core committed) ≡ true
-      → IsSoundCore src core → IsSoundCore src (after_batch src core committed)
-  batch_sound same new sound =
-      let requests = each_at (RequestFits (tables_of src.names src.program)) core.pending sound.pending.requests committed in
+  pub batch_goes_on : outcomes_of (batch_entries src core committed) ≡ serial_outcomes src core.state (acts_of (batch_entries src core committed))
+      → GoesOnSerially src core (after_batch src core committed) (batch_entries src core committed)
+  batch_goes_on same =
+      let tables = tables_of src.names src.program in
       record {
-        committed = record {
-          run = entries_sound src (batch_entries src core committed) core.history core.state sound.committed.run same new;
-          requests = requests_fit (tables_of src.names src.program) src core.state core.history (requests_at core.pending committed) sound.committed.requests requests;
-        };
-        pending = batch_pending_fits (tables_of src.names src.program) sound.pending;
+        history = refl;
+        outcomes = same;
+        state = refl;
+        requests = λ fits. requests_fit tables src core.state (requests_at core.pending committed) (each_at (RequestFits tables) core.pending fits.requests committed);
+        pending = batch_pending_fits tables;
       }
 
 -- Nothing goes wrong in a batch

@@ -1,6 +1,7 @@
 pub mod ArrivalLaws
 pub mod PlaceLaws
 pub mod BatchLaws
+pub mod GrowthLaws
 pub mod PlanLaws
 pub mod CopyLaws
 pub mod CarriedLaws

@@ -81,7 +81,7 @@ module _ (src : Source) (s : State) where
 
 -- Ids
 
-front_distinct : (xs ys : List (List ℕ)) → IsDistinct bytes_eq (xs ++ ys) → IsDistinct bytes_eq xs
+pub front_distinct : (xs ys : List (List ℕ)) → IsDistinct bytes_eq (xs ++ ys) → IsDistinct bytes_eq xs
 unfolding IsDistinct
 front_distinct [] ys apart = tt
 front_distinct (x ∷ xs) ys apart = (front xs apart.0, front_distinct xs ys apart.1)
@@ -94,7 +94,7 @@ not_among : (id : List ℕ) (es : List Entry) → AllByRecursion (λ y. bytes_eq
 not_among id [] all = refl
 not_among id (e ∷ es) all = λ i. all.0 i || not_among id es all.1 i
 
-ids_from_distinct : (es : List Entry) → IsDistinct bytes_eq (over (λ (e : Entry). e.request.id) es) → ids_differ es ≡ true
+pub ids_from_distinct : (es : List Entry) → IsDistinct bytes_eq (over (λ (e : Entry). e.request.id) es) → ids_differ es ≡ true
 unfolding IsDistinct
 ids_from_distinct [] apart = refl
 ids_from_distinct (e ∷ es) apart = (λ i. not (not_among e.request.id es apart.0 i) && ids_differ es) ∙ ids_from_distinct es apart.1

@@ -1,18 +1,19 @@
 -- The core of an engine behind a batch that was planned on it.
-use Rattle.std.proofs.Common.{◌≡◌, ◌+◌, ◌++◌, length, sym, ap, ◌∙◌, subst, arith}
+use Rattle.std.proofs.Common.{◌≡◌, ◌+◌, length, ap, ◌∙◌, subst, arith}
 use Rattle.std.proofs.lemmas.List.{length-map}
-use Rattle.program_meaning.specs.Serial.{acts_of, outcomes_of, serial_outcomes, ids_differ}
+use Rattle.program_meaning.specs.Serial.{acts_of, outcomes_of, serial_outcomes}
 use Rattle.program_meaning.proofs.Soundness.{checked_are_known}
 use Rattle.block_step.specs.CompiledViews.{compiled_program, compiled_names}
 use Rattle.engine.specs.declared.engine.Engine.{Engine}
 use Rattle.engine.specs.declared.planned.Planned.{Planned}
-use Rattle.engine.specs.Cores.{Core, CoreFits, IsSoundCore}
+use Rattle.engine.specs.Cores.{Core, CoreFits}
+use Rattle.engine.specs.Growth.{GrowsSerially}
 use Rattle.engine.specs.EngineViews.{core_of, source_of, tables_of}
-use Rattle.engine.specs.Batches.{requests_at, other_places, entry_on, after_batch}
+use Rattle.engine.specs.Batches.{requests_at, other_places, entry_on, batch_entries, after_batch}
 use Rattle.engine.specs.Moves.{CanMove}
 use Rattle.engine.specs.Plans.{IsPlanOf}
 use Rattle.engine.proofs.PlaceLaws.{count_once}
-use Rattle.engine.proofs.BatchLaws.{batch_sound, batch_fits}
+use Rattle.engine.proofs.BatchLaws.{batch_goes_on, batch_fits}
 
 module _ (e : Engine) (p : Planned) (plan : IsPlanOf e p) where
   -- each request that waited is committed or waits on
@@ -34,8 +35,10 @@ module _ (e : Engine) (p : Planned) (plan : IsPlanOf e p) where
   pub plan_fits : CoreFits (tables_of e) (core_of e) → CoreFits (tables_of e) (after_batch (source_of e) (core_of e) p.batch.committed)
   plan_fits fits = batch_fits (compiled_names e.compiled) (compiled_program e.compiled) (checked_are_known e.compiled.program) (core_of e) p.batch.committed plan.made.once fits
 
-  pub plan_sound : IsSoundCore (source_of e) (core_of e) → IsSoundCore (source_of e) (after_batch (source_of e) (core_of e) p.batch.committed)
-  plan_sound sound =
+  pub plan_grows : GrowsSerially (source_of e) (core_of e) (after_batch (source_of e) (core_of e) p.batch.committed)
+  plan_grows =
       let same = subst (λ es. outcomes_of es ≡ serial_outcomes (source_of e) (core_of e).state (acts_of es)) plan.made.entries plan.serial.outcomes in
-      let ids = ap (λ es. ids_differ ((core_of e).history ++ es)) (sym plan.made.entries) ∙ plan.serial.ids in
-      batch_sound (source_of e) (core_of e) p.batch.committed plan.made.once same ids sound
+      record {
+        added = batch_entries (source_of e) (core_of e) p.batch.committed;
+        goes_on = batch_goes_on (source_of e) (core_of e) p.batch.committed plan.made.once same;
+      }

@@ -1,5 +1,5 @@
--- A batch of a log that runs again: what joins the core, and that the core behind it fits and is sound.
-use Rattle.std.proofs.Common.{◌≡◌, ℕ, suc, ◌+◌, ◌≤◌, ◌<◌, ◌^◌, Bool, true, not, ◌&&◌, ◌||◌, List, [], ◌∷◌, ◌++◌, map as over, Option, Some, None, length, refl, sym, ap, ◌∙◌, subst, arith, append_assoc}
+-- A batch of a log that runs again: what joins the core, and that the core behind it fits, and is grown serially.
+use Rattle.std.proofs.Common.{◌≡◌, ℕ, suc, ◌+◌, ◌≤◌, Bool, true, not, ◌&&◌, ◌||◌, List, [], ◌∷◌, ◌++◌, map as over, Option, Some, None, length, refl, sym, ap, ◌∙◌, subst, arith, append_assoc}
 use Rattle.std.specs.Prelude.{bytes_eq, slice_get, filter_map}
 use Rattle.std.specs.List.{list_any, AllByRecursion, IsDistinct, range_with_len, cons_option}
 use Rattle.std.proofs.lemmas.List.{map-append, length-append}
@@ -12,7 +12,7 @@ use Rattle.sf_value.specs.declared.Request.{Request}
 use Rattle.program_meaning.specs.ClassTables.{Source}
 use Rattle.program_meaning.specs.World.{State}
 use Rattle.program_meaning.specs.RequestRun.{run}
-use Rattle.program_meaning.specs.Serial.{IsSound, acts_of, outcomes_of, serial_outcomes, serial_state, is_committed, ids_differ}
+use Rattle.program_meaning.specs.Serial.{acts_of, outcomes_of, serial_outcomes, serial_state, is_committed, ids_differ}
 use Rattle.program_meaning.specs.Fits.{StateFits}
 use Rattle.program_meaning.specs.NothingGoesWrong.{IsKnownAccepted}
 use Rattle.program_meaning.proofs.Soundness.{runs_fit}
@@ -21,7 +21,8 @@ use Rattle.keyed_state.specs.Works.{are_places}
 use Rattle.ordered_runs.specs.Vocabulary as flights
 use Rattle.kept_parts.specs.Ids.{entry_ids, request_ids}
 use Rattle.kept_parts.proofs.SplitLaws.{parted}
-use Rattle.engine.specs.Cores.{Core, PendingFits, CoreFits, IsSoundCore}
+use Rattle.engine.specs.Cores.{Core, PendingFits, CoreFits}
+use Rattle.engine.specs.Growth.{GrowsSerially}
 use Rattle.engine.specs.Batches.{requests_at, other_places, IsSplit, entry_on, batch_entries}
 use Rattle.engine.specs.Copying.{entry_of, entries_at}
 use Rattle.engine.specs.declared.replaying.Replay.{Replay}
@@ -29,7 +30,7 @@ use Rattle.engine.specs.Moves.{moved, CanMove}
 use Rattle.engine.specs.RanReplays.{HasRunAgain}
 use Rattle.engine.specs.Replays.{with_news, listed, serial_entries, replayed, ListFits, BatchFits}
 use Rattle.engine.proofs.PlaceLaws.{count_once, each_at}
-use Rattle.engine.proofs.BatchLaws.{entries_sound, batch_pending_fits}
+use Rattle.engine.proofs.BatchLaws.{batch_pending_fits}
 use Rattle.engine.proofs.MadeLaws.{batch_ids}
 
 -- Entries made of requests and of what they came to, place by place
@@ -76,10 +77,9 @@ module _ (src : Source) where
   entries_count [] s = refl
   entries_count (r ∷ rs) s = ap (λ n. suc n) (entries_count rs (run src s r.act).state)
 
-  requests_fit : (tables : List PlainTable) (history : List Entry) (rs : List Request) (s : State) → RequestsFit tables history → AllByRecursion (RequestFits tables) rs → RequestsFit tables (history ++ serial_entries src s rs)
-  requests_fit tables [] [] s fit all = tt
-  requests_fit tables [] (r ∷ rs) s fit all = (all.0, requests_fit tables [] rs (run src s r.act).state fit all.1)
-  requests_fit tables (e ∷ history) rs s fit all = (fit.0, requests_fit tables history rs s fit.1 all)
+  requests_fit : (tables : List PlainTable) (rs : List Request) (s : State) → AllByRecursion (RequestFits tables) rs → RequestsFit tables (serial_entries src s rs)
+  requests_fit tables [] s all = tt
+  requests_fit tables (r ∷ rs) s all = (all.0, requests_fit tables rs (run src s r.act).state all.1)
 
 -- Ids
 
@@ -169,18 +169,21 @@ module _ (names : List (List ℕ)) (program : PlainProgram) (accepted : IsKnownA
           pending = pending_fits tables core batch fits.pending good known;
         }
 
-    pub replayed_sound : IsSoundCore known core → IsSoundCore known (replayed known core batch)
-    replayed_sound sound =
-        let es = serial_entries known core.state (listed core batch) in
-        let acts = entry_acts known (listed core batch) core.state in
-        record {
-          committed = record {
-            run = subst (λ l. IsSound known (record { history = core.history ++ es; state = serial_state known core.state l })) acts
-                (entries_sound known es core.history core.state sound.committed.run (entry_outcomes known (listed core batch) core.state ∙ ap (serial_outcomes known core.state) (sym acts)) (replayed_ids tables core batch sound.pending good known));
-            requests = requests_fit known tables core.history (listed core batch) core.state sound.committed.requests (listed_fit tables core batch sound.pending good);
-          };
-          pending = pending_fits tables core batch sound.pending good known;
-        }
+module _ (src : Source) (core : Core) (batch : BatchRecord) (good : BatchFits (tables_of src.names src.program) core batch) where
+  pub replayed_grows : GrowsSerially src core (replayed src core batch)
+  replayed_grows =
+      let tables = tables_of src.names src.program in
+      let acts = entry_acts src (listed core batch) core.state in
+      record {
+        added = serial_entries src core.state (listed core batch);
+        goes_on = record {
+          history = refl;
+          outcomes = entry_outcomes src (listed core batch) core.state ∙ ap (serial_outcomes src core.state) (sym acts);
+          state = ap (serial_state src core.state) (sym acts);
+          requests = λ fits. requests_fit src tables (listed core batch) core.state (listed_fit tables core batch fits good);
+          pending = λ fits. pending_fits tables core batch fits good src;
+        };
+      }
 
 -- What ran again joins the core
 

@@ -1,4 +1,5 @@
 pub mod Cores
+pub mod Growth
 pub mod Arrivals
 pub mod Batches
 pub mod Copying

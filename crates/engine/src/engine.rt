@@ -35,6 +35,7 @@ impl Engine {
     ghost use Rattle.request_history.specs.HistoryView.{kept_at};
     ghost use Rattle.request_history.specs.SoundHistory.{RequestFits};
     ghost use Rattle.engine.specs.Cores.{empty_core, CoreFits, IsSoundCore};
+    ghost use Rattle.engine.specs.Growth.{GrowsSerially};
     ghost use Rattle.engine.specs.Arrivals.{arrival_of, after_arrival, fresh_after};
     ghost use Rattle.engine.specs.Batches.{after_batch};
     ghost use Rattle.engine.specs.Plans.{IsPlanOf};
@@ -68,7 +69,7 @@ impl Engine {
         ensures err { OnErr result ((core_of self.new ≡ core_of self.old) × (fresh_of self.new ≡ fresh_of self.old)) }
         ensures runs { RunsProgram self.new (compiled_of self.old) (limit_of self.old) }
         ensures core_fits { CoreFits (tables_of self.old) (core_of self.old) → CoreFits (tables_of self.old) (core_of self.new) }
-        ensures sound { IsSoundCore (source_of self.old) (core_of self.old) → IsSoundCore (source_of self.old) (core_of self.new) }
+        ensures grows { GrowsSerially (source_of self.old) (core_of self.old) (core_of self.new) }
     {
         let arrival = arrival_at(&self.history, self.pending.as_slice(), &request);
         if arrival.is_new() {
@@ -88,7 +89,7 @@ impl Engine {
         ensures fresh { fresh_of self.new ≡ 0 }
         ensures runs { RunsProgram self.new (compiled_of self.old) (limit_of self.old) }
         ensures core_fits { CoreFits (tables_of self.old) (core_of self.old) → CoreFits (tables_of self.old) (core_of self.new) }
-        ensures sound { IsSoundCore (source_of self.old) (core_of self.old) → IsSoundCore (source_of self.old) (core_of self.new) }
+        ensures grows { GrowsSerially (source_of self.old) (core_of self.old) (core_of self.new) }
     {
         let Planned {
             batch,

@@ -6,7 +6,8 @@ ghost use Rattle.program_meaning.specs.Fits.{StateFits};
 ghost use Rattle.request_history.specs.SoundHistory.{RequestFits};
 ghost use Rattle.keyed_state.specs.Works.{are_places};
 ghost use Rattle.block_step.specs.CompiledViews.{IsWhole};
-ghost use Rattle.engine.specs.Cores.{CoreFits, IsSoundCore};
+ghost use Rattle.engine.specs.Cores.{CoreFits};
+ghost use Rattle.engine.specs.Growth.{GrowsSerially};
 ghost use Rattle.engine.specs.EngineViews.{core_of, source_of, tables_of, compiled_of, limit_of, fresh_of, RunsProgram};
 ghost use Rattle.engine.specs.Replays.{replayed, ListFits, BatchFits};
 ghost use Rattle.engine.specs.Causes.{IsCause};
@@ -47,7 +48,7 @@ impl Engine {
         ensures err { OnErr result ((core_of self.new ≡ core_of self.old) × (fresh_of self.new ≡ fresh_of self.old)) }
         ensures runs { RunsProgram self.new (compiled_of self.old) (limit_of self.old) }
         ensures core_fits { CoreFits (tables_of self.old) (core_of self.new) }
-        ensures sound { IsSoundCore (source_of self.old) (core_of self.old) → IsSoundCore (source_of self.old) (core_of self.new) }
+        ensures grows { GrowsSerially (source_of self.old) (core_of self.old) (core_of self.new) }
     {
         if !self.can_list(&batch) || !self.can_take(&batch) {
             return Err(RestoreError::Wrong);

@@ -7,16 +7,16 @@ use Rattle.work_gen.specs.Requests as work
 use Rattle.entity_compiler.specs.Compiling.{IsCompiledOf}
 use Rattle.block_code.specs.PlainBlocks.{PlainBlock}
 use Rattle.block_step.specs.declared.compiled.Compiled.{Compiled}
-use Rattle.block_step.specs.CompiledViews.{IsWhole}
+use Rattle.block_step.specs.CompiledViews.{IsWhole, compiled_program, compiled_names}
 use Rattle.operator_graph.specs.Telling.{Told, AlsoTold, GraphTold}
 use Rattle.operator_graph.specs.Turns.{Outside}
 use Rattle.engine.specs.Cores.{Core, empty_core}
-use Rattle.engine.proofs.EmptyLaws.{empty_sound}
-use Rattle.batch_session.specs.Vocabulary.{Tally, Service, program_of, all_steps}
+use Rattle.engine.proofs.EmptyLaws.{empty_fits}
+use Rattle.batch_session.specs.Vocabulary.{Tally, Service, all_steps}
 use Rattle.batch_run.specs.BatchOutcomes.{CommitsWhatEnded}
 use Rattle.batch_run.proofs.EventLaws.{run_have_begun}
-use Rattle.batch_run.proofs.GrowthLaws.{each_batch}
-use Rattle.batch_run.proofs.OutcomeLaws.{commits_what_ended}
+use Rattle.batch_run.proofs.OutcomeLaws.{fitting_commits}
+use Rattle.batch_run.proofs.StandingLaws.{each_fitting}
 use Rattle.generated_run.specs.declared.running.GenSettings.{GenSettings}
 use Rattle.generated_run.specs.declared.summing.Summary.{Summary}
 use Rattle.generated_run.specs.Summaries.{counted_by, IsSummary}
@@ -29,11 +29,11 @@ pub told_as : (old new : Option (List Told)) (tables tables' : List PlainTable) 
 told_as old new tables tables' blocks blocks' same_tables same_blocks told =
     subst (λ t. AlsoTold old new (GraphTold t blocks' ∷ [])) same_tables (subst (λ b. AlsoTold old new (GraphTold tables b ∷ [])) same_blocks told)
 
--- nothing waits where the work begins, so each of its batches runs on a sound core
+-- nothing waits where the work begins, so each of its batches runs on a core that fits
 each_commits : (s : GenSettings) (compiled : Compiled) → IsWhole compiled → s.batch ≤ 256 → EachCommitsWhatEnded s compiled
 each_commits s compiled whole few =
-    each_batch compiled (run_of s) few (CommitsWhatEnded compiled s.parts) (λ core sound. commits_what_ended compiled whole core sound s.parts)
-    empty_core (empty_sound (program_of (service_by s compiled))) (omega arith) (all_steps (service_by s compiled) empty_core (input_of s))
+    each_fitting compiled (run_of s) few empty_core (empty_fits (compiled_names compiled) (compiled_program compiled)) (omega arith) (CommitsWhatEnded compiled s.parts)
+    (λ core fits. fitting_commits compiled whole core fits s.parts) (all_steps (service_by s compiled) empty_core (input_of s))
 
 module _ (s : GenSettings) (compiled made : Compiled) (same : made ≡ compiled) (whole : IsWhole compiled) (least : s.size ≤ 100000) (few : s.batch ≤ 256)
     (input : List ℕ) (is : input ≡ input_of s) (old started new : Outside) (starts : Starts s compiled old started) where

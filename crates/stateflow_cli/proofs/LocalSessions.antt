@@ -10,6 +10,7 @@ use Rattle.sf_outside.specs.Gains.{joined}
 use Rattle.program_meaning.specs.ClassTables.{Source}
 use Rattle.request_json.specs.Actions.{Line, whole_lines, all_lines}
 use Rattle.engine.specs.Cores.{Core, IsSoundCore, empty_core}
+use Rattle.engine.specs.Growth.{GoesOnSerially}
 use Rattle.engine.proofs.EmptyLaws.{empty_sound}
 use Rattle.session.specs.declared.feeding.InputEnd.{InputEnd}
 use Rattle.session.specs.declared.feeding.InputEnd.TheVariants as input
@@ -23,7 +24,6 @@ use Rattle.session.proofs.StopLaws.{prefix_written}
 use Rattle.batch_run.specs.RunViews.{rule_of, run_limits}
 use Rattle.batch_run.specs.RuleLaws.{rule_is_lawful}
 use Rattle.batch_run.specs.RunTexts.{stands_behind, stands_at_end, whole_text, all_text, AnswersAll, AnswersWhole, AnswersFirst, FillsAtLine, FillsAtEnd, AnswersSome, AnswersInPart}
-use Rattle.batch_run.specs.GrownCores.{GoesOnSerially}
 use Rattle.batch_run.specs.declared.running.RunSettings.{RunSettings}
 use Rattle.batch_of_one.specs.Vocabulary.{Standing, IsLawfulRule, all_replies, begun, replies}
 use Rattle.batch_of_one.specs.BatchOfOne.{in_batches, StandAlike, IsLocal}
@@ -103,14 +103,19 @@ module _ (limit : ℕ) (src : Source) where
     -- Serially
 
     goes_on : (last : Core) → IsSoundCore src last → GoesOnSerially src empty_core last last.history
-    goes_on last sound = record { history = refl; outcomes = sound.committed.run.outcomes; state = sound.committed.run.state }
+    goes_on last sound = record {
+      history = refl;
+      outcomes = sound.committed.run.outcomes;
+      state = sound.committed.run.state;
+      requests = λ fits. sound.committed.requests;
+      pending = λ fits. sound.pending;
+    }
 
     pub ran_serially : (result : Result InputEnd SessionStop) (unwritten : Type 0) → (result ≡ Err local.WriteFault → unwritten) → (lines : List Line) (w : Wrote result lines)
         → IsSerial src s empty_core w.last held held' w.last.history unwritten
     ran_serially result unwritten follows lines w = record {
       added = goes_on w.last w.behind.run.sound;
       empty = λ same. empty_sound src;
-      sound = λ sound. w.behind.run.sound;
       lines = λ sound. record { lines = w.behind.came; texts = replies src (rule_of s) (run_limits s) (begun empty_core) (take w.behind.count lines); serial = w.behind.run; front = w.behind.front };
       replies = λ sound. record {
         before = w.behind.before;

@@ -9,11 +9,14 @@ use Rattle.std.specs.declared.result.Result.{Result}
 use Rattle.sf_outside.specs.Causes.{Rose}
 use Rattle.sf_outside.specs.DiskModel.{Image, DiskFacts, Mounts, untold, mounted}
 use Rattle.program_meaning.specs.ClassTables.{Source}
+use Rattle.py_tree.specs.ClassRules.{tables_of}
 use Rattle.block_step.specs.declared.compiled.Compiled.{Compiled}
+use Rattle.block_step.specs.CompiledViews.{compiled_program, compiled_names}
 use Rattle.aria_batch.specs.BatchRun.{source_of}
 use Rattle.snapshot_store.specs.SlotFile.{IsNew}
 use Rattle.entity_compiler.specs.Compiling.{IsCompiledOf}
-use Rattle.engine.specs.Cores.{Core, IsSoundCore, empty_core}
+use Rattle.engine.specs.Cores.{Core, CoreFits, empty_core}
+use Rattle.engine.specs.Growth.{GrowsSerially}
 use Rattle.engine.specs.declared.engine.Engine.{Engine}
 use Rattle.engine.specs.Replays.{settled}
 use Rattle.engine.specs.EngineViews.{core_of, compiled_of, fresh_of, RunsProgram}
@@ -235,18 +238,18 @@ module _ (opened : OpenedStore) (now : Engine) (limit : ℕ) (runs : RunsProgram
   same_source = ap source_of runs.compiled_is
 
   pub ran_opened : (store : Option Store) → settings_of store ≡ Some opened.store.settings → RanLogged (compiled_of opened.engine) s (Some opened.store.settings) (core_of opened.engine) (core_of now) result old new (logged_of opened.engine) (logged_of now) was facts store
-      → (IsSoundCore (engine.source_of opened.engine) (core_of opened.engine) → IsSoundCore (engine.source_of opened.engine) (core_of now))
+      → GrowsSerially (engine.source_of opened.engine) (core_of opened.engine) (core_of now)
       → KeepsWhere (disk_failed result) store (engine.source_of now) (logged_of now) (next_core (rule_of s) (engine.source_of now) (core_of now)) facts
       → IfOk result (λ tally. IsInCycle store tally.batches)
       → (disk_failed result ≡ true → Rose faults faults' ⊎ EndsPast (rule_of s) store (engine.source_of now) (core_of now) (fresh_of now) facts)
       → IsStorable (core_of now) (fresh_of now) → fresh_of opened.engine ≡ 0 → RanOpened opened s result old new faults faults' was facts
-  ran_opened None settings ran sound kept in_cycle cause storable none_fresh = absurd (none settings)
+  ran_opened None settings ran grows kept in_cycle cause storable none_fresh = absurd (none settings)
     where
       none : None ≡ Some opened.store.settings → ⊥
       none same = cc
-  ran_opened (Some store) settings ran sound kept in_cycle cause storable none_fresh = record {
+  ran_opened (Some store) settings ran grows kept in_cycle cause storable none_fresh = record {
     last = core_of now;
-    sound = sound;
+    grows = grows;
     store = store;
     settings = is settings;
     fresh = fresh_of now;
@@ -351,7 +354,7 @@ module _ (limit : ℕ) (file dir : List ℕ) (w : words.RunSettings) (before aft
         mounts = mounts;
         opened = opened.store.position;
         found = found_so;
-        sound = subst (λ src. IsSoundCore src start → IsSoundCore src ran.last) source_so ran.sound;
+        grows = subst (λ src. GrowsSerially src start ran.last) source_so ran.grows;
         store = ran.store;
         settings = ran.settings ∙ same_settings;
         fresh = ran.fresh;
@@ -368,6 +371,9 @@ module _ (limit : ℕ) (file dir : List ℕ) (w : words.RunSettings) (before aft
       few_so : (settings_for limit w).batch ≤ 256
       few_so = subst (λ (t : RunSettings). t.batch ≤ 256) is serves.few
 
+      fits_so : CoreFits (tables_of (compiled_names made.compiled) (compiled_program made.compiled)) start
+      fits_so = subst (λ (c : Compiled). CoreFits (tables_of (compiled_names c) (compiled_program c)) start) ready.runs.compiled_is ready.fits
+
       few_wait : length start.pending < 256
       few_wait = let few : length start.pending ≤ 255 = ready.few in omega (arith, few)
 
@@ -378,7 +384,7 @@ module _ (limit : ℕ) (file dir : List ℕ) (w : words.RunSettings) (before aft
               | inl before_run ↦ inl (subst (λ t. LeavesFound (program_for made.compiled t) (before.disk.found dir) image) holds.is.characters (earlier image before_run))
               | inr stands ↦ inr stands
             ];
-        grow = λ sound. logged_grows made.compiled (settings_for limit w) few_so start sound few_wait logs_so.ran.steps;
+        grow = logged_grows made.compiled (settings_for limit w) few_so start fits_so few_wait logs_so.ran.steps;
       }
 
       pub ran_stored : (result ≡ Err ReadFault → Rose before.input.faults after.input.faults)

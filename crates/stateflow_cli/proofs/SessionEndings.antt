@@ -233,7 +233,6 @@ module _ (limit : ℕ) (before after : Devices) (now : DiskFacts) (behind : Outp
       serial = record {
         added = r.runs.goes_on;
         empty = λ same. subst (IsSoundCore (batch.source_of r.compiled)) (sym same) (empty_sound (batch.source_of r.compiled));
-        sound = λ sound. (r.runs.serial sound).prints.serial.sound;
         lines = λ sound. (r.runs.serial sound).prints;
         replies = λ sound. replies_by (batch.source_of r.compiled) (settings_for limit s) r.start r.last before.out.held after.out.held (result ≡ Err stop.WriteFault)
             ((disk_failed result ≡ false) × (status ≡ 4)) unwritten (r.runs.serial sound).replies;

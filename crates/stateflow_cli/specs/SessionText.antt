@@ -4,21 +4,19 @@ use Rattle.std.specs.declared.option.Option.{Option}
 use Rattle.sf_value.specs.declared.Entry.{Entry}
 use Rattle.program_meaning.specs.ClassTables.{Source}
 use Rattle.engine.specs.Cores.{Core, IsSoundCore, empty_core}
+use Rattle.engine.specs.Growth.{GoesOnSerially}
 use Rattle.batch_run.specs.declared.running.RunSettings.{RunSettings}
 use Rattle.batch_run.specs.RunTexts.{AnswersAll, AnswersWhole, AnswersFirst, FillsAtLine, FillsAtEnd, AnswersSome, AnswersInPart, PrintsOneRun, RepliesAllButOne}
-use Rattle.batch_run.specs.GrownCores.{GoesOnSerially}
 use Rattle.stateflow_cli.specs.Session.{IsOneOf}
 
 -- by its settings, and what the output held before it and behind it
 module _ (src : Source) (s : RunSettings) (start last : Core) (held held' : Option (List ℕ)) where
-  -- These entries were added: their outcomes, and the last state, are those of running their requests one after another from the first state.
-  -- Nothing committed is a sound core, and a sound core leads to a sound one. Then each line of the output that has a
-  -- place is that of the entry at that place, and all replies to what was committed were written, but where some may be unwritten perhaps those to one
-  -- batch.
+  -- These entries were added: their outcomes, and the last state, are those of running their requests one after another from the first state, so that a
+  -- sound core leads to a sound one. Nothing committed is a sound core. From a sound one on each line of the output that has a place is that of the
+  -- entry at that place, and all replies to what was committed were written, but where some may be unwritten perhaps those to one batch.
   pub record IsSerial (entries : List Entry) (unwritten : Type 0) : Type 0 where
     pub added : GoesOnSerially src start last entries
     pub empty : start ≡ empty_core → IsSoundCore src start
-    pub sound : IsSoundCore src start → IsSoundCore src last
     pub lines : IsSoundCore src start → PrintsOneRun src start last held held'
     pub replies : IsSoundCore src start → RepliesAllButOne src start last held held' s unwritten
 

@@ -9,8 +9,9 @@ use Rattle.program_meaning.specs.ClassTables.{Source}
 use Rattle.block_step.specs.declared.compiled.Compiled.{Compiled}
 use Rattle.aria_batch.specs.BatchRun as batch
 use Rattle.snapshot_store.specs.SlotFile.{IsNew}
-use Rattle.engine.specs.Cores.{Core, IsSoundCore, empty_core}
+use Rattle.engine.specs.Cores.{Core, empty_core}
 use Rattle.engine.specs.EngineViews.{core_of, source_of, compiled_of}
+use Rattle.engine.specs.Growth.{GrowsSerially}
 use Rattle.engine.specs.Replays.{settled}
 use Rattle.store_meaning.specs.declared.position.Position.{Position}
 use Rattle.store_meaning.specs.StandsFor.{StandsFor}
@@ -25,7 +26,6 @@ use Rattle.batch_run.specs.declared.running.RunSettings.{RunSettings}
 use Rattle.batch_run.specs.RunViews.{Shown, rule_of}
 use Rattle.batch_run.specs.RunEvents.{batches_of}
 use Rattle.batch_run.specs.Runs.{RanLogged}
-use Rattle.batch_run.specs.GrownCores.{GrowsFrom}
 use Rattle.store_opening.specs.declared.opened_store.OpenedStore.{OpenedStore}
 use Rattle.store_opening.specs.declared.stop.OpenStop.{OpenStop}
 use Rattle.store_opening.specs.declared.stop.OpenStop.TheVariants as of_store
@@ -57,7 +57,7 @@ pub record KeepsRun (dir : List ℕ) (s : words.RunSettings) (src : Source) (tex
   pub mounts : after.mounts ≡ mounted before.mounts dir moment
   pub opened : Position
   pub found : IfSome (before.found dir) (λ image. (place : Position) × WasAt place opened × StandsFor (program_of src text) image start place)
-  pub sound : IsSoundCore src start → IsSoundCore src last
+  pub grows : GrowsSerially src start last
   pub store : Store
   pub settings : store.settings ≡ settings_by s text opened.epoch
   pub fresh : ℕ
@@ -70,7 +70,7 @@ pub record KeepsRun (dir : List ℕ) (s : words.RunSettings) (src : Source) (tex
 -- a run of an engine on the store that was opened for it: from the engine's core to the last one, and what the store keeps then
 pub record RanOpened (opened : OpenedStore) (s : RunSettings) (result : Result Tally SessionFault) (old new : Shown) (faults faults' : ℕ) (was now : DiskFacts) : Type 0 where
   pub last : Core
-  pub sound : IsSoundCore (source_of opened.engine) (core_of opened.engine) → IsSoundCore (source_of opened.engine) last
+  pub grows : GrowsSerially (source_of opened.engine) (core_of opened.engine) last
   pub store : Store
   pub settings : store.settings ≡ opened.store.settings
   pub fresh : ℕ
@@ -83,14 +83,14 @@ pub record RanOpened (opened : OpenedStore) (s : RunSettings) (result : Result T
   pub cause : disk_failed result ≡ true → Rose faults faults' ⊎ EndsPast (rule_of s) (Some store) (source_of opened.engine) last fresh now
 
 -- Each image that a crash may have left at some moment since the store was mounted is what was found, or stands for nothing committed where a new
--- store was found; or it stands for the core that the run began with, or for the one behind one of the batches of these steps. Where the first of
--- these cores is sound so is each, and its history begins with that of the first.
+-- store was found; or it stands for the core that the run began with, or for the one behind one of the batches of these steps. Each of these
+-- cores grows serially from the first.
 pub record RunMoments (compiled : Compiled) (s : RunSettings) (text : List ℕ) (start : Core) (steps : List Step) (found : Option Image) (moment : ℕ)
     (now : DiskFacts) : Type 0 where
   pub each : (image : Image) → now.left_since moment image → LeavesFound (program_of (batch.source_of compiled) text) found image
       ⊎ StandsLogged (batch.source_of compiled) (rule_of s) (chars text) start (batches_of compiled s start steps) image
-  pub grow : IsSoundCore (batch.source_of compiled) start → (core : Core)
-      → IsLogged (batch.source_of compiled) (rule_of s) start (batches_of compiled s start steps) core → GrowsFrom (batch.source_of compiled) start core
+  pub grow : (core : Core) → IsLogged (batch.source_of compiled) (rule_of s) start (batches_of compiled s start steps) core
+      → GrowsSerially (batch.source_of compiled) start core
 
 -- where the words name a store, the last that was mounted
 abbrev pub MomentsIn : Option (List ℕ) → Compiled → RunSettings → List ℕ → Core → List Step → StoreDisk → StoreDisk → DiskFacts → Type 0

@@ -1,6 +1,7 @@
 use Rattle.std.proofs.Common.{◌<◌, List, ℕ, false, true≢false, inl, inr, length, refl, sym, ◌∙◌, subst}
 use Rattle.sf_outside.proofs.ImageSteps.{on_ok}
 use Rattle.batch_output.specs.Vocabulary.{Core, core_of, source_of, after_batch, fresh_of}
+use Rattle.batch_output.proofs.Vocabulary.{grows_same}
 use Rattle.session_store.specs.Stores.{LeavesEither}
 use Rattle.session_store.specs.Vocabulary.{logged_of}
 use Rattle.session_store.proofs.CycleLaws.{settings_kept}
@@ -57,7 +58,7 @@ returns-in-Ok-clause-goes_on g c = λ rule chosen.
     let went : GoesOn rule false old new = record {
       runs = commit.runs;
       fits = commit.core_fits c.requires.ready.fits;
-      sound = commit.sound;
+      grows = commit.grows;
       storable = commit_storable e now places commit.core commit.fresh c.requires.ready.fits c.requires.ready.storable;
       kept = keeps_after e now commit.runs kept.store new.facts (after_batch (source_of e) (core_of e) places) commit.core commit.fresh (rw c.in-Ok.is at logged.logged);
       settings = settings_kept c.args.store.now kept.store logged.cycle;
@@ -76,7 +77,7 @@ returns-in-Err-clause-goes_on g c = λ rule chosen.
     record {
       runs = runs_itself e;
       fits = c.requires.ready.fits;
-      sound = λ sound. sound;
+      grows = grows_same (source_of e) (core_of e);
       storable = c.requires.ready.storable;
       kept = subst (λ (places : List ℕ). LeavesEither kept.store (source_of e) (logged_of e) (after_batch (source_of e) (core_of e) places) facts) chosen (rw c.in-Err.is at logged.leaves);
       settings = settings_kept c.args.store.now kept.store logged.cycle;

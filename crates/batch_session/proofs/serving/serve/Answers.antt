@@ -43,8 +43,8 @@ returns-clause-runs g c = c.answer_all-served.ensures.goes_on.runs
 pub returns-clause-core_fits : goal.returns-clause-core_fits
 returns-clause-core_fits g c = c.answer_all-served.ensures.goes_on.fits
 
-pub returns-clause-sound : goal.returns-clause-sound
-returns-clause-sound g c = c.answer_all-served.ensures.goes_on.sound
+pub returns-clause-grows : goal.returns-clause-grows
+returns-clause-grows g c = c.answer_all-served.ensures.goes_on.grows
 
 pub returns-clause-storable : goal.returns-clause-storable
 returns-clause-storable g c = c.answer_all-served.ensures.goes_on.storable

@@ -6,6 +6,7 @@ use Rattle.work_gen.specs.Requests as work
 use Rattle.reservations.specs.BatchRule.{batch_rule}
 use Rattle.reservations.specs.BatchRuleLaws.{batch_rule_is_lawful}
 use Rattle.engine.specs.EngineViews.{core_of, source_of, compiled_of, fresh_of}
+use Rattle.engine.proofs.GrowthLaws.{grows_sound}
 use Rattle.batch_session.proofs.Vocabulary.{never_failed}
 use Rattle.batch_session.specs.Vocabulary.{Tally, Service, service_of, limits_of}
 use Rattle.batch_session.specs.Faults.{disk_failed}
@@ -72,5 +73,5 @@ returns g c =
     c.requires.history (few c.args.settings.now c.args.input.now c.requires.size c.requires.input).lines c.steps_print.ensures c.comes_begin.ensures
     c.serve-served.result c.serve-served.ensures.served.served (λ is. omega (arith, c.serve-served.ensures.read_cause is))
     (λ is. elim (c.serve-served.ensures.write_cause is) [ inl rose ↦ omega (arith, rose) | inr rose ↦ omega (arith, rose) ]) undisked
-    (c.serve-served.ensures.sound c.requires.sound) in
+    (grows_sound (source_of c.args.engine.now) (core_of c.args.engine.now) (core_of c.serve-served.new.engine) c.requires.sound c.serve-served.ensures.grows) in
     subst (λ w. Here w c.tally_of.result) same (subst (λ r. Here v r) (sym c.tally_of.ensures) served)

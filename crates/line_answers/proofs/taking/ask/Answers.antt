@@ -13,7 +13,7 @@ returns-in_err-answer-clause-takes c = record {
   runs = c.arrive.ensures.runs;
   logged = grind (arith, common_steps);
   fits = c.arrive.ensures.core_fits;
-  sound = c.arrive.ensures.sound;
+  grows = c.arrive.ensures.grows;
   storable = arrival_storable c.args.engine.now c.arrive.new.self c.args.request c.in_ok-arrival.ensures.core c.in_ok-arrival.ensures.fresh c.requires.spelt;
 }
 
@@ -22,6 +22,6 @@ returns-clause-takes c = record {
   runs = c.arrive.ensures.runs;
   logged = grind (arith, common_steps);
   fits = c.arrive.ensures.core_fits;
-  sound = c.arrive.ensures.sound;
+  grows = c.arrive.ensures.grows;
   storable = arrival_storable c.args.engine.now c.arrive.new.self c.args.request c.in_ok-arrival.ensures.core c.in_ok-arrival.ensures.fresh c.requires.spelt;
 }

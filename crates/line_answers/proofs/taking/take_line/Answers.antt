@@ -4,6 +4,7 @@ use Rattle.request_json.specs.Actions.{action_of}
 use Rattle.batch_replies.proofs.Vocabulary.{engine_accepted}
 use Rattle.line_answers.specs.LineViews.{line_of, ActionFits, ActionIsSpelt}
 use Rattle.line_answers.proofs.LineLaws.{line_fits, line_spelt, same_source}
+use Rattle.line_answers.proofs.TakingLaws.{Takes-itself}
 use Rattle.line_answers.proofs.taking.take_line.Goals as goal
 
 pub take_action-requires-clause-fits : goal.take_action-requires-clause-fits
@@ -21,3 +22,6 @@ take_action-requires-clause-spelt c =
     subst ActionIsSpelt
     (sym (c.in_ok-action.ensures ∙ ap (λ src. action_of src line) (same_source c.program.result.now e.compiled c.compiled.result.now c.program.ensures.program c.program.ensures.names c.compiled.ensures)))
     (line_spelt (source_of e) (engine_accepted e) line)
+
+pub returns-in_err-action-clause-takes : goal.returns-in_err-action-clause-takes
+returns-in_err-action-clause-takes c = Takes-itself c.args.engine.now

@@ -29,5 +29,5 @@ returns-clause-ran g c =
     (shown (g.S.Source.left c.args.input.now) (g.K.Sink.held c.args.out.now) (g.K.Sink.handed c.args.out.now) (g.E.Sink.held c.args.err.now) (g.C.Chooser.choices c.args.chooser.now) (g.W.Watch.told c.args.watch.now))
     (shown (g.S.Source.left c.run_opened-ended.new.input) (g.K.Sink.held c.run_opened-ended.new.out) (g.K.Sink.handed c.run_opened-ended.new.out) (g.E.Sink.held c.run_opened-ended.new.err) (g.C.Chooser.choices c.run_opened-ended.new.chooser) (g.W.Watch.told c.run_opened-ended.new.watch))
     (g.D.Disk.faults c.args.disk.now) (g.D.Disk.faults c.run_opened-ended.new.disk) (g.D.Disk.facts c.args.disk.now) (g.D.Disk.facts c.run_opened-ended.new.disk) c.args.settings.now c.run_opened-ended.new.stored.store
-    c.run_opened-ended.ensures.settings c.run_opened-ended.ensures.runs c.run_opened-ended.ensures.sound c.run_opened-ended.ensures.kept c.run_opened-ended.ensures.in_cycle c.run_opened-ended.ensures.disk_cause
+    c.run_opened-ended.ensures.settings c.run_opened-ended.ensures.runs c.run_opened-ended.ensures.grows c.run_opened-ended.ensures.kept c.run_opened-ended.ensures.in_cycle c.run_opened-ended.ensures.disk_cause
     c.run_opened-ended.ensures.storable c.requires.fresh

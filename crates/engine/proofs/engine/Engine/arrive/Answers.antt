@@ -1,7 +1,9 @@
 use Rattle.std.proofs.Common.{sym, ◌∙◌, subst, true≢false, refl}
-use Rattle.engine.specs.Cores.{CoreFits, IsSoundCore}
+use Rattle.engine.specs.Cores.{CoreFits}
+use Rattle.engine.specs.Growth.{GrowsSerially}
 use Rattle.engine.specs.EngineViews.{core_of, source_of, tables_of}
-use Rattle.engine.proofs.ArrivalLaws.{arrival_fits, arrival_sound, met, new_core, new_fresh, old_core, old_fresh}
+use Rattle.engine.proofs.GrowthLaws.{grows_same}
+use Rattle.engine.proofs.ArrivalLaws.{arrival_fits, arrival_grows, met, new_core, new_fresh, old_core, old_fresh}
 use Rattle.engine.proofs.engine.Engine.arrive.Goals as goal
 
 pub returns-in_ok-push-clause-arrival : goal.returns-in_ok-push-clause-arrival
@@ -21,9 +23,10 @@ pub returns-in_ok-push-clause-core_fits : goal.returns-in_ok-push-clause-core_fi
 returns-in_ok-push-clause-core_fits c = λ fits.
     subst (CoreFits (tables_of c.args.self.now)) (sym (returns-in_ok-push-clause-core c)) (arrival_fits (tables_of c.args.self.now) (core_of c.args.self.now) c.args.request c.requires.fits fits)
 
-pub returns-in_ok-push-clause-sound : goal.returns-in_ok-push-clause-sound
-returns-in_ok-push-clause-sound c = λ sound.
-    subst (IsSoundCore (source_of c.args.self.now)) (sym (returns-in_ok-push-clause-core c)) (arrival_sound (source_of c.args.self.now) (core_of c.args.self.now) c.args.request c.requires.fits sound)
+pub returns-in_ok-push-clause-grows : goal.returns-in_ok-push-clause-grows
+returns-in_ok-push-clause-grows c =
+    subst (GrowsSerially (source_of c.args.self.now) (core_of c.args.self.now)) (sym (returns-in_ok-push-clause-core c))
+    (arrival_grows (source_of c.args.self.now) (core_of c.args.self.now) c.args.request c.requires.fits)
 
 pub returns-else-is_new-clause-arrival : goal.returns-else-is_new-clause-arrival
 returns-else-is_new-clause-arrival c = met (core_of c.args.self.now) c.args.request c.as_slice.result.now c.arrival_at-arrival.result c.as_slice.ensures c.arrival_at-arrival.ensures
@@ -37,3 +40,12 @@ pub returns-else-is_new-clause-fresh : goal.returns-else-is_new-clause-fresh
 returns-else-is_new-clause-fresh c =
     old_fresh (core_of c.args.self.now) c.args.request c.args.self.now.fresh
     (λ is. true≢false (sym (c.if-is_new.ensures.1 (met (core_of c.args.self.now) c.args.request c.as_slice.result.now c.arrival_at-arrival.result c.as_slice.ensures c.arrival_at-arrival.ensures ∙ is))))
+
+pub returns-in_err-push-clause-grows : goal.returns-in_err-push-clause-grows
+returns-in_err-push-clause-grows c =
+    let core = core_of c.args.self.now in
+    subst (λ pending. GrowsSerially (source_of c.args.self.now) core (record { history = core.history; state = core.state; pending = pending })) (sym c.in_err-push.ensures.err)
+    (grows_same (source_of c.args.self.now) core)
+
+pub returns-else-is_new-clause-grows : goal.returns-else-is_new-clause-grows
+returns-else-is_new-clause-grows c = grows_same (source_of c.args.self.now) (core_of c.args.self.now)

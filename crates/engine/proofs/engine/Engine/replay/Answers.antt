@@ -3,10 +3,12 @@ use Rattle.program_meaning.proofs.Soundness.{checked_are_known}
 use Rattle.block_step.specs.CompiledViews.{compiled_program, compiled_names}
 use Rattle.kept_parts.specs.Ids.{entry_ids, request_ids}
 use Rattle.kept_parts.proofs.IdLaws.{first_part}
-use Rattle.engine.specs.Cores.{Core, CoreFits, IsSoundCore}
+use Rattle.engine.specs.Cores.{Core, CoreFits}
+use Rattle.engine.specs.Growth.{GrowsSerially}
 use Rattle.engine.specs.EngineViews.{core_of, source_of, tables_of}
 use Rattle.engine.specs.Moves.{moved, CanMove}
-use Rattle.engine.proofs.ReplayLaws.{can_replay, replayed_fits, replayed_sound}
+use Rattle.engine.proofs.GrowthLaws.{grows_same}
+use Rattle.engine.proofs.ReplayLaws.{can_replay, replayed_fits, replayed_grows}
 use Rattle.engine.proofs.engine.Engine.replay.Goals as goal
 
 pub ids_differ-requires-clause-committed : goal.ids_differ-requires-clause-committed
@@ -42,8 +44,27 @@ returns-clause-core_fits c =
     subst (CoreFits (tables_of e)) (sym (returns-clause-core c))
     (replayed_fits (compiled_names e.compiled) (compiled_program e.compiled) (checked_are_known e.compiled.program) (core_of e) c.args.batch (returns-clause-batch_fits c) c.requires.fits)
 
-pub returns-clause-sound : goal.returns-clause-sound
-returns-clause-sound c = λ sound.
+pub returns-clause-grows : goal.returns-clause-grows
+returns-clause-grows c =
     let e = c.args.self.now in
-    subst (IsSoundCore (source_of e)) (sym (returns-clause-core c))
-    (replayed_sound (compiled_names e.compiled) (compiled_program e.compiled) (checked_are_known e.compiled.program) (core_of e) c.args.batch (returns-clause-batch_fits c) sound)
+    subst (GrowsSerially (source_of e) (core_of e)) (sym (returns-clause-core c))
+    (replayed_grows (source_of e) (core_of e) c.args.batch (returns-clause-batch_fits c))
+
+pub returns-then-not-can_list-clause-grows : goal.returns-then-not-can_list-clause-grows
+returns-then-not-can_list-clause-grows c = grows_same (source_of c.args.self.now) (core_of c.args.self.now)
+
+pub returns-in_err-waiting-clause-grows : goal.returns-in_err-waiting-clause-grows
+returns-in_err-waiting-clause-grows c = grows_same (source_of c.args.self.now) (core_of c.args.self.now)
+
+pub returns-in_err-append-clause-grows : goal.returns-in_err-append-clause-grows
+returns-in_err-append-clause-grows c = grows_same (source_of c.args.self.now) (core_of c.args.self.now)
+
+pub returns-then-not-ids_differ-clause-grows : goal.returns-then-not-ids_differ-clause-grows
+returns-then-not-ids_differ-clause-grows c = grows_same (source_of c.args.self.now) (core_of c.args.self.now)
+
+pub returns-in_err-replay-clause-grows : goal.returns-in_err-replay-clause-grows
+returns-in_err-replay-clause-grows c = grows_same (source_of c.args.self.now) (core_of c.args.self.now)
+
+pub returns-in_err-make_room-clause-grows : goal.returns-in_err-make_room-clause-grows
+returns-in_err-make_room-clause-grows c =
+    subst (GrowsSerially (source_of c.args.self.now) (core_of c.args.self.now)) (sym c.make_room.ensures.core) (grows_same (source_of c.args.self.now) (core_of c.args.self.now))
