@@ -8,7 +8,7 @@ use Rattle.std.proofs.lemmas.List.{length-map}
 use Rattle.sf_value.specs.declared.Request.{Request}
 use Rattle.program_meaning.specs.ClassTables.{Source}
 use Rattle.program_meaning.specs.World.{State}
-use Rattle.program_meaning.specs.RequestRun.{Ran, run}
+use Rattle.program_meaning.specs.RequestRun.{run}
 use Rattle.program_meaning.specs.Serial as serial
 use Rattle.keyed_state.specs.Works.{are_places}
 use Rattle.serial_order.specs.ConflictFree.{Access, access_of, runs_on, IsConflictFree}

@@ -12,7 +12,6 @@ use Rattle.program_meaning.specs.ClassTables.{Source}
 use Rattle.program_meaning.specs.World.{State}
 use Rattle.program_meaning.specs.Fits.{StateFits, ActFits}
 use Rattle.program_meaning.specs.RequestRun.{Ran, run}
-use Rattle.program_meaning.specs.Serial as serial
 use Rattle.program_meaning.proofs.Soundness.{checked_are_known}
 use Rattle.request_history.specs.SoundHistory.{RequestFits}
 use Rattle.block_step.specs.declared.compiled.Compiled.{Compiled}
