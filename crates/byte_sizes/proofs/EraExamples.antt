@@ -9,7 +9,7 @@ begun at = record { program = codes "p"; from = at }
 
 -- two programs that both begin where nothing is committed, and a third
 three : AreEras (begun 0 ∷ begun 0 ∷ begun 5 ∷ []) 5
-three = record { first = refl; count = search arith; order = search arith; within = search arith }
+three = record { first = refl; count = search arith; order = search arith }
 
 -- no program, one that begins late, one that begins before the one that it follows, and one that begins behind the end
 none : AreEras [] 5 → ⊥
@@ -19,7 +19,7 @@ late : AreEras (begun 1 ∷ []) 5 → ⊥
 late eras = let first : Some 1 ≡ Some 0 = eras.first in cc
 
 falls : AreEras (begun 0 ∷ begun 4 ∷ begun 3 ∷ []) 5 → ⊥
-falls eras = let order : 4 ≤ 3 = eras.order.1.0 in omega arith
+falls eras = let order : 4 ≤ 3 = eras.order.1.1.0 in omega arith
 
 ahead : AreEras (begun 0 ∷ begun 6 ∷ []) 5 → ⊥
-ahead eras = let within : 6 ≤ 5 = eras.within.1.0 in omega arith
+ahead eras = let order : 6 ≤ 5 = eras.order.1.1 in omega arith

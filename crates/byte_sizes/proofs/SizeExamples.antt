@@ -2,6 +2,7 @@
 use Rattle.std.proofs.Common.{◌≡◌, pos, true, [], ◌∷◌, refl}
 use Rattle.std.specs.Prelude.{codes}
 use Rattle.std.specs.Char.{encode_utf8}
+use Rattle.sf_value.specs.Heads.{one_era}
 use Rattle.sf_value.specs.declared.Act.TheVariants.{Call, New}
 use Rattle.sf_value.specs.declared.Outcome.TheVariants as outcomes
 use Rattle.sf_value.specs.declared.Request.{Request}
@@ -53,7 +54,7 @@ batch_takes = refl
 
 -- the head of a history of one entry in 56 bytes, with the record of one entity
 head_takes : head_size (record {
-  program = codes "p";
+  eras = one_era (codes "p");
   kept = 1;
   bytes = 56;
   records = record {
@@ -61,8 +62,8 @@ head_takes : head_size (record {
     fields = record { fields = Str (codes "apple") ∷ Int (pos 3) ∷ Int (pos 0) ∷ [] };
   } ∷ [];
   pending = [];
-}) ≡ 90
-unfolding head_size held_size ref_size value_size text_size encode_utf8
+}) ≡ 106
+unfolding head_size era_size held_size ref_size value_size text_size encode_utf8
 head_takes = refl
 
 era : Era

@@ -1,4 +1,4 @@
+pub mod EraLists
 pub mod Sizes
 pub mod Spelt
 pub mod LightThings
-pub mod EraLists

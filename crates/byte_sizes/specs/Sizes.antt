@@ -11,7 +11,6 @@ use Rattle.sf_value.specs.declared.Held.{Held}
 use Rattle.sf_value.specs.declared.Outcome.{Outcome}
 use Rattle.sf_value.specs.declared.Outcome.TheVariants as outcomes
 use Rattle.sf_value.specs.declared.Request.{Request}
-use Rattle.sf_value.specs.declared.Snapshot.{Snapshot}
 use Rattle.sf_value.specs.declared.heads.Era.{Era}
 use Rattle.sf_value.specs.declared.heads.Head.{Head}
 use Rattle.sf_value.specs.declared.value.Ref.{Ref}
@@ -87,19 +86,13 @@ held_size held = ref_size held.at + values_size held.fields.fields
 unfoldable pub batch_size : BatchRecord → ℕ
 batch_size batch = list_size request_size batch.news + list_size (λ place. 4) batch.committed
 
--- the program, the history, the records and the pending requests
-unfoldable pub snapshot_size : Snapshot → ℕ
-snapshot_size snapshot =
-    text_size snapshot.program + list_size entry_size snapshot.history + long_list_size held_size snapshot.records
-    + list_size request_size snapshot.pending
-
--- the program, how many entries the history has, how many bytes these take, the records and the pending requests
-unfoldable pub head_size : Head → ℕ
-head_size head = text_size head.program + 12 + long_list_size held_size head.records + list_size request_size head.pending
-
 -- the program, and how many entries were there when it began
 unfoldable pub era_size : Era → ℕ
 era_size era = text_size era.program + 4
 
 abbrev pub eras_size : Items Era → ℕ
 eras_size eras = list_size era_size eras
+
+-- eight bytes for the form, the eras, how many entries the history has, how many bytes these take, the records and the pending requests
+unfoldable pub head_size : Head → ℕ
+head_size head = 8 + eras_size head.eras + 12 + long_list_size held_size head.records + list_size request_size head.pending

@@ -3,6 +3,7 @@ use Rattle.std.specs.Prelude.{◌≡◌, ℕ, ◌-◌, ◌^◌, ◌<◌, true, L
 use Rattle.std.specs.Int.{w128, IsInRange}
 use Rattle.std.specs.List.{AllByRecursion}
 use Rattle.std.specs.Str.{all_scalars, encode_utf8_all}
+use Rattle.byte_sizes.specs.EraLists.{AreEras}
 use Rattle.byte_sizes.specs.Sizes.{row_len}
 use Rattle.sf_value.specs.declared.Act.{Act}
 use Rattle.sf_value.specs.declared.Act.TheVariants.{Call, New}
@@ -114,16 +115,18 @@ IsRealHeld held = IsRealRef held.at × AreReal held.fields.fields
 abbrev pub IsRealBatch : BatchRecord → Type 0
 IsRealBatch batch = AllByRecursion IsRealRequest batch.news × AllByRecursion (λ place. place < 2 ^ 32) batch.committed
 
+abbrev pub IsRealEra : Era → Type 0
+IsRealEra era = IsRealText era.program × (era.from < 2 ^ 32)
+
 abbrev pub IsRealSnapshot : Snapshot → Type 0
-IsRealSnapshot snapshot = IsRealText snapshot.program × (AllByRecursion IsRealEntry snapshot.history × (((length snapshot.records < 2 ^ 64) × AllByRecursion IsRealHeld snapshot.records) × AllByRecursion IsRealRequest snapshot.pending))
+IsRealSnapshot snapshot =
+    AllByRecursion IsRealEra snapshot.eras × (AllByRecursion IsRealEntry snapshot.history
+    × (((length snapshot.records < 2 ^ 64) × AllByRecursion IsRealHeld snapshot.records) × AllByRecursion IsRealRequest snapshot.pending))
 
 abbrev pub IsRealHead : Head → Type 0
 IsRealHead head =
-    IsRealText head.program × ((head.kept < 2 ^ 32) × ((head.bytes < 2 ^ 64)
+    AllByRecursion IsRealEra head.eras × ((head.kept < 2 ^ 32) × ((head.bytes < 2 ^ 64)
     × (((length head.records < 2 ^ 64) × AllByRecursion IsRealHeld head.records) × AllByRecursion IsRealRequest head.pending)))
-
-abbrev pub IsRealEra : Era → Type 0
-IsRealEra era = IsRealText era.program × (era.from < 2 ^ 32)
 
 -- ---- what may be written
 
@@ -163,14 +166,20 @@ IsSpeltHeld held = IsShortText held.at.key × AreSpelt held.fields.fields
 abbrev pub IsSpeltBatch : BatchRecord → Type 0
 IsSpeltBatch batch = IsSpeltList IsSpeltRequest batch.news × (length batch.committed < 2 ^ 32)
 
-abbrev pub IsSpeltSnapshot : Snapshot → Type 0
-IsSpeltSnapshot snapshot = IsShortText snapshot.program × (IsSpeltList IsSpeltEntry snapshot.history × (AllByRecursion IsSpeltHeld snapshot.records × IsSpeltList IsSpeltRequest snapshot.pending))
-
-abbrev pub IsSpeltHead : Head → Type 0
-IsSpeltHead head = IsShortText head.program × (AllByRecursion IsSpeltHeld head.records × IsSpeltList IsSpeltRequest head.pending)
-
 abbrev pub IsSpeltEra : Era → Type 0
 IsSpeltEra era = IsShortText era.program
+
+-- those that a history of so many entries may have
+abbrev pub AreSpeltEras : Items Era → ℕ → Type 0
+AreSpeltEras eras kept = AreEras eras kept × AllByRecursion IsSpeltEra eras
+
+abbrev pub IsSpeltSnapshot : Snapshot → Type 0
+IsSpeltSnapshot snapshot =
+    AreSpeltEras snapshot.eras (length snapshot.history) × (IsSpeltList IsSpeltEntry snapshot.history
+    × (AllByRecursion IsSpeltHeld snapshot.records × IsSpeltList IsSpeltRequest snapshot.pending))
+
+abbrev pub IsSpeltHead : Head → Type 0
+IsSpeltHead head = AreSpeltEras head.eras head.kept × (AllByRecursion IsSpeltHeld head.records × IsSpeltList IsSpeltRequest head.pending)
 
 -- ---- what has a spelling, and so is read: what may be written, and what a program can hold
 

@@ -1,4 +1,4 @@
-//! How many bytes values, requests, outcomes, batches, snapshots, heads and eras take as a store keeps them, and which of
+//! How many bytes values, requests, outcomes, entries, batches, eras and heads take as a store keeps them, and which of
 //! them have a spelling there.
 //!
 //! Both are definitions, and nothing here runs: what can't be spelled is known without its bytes.

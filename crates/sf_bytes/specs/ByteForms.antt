@@ -1,5 +1,5 @@
 -- The bytes of each thing. A number has four bytes, the greatest first, unless said otherwise.
-use Rattle.std.specs.Prelude.{ℕ, ℤ, true, false, List as Items, [], ◌∷◌, ◌++◌, length}
+use Rattle.std.specs.Prelude.{ℕ, ◌-◌, ◌^◌, ℤ, true, false, List as Items, [], ◌∷◌, ◌++◌, length}
 use Rattle.std.specs.Int.{w32, w64, w128, to_be_bytes, cast_unsigned}
 use Rattle.std.specs.List.{flat_map}
 use Rattle.std.specs.Str.{encode_utf8_all}
@@ -13,6 +13,7 @@ use Rattle.sf_value.specs.declared.Held.{Held}
 use Rattle.sf_value.specs.declared.Outcome.{Outcome}
 use Rattle.sf_value.specs.declared.Outcome.TheVariants as outcomes
 use Rattle.sf_value.specs.declared.Request.{Request}
+use Rattle.sf_value.specs.declared.heads.Era.{Era}
 use Rattle.sf_value.specs.declared.heads.Head.{Head}
 use Rattle.sf_value.specs.declared.value.Ref.{Ref}
 use Rattle.sf_value.specs.declared.value.Value.{Value, Int, Bool as Truth, Str, Nil, List', Entity, Row_of-Value, end_of-Value, more_of-Value}
@@ -99,6 +100,22 @@ batch_bytes batch = list_bytes request_bytes batch.news ++ list_bytes number_byt
 unfoldable pub extent_bytes : ℕ × ℕ → Items ℕ
 extent_bytes extent = number_bytes extent.0 ++ long_bytes extent.1
 
--- the program, how far the history goes, the records and the pending requests
+-- the program, and how many entries were there when it began
+unfoldable pub era_bytes : Era → Items ℕ
+era_bytes era = text_bytes era.program ++ number_bytes era.from
+
+-- what stands behind the programs of a head: how far the history goes, the records and the pending requests
+unfoldable pub kept_bytes : Head → Items ℕ
+kept_bytes head = extent_bytes (head.kept, head.bytes) ++ long_list_bytes held_bytes head.records ++ list_bytes request_bytes head.pending
+
+-- A head of the second form begins with a count that no text of the first form has, and with the number of the form.
+unfoldable pub form_bytes : Items ℕ
+form_bytes = number_bytes (2 ^ 32 - 1) ++ number_bytes 2
+
+-- the second form, which is written: the eras, and the rest
 unfoldable pub head_bytes : Head → Items ℕ
-head_bytes head = text_bytes head.program ++ extent_bytes (head.kept, head.bytes) ++ long_list_bytes held_bytes head.records ++ list_bytes request_bytes head.pending
+head_bytes head = form_bytes ++ list_bytes era_bytes head.eras ++ kept_bytes head
+
+-- the first form, which earlier stores have: the text of the one program, and the rest
+unfoldable pub first_bytes : Items ℕ → Head → Items ℕ
+first_bytes text head = text_bytes text ++ kept_bytes head

@@ -1,5 +1,5 @@
 -- Reading from left to right: what is read, and the bytes after it.
-use Rattle.std.specs.Prelude.{◌≡◌, ℕ, zero, suc, ℤ, true, false, List as Items, [], ◌∷◌, length, take, drop, Option, Some, None, Result, Ok, Err, IsErr, nat_lt, if◌then◌else◌}
+use Rattle.std.specs.Prelude.{◌≡◌, ◌==◌, ◌-◌, ◌^◌, ℕ, zero, suc, ℤ, true, false, List as Items, [], ◌∷◌, length, take, drop, Option, Some, None, Result, Ok, Err, IsErr, nat_lt, if◌then◌else◌}
 use Rattle.std.specs.declared.alloc.AllocError.{AllocError}
 use Rattle.std.specs.Int.{w32, w64, w128, from_be_bytes, cast_signed, is_in_range}
 use Rattle.std.specs.Str.{chars, is_utf8}
@@ -14,6 +14,8 @@ use Rattle.sf_value.specs.declared.Held.{Held}
 use Rattle.sf_value.specs.declared.Outcome.{Outcome}
 use Rattle.sf_value.specs.declared.Outcome.TheVariants as outcomes
 use Rattle.sf_value.specs.declared.Request.{Request}
+use Rattle.sf_value.specs.Heads.{one_era}
+use Rattle.sf_value.specs.declared.heads.Era.{Era}
 use Rattle.sf_value.specs.declared.heads.Head.{Head}
 use Rattle.sf_value.specs.declared.value.Ref.{Ref}
 use Rattle.sf_value.specs.declared.value.Value.{Value, Int, Bool as Truth, Str, Nil, List, Entity}
@@ -184,10 +186,42 @@ extent_at bytes = do
   size ← long_at kept.1
   Some ((kept.0, size.0), size.1)
 
-unfoldable pub head_at : Reader Head
-head_at bytes = do
+-- ---- heads
+
+unfoldable pub era_at : Reader Era
+era_at bytes = do
   program ← text_at bytes
-  extent ← extent_at program.1
+  from ← number_at program.1
+  Some (record { program = program.0; from = from.0 }, from.1)
+
+-- what stands behind these eras
+unfoldable pub kept_at : Items Era → Reader Head
+kept_at eras bytes = do
+  extent ← extent_at bytes
   records ← long_list_at held_at extent.1
   pending ← list_at request_at records.1
-  Some (record { program = program.0; kept = extent.0.0; bytes = extent.0.1; records = records.0; pending = pending.0 }, pending.1)
+  Some (record { eras = eras; kept = extent.0.0; bytes = extent.0.1; records = records.0; pending = pending.0 }, pending.1)
+
+-- a head of the first form, which begins with the text of the one program
+unfoldable pub first_at : Reader Head
+first_at bytes = do
+  text ← text_at bytes
+  kept_at (one_era text.0) text.1
+
+-- one of the second form, from the eras on
+unfoldable pub second_at : Reader Head
+second_at bytes = do
+  eras ← list_at era_at bytes
+  kept_at eras.0 eras.1
+
+-- what a head of a later form begins with is followed by the form's number
+unfoldable pub formed_at : Reader Head
+formed_at bytes = do
+  form ← number_at bytes
+  if form.0 == 2 then second_at form.1 else None
+
+-- a head, by what it begins with, whatever its eras are
+unfoldable pub head_at : Reader Head
+head_at bytes = do
+  front ← number_at bytes
+  if front.0 == 2 ^ 32 - 1 then formed_at front.1 else if nat_lt (2 ^ 20) front.0 then None else first_at bytes

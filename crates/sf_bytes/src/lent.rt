@@ -2,16 +2,17 @@
 
 ghost use Rattle.std.specs.Prelude.{◌≡◌, ◌<◌, ◌^◌, ℕ, List, length, get_or, OnOk, OnErr};
 ghost use Rattle.std.specs.List.{AllByRecursion};
-ghost use Rattle.sf_bytes.specs.ByteForms.{entry_bytes, held_bytes, long_list_bytes};
+ghost use Rattle.sf_bytes.specs.ByteForms.{entry_bytes, form_bytes, held_bytes, long_list_bytes};
 ghost use Rattle.sf_bytes.specs.Counting.{IsSizeOf};
 ghost use Rattle.sf_bytes.specs.Spelt.{IsSpeltEntry, IsSpeltHeld, IsRealEntry, IsRealHeld};
 ghost use Rattle.sf_value.specs.declared.Held.{Held};
 
 use crate::items::put_list;
 use crate::out::{Count, Out};
+use crate::records::{FORM, HAS_FORM};
 use crate::requests::{put_asked, put_outcome};
 use crate::writing::{put_long, put_number, put_ref, put_text, put_values};
-use sf_value::{Act, Outcome, Record, Records, Ref, Requests, Text};
+use sf_value::{Act, Eras, Outcome, Record, Records, Ref, Requests, Text};
 
 /// What has bytes, and puts them.
 pub trait Spelled {
@@ -96,10 +97,10 @@ impl LentRecords for Records {
     }
 }
 
-/// A head whose records and requests, and the program's text, stand elsewhere.
+/// A head whose records and requests, and the programs, stand elsewhere.
 #[derive(Drop)]
 pub struct LentHead<'a, R> {
-    pub program: &'a Text,
+    pub eras: &'a Eras,
     pub kept: u32,
     pub bytes: u64,
     pub records: &'a R,
@@ -110,20 +111,47 @@ impl<R: LentRecords> Spelled for LentHead<'_, R> {
     ghost use Rattle.sf_bytes.specs.ByteForms.{head_bytes};
     ghost use Rattle.sf_bytes.specs.Spelt.{IsSpeltHead, IsRealHead};
 
-    ghost bytes_of = { λ lent. head_bytes (record { program = lent.program.now; kept = lent.kept; bytes = lent.bytes; records = R.listed lent.records.now; pending = lent.pending.now }) };
+    ghost bytes_of = { λ lent. head_bytes (record { eras = lent.eras.now; kept = lent.kept; bytes = lent.bytes; records = R.listed lent.records.now; pending = lent.pending.now }) };
 
-    ghost is_spelt = { λ lent. IsSpeltHead (record { program = lent.program.now; kept = lent.kept; bytes = lent.bytes; records = R.listed lent.records.now; pending = lent.pending.now }) };
+    ghost is_spelt = { λ lent. IsSpeltHead (record { eras = lent.eras.now; kept = lent.kept; bytes = lent.bytes; records = R.listed lent.records.now; pending = lent.pending.now }) };
 
-    ghost is_real = { λ lent. IsRealHead (record { program = lent.program.now; kept = lent.kept; bytes = lent.bytes; records = R.listed lent.records.now; pending = lent.pending.now }) };
+    ghost is_real = { λ lent. IsRealHead (record { eras = lent.eras.now; kept = lent.kept; bytes = lent.bytes; records = R.listed lent.records.now; pending = lent.pending.now }) };
 
-    #[tactic(auto, unfolding(crate::specs::ByteForms::head_bytes, crate::specs::ByteForms::extent_bytes))]
+    #[tactic(auto, unfolding(crate::specs::ByteForms::head_bytes))]
     fn put<D, O: Out<D>>(&self, out: &mut O, on: &mut D) -> Result<(), O::Stop> {
-        put_text(out, on, self.program)?;
+        put_form(out, on)?;
+        put_list(out, on, self.eras)?;
+        self.put_kept(out, on)
+    }
+}
+
+impl<R: LentRecords> LentHead<'_, R> {
+    ghost use Rattle.sf_bytes.specs.ByteForms.{kept_bytes};
+    ghost use Rattle.sf_bytes.specs.Spelt.{IsSpeltHeld, IsSpeltList, IsSpeltRequest, IsRealHeld, IsRealRequest};
+
+    /// What stands behind the eras.
+    #[tactic(auto, unfolding(crate::specs::ByteForms::kept_bytes, crate::specs::ByteForms::extent_bytes))]
+    fn put_kept<D, O: Out<D>>(&self, out: &mut O, on: &mut D) -> Result<(), O::Stop>
+        requires { AllByRecursion IsSpeltHeld (R.listed self.now.records.now) × IsSpeltList IsSpeltRequest self.now.pending.now }
+        ensures all { OnOk result (O.puts out.old on.old out.new on.new (kept_bytes (record { eras = self.now.eras.now; kept = self.now.kept; bytes = self.now.bytes; records = R.listed self.now.records.now; pending = self.now.pending.now }))) }
+        ensures part { OnErr result (O.stops out.old on.old out.new on.new) }
+        ensures real { OnOk result (((length (R.listed self.now.records.now) < 2 ^ 64) × AllByRecursion IsRealHeld (R.listed self.now.records.now)) × AllByRecursion IsRealRequest self.now.pending.now) }
+    {
         put_number(out, on, self.kept)?;
         put_long(out, on, self.bytes)?;
         put_records(out, on, self.records)?;
         put_list(out, on, self.pending)
     }
+}
+
+/// What tells a head of the form that is written from one of the first form.
+#[tactic(auto, unfolding(crate::specs::ByteForms::form_bytes))]
+fn put_form<D, O: Out<D>>(out: &mut O, on: &mut D) -> Result<(), O::Stop>
+    ensures all { OnOk result (O.puts out.old on.old out.new on.new form_bytes) }
+    ensures part { OnErr result (O.stops out.old on.old out.new on.new) }
+{
+    put_number(out, on, HAS_FORM)?;
+    put_number(out, on, FORM)
 }
 
 /// The records of a state, behind their count.

@@ -1,7 +1,7 @@
 //! The bytes of values, requests, outcomes, entries, batches and heads, as a store keeps them.
 //!
-//! Each thing has one spelling, and no spelling begins another, so that what was written is read
-//! again whatever follows it. Reading takes memory and time by the bytes that are there, never by a
+//! Each thing has one spelling but for a head, which earlier stores have in another form, that is read and no longer written.
+//! No spelling begins another, so that what was written is read again whatever follows it. Reading takes memory and time by the bytes that are there, never by a
 //! count that they claim.
 #![tactic(auto)]
 
@@ -10,11 +10,13 @@ ghost use Rattle.byte_sizes.specs.Sizes.{value_size, request_size, outcome_size,
 ghost use Rattle.sf_bytes.specs.ByteForms.{value_bytes, request_bytes, outcome_bytes, entry_bytes, batch_bytes, head_bytes};
 ghost use Rattle.sf_bytes.specs.Spelt.{IsSpeltValue, IsSpeltRequest, IsSpeltOutcome, IsSpeltEntry, IsSpeltBatch, IsSpeltHead};
 ghost use Rattle.sf_bytes.specs.Spelt.{IsReal, IsRealRequest, IsRealOutcome, IsRealEntry, IsRealBatch, IsRealHead};
-ghost use Rattle.sf_bytes.specs.Spelt.{IsReadValue, IsReadRequest, IsReadOutcome, IsReadEntry, IsReadBatch, IsReadHead};
+ghost use Rattle.sf_bytes.specs.Spelt.{IsReadValue, IsReadRequest, IsReadOutcome, IsReadEntry, IsReadBatch};
+ghost use Rattle.sf_bytes.specs.Heads.{ReadsHead, HeadsStandApart};
 ghost use Rattle.sf_bytes.specs.Lengths.{HasSizes};
 ghost use Rattle.sf_bytes.specs.OneHistory.{HistoryIsOne, HistoryIsWhole, BreakIsOne, HistoryStays, HistoryGrows};
 ghost use Rattle.sf_bytes.specs.Reads.{Reads, NoneBeginsAnother};
 
+mod eras;
 mod fault;
 mod items;
 mod lent;
@@ -24,6 +26,7 @@ mod records;
 mod requests;
 mod writing;
 
+use eras::are_eras;
 use fault::answer;
 use items::Item;
 pub use lent::{Given, LentHead, LentRecords, Measured, Spelled, measure, put_entry};
@@ -91,7 +94,7 @@ pub fn write_entry(alloc: Global, entry: &Entry) -> Result<Bytes, AllocError>
     Ok(out)
 }
 
-/// The bytes of a head.
+/// The bytes of a head, in the form with its eras.
 pub fn write_head(alloc: Global, head: &Head) -> Result<Bytes, AllocError>
     requires { IsSpeltHead head.now }
     ensures bytes { IfOk result (λ made. made ≡ head_bytes head.now) }
@@ -99,7 +102,7 @@ pub fn write_head(alloc: Global, head: &Head) -> Result<Bytes, AllocError>
 {
     let (mut out, mut on) = (Sequence::new(alloc), alloc);
     let lent = LentHead {
-        program: &head.program,
+        eras: &head.eras,
         kept: head.kept,
         bytes: head.bytes,
         records: &head.records,
@@ -144,11 +147,18 @@ pub fn read_entry(alloc: Global, bytes: &[u8]) -> Result<Option<(Entry, usize)>,
     answer(bytes, records::entry_of(alloc, bytes))
 }
 
-/// The head that the bytes begin with, and how many bytes it takes.
+/// The head that the bytes begin with, in either form, and how many bytes it takes.
 pub fn read_head(alloc: Global, bytes: &[u8]) -> Result<Option<(Head, usize)>, AllocError>
-    ensures { Reads head_bytes IsReadHead bytes.now result }
+    ensures { ReadsHead bytes.now result }
 {
-    answer(bytes, records::head_of(alloc, bytes))
+    let Some((head, count)) = answer(bytes, records::head_of(alloc, bytes))? else {
+        return Ok(None);
+    };
+    if !are_eras(head.eras.as_slice(), head.kept) {
+        drop(head);
+        return Ok(None);
+    }
+    Ok(Some((head, count)))
 }
 
 /// No spelling begins another of its kind, whatever follows it.
@@ -158,7 +168,7 @@ pub fn spellings_stand_apart()
     ensures outcomes { NoneBeginsAnother outcome_bytes IsReadOutcome }
     ensures entries { NoneBeginsAnother entry_bytes IsReadEntry }
     ensures batches { NoneBeginsAnother batch_bytes IsReadBatch }
-    ensures heads { NoneBeginsAnother head_bytes IsReadHead }
+    ensures heads { HeadsStandApart }
 {}
 
 /// A spelling is as long as the size of its thing says, which `byte_sizes` defines.

@@ -1,9 +1,10 @@
-//! Batches, heads, and what these list.
+//! Batches, eras, heads, and what these list.
 
-ghost use Rattle.std.specs.Prelude.{◌<◌, ◌^◌, OnOk, OnErr};
-ghost use Rattle.sf_bytes.specs.ByteForms.{number_bytes, entry_bytes, held_bytes, batch_bytes};
-ghost use Rattle.sf_bytes.specs.Reading.{Gives, number_at, entry_at, held_at, batch_at, extent_at, head_at};
-ghost use Rattle.sf_bytes.specs.Spelt.{IsSpeltEntry, IsSpeltHeld, IsSpeltBatch, IsRealEntry, IsRealHeld, IsRealBatch};
+ghost use Rattle.std.specs.Prelude.{◌≡◌, ◌<◌, ◌^◌, IfOk, OnOk, OnErr};
+ghost use Rattle.sf_bytes.specs.ByteForms.{number_bytes, era_bytes, entry_bytes, held_bytes, batch_bytes};
+ghost use Rattle.sf_bytes.specs.Reading.{Gives, number_at, era_at, entry_at, held_at, batch_at, extent_at, kept_at, first_at, second_at, formed_at, head_at};
+ghost use Rattle.sf_bytes.specs.Spelt.{IsSpeltEra, IsSpeltEntry, IsSpeltHeld, IsSpeltBatch, IsRealEra, IsRealEntry, IsRealHeld, IsRealBatch};
+ghost use Rattle.sf_value.specs.Heads.{one_era};
 
 use crate::LEVELS;
 use crate::fault::Unread;
@@ -12,9 +13,19 @@ use crate::lent::{put_entry, put_held};
 use crate::out::Out;
 use crate::reading::{long_of, number_of, ref_of, text_of, values_of};
 use crate::requests::{outcome_of, request_of};
-use crate::writing::put_number;
-use sf_value::{BatchRecord, Entry, Head, Held, Record};
-use std::alloc::Global;
+use crate::writing::{put_number, put_text};
+use sf_list::Sequence;
+use sf_value::{BatchRecord, Entry, Era, Eras, Head, Held, Record, Text};
+use std::alloc::{AllocError, Global};
+
+/// What a head of a later form than the first begins with.
+pub(crate) const HAS_FORM: u32 = 0xFFFF_FFFF;
+
+/// The number of the form that is written.
+pub(crate) const FORM: u32 = 2;
+
+/// How many bytes the program's text of a head of the first form has at most.
+const FIRST_TEXT: u32 = 1 << 20;
 
 impl Item for u32 {
     ghost reads = { number_at };
@@ -50,6 +61,29 @@ impl Item for Entry {
     fn put<D, O: Out<D>>(&self, out: &mut O, on: &mut D) -> Result<(), O::Stop> {
         let request = &self.request;
         put_entry(out, on, &request.id, &request.act, &self.outcome)
+    }
+}
+
+impl Item for Era {
+    ghost reads = { era_at };
+
+    ghost bytes_of = { era_bytes };
+
+    ghost is_spelt = { IsSpeltEra };
+
+    ghost is_real = { IsRealEra };
+
+    #[tactic(auto, unfolding(crate::specs::Reading::era_at))]
+    fn read(alloc: Global, bytes: &[u8]) -> Result<(Era, &[u8]), Unread> {
+        let (program, rest) = text_of(alloc, bytes)?;
+        let (from, rest) = number_of(rest)?;
+        Ok((Era { program, from }, rest))
+    }
+
+    #[tactic(auto, unfolding(crate::specs::ByteForms::era_bytes))]
+    fn put<D, O: Out<D>>(&self, out: &mut O, on: &mut D) -> Result<(), O::Stop> {
+        put_text(out, on, &self.program)?;
+        put_number(out, on, self.from)
     }
 }
 
@@ -103,22 +137,78 @@ fn extent_of(bytes: &[u8]) -> Result<((u32, u64), &[u8]), Unread>
     Ok(((kept, size), rest))
 }
 
-#[tactic(auto, unfolding(crate::specs::Reading::head_at))]
-pub(crate) fn head_of(alloc: Global, bytes: &[u8]) -> Result<(Head, &[u8]), Unread>
-    ensures { Gives (λ x. (x.0, x.1.now)) result (head_at bytes.now) }
+/// What a head has behind these eras.
+#[tactic(auto, unfolding(crate::specs::Reading::kept_at))]
+fn kept_of(alloc: Global, eras: Eras, bytes: &[u8]) -> Result<(Head, &[u8]), Unread>
+    ensures { Gives (λ x. (x.0, x.1.now)) result (kept_at eras bytes.now) }
 {
-    let (program, rest) = text_of(alloc, bytes)?;
-    let ((kept, bytes), rest) = extent_of(rest)?;
+    let ((kept, bytes), rest) = extent_of(bytes)?;
     let (records, rest) = long_list_of(alloc, rest)?;
     let (pending, rest) = list_of(alloc, rest)?;
     let head = Head {
-        program,
+        eras,
         kept,
         bytes,
         records,
         pending,
     };
     Ok((head, rest))
+}
+
+/// The one era of a history that ran under one program.
+fn one_era(alloc: Global, program: Text) -> Result<Eras, AllocError>
+    ensures { IfOk result (λ made. made ≡ one_era program) }
+{
+    let mut eras = Sequence::new(alloc);
+    eras.push(alloc, Era { program, from: 0 })?;
+    Ok(eras)
+}
+
+/// A head of the first form.
+#[tactic(auto, unfolding(crate::specs::Reading::first_at))]
+fn first_of(alloc: Global, bytes: &[u8]) -> Result<(Head, &[u8]), Unread>
+    ensures { Gives (λ x. (x.0, x.1.now)) result (first_at bytes.now) }
+{
+    let (program, rest) = text_of(alloc, bytes)?;
+    let eras = one_era(alloc, program)?;
+    kept_of(alloc, eras, rest)
+}
+
+/// A head of the second form, from its eras on.
+#[tactic(auto, unfolding(crate::specs::Reading::second_at))]
+fn second_of(alloc: Global, bytes: &[u8]) -> Result<(Head, &[u8]), Unread>
+    ensures { Gives (λ x. (x.0, x.1.now)) result (second_at bytes.now) }
+{
+    let (eras, rest) = list_of(alloc, bytes)?;
+    kept_of(alloc, eras, rest)
+}
+
+/// A head of a later form than the first, from the form's number on.
+#[tactic(auto, unfolding(crate::specs::Reading::formed_at))]
+fn formed_of(alloc: Global, bytes: &[u8]) -> Result<(Head, &[u8]), Unread>
+    ensures { Gives (λ x. (x.0, x.1.now)) result (formed_at bytes.now) }
+{
+    let (form, rest) = number_of(bytes)?;
+    if form == FORM {
+        second_of(alloc, rest)
+    } else {
+        Err(Unread::NoSpelling)
+    }
+}
+
+/// A head of either form, whatever its eras are.
+#[tactic(auto, unfolding(crate::specs::Reading::head_at))]
+pub(crate) fn head_of(alloc: Global, bytes: &[u8]) -> Result<(Head, &[u8]), Unread>
+    ensures { Gives (λ x. (x.0, x.1.now)) result (head_at bytes.now) }
+{
+    let (front, rest) = number_of(bytes)?;
+    if front == HAS_FORM {
+        formed_of(alloc, rest)
+    } else if front > FIRST_TEXT {
+        Err(Unread::NoSpelling)
+    } else {
+        first_of(alloc, bytes)
+    }
 }
 
 #[tactic(auto, using(crate::proofs::Lists::all_free), unfolding(crate::specs::ByteForms::batch_bytes))]

@@ -10,8 +10,8 @@ use std::alloc::{AllocError, Global};
 /// All that a checkpoint keeps but the history, of which it says how far it goes.
 #[derive(Drop)]
 pub struct Head {
-    /// The program's text.
-    pub program: Text,
+    /// The programs that the history ran under.
+    pub eras: Eras,
     /// How many entries the history has.
     pub kept: u32,
     /// How many bytes these take.
@@ -28,6 +28,7 @@ pub struct Era {
     pub from: u32,
 }
 
+/// Programs, one after another. Each ends where the next one begins, and the last one goes on.
 pub type Eras = Sequence<Era>;
 
 impl TryClone for Head {
@@ -35,7 +36,7 @@ impl TryClone for Head {
 
     fn try_clone(&self, alloc: Global) -> Result<Head, AllocError> {
         Ok(Head {
-            program: self.program.try_clone(alloc)?,
+            eras: self.eras.try_clone(alloc)?,
             kept: self.kept,
             bytes: self.bytes,
             records: self.records.try_clone(alloc)?,

@@ -110,8 +110,8 @@ pub struct BatchRecord {
 /// All that a checkpoint keeps.
 #[derive(Drop)]
 pub struct Snapshot {
-    /// The program's text.
-    pub program: Text,
+    /// The programs that the history ran under.
+    pub eras: Eras,
     pub history: Entries,
     pub records: Records,
     pub pending: Requests,
@@ -269,7 +269,7 @@ impl TryClone for Snapshot {
 
     fn try_clone(&self, alloc: Global) -> Result<Snapshot, AllocError> {
         Ok(Snapshot {
-            program: self.program.try_clone(alloc)?,
+            eras: self.eras.try_clone(alloc)?,
             history: self.history.try_clone(alloc)?,
             records: self.records.try_clone(alloc)?,
             pending: self.pending.try_clone(alloc)?,
