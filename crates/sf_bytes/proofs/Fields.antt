@@ -10,9 +10,6 @@ two_at a_at b_at make bytes = a_at bytes >>= λ x. b_at x.1 >>= λ y. Some (make
 abbrev pub three_at : {A B C Z : Type 0} → Reader A → Reader B → Reader C → (A → B → C → Z) → Reader Z
 three_at a_at b_at c_at make bytes = a_at bytes >>= λ x. b_at x.1 >>= λ y. c_at y.1 >>= λ z. Some (make x.0 y.0 z.0, z.1)
 
-abbrev pub four_at : {A B C D Z : Type 0} → Reader A → Reader B → Reader C → Reader D → (A → B → C → D → Z) → Reader Z
-four_at a_at b_at c_at d_at make bytes = a_at bytes >>= λ x. b_at x.1 >>= λ y. c_at y.1 >>= λ z. d_at z.1 >>= λ w. Some (make x.0 y.0 z.0 w.0, w.1)
-
 -- a field, and what is read behind it
 pub step_takes : {A Z : Type 0} {a_at : Reader A} {a_bytes : A → Items ℕ} {FitsA : A → Type 0} → Spells a_at a_bytes FitsA → (then_at : A → Reader Z) (bytes : Items ℕ) (P : Z → Items ℕ → Type 0)
     → ((x : A) (after : Items ℕ) → bytes ≡ a_bytes x ++ after → FitsA x → IsBytes after → (made : Z) (rest : Items ℕ) → then_at x after ≡ Some (made, rest) → P made rest)
@@ -69,22 +66,3 @@ module _ {A B C : Type 0} {a_at : Reader A} {a_bytes : A → Items ℕ} {FitsA :
   three_again make x y z rest fx fy fz =
       ap (three_at a_at b_at c_at make) (sym (grouped_3 (a_bytes x) (b_bytes y) (c_bytes z) rest))
       ∙ step_again a (λ x. two_at b_at c_at (make x)) x ((b_bytes y ++ c_bytes z) ++ rest) fx ∙ two_again b c (make x) y z rest fy fz
-
-module _ {A B C D : Type 0} {a_at : Reader A} {a_bytes : A → Items ℕ} {FitsA : A → Type 0} {b_at : Reader B} {b_bytes : B → Items ℕ} {FitsB : B → Type 0} {c_at : Reader C} {c_bytes : C → Items ℕ} {FitsC : C → Type 0}
-    {d_at : Reader D} {d_bytes : D → Items ℕ} {FitsD : D → Type 0} (a : Spells a_at a_bytes FitsA) (b : Spells b_at b_bytes FitsB) (c : Spells c_at c_bytes FitsC) (d : Spells d_at d_bytes FitsD) where
-  grouped_4 : (x y z w rest : Items ℕ) → x ++ (((y ++ z) ++ w) ++ rest) ≡ (((x ++ y) ++ z) ++ w) ++ rest
-  grouped_4 x y z w rest = simp append_assoc
-
-  pub four_takes : {Z : Type 0} (make : A → B → C → D → Z) (bytes : Items ℕ) (P : Z → Items ℕ → Type 0)
-      → ((x : A) (y : B) (z : C) (w : D) (rest : Items ℕ) → bytes ≡ (((a_bytes x ++ b_bytes y) ++ c_bytes z) ++ d_bytes w) ++ rest → FitsA x → FitsB y → FitsC z → FitsD w → P (make x y z w) rest)
-      → (made : Z) (rest : Items ℕ) → IsBytes bytes → four_at a_at b_at c_at d_at make bytes ≡ Some (made, rest) → P made rest
-  four_takes make bytes P known made rest fits e = step_takes a (λ x. three_at b_at c_at d_at (make x)) bytes P
-      (λ x after parts fx fits made rest e. three_takes b c d (make x) after P
-      (λ y z w rest more fy fz fw. known x y z w rest (parts ∙ ap (λ bs. a_bytes x ++ bs) more ∙ grouped_4 (a_bytes x) (b_bytes y) (c_bytes z) (d_bytes w) rest) fx fy fz fw)
-      made rest fits e)
-      made rest fits e
-
-  pub four_again : {Z : Type 0} (make : A → B → C → D → Z) (x : A) (y : B) (z : C) (w : D) (rest : Items ℕ) → FitsA x → FitsB y → FitsC z → FitsD w → four_at a_at b_at c_at d_at make ((((a_bytes x ++ b_bytes y) ++ c_bytes z) ++ d_bytes w) ++ rest) ≡ Some (make x y z w, rest)
-  four_again make x y z w rest fx fy fz fw =
-      ap (four_at a_at b_at c_at d_at make) (sym (grouped_4 (a_bytes x) (b_bytes y) (c_bytes z) (d_bytes w) rest))
-      ∙ step_again a (λ x. three_at b_at c_at d_at (make x)) x (((b_bytes y ++ c_bytes z) ++ d_bytes w) ++ rest) fx ∙ three_again b c d (make x) y z w rest fy fz fw

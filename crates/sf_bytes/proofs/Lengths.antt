@@ -1,14 +1,15 @@
 -- Spellings are as long as the sizes say.
-use Rattle.std.proofs.Common.{◌≡◌, ℕ, Bool, true, false, List as Items, [], ◌∷◌, ◌++◌, length, refl, arith}
+use Rattle.std.proofs.Common.{◌≡◌, ℕ, ◌+◌, ◌-◌, ◌^◌, Bool, true, false, List as Items, [], ◌∷◌, ◌++◌, length, refl, arith}
 use Rattle.std.specs.List.{flat_map, sum_by}
 use Rattle.std.specs.Str.{encode_utf8_all}
 use Rattle.std.proofs.lemmas.List.{length-append}
 use Rattle.std.proofs.lemmas.List.Sums.{sum_by-cons}
+use Rattle.sf_value.specs.declared.heads.Head.{Head}
 use Rattle.sf_value.specs.declared.Act.TheVariants.{Call, New}
 use Rattle.sf_value.specs.declared.Outcome.TheVariants as outcomes
 use Rattle.sf_value.specs.declared.value.Value.{Value, Int, Bool as Truth, Str, Nil, List', Entity, Row_of-Value, end_of-Value, more_of-Value}
-use Rattle.byte_sizes.specs.Sizes.{text_size, list_size, long_list_size, ref_size, value_size, row_size, row_len, values_size, act_size, request_size, failure_size, outcome_size, entry_size, held_size, batch_size, head_size}
-use Rattle.sf_bytes.specs.ByteForms.{number_bytes, long_bytes, int_bytes, text_bytes, list_bytes, long_list_bytes, ref_bytes, value_bytes, row_bytes, values_bytes, act_bytes, request_bytes, failure_bytes, outcome_bytes, entry_bytes, held_bytes, batch_bytes, extent_bytes, head_bytes}
+use Rattle.byte_sizes.specs.Sizes.{text_size, list_size, long_list_size, ref_size, value_size, row_size, row_len, values_size, act_size, request_size, failure_size, outcome_size, entry_size, held_size, batch_size, era_size, head_size}
+use Rattle.sf_bytes.specs.ByteForms.{number_bytes, long_bytes, int_bytes, text_bytes, list_bytes, long_list_bytes, ref_bytes, value_bytes, row_bytes, values_bytes, act_bytes, request_bytes, failure_bytes, outcome_bytes, entry_bytes, held_bytes, batch_bytes, extent_bytes, era_bytes, kept_bytes, form_bytes, head_bytes}
 use Rattle.sf_bytes.specs.Lengths.{HasSizes}
 
 number-size : (n : ℕ) → length (number_bytes n) ≡ 4
@@ -90,22 +91,43 @@ unfolding batch_bytes batch_size
 batch-sizes batch =
     omega (arith, length-append (list_bytes request_bytes batch.news) (list_bytes number_bytes batch.committed), list-sizes request_bytes request_size request-sizes batch.news, list-sizes number_bytes (λ place. 4) number-size batch.committed)
 
-pub head-sizes : HasSizes head_bytes head_size
-unfolding head_bytes head_size extent_bytes
-head-sizes head =
-    let program = text_bytes head.program in
+era-sizes : HasSizes era_bytes era_size
+unfolding era_bytes era_size
+era-sizes era = omega (arith, length-append (text_bytes era.program) (number_bytes era.from), text-sizes era.program, number-size era.from)
+
+form-size : length form_bytes ≡ 8
+unfolding form_bytes
+form-size = omega (arith, length-append (number_bytes (2 ^ 32 - 1)) (number_bytes 2), number-size (2 ^ 32 - 1), number-size 2)
+
+kept_size : Head → ℕ
+kept_size head = 12 + long_list_size held_size head.records + list_size request_size head.pending
+
+kept-sizes : HasSizes kept_bytes kept_size
+unfolding kept_bytes kept_size extent_bytes
+kept-sizes head =
     let extent = number_bytes head.kept ++ long_bytes head.bytes in
     let records = long_list_bytes held_bytes head.records in
     let pending = list_bytes request_bytes head.pending in
     omega (
       arith,
-      length-append (program ++ extent ++ records) pending,
-      length-append (program ++ extent) records,
-      length-append program extent,
+      length-append (extent ++ records) pending,
+      length-append extent records,
       length-append (number_bytes head.kept) (long_bytes head.bytes),
       number-size head.kept,
       long-size head.bytes,
-      text-sizes head.program,
       long_list-sizes held_bytes held_size held-sizes head.records,
       list-sizes request_bytes request_size request-sizes head.pending,
+    )
+
+pub head-sizes : HasSizes head_bytes head_size
+unfolding head_bytes head_size kept_size
+head-sizes head =
+    let eras = list_bytes era_bytes head.eras in
+    omega (
+      arith,
+      length-append (form_bytes ++ eras) (kept_bytes head),
+      length-append form_bytes eras,
+      form-size,
+      list-sizes era_bytes era_size era-sizes head.eras,
+      kept-sizes head,
     )

@@ -9,6 +9,8 @@ pub mod ValueLaws
 pub mod Fronts
 pub mod Fields
 pub mod RecordLaws
+pub mod HeadLaws
+pub mod HeadReads
 pub mod Lengths
 pub mod Stands
 pub mod Wholes

@@ -1,4 +1,4 @@
--- Requests, outcomes, batches and heads are read as they are spelt.
+-- Requests, outcomes, batches and what heads list are read as they are spelt.
 use Rattle.std.proofs.Common.{◌≡◌, ℕ, zero, suc, ◌^◌, ◌<◌, true, List as Items, [], ◌∷◌, ◌++◌, length, Some, refl, ap, arith}
 use Rattle.std.specs.Int.{is_in_range, IsInRange}
 use Rattle.std.specs.List.{AllByRecursion}
@@ -12,15 +12,14 @@ use Rattle.sf_value.specs.declared.Held.{Held}
 use Rattle.sf_value.specs.declared.Outcome.{Outcome}
 use Rattle.sf_value.specs.declared.Outcome.TheVariants as outcomes
 use Rattle.sf_value.specs.declared.Request.{Request}
-use Rattle.sf_value.specs.declared.heads.Head.{Head}
 use Rattle.sf_value.specs.declared.value.Ref.{Ref}
-use Rattle.sf_bytes.specs.ByteForms.{number_bytes, text_bytes, list_bytes, long_list_bytes, ref_bytes, value_bytes, act_bytes, request_bytes, failure_bytes, outcome_bytes, entry_bytes, held_bytes, batch_bytes, extent_bytes, head_bytes}
-use Rattle.sf_bytes.specs.Reading.{Reader, number_at, text_at, list_at, long_list_at, value_within, act_at, request_at, failure_at, outcome_at, entry_at, held_at, batch_at, extent_at, head_at}
-use Rattle.sf_bytes.specs.Spelt.{IsShortText, IsRealText, IsSpeltList, IsSpeltAct, IsRealAct, IsSpeltFailure, IsSpeltHeld, IsRealHeld, IsReadValue, IsReadRequest, IsReadOutcome, IsReadEntry, IsReadBatch, IsReadHead}
+use Rattle.sf_bytes.specs.ByteForms.{number_bytes, text_bytes, list_bytes, long_list_bytes, ref_bytes, value_bytes, act_bytes, request_bytes, failure_bytes, outcome_bytes, entry_bytes, held_bytes, batch_bytes}
+use Rattle.sf_bytes.specs.Reading.{Reader, number_at, text_at, list_at, long_list_at, value_within, act_at, request_at, failure_at, outcome_at, entry_at, held_at, batch_at}
+use Rattle.sf_bytes.specs.Spelt.{IsShortText, IsRealText, IsSpeltList, IsSpeltAct, IsRealAct, IsSpeltFailure, IsSpeltHeld, IsRealHeld, IsReadValue, IsReadRequest, IsReadOutcome, IsReadEntry, IsReadBatch}
 use Rattle.sf_bytes.proofs.Wide.{IsBytes, IsBytes-rest}
-use Rattle.sf_bytes.proofs.Laws.{Spells, said, guard_true, number_spells, long_spells, text_spells, list_spells, long_list_spells}
+use Rattle.sf_bytes.proofs.Laws.{Spells, said, guard_true, number_spells, text_spells, list_spells, long_list_spells}
 use Rattle.sf_bytes.proofs.ValueLaws.{one_at, one_takes, one_again, ref_spells, value_spells, values_spells}
-use Rattle.sf_bytes.proofs.Fields.{two_takes, two_again, two_spells, three_takes, three_again, four_takes, four_again}
+use Rattle.sf_bytes.proofs.Fields.{two_takes, two_again, two_spells, three_takes, three_again}
 
 -- ---- requests
 
@@ -107,7 +106,7 @@ entry_spells =
     said (two_spells request_spells outcome_spells (λ request outcome. record { request = request; outcome = outcome }) (λ (entry : Entry). entry.request) (λ (entry : Entry). entry.outcome) (λ x y. refl) (λ x y. refl) (λ made. refl))
     (λ entry h. ((h.0.0, h.1.0), (h.0.1, h.1.1))) (λ entry h. ((h.0.0, h.1.0), (h.0.1, h.1.1)))
 
-held_spells : Spells held_at held_bytes (λ held. IsSpeltHeld held × IsRealHeld held)
+pub held_spells : Spells held_at held_bytes (λ held. IsSpeltHeld held × IsRealHeld held)
 unfolding held_at held_bytes
 held_spells =
     said (two_spells ref_spells (values_spells 64) (λ at fields. record { at = at; fields = record { fields = fields } }) (λ (held : Held). held.at) (λ (held : Held). held.fields.fields) (λ x y. refl) (λ x y. refl) (λ made. refl))
@@ -123,11 +122,11 @@ paired P Q [] p q = tt
 paired P Q (x ∷ xs) p q = ((p.0, q.0), paired P Q xs p.1 q.1)
 
 module _ {A : Type 0} {item_at : Reader A} {item_bytes : A → Items ℕ} {IsSpelt IsReal : A → Type 0} (item : Spells item_at item_bytes (λ x. IsSpelt x × IsReal x)) where
-  listed_spells : Spells (list_at item_at) (list_bytes item_bytes) (λ xs. IsSpeltList IsSpelt xs × AllByRecursion IsReal xs)
+  pub listed_spells : Spells (list_at item_at) (list_bytes item_bytes) (λ xs. IsSpeltList IsSpelt xs × AllByRecursion IsReal xs)
   listed_spells = said (list_spells item_at item_bytes (λ x. IsSpelt x × IsReal x) item)
       (λ xs h. let r = parted IsSpelt IsReal xs h.1 in ((h.0, r.0), r.1)) (λ xs h. (h.0.0, paired IsSpelt IsReal xs h.0.1 h.1))
 
-  long_listed_spells : Spells (long_list_at item_at) (long_list_bytes item_bytes) (λ xs. AllByRecursion IsSpelt xs × ((length xs < 2 ^ 64) × AllByRecursion IsReal xs))
+  pub long_listed_spells : Spells (long_list_at item_at) (long_list_bytes item_bytes) (λ xs. AllByRecursion IsSpelt xs × ((length xs < 2 ^ 64) × AllByRecursion IsReal xs))
   long_listed_spells = said (long_list_spells item_at item_bytes (λ x. IsSpelt x × IsReal x) item)
       (λ xs h. let r = parted IsSpelt IsReal xs h.1 in (r.0, (h.0, r.1))) (λ xs h. (h.1.0, paired IsSpelt IsReal xs h.0 h.1.1))
 
@@ -138,22 +137,3 @@ unfolding batch_at batch_bytes
 batch_spells =
     said (two_spells (listed_spells request_spells) (list_spells number_at number_bytes (λ n. n < 2 ^ 32) number_spells) (λ news committed. record { news = news; committed = committed }) (λ (batch : BatchRecord). batch.news) (λ (batch : BatchRecord). batch.committed) (λ x y. refl) (λ x y. refl) (λ made. refl))
     (λ batch h. ((h.0.0, h.1.0), (h.0.1, h.1.1))) (λ batch h. ((h.0.0, h.1.0), (h.0.1, h.1.1)))
-
--- ---- heads
-
-extent_spells : Spells extent_at extent_bytes (λ extent. (extent.0 < 2 ^ 32) × (extent.1 < 2 ^ 64))
-unfolding extent_at extent_bytes
-extent_spells = two_spells number_spells long_spells (λ kept size. (kept, size)) (λ (extent : ℕ × ℕ). extent.0) (λ (extent : ℕ × ℕ). extent.1) (λ x y. refl) (λ x y. refl) (λ made. refl)
-
-made_head : Items ℕ → ℕ × ℕ → Items Held → Items Request → Head
-made_head program extent records pending = record { program = program; kept = extent.0; bytes = extent.1; records = records; pending = pending }
-
-pub head_spells : Spells head_at head_bytes IsReadHead
-unfolding head_at head_bytes made_head
-head_spells = record {
-  takes = λ bytes head rest fits e. four_takes text_spells extent_spells (long_listed_spells held_spells) (listed_spells request_spells) made_head bytes (λ head rest. (bytes ≡ head_bytes head ++ rest) × IsReadHead head)
-      (λ program extent records pending rest parts fp fe fr fw. (parts, ((fp.0, (fr.0, fw.0)), (fp.1, (fe.0, (fe.1, (fr.1, fw.1)))))))
-      head rest fits e;
-  again = λ head rest h. four_again text_spells extent_spells (long_listed_spells held_spells) (listed_spells request_spells) made_head head.program (head.kept, head.bytes) head.records head.pending rest
-      (h.0.0, h.1.0) (h.1.1.0, h.1.1.1.0) (h.0.1.0, h.1.1.1.1.0) (h.0.1.1, h.1.1.1.1.1);
-}
