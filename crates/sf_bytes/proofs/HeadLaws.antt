@@ -1,5 +1,5 @@
 -- Heads are read in the form that they have.
-use Rattle.std.proofs.Common.{◌≡◌, ◌⊎◌, inl, inr, ℕ, ◌-◌, ◌^◌, ◌<◌, ◌≤◌, Bool, true, false, cond, ltb, List as Items, [], ◌∷◌, ◌++◌, length, Some, None, refl, sym, ap, subst, ◌∙◌, append_assoc, arith}
+use Rattle.std.proofs.Common.{◌≡◌, ◌⊎◌, inl, inr, ℕ, ◌-◌, ◌^◌, ◌<◌, ◌≤◌, Bool, true, false, cond, ltb, List as Items, ◌++◌, length, Option, Some, None, refl, sym, ap, subst, ◌∙◌, append_assoc, arith}
 use Rattle.std.specs.Prelude.{◌==◌}
 use Rattle.std.specs.List.{AllByRecursion}
 use Rattle.std.specs.Str.{encode_utf8_all}
@@ -20,7 +20,7 @@ use Rattle.sf_bytes.proofs.RecordLaws.{request_spells, held_spells, listed_spell
 
 -- ---- eras
 
-pub IsReadEras : Items Era → Type 0
+unfoldable pub IsReadEras : Items Era → Type 0
 IsReadEras eras = IsSpeltList IsSpeltEra eras × AllByRecursion IsRealEra eras
 
 era_spells : Spells era_at era_bytes (λ era. IsSpeltEra era × IsRealEra era)
@@ -35,7 +35,7 @@ extent_spells : Spells extent_at extent_bytes (λ extent. (extent.0 < 2 ^ 32) ×
 unfolding extent_at extent_bytes
 extent_spells = two_spells number_spells long_spells (λ kept size. (kept, size)) (λ (extent : ℕ × ℕ). extent.0) (λ (extent : ℕ × ℕ). extent.1) (λ x y. refl) (λ x y. refl) (λ made. refl)
 
-pub IsReadKept : Head → Type 0
+unfoldable pub IsReadKept : Head → Type 0
 IsReadKept head =
     ((head.kept < 2 ^ 32) × (head.bytes < 2 ^ 64))
     × ((AllByRecursion IsSpeltHeld head.records × ((length head.records < 2 ^ 64) × AllByRecursion IsRealHeld head.records))
@@ -61,7 +61,7 @@ kept_again head rest h =
 -- ---- the first form
 
 -- a head of the one program of this text
-pub IsReadFirst : Items ℕ → Head → Type 0
+unfoldable pub IsReadFirst : Items ℕ → Head → Type 0
 IsReadFirst text head = (head.eras ≡ one_era text) × ((IsShortText text × IsRealText text) × IsReadKept head)
 
 first_takes : (bytes : Items ℕ) (head : Head) (rest : Items ℕ) → IsBytes bytes → first_at bytes ≡ Some (head, rest)
@@ -130,7 +130,7 @@ formed_again head rest eras kept = step_again number_spells if_second 2 (second_
 -- ---- either
 
 -- the bytes are a spelling of the head, whatever its eras are
-pub IsFormed : Items ℕ → Head → Type 0
+unfoldable pub IsFormed : Items ℕ → Head → Type 0
 IsFormed body head =
     ((head_bytes head ≡ body) × (IsReadEras head.eras × IsReadKept head))
     ⊎ ((text : Items ℕ) × ((first_bytes text head ≡ body) × ((length (encode_utf8_all text) ≤ 2 ^ 20) × IsReadFirst text head)))
@@ -158,11 +158,11 @@ unfolding second_bytes head_bytes form_bytes
 grouped_form head rest = simp append_assoc
 
 pub head_takes : (bytes : Items ℕ) (head : Head) (rest : Items ℕ) → IsBytes bytes → head_at bytes ≡ Some (head, rest) → (body : Items ℕ) × ((bytes ≡ body ++ rest) × IsFormed body head)
-unfolding head_at by_front IsFormed
+unfolding head_at by_front IsFormed IsReadFirst first_bytes
 head_takes bytes head rest fits e =
     let b = bind_some (number_at bytes) (λ front. by_front bytes front.0 front.1) (head, rest) e in
     let t = number_spells.takes bytes b.0.0 b.0.1 fits b.1 in
-    by (b.0.0 == 2 ^ 32 - 1) refl b.0.0 b.0.1 t.0 b.1 (rest_fits bytes _ b.0.1 fits t.0) b.2
+    by (b.0.0 == 2 ^ 32 - 1) b.0.0 b.0.1 refl t.0 b.1 (rest_fits bytes _ b.0.1 fits t.0) b.2
   where
     by : (test : Bool) (front : ℕ) (after : Items ℕ) → (front == 2 ^ 32 - 1) ≡ test → bytes ≡ number_bytes front ++ after → number_at bytes ≡ Some (front, after) → IsBytes after
         → by_front bytes front after ≡ Some (head, rest) → (body : Items ℕ) × ((bytes ≡ body ++ rest) × IsFormed body head)
@@ -178,11 +178,10 @@ head_takes bytes head rest fits e =
         (first_bytes text head, (f.1.0, inr (text, (refl, (omega (arith, same, ltb-false _ _ g.0), f.1.1)))))
       where
         whole : (text : Items ℕ) → bytes ≡ first_bytes text head ++ rest → bytes ≡ (text_bytes text ++ kept_bytes head) ++ rest
-        unfolding first_bytes
         whole text parts = parts
 
 pub head_again : (body : Items ℕ) (head : Head) (rest : Items ℕ) → IsFormed body head → head_at (body ++ rest) ≡ Some (head, rest)
-unfolding head_at by_front IsFormed IsReadFirst
+unfolding head_at by_front IsFormed IsReadFirst first_bytes
 head_again body head rest (inl (is, (eras, kept))) =
     let bytes = number_bytes (2 ^ 32 - 1) ++ (number_bytes 2 ++ (second_bytes head ++ rest)) in
     ap (λ body. head_at (body ++ rest)) (sym is)
@@ -200,5 +199,4 @@ head_again body head rest (inr (text, (is, (short, first)))) =
     ∙ first_again text head rest first
   where
     front : (text : Items ℕ) → IsShortText text → number_at (first_bytes text head ++ rest) ≡ Some (length (encode_utf8_all text), encode_utf8_all text ++ (kept_bytes head ++ rest))
-    unfolding first_bytes
     front text short = front_text (first_bytes text head ++ rest) text (kept_bytes head) rest short refl

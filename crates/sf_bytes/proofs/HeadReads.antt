@@ -1,13 +1,15 @@
 -- What is read of a head, and that no head's bytes begin another's.
-use Rattle.std.proofs.Common.{◌≡◌, ◌⊎◌, inl, inr, ℕ, ◌-◌, ◌≤◌, List as Items, [], ◌∷◌, ◌++◌, length, take, drop, Option, Some, None, Result, Ok, Err, IfOk, refl, sym, ap, subst, ◌∙◌, arith}
+use Rattle.std.proofs.Common.{◌≡◌, ◌↔◌, IsTrue, inl, inr, Bool, true, false, true≢false, ℕ, ◌-◌, ◌≤◌, List as Items, ◌++◌, length, take, drop, Option, Some, None, Result, Ok, Err, IfOk, refl, sym, ap, subst, ◌∙◌, arith}
 use Rattle.std.specs.List.{AllByRecursion}
+use Rattle.std.specs.declared.alloc.AllocError.{AllocError}
 use Rattle.std.proofs.lemmas.List.{take_at, take-append-drop, length-append}
 use Rattle.sf_value.specs.Heads.{one_era}
 use Rattle.sf_value.specs.declared.heads.Era.{Era}
 use Rattle.sf_value.specs.declared.heads.Head.{Head}
 use Rattle.sf_bytes.specs.declared.fault.Unread.{Unread}
-use Rattle.sf_bytes.specs.Heads.{IsFirstForm, IsHead, BeginsWithHead, HeadsStandApart}
-use Rattle.sf_bytes.specs.Reading.{Gives, head_at}
+use Rattle.sf_bytes.specs.declared.fault.Unread.TheVariants.{NoMemory, NoSpelling}
+use Rattle.sf_bytes.specs.Heads.{IsHead, BeginsWithHead, HeadsStandApart}
+use Rattle.sf_bytes.specs.Reading.{Gives, Answers, head_at}
 use Rattle.sf_bytes.specs.Spelt.{AreEras, IsSpeltEra, IsRealEra}
 use Rattle.sf_bytes.proofs.Wide.{IsBytes}
 use Rattle.sf_bytes.proofs.Laws.{some_is}
@@ -34,10 +36,10 @@ to_head body head (inr (text, (is, (short, first)))) are =
 from_head : (body : Items ℕ) (head : Head) → IsHead body head → IsFormed body head
 unfolding IsFormed IsReadEras IsReadKept IsReadFirst
 from_head body head ((spelt, real), inl is) =
-    let kept = ((real.1.0, real.1.1.0), ((spelt.1.0, real.1.1.1.0), (spelt.1.1, real.1.1.1.1))) in
+    let kept : IsReadKept head = ((real.1.0, real.1.1.0), ((spelt.1.0, real.1.1.1.0), (spelt.1.1, real.1.1.1.1))) in
     inl (is, (((omega (arith, spelt.0.0.count), spelt.0.1), real.0), kept))
 from_head body head ((spelt, real), inr first) =
-    let kept = ((real.1.0, real.1.1.0), ((spelt.1.0, real.1.1.1.0), (spelt.1.1, real.1.1.1.1))) in
+    let kept : IsReadKept head = ((real.1.0, real.1.1.0), ((spelt.1.0, real.1.1.1.0), (spelt.1.1, real.1.1.1.1))) in
     let short = (subst (AllByRecursion IsSpeltEra) first.one spelt.0.1).0 in
     let reals = (subst (AllByRecursion IsRealEra) first.one real.0).0.0 in
     inr (first.text, (first.spells, (first.short, (first.one, ((short, reals), kept)))))
@@ -74,6 +76,41 @@ module _ (bytes : Items ℕ) (are_bytes : IsBytes bytes) where
   head_refused found rest read not head count begins =
       let same : head ≡ found = ap (λ (p : Head × Items ℕ). p.0) (some_is (head, drop count bytes) (found, rest) (sym (front_read bytes head count begins) ∙ read)) in
       not (subst (λ (h : Head). AreEras h.eras h.kept) same begins.1.0.0.0.0)
+
+-- ---- what is answered
+
+module _ {X : Type 0} (view : X → Head × Items ℕ) (bytes : Items ℕ) where
+  abbrev counted : X → Head × ℕ
+  counted x = ((view x).0, length bytes - length (view x).1)
+
+  pub none_answered : (read : Result X Unread) (found : Option (Head × ℕ)) → Gives view read (head_at bytes) → Answers counted read (Ok found) → found ≡ None → head_at bytes ≡ None
+  none_answered (Ok x) found given answered none = absurd (found_none (counted x) found answered none)
+    where
+      found_none : (x : Head × ℕ) (found : Option (Head × ℕ)) → ◌≡◌ {A = Result (Option (Head × ℕ)) AllocError} (Ok found) (Ok (Some x)) → found ≡ None → ⊥
+      found_none x found e none = cc
+  none_answered (Err NoSpelling) found given answered none = given
+  none_answered (Err NoMemory) found given answered none = absurd (true≢false (sym answered))
+
+  pub some_answered : (read : Result X Unread) (found : Option (Head × ℕ)) (head : Head) (count : ℕ) → Gives view read (head_at bytes) → Answers counted read (Ok found) → found ≡ Some (head, count)
+      → (rest : Items ℕ) × ((head_at bytes ≡ Some (head, rest)) × (count ≡ length bytes - length rest))
+  some_answered (Ok x) found head count given answered some =
+      let same = found_some (counted x) (head, count) found answered some in
+      ((view x).1, (given ∙ ap (λ head. Some (head, (view x).1)) (ap (λ (p : Head × ℕ). p.0) same), sym (ap (λ (p : Head × ℕ). p.1) same)))
+    where
+      found_some : (x y : Head × ℕ) (found : Option (Head × ℕ)) → ◌≡◌ {A = Result (Option (Head × ℕ)) AllocError} (Ok found) (Ok (Some x)) → found ≡ Some y → x ≡ y
+      found_some x y found e some = cc
+  some_answered (Err NoSpelling) found head count given answered some = absurd (no_some (head, count) found answered some)
+    where
+      no_some : (y : Head × ℕ) (found : Option (Head × ℕ)) → ◌≡◌ {A = Result (Option (Head × ℕ)) AllocError} (Ok found) (Ok None) → found ≡ Some y → ⊥
+      no_some y found e some = cc
+  some_answered (Err NoMemory) found head count given answered some = absurd (true≢false (sym answered))
+
+module _ (answer : Bool) (lent eras : Items Era) (kept : ℕ) (same : lent ≡ eras) (decided : IsTrue answer ↔ AreEras lent kept) where
+  pub eras_not : answer ≡ false → AreEras eras kept → ⊥
+  eras_not false_is are = true≢false (sym (decided.1 (subst (λ e. AreEras e kept) (sym same) are)) ∙ false_is)
+
+  pub eras_are : answer ≡ true → AreEras eras kept
+  eras_are true_is = subst (λ e. AreEras e kept) same (decided.0 true_is)
 
 -- ---- apart
 

@@ -1,4 +1,4 @@
--- Bytes of a history and of a head worked out by hand.
+-- Bytes of a history worked out by hand.
 use Rattle.std.proofs.Common.{◌≡◌, ℕ, ◌≤◌, pos, List as Items, [], ◌∷◌, ◌++◌, length, take, refl, ap, arith, rules}
 use Rattle.std.specs.Prelude.{codes}
 use Rattle.std.specs.Char.{encode_utf8}
@@ -6,9 +6,8 @@ use Rattle.std.proofs.lemmas.List.{length-take}
 use Rattle.sf_value.specs.declared.Act.TheVariants.{New}
 use Rattle.sf_value.specs.declared.Entry.{Entry}
 use Rattle.sf_value.specs.declared.Outcome.TheVariants as outcomes
-use Rattle.sf_value.specs.declared.heads.Head.{Head}
 use Rattle.sf_value.specs.declared.value.Value.{Int, Str, Entity}
-use Rattle.sf_bytes.specs.ByteForms.{number_bytes, long_bytes, int_bytes, text_bytes, ref_bytes, value_bytes, act_bytes, request_bytes, outcome_bytes, entry_bytes, held_bytes, extent_bytes, head_bytes}
+use Rattle.sf_bytes.specs.ByteForms.{number_bytes, int_bytes, text_bytes, ref_bytes, value_bytes, act_bytes, request_bytes, outcome_bytes, entry_bytes}
 use Rattle.sf_bytes.specs.Entries.{HistoryIs, LacksEntry, HasBytesOver}
 use Rattle.sf_bytes.specs.Gates.{StandsAt}
 use Rattle.sf_bytes.specs.Spelt.{IsShort, NestsWithin, IsReal, IsReadEntry}
@@ -30,23 +29,6 @@ created_spelt = refl
 created_is_read : IsReadEntry created
 unfolding created IsShort NestsWithin IsReal encode_utf8
 created_is_read = (((omega arith, ((omega arith, (omega arith, (tt, tt))), (omega arith, (tt, (tt, tt))))), (omega arith, tt)), ((refl, (omega arith, (refl, (search rules, tt)))), (omega arith, refl)))
-
--- the head of a history of that entry, with the record of the entity
-one_kept : Head
-one_kept = record {
-  program = codes "p";
-  kept = 1;
-  bytes = 56;
-  records = record {
-    at = record { class = 0; key = codes "apple" };
-    fields = record { fields = Str (codes "apple") ∷ Int (pos 3) ∷ Int (pos 0) ∷ [] };
-  } ∷ [];
-  pending = [];
-}
-
-one_kept_spelt : head_bytes one_kept ≡ 0 ∷ 0 ∷ 0 ∷ 1 ∷ 112 ∷ 0 ∷ 0 ∷ 0 ∷ 1 ∷ 0 ∷ 0 ∷ 0 ∷ 0 ∷ 0 ∷ 0 ∷ 0 ∷ 56 ∷ 0 ∷ 0 ∷ 0 ∷ 0 ∷ 0 ∷ 0 ∷ 0 ∷ 1 ∷ 0 ∷ 0 ∷ 0 ∷ 0 ∷ 0 ∷ 0 ∷ 0 ∷ 5 ∷ 97 ∷ 112 ∷ 112 ∷ 108 ∷ 101 ∷ 0 ∷ 0 ∷ 0 ∷ 3 ∷ 4 ∷ 0 ∷ 0 ∷ 0 ∷ 5 ∷ 97 ∷ 112 ∷ 112 ∷ 108 ∷ 101 ∷ 3 ∷ 0 ∷ 0 ∷ 0 ∷ 0 ∷ 0 ∷ 0 ∷ 0 ∷ 0 ∷ 0 ∷ 0 ∷ 0 ∷ 0 ∷ 0 ∷ 0 ∷ 0 ∷ 3 ∷ 3 ∷ 0 ∷ 0 ∷ 0 ∷ 0 ∷ 0 ∷ 0 ∷ 0 ∷ 0 ∷ 0 ∷ 0 ∷ 0 ∷ 0 ∷ 0 ∷ 0 ∷ 0 ∷ 0 ∷ 0 ∷ 0 ∷ 0 ∷ 0 ∷ []
-unfolding one_kept head_bytes extent_bytes held_bytes value_bytes ref_bytes text_bytes int_bytes number_bytes long_bytes encode_utf8
-one_kept_spelt = refl
 
 -- with ten bytes behind it
 longer : Items ℕ

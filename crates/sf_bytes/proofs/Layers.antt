@@ -1,5 +1,5 @@
 -- Equations of a value's bytes and of which values have bytes, one for each case.
-use Rattle.std.proofs.Common.{◌≡◌, ℕ, ◌<◌, ◌^◌, List as Items, [], ◌∷◌, ◌++◌, length, refl, sym, ap, subst, ◌∙◌, Result, Ok, Err, OnOk}
+use Rattle.std.proofs.Common.{◌≡◌, ◌<◌, ◌^◌, List as Items, ◌∷◌, ◌++◌, length, refl, sym, ap, subst, ◌∙◌, Result, Ok, Err, OnOk}
 use Rattle.std.proofs.Math.Path.{transport}
 use Rattle.std.specs.List.{flat_map, AllByRecursion}
 use Rattle.sf_value.specs.declared.value.Value.{Value, List, Row_of-Value, end_of-Value, more_of-Value}

@@ -15,4 +15,5 @@ pub mod Lengths
 pub mod Stands
 pub mod Wholes
 pub mod Histories
+mod HeadExamples
 mod HistoryExamples

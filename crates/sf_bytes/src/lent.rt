@@ -133,9 +133,11 @@ impl<R: LentRecords> LentHead<'_, R> {
     #[tactic(auto, unfolding(crate::specs::ByteForms::kept_bytes, crate::specs::ByteForms::extent_bytes))]
     fn put_kept<D, O: Out<D>>(&self, out: &mut O, on: &mut D) -> Result<(), O::Stop>
         requires { AllByRecursion IsSpeltHeld (R.listed self.now.records.now) × IsSpeltList IsSpeltRequest self.now.pending.now }
-        ensures all { OnOk result (O.puts out.old on.old out.new on.new (kept_bytes (record { eras = self.now.eras.now; kept = self.now.kept; bytes = self.now.bytes; records = R.listed self.now.records.now; pending = self.now.pending.now }))) }
+        ensures all { OnOk result (O.puts out.old on.old out.new on.new (kept_bytes (record
+            { eras = self.now.eras.now; kept = self.now.kept; bytes = self.now.bytes; records = R.listed self.now.records.now; pending = self.now.pending.now }))) }
         ensures part { OnErr result (O.stops out.old on.old out.new on.new) }
-        ensures real { OnOk result (((length (R.listed self.now.records.now) < 2 ^ 64) × AllByRecursion IsRealHeld (R.listed self.now.records.now)) × AllByRecursion IsRealRequest self.now.pending.now) }
+        ensures real { OnOk result ((self.now.kept < 2 ^ 32) × ((self.now.bytes < 2 ^ 64)
+            × (((length (R.listed self.now.records.now) < 2 ^ 64) × AllByRecursion IsRealHeld (R.listed self.now.records.now)) × AllByRecursion IsRealRequest self.now.pending.now))) }
     {
         put_number(out, on, self.kept)?;
         put_long(out, on, self.bytes)?;
