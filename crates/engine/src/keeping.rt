@@ -1,7 +1,6 @@
 //! What a store keeps of an engine: a head, and the entries of its history behind those that it has.
 
-ghost use Rattle.std.specs.Prelude.{◌≡◌, ◌≤◌, IsUtf8, length, drop, IfOk};
-ghost use Rattle.std.specs.Str.{chars};
+ghost use Rattle.std.specs.Prelude.{◌≡◌, ◌≤◌, length, drop, IfOk};
 ghost use Rattle.sf_value.specs.Heads.{snapshot_of};
 ghost use Rattle.engine.specs.Cores.{CoreFits};
 ghost use Rattle.engine.specs.EngineViews.{core_of, tables_of};
@@ -10,14 +9,14 @@ ghost use Rattle.engine.specs.Kept.{core_of_snapshot, SnapshotFits};
 use crate::copying::copies_of;
 use crate::engine::Engine;
 use kept_parts::entries_behind;
-use sf_value::{Entries, Head, Text};
+use sf_list::TryClone;
+use sf_value::{Entries, Eras, Head};
 use std::alloc::{AllocError, Global};
 
 impl Engine {
-    /// All of the core but its history, which takes so many bytes where it is kept, with the text that the program was compiled from.
-    pub fn head(&self, alloc: Global, program: &[u8], bytes: u64) -> Result<Head, AllocError>
-        requires utf8 { IsUtf8 program.now }
-        ensures program { IfOk result (λ head. head.program ≡ chars program.now) }
+    /// All of the core but its history, which takes so many bytes where it is kept, with the programs that it ran under.
+    pub fn head(&self, alloc: Global, eras: &Eras, bytes: u64) -> Result<Head, AllocError>
+        ensures eras { IfOk result (λ head. head.eras ≡ eras.now) }
         ensures kept { IfOk result (λ head. head.kept ≡ length (core_of self.now).history) }
         ensures bytes { IfOk result (λ head. head.bytes ≡ bytes) }
         ensures core { IfOk result (λ head. core_of_snapshot (snapshot_of head (core_of self.now).history) ≡ core_of self.now) }
@@ -25,7 +24,7 @@ impl Engine {
             IfOk result (λ head. SnapshotFits (tables_of self.now) (snapshot_of head (core_of self.now).history)) }
     {
         Ok(Head {
-            program: Text::of(alloc, std::str::from_utf8(program).unwrap())?,
+            eras: eras.try_clone(alloc)?,
             kept: self.history.len() as u32,
             bytes,
             records: self.state.records(alloc)?,

@@ -66,12 +66,12 @@ impl Engine {
             return Err(RestoreError::Wrong);
         }
         let Snapshot {
-            program,
+            eras,
             history: entries,
             records,
             pending,
         } = kept;
-        drop(program);
+        drop(eras);
         let Some(history) = history_of(alloc, entries)? else {
             return Err(RestoreError::Wrong);
         };

@@ -9,7 +9,7 @@ use Rattle.sf_bytes.specs.ByteForms.{entry_bytes}
 use Rattle.sf_bytes.specs.Entries.{EntriesTo, HistoryIs}
 use Rattle.sf_bytes.specs.Gates.{StandsAt}
 use Rattle.sf_bytes.specs.Reads.{BeginsWith}
-use Rattle.byte_sizes.specs.Spelt.{IsSpeltEntry, IsRealEntry, IsReadEntry, IsReadHead, IsReadSnapshot}
+use Rattle.byte_sizes.specs.Spelt.{AreSpeltEras, IsSpeltEntry, IsRealEntry, IsReadEntry, IsReadHead, IsReadSnapshot}
 use Rattle.sf_bytes.proofs.Histories.{run_end, run_then, run_reach, history_stays}
 use Rattle.sf_bytes.proofs.Lengths.{entry-sizes}
 use Rattle.sf_bytes.proofs.Stands.{Stands-same}
@@ -135,4 +135,4 @@ pub snapshot_read : (head : Head) (entries : List Entry) → IsReadHead head →
 snapshot_read head entries (spelt, real) count each =
     let both = each_of IsSpeltEntry IsRealEntry entries each in
     let short : length entries < 2 ^ 32 = omega (arith, count, real.1.0) in
-    ((spelt.0, ((short, both.0), spelt.1)), (real.0, (both.1, real.1.1.1)))
+    ((subst (AreSpeltEras head.eras) (sym count) spelt.0, ((short, both.0), spelt.1)), (real.0, (both.1, real.1.1.1)))

@@ -79,7 +79,7 @@ fn snapshot_of(head: Head, history: Entries) -> Snapshot
     ensures { result ≡ snapshot_of head history }
 {
     Snapshot {
-        program: head.program,
+        eras: head.eras,
         history,
         records: head.records,
         pending: head.pending,

@@ -1,13 +1,8 @@
 -- What a slot and an image say they say alone: a slot keeps one head, and an image has one newest.
 use Rattle.std.proofs.Common.{◌≡◌, inl, inr, ℕ, zero, suc, ◌+◌, ◌<◌, List, [], ◌∷◌, ◌++◌, length, get_or, take, drop, sym, ap, ◌∙◌, subst, arith}
 use Rattle.std.proofs.lemmas.Bool.{cases_eq}
-use Rattle.sf_bytes.specs.ByteForms.{head_bytes}
 use Rattle.sf_bytes.specs.Gates.{open_gate}
-use Rattle.sf_bytes.specs.Reading.{head_at}
-use Rattle.sf_bytes.specs.Reads.{NoneBeginsAnother}
-use Rattle.sf_bytes.specs.Spelt.{IsReadHead}
-use Rattle.sf_bytes.proofs.Fronts.{stands_apart}
-use Rattle.sf_bytes.proofs.RecordLaws.{head_spells}
+use Rattle.sf_bytes.proofs.HeadReads.{heads_apart}
 use Rattle.sf_bytes.proofs.Stands.{Stands-front}
 use Rattle.sf_outside.specs.DiskModel.{Image, of_file}
 use Rattle.sf_value.specs.declared.heads.Head.{Head}
@@ -28,8 +23,7 @@ one_held number file e f head other a b =
     let epochs : e ≡ f = same_epoch number file f other b e (omega (arith, a.in_range.1)) (held_epoch number file e head a) in
     let lengths = same_length number file f other b (length a.body) a.countable (held_length number file e head a) in
     let bodies : a.body ≡ b.body = sym (held_body number file e head a) ∙ ap (λ n. take n (drop 17 file)) lengths ∙ held_body number file f other b in
-    let apart : NoneBeginsAnother head_bytes IsReadHead = stands_apart head_at head_bytes IsReadHead head_spells in
-    (epochs, apart head other [] [] a.spells.0 b.spells.0 (ap (λ bytes. bytes ++ []) (a.spells.1 ∙ bodies ∙ sym b.spells.1)))
+    (epochs, (heads_apart a.body b.body [] [] head other a.spells b.spells (ap (λ bytes. bytes ++ []) bodies)).0)
 
 -- and an image has one newest
 older_less : (number : ℕ) (file : List ℕ) (e f : ℕ) (head : Head) → IsOlder e number file → HoldsAt number file f head → f < e

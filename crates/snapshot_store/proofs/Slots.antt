@@ -1,19 +1,15 @@
 -- Which head a slot keeps, from the bytes that were read.
-use Rattle.std.proofs.Common.{◌≡◌, inl, inr, ℕ, ◌+◌, ◌-◌, ◌≤◌, ◌<◌, ◌^◌, List, [], ◌∷◌, ◌++◌, length, take, drop, Bool, true, false, cond, Some, None, Ok, refl, sym, ap, ◌∙◌, subst, arith, IfSome, length-append}
+use Rattle.std.proofs.Common.{◌≡◌, inl, inr, ℕ, ◌+◌, ◌-◌, ◌≤◌, ◌<◌, ◌^◌, List, [], ◌∷◌, ◌++◌, length, take, drop, Bool, true, false, cond, Some, None, Ok, refl, sym, ap, ◌∙◌, subst, arith, IfSome, length-append, append-nil, take-append-drop}
 use Rattle.std.specs.declared.option.Option.{Option}
 use Rattle.std.specs.Int.{w64, from_be_bytes}
 use Rattle.std.proofs.lemmas.Bool.{ltb-true, ltb-false}
-use Rattle.std.proofs.lemmas.List.{take_all}
+use Rattle.std.proofs.lemmas.List.{take_all, length-take}
 use Rattle.std.specs.Prelude.{nat_lt}
-use Rattle.sf_bytes.specs.ByteForms.{long_bytes, head_bytes}
+use Rattle.sf_bytes.specs.ByteForms.{long_bytes}
 use Rattle.sf_bytes.specs.Gates.{open_gate, StandsAt}
-use Rattle.sf_bytes.specs.Heads.{IsHead}
-use Rattle.sf_bytes.specs.Reading.{head_at}
-use Rattle.sf_bytes.specs.Spelt.{IsReadHead}
-use Rattle.sf_bytes.proofs.Fronts.{stands_apart}
-use Rattle.sf_bytes.proofs.RecordLaws.{head_spells}
+use Rattle.sf_bytes.specs.Heads.{IsHead, BeginsWithHead, ReadsHead}
+use Rattle.sf_bytes.proofs.HeadReads.{heads_apart}
 use Rattle.sf_bytes.proofs.Stands.{Stands-length, Stands-front, Stands-behind, Stands-both}
-use Rattle.sf_bytes.proofs.Wholes.{part_only}
 use Rattle.sf_bytes.proofs.Wide.{wide64}
 use Rattle.sf_outside.specs.Bytes.{CopiedAll}
 use Rattle.sf_outside.specs.DiskModel.{Image, of_file}
@@ -28,11 +24,17 @@ use Rattle.snapshot_store.proofs.Fillings.{long-length}
 
 -- ---- whole heads
 
-pub no_head : (bytes : List ℕ) → ((head : Head) (count : ℕ) → IsReadHead head → (count ≤ length bytes) × (take count bytes ≡ head_bytes head) → ⊥) → SaysHead bytes None
-no_head bytes none head is = none head (length bytes) is.0 (omega arith, take_all (length bytes) bytes (omega arith) ∙ sym is.1)
+pub no_head : (bytes : List ℕ) → ReadsHead bytes (Ok None) → SaysHead bytes None
+no_head bytes none head is = none head (length bytes) (omega arith, subst (λ body. IsHead body head) (sym (take_all (length bytes) bytes (omega arith))) is)
 
-pub other_head : (bytes : List ℕ) (found : Head) (count : ℕ) → IsReadHead found → take count bytes ≡ head_bytes found → count < length bytes → SaysHead bytes None
-other_head bytes found count is_read front less head is = part_only head_bytes IsReadHead (stands_apart head_at head_bytes IsReadHead head_spells) bytes found count is_read front less head is.0 is.1
+-- a head that is a part of the bytes is none of them all
+pub other_head : (bytes : List ℕ) (found : Head) (count : ℕ) → BeginsWithHead bytes found count → count < length bytes → SaysHead bytes None
+other_head bytes found count begins less head is =
+    let same = heads_apart (take count bytes) bytes (drop count bytes) [] found head begins.1 is (take-append-drop count bytes ∙ sym (append-nil bytes)) in
+    omega (arith, ap length same.1, length-take count bytes, less)
+
+pub whole_head : (bytes : List ℕ) (found : Head) (count : ℕ) → BeginsWithHead bytes found count → (count < length bytes → ⊥) → IsHead bytes found
+whole_head bytes found count begins all = subst (λ body. IsHead body found) (take_all count bytes (omega (arith, all))) begins.1
 
 -- ---- numbers
 

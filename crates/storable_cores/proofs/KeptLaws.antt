@@ -7,10 +7,13 @@ use Rattle.sf_value.specs.Heads.{snapshot_of}
 use Rattle.sf_value.specs.Keys.{Key}
 use Rattle.sf_value.specs.declared.value.Value.{Value}
 use Rattle.sf_value.specs.declared.BatchRecord.{BatchRecord}
+use Rattle.sf_value.specs.declared.Snapshot.{Snapshot}
 use Rattle.byte_sizes.specs.Sizes.{request_size, batch_size}
-use Rattle.byte_sizes.specs.Spelt.{IsSpeltEntry, IsSpeltHeld, IsSpeltRequest, IsSpeltBatch}
+use Rattle.byte_sizes.specs.Spelt.{IsSpeltList, IsSpeltEntry, IsSpeltHeld, IsSpeltRequest, IsSpeltBatch}
 use Rattle.engine.specs.Cores.{Core}
-use Rattle.engine.specs.Kept.{core_of_snapshot}
+use Rattle.program_meaning.specs.ClassTables.{Source}
+use Rattle.py_tree.specs.ClassRules.{tables_of}
+use Rattle.engine.specs.Kept.{core_of_snapshot, SnapshotFits}
 use Rattle.storable_cores.specs.Storable.{held_at, most_bytes, news_of, IsSpeltCore, IsStorable}
 use Rattle.storable_cores.specs.StorableLaws.{SnapshotsAreStorable, RecordsAreSpelt, CoresAreSpelt, HeadsAreSpelt, EntriesAreSpelt}
 use Rattle.storable_cores.proofs.Lists.{each_behind, sizes_most}
@@ -56,17 +59,22 @@ pub snapshots_are_storable : SnapshotsAreStorable
 snapshots_are_storable src kept fits read = none_fresh (core_of_snapshot kept)
     (record { entries = read.0.1.0.1; state = each_of_records HasSpeltRecord kept.records read.0.1.1.0; requests = read.0.1.1.1.1 })
 
-pub cores_are_spelt : CoresAreSpelt
-cores_are_spelt src core fresh kept storable fits holds text =
+-- the records and the requests that wait
+rest_spelt : (src : Source) (core : Core) (fresh : ℕ) (kept : Snapshot) → IsStorable core fresh → SnapshotFits (tables_of src.names src.program) kept → core_of_snapshot kept ≡ core
+    → AllByRecursion IsSpeltHeld kept.records × IsSpeltList IsSpeltRequest kept.pending
+rest_spelt src core fresh kept storable fits holds =
     let own = subst IsSpeltCore (sym holds) storable.spelt in
-    (text, ((fits.places, own.entries), (records_of_each HasSpeltRecord kept.records fits.entities own.state, (omega (arith, fits.few), own.requests))))
+    (records_of_each HasSpeltRecord kept.records fits.entities own.state, (omega (arith, fits.few), own.requests))
+
+pub cores_are_spelt : CoresAreSpelt
+cores_are_spelt src core fresh kept storable fits holds eras =
+    let own = subst IsSpeltCore (sym holds) storable.spelt in
+    (eras, ((fits.places, own.entries), rest_spelt src core fresh kept storable fits holds))
 
 -- ---- a head and the entries that it names
 
 pub heads_are_spelt : HeadsAreSpelt
-heads_are_spelt src core fresh head storable fits holds text =
-    let whole = cores_are_spelt src core fresh (snapshot_of head core.history) storable fits holds text in
-    (whole.0, whole.1.1)
+heads_are_spelt src core fresh head storable fits holds eras = (eras, rest_spelt src core fresh (snapshot_of head core.history) storable fits holds)
 
 pub entries_are_spelt : EntriesAreSpelt
 entries_are_spelt core fresh kept storable = each_behind IsSpeltEntry kept core.history storable.spelt.entries

@@ -7,7 +7,7 @@ use Rattle.sf_value.specs.declared.Request.{Request}
 use Rattle.sf_value.specs.declared.Snapshot.{Snapshot}
 use Rattle.sf_value.specs.declared.heads.Head.{Head}
 use Rattle.byte_sizes.specs.Sizes.{batch_size}
-use Rattle.byte_sizes.specs.Spelt.{IsShortText, IsSpeltEntry, IsSpeltBatch, IsSpeltSnapshot, IsSpeltHead, IsReadBatch, IsReadSnapshot}
+use Rattle.byte_sizes.specs.Spelt.{AreSpeltEras, IsSpeltEntry, IsSpeltBatch, IsSpeltSnapshot, IsSpeltHead, IsReadBatch, IsReadSnapshot}
 use Rattle.program_meaning.specs.ClassTables.{Source}
 use Rattle.program_meaning.specs.NothingGoesWrong.{IsKnownAccepted}
 use Rattle.py_tree.specs.ClassRules.{tables_of}
@@ -48,16 +48,16 @@ abbrev pub RecordsAreSpelt : Type 0
 RecordsAreSpelt = (core : Core) (fresh : ℕ) (batch : BatchRecord) → IsStorable core fresh → length core.pending ≤ 256 → batch.news ≡ news_of core fresh
     → length batch.committed ≤ 256 → IsSpeltBatch batch × (batch_size batch < 2 ^ 32)
 
--- so has a snapshot, of a program's text that can be counted
+-- so has a snapshot, with programs that have a spelling and may be its history's
 abbrev pub CoresAreSpelt : Type 0
 CoresAreSpelt = (src : Source) (core : Core) (fresh : ℕ) (kept : Snapshot) → IsStorable core fresh → SnapshotFits (tables_of src.names src.program) kept
-    → core_of_snapshot kept ≡ core → IsShortText kept.program → IsSpeltSnapshot kept
+    → core_of_snapshot kept ≡ core → AreSpeltEras kept.eras (length kept.history) → IsSpeltSnapshot kept
 
 -- and a head
 abbrev pub HeadsAreSpelt : Type 0
 HeadsAreSpelt = (src : Source) (core : Core) (fresh : ℕ) (head : Head) → IsStorable core fresh
     → SnapshotFits (tables_of src.names src.program) (snapshot_of head core.history)
-    → core_of_snapshot (snapshot_of head core.history) ≡ core → IsShortText head.program → IsSpeltHead head
+    → core_of_snapshot (snapshot_of head core.history) ≡ core → AreSpeltEras head.eras head.kept → IsSpeltHead head
 
 -- and each entry of the history, those behind the first so many
 abbrev pub EntriesAreSpelt : Type 0

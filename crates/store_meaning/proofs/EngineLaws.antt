@@ -4,6 +4,7 @@ use Rattle.std.specs.List.{list_any}
 use Rattle.std.proofs.lemmas.List.{length-map}
 use Rattle.sf_outside.specs.DiskModel.{DiskFacts, LeavesOnly}
 use Rattle.sf_value.specs.declared.Request.{Request}
+use Rattle.sf_value.specs.declared.heads.Era.{Era}
 use Rattle.program_meaning.specs.ClassTables.{Source}
 use Rattle.program_meaning.specs.RequestRun.{run}
 use Rattle.serial_order.specs.ConflictFree.{access_of, runs_on}
@@ -50,54 +51,54 @@ some_committed src core chosen lawful some = one_there chosen.committed (lawful.
 
 -- ---- engines
 
-abbrev program_with : List ℕ → Compiled → Program
-program_with text compiled = record { source = source (compiled_names compiled) (compiled_program compiled); text = text }
+abbrev program_with : List Era → Compiled → Program
+program_with eras compiled = record { source = source (compiled_names compiled) (compiled_program compiled); eras = eras }
 
-module _ (e now : Engine) (text : List ℕ) (runs : RunsProgram now (compiled_of e) (limit_of e)) where
+module _ (e now : Engine) (eras : List Era) (runs : RunsProgram now (compiled_of e) (limit_of e)) where
   -- another engine of the same program
-  same_program : program_of e text ≡ program_of now text
-  same_program = ap (program_with text) (sym runs.compiled_is)
+  same_program : program_of e eras ≡ program_of now eras
+  same_program = ap (program_with eras) (sym runs.compiled_is)
 
   -- of which this core was logged
-  keeps_core : (facts : DiskFacts) (position : Position) (core : Core) → logged_of now ≡ core → KeepsCore (program_of e text) facts core position → KeepsEngine now text facts position
+  keeps_core : (facts : DiskFacts) (position : Position) (core : Core) → logged_of now ≡ core → KeepsCore (program_of e eras) facts core position → KeepsEngine now eras facts position
   keeps_core facts position core same keeps =
-      subst (λ p. KeepsCore p facts (logged_of now) position) same_program (subst (λ c. KeepsCore (program_of e text) facts c position) (sym same) keeps)
+      subst (λ p. KeepsCore p facts (logged_of now) position) same_program (subst (λ c. KeepsCore (program_of e eras) facts c position) (sym same) keeps)
 
   -- nothing has changed that contracts see
-  pub keeps_same : (facts : DiskFacts) (position : Position) → core_of now ≡ core_of e → fresh_of now ≡ fresh_of e → KeepsEngine e text facts position → KeepsEngine now text facts position
+  pub keeps_same : (facts : DiskFacts) (position : Position) → core_of now ≡ core_of e → fresh_of now ≡ fresh_of e → KeepsEngine e eras facts position → KeepsEngine now eras facts position
   keeps_same facts position core fresh = keeps_core facts position (logged_of e) (λ i. settled (core i) (fresh i))
 
   -- a request came
   pub keeps_arrival : (facts : DiskFacts) (position : Position) (r : Request) → fresh_of e ≤ length (core_of e).pending → core_of now ≡ after_arrival (core_of e) r → fresh_of now ≡ fresh_after (core_of e) r (fresh_of e)
-      → KeepsEngine e text facts position → KeepsEngine now text facts position
+      → KeepsEngine e eras facts position → KeepsEngine now eras facts position
   keeps_arrival facts position r among core fresh = keeps_core facts position (logged_of e) ((λ i. settled (core i) (fresh i)) ∙ arrivals_unlogged (core_of e) (fresh_of e) r among)
 
-  module _ (p : Planned) (plan : IsPlanOf e p) (fits : CoreFits (tables_of e) (core_of e)) (some : 1 ≤ length p.batch.committed) (body : List ℕ) (spells : IsBatch body p.batch) (old new : DiskFacts) (position : Position) (keeps : KeepsEngine e text old position) where
+  module _ (p : Planned) (plan : IsPlanOf e p) (fits : CoreFits (tables_of e) (core_of e)) (some : 1 ≤ length p.batch.committed) (body : List ℕ) (spells : IsBatch body p.batch) (old new : DiskFacts) (position : Position) (keeps : KeepsEngine e eras old position) where
     abbrev after : Core
     after = after_batch (source_of e) (core_of e) p.batch.committed
 
     replays : ReplaysPlan e p
     replays = plans_replay e p plan fits some
 
-    can_follow : CanFollow (program_of e text) (logged_of e) body p.batch
+    can_follow : CanFollow (program_of e eras) (logged_of e) body p.batch
     can_follow = record { spells = spells; fits = replays.fits }
 
     -- while the record of a plan is written each image stands for the core before it or for the one behind it
-    pub leaves_planned : LeavesBatch old new position body → LeavesOnly old new (StandsForOne (program_of e text) (logged_of e) position after (behind position body))
+    pub leaves_planned : LeavesBatch old new position body → LeavesOnly old new (StandsForOne (program_of e eras) (logged_of e) position after (behind position body))
     leaves_planned moments =
-        subst (λ core. LeavesOnly old new (StandsForOne (program_of e text) (logged_of e) position core (behind position body))) replays.core (moments (program_of e text) (logged_of e) p.batch keeps can_follow)
+        subst (λ core. LeavesOnly old new (StandsForOne (program_of e eras) (logged_of e) position core (behind position body))) replays.core (moments (program_of e eras) (logged_of e) p.batch keeps can_follow)
 
     -- and once the plan is committed too, for the engine's
-    pub keeps_committed : KeepsBatch old new position body → core_of now ≡ after → fresh_of now ≡ 0 → KeepsEngine now text new (behind position body)
+    pub keeps_committed : KeepsBatch old new position body → core_of now ≡ after → fresh_of now ≡ 0 → KeepsEngine now eras new (behind position body)
     keeps_committed kept core fresh =
         keeps_core new (behind position body) after ((λ i. settled (core i) (fresh i)) ∙ none_unlogged after)
-        (subst (λ c. KeepsCore (program_of e text) new c (behind position body)) replays.core (kept (program_of e text) (logged_of e) p.batch keeps can_follow))
+        (subst (λ c. KeepsCore (program_of e eras) new c (behind position body)) replays.core (kept (program_of e eras) (logged_of e) p.batch keeps can_follow))
 
 -- a checkpoint of an engine to which no request came since its last batch
-module _ (e : Engine) (text : List ℕ) (none : fresh_of e ≡ 0) (position : Position) (more body : List ℕ) (is : IsCheckpointOf (program_of e text) (core_of e) position (core_of e) more body) (old new : DiskFacts)
-    (keeps : KeepsEngine e text old position) where
+module _ (e : Engine) (eras : List Era) (none : fresh_of e ≡ 0) (position : Position) (more body : List ℕ) (is : IsCheckpointOf (program_of e eras) (core_of e) position (core_of e) more body) (old new : DiskFacts)
+    (keeps : KeepsEngine e eras old position) where
   abbrev p : Program
-  p = program_of e text
+  p = program_of e eras
 
   abbrev there : Position
   there = next_of position (length more) (length (core_of e).history)
@@ -111,5 +112,5 @@ module _ (e : Engine) (text : List ℕ) (none : fresh_of e ≡ 0) (position : Po
   pub leaves_checkpoint : LeavesCheckpoint old new position more body → LeavesOnly old new (StandsForOne p (core_of e) position (core_of e) there)
   leaves_checkpoint moments = moments p p (core_of e) (core_of e) whole is
 
-  pub keeps_checkpoint : KeepsCheckpoint old new position more body → KeepsEngine e text new there
+  pub keeps_checkpoint : KeepsCheckpoint old new position more body → KeepsEngine e eras new there
   keeps_checkpoint now = subst (λ core. KeepsCore p new core there) (sym all_logged) (now p p (core_of e) (core_of e) whole is)

@@ -5,6 +5,7 @@ use Rattle.sf_outside.specs.DiskModel.{Image}
 use Rattle.sf_outside.specs.declared.store_disk.StoreFile.{StoreFile}
 use Rattle.sf_value.specs.declared.BatchRecord.{BatchRecord}
 use Rattle.sf_value.specs.declared.Snapshot.{Snapshot}
+use Rattle.sf_value.specs.declared.heads.Era.{Era}
 use Rattle.snapshot_store.specs.SlotFile.{slot_of, log_of}
 use Rattle.snapshot_store.proofs.OneNewest.{newest_not_new}
 use Rattle.recovery.specs.declared.opened.Placed.{Placed}
@@ -30,21 +31,21 @@ module _ (p : Program) (image : Image) where
     pub batches : List Placed
     pub at : ℕ
     pub old : IsOld image epoch kept bytes batches at
-    pub text : kept.program ≡ p.text
+    pub eras : kept.eras ≡ p.eras
 
   old_of : (core : Core) (position : Position) → OldStandsFor p image core position → OldOf
   old_of core position stands =
       let placed = have_places image position.epoch stands.kept position.bytes stands.batches position.at stands.holds in
-      record { epoch = position.epoch; kept = stands.kept; bytes = position.bytes; batches = placed.0; at = position.at; old = placed.2; text = stands.text }
+      record { epoch = position.epoch; kept = stands.kept; bytes = position.bytes; batches = placed.0; at = position.at; old = placed.2; eras = stands.eras }
 
   old_of_wrong : (file : StoreFile) (at : ℕ) → IsWrong p image file at → OldOf
-  old_of_wrong file at (inl w) = record { epoch = w.epoch; kept = w.kept; bytes = w.bytes; batches = w.batches; at = w.last; old = w.old; text = w.text }
-  old_of_wrong file at (inr w) = record { epoch = w.epoch; kept = w.kept; bytes = w.bytes; batches = w.before ++ record { at = at; batch = w.batch } ∷ w.after; at = w.last; old = w.old; text = w.text }
+  old_of_wrong file at (inl w) = record { epoch = w.epoch; kept = w.kept; bytes = w.bytes; batches = w.batches; at = w.last; old = w.old; eras = w.eras }
+  old_of_wrong file at (inr w) = record { epoch = w.epoch; kept = w.kept; bytes = w.bytes; batches = w.before ++ record { at = at; batch = w.batch } ∷ w.after; at = w.last; old = w.old; eras = w.eras }
 
-  not_other : (text : List ℕ) → OldOf → IsOfOther p image text → ⊥
-  not_other text o other =
+  not_other : (others : List Era) → OldOf → IsOfOther p image others → ⊥
+  not_other others o other =
       let same = (one_old image other.epoch o.epoch other.kept o.kept other.bytes o.bytes other.batches o.batches other.at o.at other.old o.old).snapshot in
-      other.differs (sym other.text_is ∙ ap (λ (k : Snapshot). k.program) same ∙ o.text)
+      other.differs (sym other.others_are ∙ ap (λ (k : Snapshot). k.eras) same ∙ o.eras)
 
   not_bad : (file : StoreFile) (at : ℕ) → OldOf → IsBad image file at → ⊥
   not_bad file at o bad = old_not_bad image o.epoch o.kept o.bytes o.batches o.at file at o.old bad
@@ -85,9 +86,9 @@ module _ (p : Program) (image : Image) where
 
   -- ---- a core and nothing else
 
-  stands_not_other : (core : Core) (position : Position) (text : List ℕ) → StandsFor p image core position → IsOfOther p image text → ⊥
-  stands_not_other core position text (inl a) other = newest_not_new image other.epoch other.old.newest.head other.old.newest.newest a.0
-  stands_not_other core position text (inr a) other = not_other text (old_of core position a) other
+  stands_not_other : (core : Core) (position : Position) (others : List Era) → StandsFor p image core position → IsOfOther p image others → ⊥
+  stands_not_other core position others (inl a) other = newest_not_new image other.epoch other.old.newest.head other.old.newest.newest a.0
+  stands_not_other core position others (inr a) other = not_other others (old_of core position a) other
 
   stands_not_bad : (core : Core) (position : Position) (file : StoreFile) (at : ℕ) → StandsFor p image core position → IsBad image file at → ⊥
   stands_not_bad core position file at (inl a) bad = new_not_bad image file at a.0 bad
@@ -133,31 +134,31 @@ module _ (p : Program) (image : Image) where
       let one = one_wrong p (core_of_snapshot b.kept) a.before x a.after b.before y b.after a.core b.core same.log there a.wrong b.replays b.wrong in
       (a.same_file ∙ ap log_of same.epoch ∙ sym b.same_file, ap (λ (b : Placed). b.at) one)
 
-  same_other : (text others : List ℕ) → IsOfOther p image text → IsOfOther p image others → text ≡ others
-  same_other text others a b =
+  same_other : (ones others : List Era) → IsOfOther p image ones → IsOfOther p image others → ones ≡ others
+  same_other ones others a b =
       let same = (one_old image a.epoch b.epoch a.kept b.kept a.bytes b.bytes a.batches b.batches a.at b.at a.old b.old).snapshot in
-      sym a.text_is ∙ ap (λ (k : Snapshot). k.program) same ∙ b.text_is
+      sym a.others_are ∙ ap (λ (k : Snapshot). k.eras) same ∙ b.others_are
 
-  other_not_bad : (text : List ℕ) (file : StoreFile) (at : ℕ) → IsOfOther p image text → IsBad image file at → ⊥
-  other_not_bad text file at other bad = old_not_bad image other.epoch other.kept other.bytes other.batches other.at file at other.old bad
+  other_not_bad : (others : List Era) (file : StoreFile) (at : ℕ) → IsOfOther p image others → IsBad image file at → ⊥
+  other_not_bad others file at other bad = old_not_bad image other.epoch other.kept other.bytes other.batches other.at file at other.old bad
 
 -- ---- all together
 
 pub one_meaning : OneMeaning
 one_meaning p image (Stands core position) (Stands other place) a b = let same = one_core p image core other position place a b in λ i. Stands (same.0 i) (same.1 i)
-one_meaning p image (Stands core position) (Differs text) a b = absurd (stands_not_other p image core position text a b)
+one_meaning p image (Stands core position) (Differs others) a b = absurd (stands_not_other p image core position others a b)
 one_meaning p image (Stands core position) (Wrong file at) a b = absurd (stands_not_wrong p image core position file at a b)
 one_meaning p image (Stands core position) (Bad file at) a b = absurd (stands_not_bad p image core position file at a b)
-one_meaning p image (Differs text) (Stands core position) a b = absurd (stands_not_other p image core position text b a)
-one_meaning p image (Differs text) (Differs others) a b = ap Differs (same_other p image text others a b)
-one_meaning p image (Differs text) (Wrong file at) a b = absurd (not_other p image text (old_of_wrong p image file at b) a)
-one_meaning p image (Differs text) (Bad file at) a b = absurd (other_not_bad p image text file at a b)
+one_meaning p image (Differs others) (Stands core position) a b = absurd (stands_not_other p image core position others b a)
+one_meaning p image (Differs ones) (Differs others) a b = ap Differs (same_other p image ones others a b)
+one_meaning p image (Differs others) (Wrong file at) a b = absurd (not_other p image others (old_of_wrong p image file at b) a)
+one_meaning p image (Differs others) (Bad file at) a b = absurd (other_not_bad p image others file at a b)
 one_meaning p image (Wrong file at) (Stands core position) a b = absurd (stands_not_wrong p image core position file at b a)
-one_meaning p image (Wrong file at) (Differs text) a b = absurd (not_other p image text (old_of_wrong p image file at a) b)
+one_meaning p image (Wrong file at) (Differs others) a b = absurd (not_other p image others (old_of_wrong p image file at a) b)
 one_meaning p image (Wrong file at) (Wrong other place) a b = let same = same_wrong p image file other at place a b in λ i. Wrong (same.0 i) (same.1 i)
 one_meaning p image (Wrong file at) (Bad other place) a b = absurd (not_bad p image other place (old_of_wrong p image file at a) b)
 one_meaning p image (Bad file at) (Stands core position) a b = absurd (stands_not_bad p image core position file at b a)
-one_meaning p image (Bad file at) (Differs text) a b = absurd (other_not_bad p image text file at b a)
+one_meaning p image (Bad file at) (Differs others) a b = absurd (other_not_bad p image others file at b a)
 one_meaning p image (Bad file at) (Wrong other place) a b = absurd (not_bad p image file at (old_of_wrong p image other place b) a)
 one_meaning p image (Bad file at) (Bad other place) a b = let same = one_bad image file other at place a b in λ i. Bad (same.0 i) (same.1 i)
 

@@ -32,10 +32,10 @@ module _ (p : Program) where
       (replays_more p core (batches_of before) middle placed.batch so_far fits)
 
   module _ (epoch : ℕ) (kept : Snapshot) (bytes at : ℕ) where
-    pub of_other : (image : Image) (batches : List Placed) → IsOld image epoch kept bytes batches at → kept.program ≢ p.text → IsOfOther p image kept.program
-    of_other image batches old differs = record { epoch = epoch; kept = kept; bytes = bytes; batches = batches; at = at; old = old; text_is = refl; differs = differs }
+    pub of_other : (image : Image) (batches : List Placed) → IsOld image epoch kept bytes batches at → kept.eras ≢ p.eras → IsOfOther p image kept.eras
+    of_other image batches old differs = record { epoch = epoch; kept = kept; bytes = bytes; batches = batches; at = at; old = old; others_are = refl; differs = differs }
 
-    module _ (text : kept.program ≡ p.text) where
+    module _ (same_eras : kept.eras ≡ p.eras) where
       pub wrong_snapshot : (image : Image) (batches : List Placed) → IsOld image epoch kept bytes batches at → (SnapshotFits (tables_of p) kept → ⊥) → IsWrong p image (slot_of epoch) 0
       wrong_snapshot image batches old wrong = inl (record {
         epoch = epoch;
@@ -44,7 +44,7 @@ module _ (p : Program) where
         batches = batches;
         last = at;
         old = old;
-        text = text;
+        eras = same_eras;
         wrong = wrong;
         same_file = refl;
         start = refl;
@@ -63,7 +63,7 @@ module _ (p : Program) where
           last = at;
           core = core;
           old = old;
-          text = text;
+          eras = same_eras;
           fits = fits;
           replays = so_far;
           wrong = wrong;
@@ -76,7 +76,7 @@ module _ (p : Program) where
           batches = batches_of batches;
           holds = old_holds image epoch kept bytes batches at old;
           count = refl;
-          text = text;
+          eras = same_eras;
           fits = fits;
           replays = replays;
         })
@@ -91,20 +91,20 @@ module _ (p : Program) where
       abbrev Found : Image → Type 0
       Found now = IsOld now epoch kept bytes batches at
 
-      pub seen_other : kept.program ≢ p.text → IfSome seen (λ now. IsOfOther p now kept.program)
-      seen_other differs = if_one seen Found (λ now. IsOfOther p now kept.program) (λ now old. of_other epoch kept bytes at now batches old differs) found
+      pub seen_other : kept.eras ≢ p.eras → IfSome seen (λ now. IsOfOther p now kept.eras)
+      seen_other differs = if_one seen Found (λ now. IsOfOther p now kept.eras) (λ now old. of_other epoch kept bytes at now batches old differs) found
 
-      pub seen_wrong_snapshot : kept.program ≡ p.text → (SnapshotFits (tables_of p) kept → ⊥) → IfSome seen (λ now. IsWrong p now (slot_of epoch) 0)
-      seen_wrong_snapshot text wrong = if_one seen Found (λ now. IsWrong p now (slot_of epoch) 0) (λ now old. wrong_snapshot epoch kept bytes at text now batches old wrong) found
+      pub seen_wrong_snapshot : kept.eras ≡ p.eras → (SnapshotFits (tables_of p) kept → ⊥) → IfSome seen (λ now. IsWrong p now (slot_of epoch) 0)
+      seen_wrong_snapshot same_eras wrong = if_one seen Found (λ now. IsWrong p now (slot_of epoch) 0) (λ now old. wrong_snapshot epoch kept bytes at same_eras now batches old wrong) found
 
-      pub seen_wrong_batch : kept.program ≡ p.text → SnapshotFits (tables_of p) kept → (before : List Placed) (placed : Placed) (after : List Placed) (core : Core) → batches ≡ before ++ placed ∷ after
+      pub seen_wrong_batch : kept.eras ≡ p.eras → SnapshotFits (tables_of p) kept → (before : List Placed) (placed : Placed) (after : List Placed) (core : Core) → batches ≡ before ++ placed ∷ after
           → Replays p (core_of_snapshot kept) (batches_of before) core → (BatchFits (tables_of p) core placed.batch → ⊥) → IfSome seen (λ now. IsWrong p now (log_of epoch) placed.at)
-      seen_wrong_batch text fits before placed after core split so_far wrong =
+      seen_wrong_batch same_eras fits before placed after core split so_far wrong =
           if_one seen Found (λ now. IsWrong p now (log_of epoch) placed.at)
-          (λ now old. wrong_batch epoch kept bytes at text fits now before placed after core (subst (λ bs. IsOld now epoch kept bytes bs at) split old) so_far wrong) found
+          (λ now old. wrong_batch epoch kept bytes at same_eras fits now before placed after core (subst (λ bs. IsOld now epoch kept bytes bs at) split old) so_far wrong) found
 
-      pub seen_stands : kept.program ≡ p.text → SnapshotFits (tables_of p) kept → (core : Core) → Replays p (core_of_snapshot kept) (batches_of batches) core → IfSome seen (λ now. StandsFor p now core (found_at epoch kept bytes at))
-      seen_stands text fits core replays = if_one seen Found (λ now. StandsFor p now core (found_at epoch kept bytes at)) (λ now old. old_stands epoch kept bytes at text fits now batches core old replays) found
+      pub seen_stands : kept.eras ≡ p.eras → SnapshotFits (tables_of p) kept → (core : Core) → Replays p (core_of_snapshot kept) (batches_of batches) core → IfSome seen (λ now. StandsFor p now core (found_at epoch kept bytes at))
+      seen_stands same_eras fits core replays = if_one seen Found (λ now. StandsFor p now core (found_at epoch kept bytes at)) (λ now old. old_stands epoch kept bytes at same_eras fits now batches core old replays) found
 
   -- where each crash leaves what a read gives, each image stands for what that does
   pub clean_keeps : (facts : DiskFacts) (core : Core) (position : Position) → IfSome facts.seen (λ now. StandsFor p now core position) → IsClean facts → KeepsCore p facts core position

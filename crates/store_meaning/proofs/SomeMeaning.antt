@@ -73,25 +73,25 @@ module _ (p : Program) (image : Image) (none : (meaning : Meaning) → Means p i
   -- ---- old stores
 
   module _ (epoch : ℕ) (kept : Snapshot) (bytes at : ℕ) where
-    module _ (text : kept.program ≡ p.text) (fits : SnapshotFits (tables_of p) kept) where
+    module _ (same_eras : kept.eras ≡ p.eras) (fits : SnapshotFits (tables_of p) kept) where
       -- with these batches before, which follow, and the rest of the log
       follow : (before rest : List Placed) (core : Core) → IsOld image epoch kept bytes (before ++ rest) at → Replays p (core_of_snapshot kept) (batches_of before) core → ⊥
       follow before [] core old so_far =
           let whole : IsOld image epoch kept bytes before at = subst (λ bs. IsOld image epoch kept bytes bs at) (append-nil before) old in
-          none (Stands core (found_at epoch kept bytes at)) (old_stands p epoch kept bytes at text fits image before core whole so_far)
+          none (Stands core (found_at epoch kept bytes at)) (old_stands p epoch kept bytes at same_eras fits image before core whole so_far)
       follow before (placed ∷ rest) core old so_far = either_way (BatchFits (tables_of p) core placed.batch)
           (λ can.
           let same = sym (append_assoc before (placed ∷ []) rest) in
           follow (before ++ placed ∷ []) rest (replayed p.source core placed.batch) (subst (λ bs. IsOld image epoch kept bytes bs at) same old)
           (replays_placed p (core_of_snapshot kept) before core placed so_far can))
-          (λ cannot. none (Wrong (log_of epoch) placed.at) (wrong_batch p epoch kept bytes at text fits image before placed rest core old so_far cannot))
+          (λ cannot. none (Wrong (log_of epoch) placed.at) (wrong_batch p epoch kept bytes at same_eras fits image before placed rest core old so_far cannot))
 
     old_means : (batches : List Placed) → IsOld image epoch kept bytes batches at → ⊥
-    old_means batches old = either_way (kept.program ≡ p.text)
+    old_means batches old = either_way (kept.eras ≡ p.eras)
         (λ same. either_way (SnapshotFits (tables_of p) kept)
         (λ can. follow same can [] batches (core_of_snapshot kept) old refl)
         (λ cannot. none (Wrong (slot_of epoch) 0) (wrong_snapshot p epoch kept bytes at same image batches old cannot)))
-        (λ other. none (Differs kept.program) (of_other p epoch kept bytes at image batches old other))
+        (λ other. none (Differs kept.eras) (of_other p epoch kept bytes at image batches old other))
 
   -- ---- logs
 

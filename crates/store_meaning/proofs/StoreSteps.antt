@@ -28,7 +28,7 @@ batch_stands p before now core position body batch stands began follows steps =
       batches = old.batches ++ batch ∷ [];
       holds = record_adds before now position.epoch old.kept position.bytes old.batches position.at body batch old.holds follows.spells steps;
       count = old.count;
-      text = old.text;
+      eras = old.eras;
       fits = old.fits;
       replays = replays_more p (core_of_snapshot old.kept) old.batches core batch old.replays follows.fits;
     })
@@ -41,7 +41,7 @@ closed_gate_stands p before now core position stands began steps =
       batches = old.batches;
       holds = gate_adds_none before now position.epoch old.kept position.bytes old.batches position.at old.holds steps;
       count = old.count;
-      text = old.text;
+      eras = old.eras;
       fits = old.fits;
       replays = old.replays;
     })
@@ -68,7 +68,7 @@ module _ (q : Program) (before now : Image) (old core : Core) (position : Positi
         batches = [];
         holds = subst (λ es. HoldsBatches now (position.epoch + 1) (snapshot_of is.head es) (position.bytes + length more) [] 0) (sym whole) holds;
         count = refl;
-        text = is.is_head.text;
+        eras = is.is_head.eras;
         fits = is.is_head.fits;
         replays = sym is.is_head.holds;
       }
@@ -90,7 +90,7 @@ checkpoint_stays p before now core position (inr a) keeps = inr (record {
   batches = a.batches;
   holds = checkpoint_keeps before now position.epoch a.kept position.bytes a.batches position.at a.holds keeps;
   count = a.count;
-  text = a.text;
+  eras = a.eras;
   fits = a.fits;
   replays = a.replays;
 })

@@ -17,7 +17,7 @@ use Rattle.store_meaning.specs.StandsFor.{Program, tables_of, StandsFor}
 -- these are the bytes of a head of this core under this program, which names all of its history in so many bytes
 pub record IsHeadOf (p : Program) (core : Core) (bytes : ℕ) (body : List ℕ) (head : Head) : Type 0 where
   pub spells : IsHead body head
-  pub text : head.program ≡ p.text
+  pub eras : head.eras ≡ p.eras
   pub kept : head.kept ≡ length core.history
   pub named : head.bytes ≡ bytes
   pub fits : SnapshotFits (tables_of p) (snapshot_of head core.history)

@@ -4,6 +4,7 @@ use Rattle.sf_outside.specs.DiskModel.{Image}
 use Rattle.sf_outside.specs.declared.store_disk.StoreFile.{StoreFile}
 use Rattle.sf_value.specs.declared.BatchRecord.{BatchRecord}
 use Rattle.sf_value.specs.declared.Snapshot.{Snapshot}
+use Rattle.sf_value.specs.declared.heads.Era.{Era}
 use Rattle.snapshot_store.specs.SlotFile.{slot_of, log_of}
 use Rattle.recovery.specs.declared.opened.Placed.{Placed}
 use Rattle.recovery.specs.StoreImage.{batches_of, IsOld, IsBad}
@@ -13,16 +14,16 @@ use Rattle.engine.specs.Replays.{BatchFits}
 use Rattle.store_meaning.specs.declared.position.Position.{Position}
 use Rattle.store_meaning.specs.StandsFor.{Program, tables_of, Replays, StandsFor}
 
--- an old store is of another program, whose text is this
-pub record IsOfOther (p : Program) (image : Image) (text : List ℕ) : Type 0 where
+-- an old store is of other programs, which are these
+pub record IsOfOther (p : Program) (image : Image) (others : List Era) : Type 0 where
   pub epoch : ℕ
   pub kept : Snapshot
   pub bytes : ℕ
   pub batches : List Placed
   pub at : ℕ
   pub old : IsOld image epoch kept bytes batches at
-  pub text_is : kept.program ≡ text
-  pub differs : text ≢ p.text
+  pub others_are : kept.eras ≡ others
+  pub differs : others ≢ p.eras
 
 -- an old store of this program has a snapshot that the program can't take
 pub record HasWrongSnapshot (p : Program) (image : Image) (file : StoreFile) (at : ℕ) : Type 0 where
@@ -32,7 +33,7 @@ pub record HasWrongSnapshot (p : Program) (image : Image) (file : StoreFile) (at
   pub batches : List Placed
   pub last : ℕ
   pub old : IsOld image epoch kept bytes batches last
-  pub text : kept.program ≡ p.text
+  pub eras : kept.eras ≡ p.eras
   pub wrong : SnapshotFits (tables_of p) kept → ⊥
   pub same_file : file ≡ slot_of epoch
   pub start : at ≡ 0
@@ -48,7 +49,7 @@ pub record HasWrongBatch (p : Program) (image : Image) (file : StoreFile) (at : 
   pub last : ℕ
   pub core : Core
   pub old : IsOld image epoch kept bytes (before ++ record { at = at; batch = batch } ∷ after) last
-  pub text : kept.program ≡ p.text
+  pub eras : kept.eras ≡ p.eras
   pub fits : SnapshotFits (tables_of p) kept
   pub replays : Replays p (core_of_snapshot kept) (batches_of before) core
   pub wrong : BatchFits (tables_of p) core batch → ⊥
@@ -60,13 +61,13 @@ IsWrong p image file at = HasWrongSnapshot p image file at ⊎ HasWrongBatch p i
 
 pub data Meaning : Type 0 where
   Stands : (core : Core) → (position : Position) → Meaning
-  Differs : (text : List ℕ) → Meaning
+  Differs : (others : List Era) → Meaning
   Wrong : (file : StoreFile) → (at : ℕ) → Meaning
   Bad : (file : StoreFile) → (at : ℕ) → Meaning
 
 abbrev pub Means : Program → Image → Meaning → Type 0
 Means p image (Stands core position) = StandsFor p image core position
-Means p image (Differs text) = IsOfOther p image text
+Means p image (Differs others) = IsOfOther p image others
 Means p image (Wrong file at) = IsWrong p image file at
 Means p image (Bad file at) = IsBad image file at
 

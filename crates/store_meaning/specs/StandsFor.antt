@@ -6,6 +6,7 @@ use Rattle.py_tree.specs.ClassRules.{PlainTable}
 use Rattle.sf_outside.specs.DiskModel.{Image}
 use Rattle.sf_value.specs.declared.BatchRecord.{BatchRecord}
 use Rattle.sf_value.specs.declared.Snapshot.{Snapshot}
+use Rattle.sf_value.specs.declared.heads.Era.{Era}
 use Rattle.program_meaning.specs.ClassTables.{Source}
 use Rattle.snapshot_store.specs.SlotFile.{IsNew}
 use Rattle.recovery.specs.StoreSteps.{HoldsBatches}
@@ -14,10 +15,10 @@ use Rattle.engine.specs.Kept.{core_of_snapshot, SnapshotFits}
 use Rattle.engine.specs.Replays.{replayed, BatchFits}
 use Rattle.store_meaning.specs.declared.position.Position.{Position}
 
--- a program as a store knows it: what it means, and its text
+-- a program as a store knows it: what it means, and the texts of the programs that the history ran under, up to this one
 pub record Program : Type 0 where
   pub source : Source
-  pub text : List ℕ
+  pub eras : List Era
 
 abbrev pub tables_of : Program → List PlainTable
 tables_of p = rules.tables_of p.source.names p.source.program
@@ -41,7 +42,7 @@ pub record OldStandsFor (p : Program) (image : Image) (core : Core) (position : 
   pub batches : List BatchRecord
   pub holds : HoldsBatches image position.epoch kept position.bytes batches position.at
   pub count : position.kept ≡ length kept.history
-  pub text : kept.program ≡ p.text
+  pub eras : kept.eras ≡ p.eras
   pub fits : SnapshotFits (tables_of p) kept
   pub replays : Replays p (core_of_snapshot kept) batches core
 

@@ -3,7 +3,7 @@ use Rattle.sf_value.proofs.heads.HeadTryClone.try_clone.Goals as goal
 
 pub returns : goal.returns
 returns c = λ i. record {
-  program = c.in_ok-try_clone.ensures i;
+  eras = equal_copies _ _ c.in_ok-try_clone.ensures i;
   kept = c.args.self.now.kept;
   bytes = c.args.self.now.bytes;
   records = equal_copies _ _ c.in_ok-try_clone-2.ensures i;
