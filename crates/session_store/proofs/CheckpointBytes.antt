@@ -5,7 +5,7 @@ use Rattle.sf_outside.specs.declared.devices.Failed.{Failed}
 use Rattle.std.specs.List.{AllByRecursion, flat_map}
 use Rattle.std.proofs.lemmas.List.{take_all}
 use Rattle.byte_sizes.specs.Sizes.{head_size}
-use Rattle.byte_sizes.specs.Spelt.{IsShortText, IsSpeltEntry, IsSpeltHead, IsRealEntry, IsRealHead, IsReadEntry}
+use Rattle.byte_sizes.specs.Spelt.{AreSpeltEras, IsSpeltEntry, IsSpeltHead, IsRealEntry, IsRealHead, IsReadEntry}
 use Rattle.sf_bytes.specs.ByteForms.{entry_bytes, head_bytes}
 use Rattle.sf_bytes.specs.Entries.{EntriesTo}
 use Rattle.sf_bytes.specs.Gates.{StandsAt}
@@ -16,6 +16,7 @@ use Rattle.sf_outside.proofs.DiskLaws.{LeavesOnly-start, LeavesOnly-weaker}
 use Rattle.sf_value.specs.Heads.{snapshot_of}
 use Rattle.sf_value.specs.declared.Entry.{Entry}
 use Rattle.sf_value.specs.declared.Held.{Held}
+use Rattle.sf_value.specs.declared.heads.Era.{Era}
 use Rattle.sf_value.specs.declared.heads.Head.{Head}
 use Rattle.keyed_state.specs.Works.{with_records, entities_differ}
 use Rattle.program_meaning.specs.Serial.{no_state}
@@ -58,9 +59,9 @@ history_past core position past = omega (arith, entries_size (behind core positi
 
 -- ---- a head
 
--- of an engine, with the text of its program and so many bytes of history
-pub record IsLentHead (e : Engine) (text : List ℕ) (bytes : ℕ) (head : Head) : Type 0 where
-  pub program : head.program ≡ text
+-- of an engine, with the programs of its history and so many bytes of it
+pub record IsLentHead (e : Engine) (eras : List Era) (bytes : ℕ) (head : Head) : Type 0 where
+  pub same_eras : head.eras ≡ eras
   pub kept : head.kept ≡ length (core_of e).history
   pub few : head.kept < 2 ^ 32
   pub named : head.bytes ≡ bytes
@@ -68,11 +69,11 @@ pub record IsLentHead (e : Engine) (text : List ℕ) (bytes : ℕ) (head : Head)
   pub once : entities_differ head.records ≡ true
   pub pending : head.pending ≡ (core_of e).pending
 
-pub lent_head : (e : Engine) (text : List ℕ) (bytes : ℕ) (head : Head) (records : List Held) → head.program ≡ text → head.kept ≡ length (core_of e).history → head.kept < 2 ^ 32
+pub lent_head : (e : Engine) (eras : List Era) (bytes : ℕ) (head : Head) (records : List Held) → head.eras ≡ eras → head.kept ≡ length (core_of e).history → head.kept < 2 ^ 32
     → head.bytes ≡ bytes → head.records ≡ records → head.pending ≡ (core_of e).pending → with_records no_state records ≡ (core_of e).state → entities_differ records ≡ true
-    → IsLentHead e text bytes head
-lent_head e text bytes head records program kept few named same pending contents once = record {
-  program = program;
+    → IsLentHead e eras bytes head
+lent_head e eras bytes head records same_eras kept few named same pending contents once = record {
+  same_eras = same_eras;
   kept = kept;
   few = few;
   named = named;
@@ -81,8 +82,8 @@ lent_head e text bytes head records program kept few named same pending contents
   pending = pending;
 }
 
-module _ (e : Engine) (text : List ℕ) (bytes : ℕ) (head : Head) (lent : IsLentHead e text bytes head) (fits : CoreFits (tables_of e) (core_of e)) (few : length (core_of e).pending ≤ 255)
-    (storable : IsStorable (core_of e) 0) (short : IsShortText text) where
+module _ (e : Engine) (eras : List Era) (bytes : ℕ) (head : Head) (lent : IsLentHead e eras bytes head) (fits : CoreFits (tables_of e) (core_of e)) (few : length (core_of e).pending ≤ 255)
+    (storable : IsStorable (core_of e) 0) (spelt : AreSpeltEras eras (length (core_of e).history)) where
   same_core : core_of_snapshot (snapshot_of head (core_of e).history) ≡ core_of e
   same_core = λ i. record { history = (core_of e).history; state = lent.contents i; pending = lent.pending i }
 
@@ -90,24 +91,25 @@ module _ (e : Engine) (text : List ℕ) (bytes : ℕ) (head : Head) (lent : IsLe
   head_fits = snapshot_fits (tables_of e) (snapshot_of head (core_of e).history) (core_of e) same_core lent.once few (omega (arith, lent.kept, lent.few)) fits
 
   pub head_spelt : IsSpeltHead head
-  head_spelt = heads_are_spelt (source_of e) (core_of e) 0 head storable head_fits same_core (subst IsShortText (sym lent.program) short)
+  head_spelt = heads_are_spelt (source_of e) (core_of e) 0 head storable head_fits same_core
+      (subst (AreSpeltEras head.eras) (sym lent.kept) (subst (λ eras. AreSpeltEras eras (length (core_of e).history)) (sym lent.same_eras) spelt))
 
-  is_head : IsRealHead head → IsHeadOf (program_of e text) (core_of e) bytes (head_bytes head) head
-  is_head real = record { spells = ((head_spelt, real), refl); text = lent.program; kept = lent.kept; named = lent.named; fits = head_fits; holds = same_core }
+  is_head : IsRealHead head → IsHeadOf (program_of e eras) (core_of e) bytes (head_bytes head) head
+  is_head real = record { spells = ((head_spelt, real), inl refl); eras = lent.same_eras; kept = lent.kept; named = lent.named; fits = head_fits; holds = same_core }
 
 -- ---- what is written
 
 -- the entries that a store at this position doesn't have yet, and a head
-module _ (e : Engine) (text : List ℕ) (position : Position) (head : Head) (lent : IsLentHead e text (position.bytes + length (behind_bytes (core_of e) position.kept)) head)
-    (fits : CoreFits (tables_of e) (core_of e)) (few : length (core_of e).pending ≤ 255) (storable : IsStorable (core_of e) 0) (short : IsShortText text) where
+module _ (e : Engine) (eras : List Era) (position : Position) (head : Head) (lent : IsLentHead e eras (position.bytes + length (behind_bytes (core_of e) position.kept)) head)
+    (fits : CoreFits (tables_of e) (core_of e)) (few : length (core_of e).pending ≤ 255) (storable : IsStorable (core_of e) 0) (spelt : AreSpeltEras eras (length (core_of e).history)) where
   pub is_checkpoint : AllByRecursion IsRealEntry (behind (core_of e) position.kept) → IsRealHead head
-      → IsCheckpointOf (program_of e text) (core_of e) position (core_of e) (behind_bytes (core_of e) position.kept) (head_bytes head)
+      → IsCheckpointOf (program_of e eras) (core_of e) position (core_of e) (behind_bytes (core_of e) position.kept) (head_bytes head)
   is_checkpoint real real_head = record {
     added = behind (core_of e) position.kept;
     spells = entries_stand (behind (core_of e) position.kept) (all_read (behind (core_of e) position.kept) (entries_are_spelt (core_of e) 0 position.kept storable) real);
     history = sym (take-append-drop position.kept (core_of e).history);
     head = head;
-    is_head = is_head e text (position.bytes + length (behind_bytes (core_of e) position.kept)) head lent fits few storable short real_head;
+    is_head = is_head e eras (position.bytes + length (behind_bytes (core_of e) position.kept)) head lent fits few storable spelt real_head;
   }
 
 -- ---- what is kept and left
@@ -150,10 +152,10 @@ module _ (p : Program) (core : Core) (position : Position) (old new : DiskFacts)
       stands image (inl here) = (position, here)
       stands image (inr anew) = (there, anew)
 
-  -- what would end past the place where a file may end
-  pub checkpoint_past : (2 ^ 62 < 17 + length body) ⊎ (2 ^ 62 < position.bytes + length more) → CheckpointEndsPast position p.text core
-  checkpoint_past (inl past) =
+  -- what would end past the place where a file may end, where the head is written in the second form
+  pub checkpoint_past : head_bytes is.head ≡ body → (2 ^ 62 < 17 + length body) ⊎ (2 ^ 62 < position.bytes + length more) → CheckpointEndsPast position p.eras core
+  checkpoint_past second (inl past) =
       let head = is.head in
-      let size : length body ≡ head_size head = ap length (sym is.is_head.spells.1) ∙ head-sizes head in
-      inl (record { head = head; program = is.is_head.text; holds = is.is_head.holds; once = is.is_head.fits.entities; past = omega (arith, size, past) })
-  checkpoint_past (inr past) = inr (history_past core position past)
+      let size : length body ≡ head_size head = ap length (sym second) ∙ head-sizes head in
+      inl (record { head = head; same_eras = is.is_head.eras; holds = is.is_head.holds; once = is.is_head.fits.entities; past = omega (arith, size, past) })
+  checkpoint_past second (inr past) = inr (history_past core position past)

@@ -1,6 +1,7 @@
 pub mod StoreLaws
 pub mod CycleLaws
 pub mod NoStore
+pub mod EraLaws
 pub mod PlaceLaws
 mod LoggingLaws
 mod EntryLaws

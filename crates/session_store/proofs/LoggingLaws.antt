@@ -2,6 +2,7 @@
 use Rattle.std.proofs.Common.{◌≡◌, ◌⊎◌, ◌≤◌, ◌<◌, ◌+◌, ◌^◌, List, ℕ, length, Some, Ok, Err, OnErr, inl, inr, sym, ap, ◌∙◌, subst, arith}
 use Rattle.std.specs.declared.result.Result.{Result}
 use Rattle.byte_sizes.specs.Sizes.{batch_size}
+use Rattle.byte_sizes.specs.Spelt.{AreSpeltEras}
 use Rattle.sf_bytes.proofs.Lengths.{batch-sizes}
 use Rattle.sf_outside.specs.DiskModel.{Image, DiskFacts}
 use Rattle.sf_outside.proofs.DiskLaws.{LeavesOnly-weaker}
@@ -62,7 +63,7 @@ module _ (e : Engine) (p : Planned) (plan : IsPlanOf e p) (fits : CoreFits (tabl
             (placed_logged of_store (logged_of e) store.position kept.placed p.batch body follows));
         epoch = subst (λ (q : Position). IsEpoch q.epoch) (sym place) kept.epoch;
         every = kept.every;
-        text = kept.text;
+        eras = subst (λ (q : Position). AreSpeltEras store.settings.eras q.kept) (sym place) kept.eras;
       }
 
   -- at each moment an image stands for the core before the batch or for the one behind it

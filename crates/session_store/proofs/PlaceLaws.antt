@@ -1,9 +1,11 @@
 -- Where a store is, from one record to the next and from one checkpoint to the next.
-use Rattle.std.proofs.Common.{◌≡◌, ℕ, ◌+◌, ◌<◌, ◌^◌, List, [], ◌∷◌, ◌++◌, length, take, drop, refl, sym, ap, ◌∙◌, subst, arith, take-append-drop}
+use Rattle.std.proofs.Common.{◌≡◌, ℕ, ◌+◌, ◌<◌, ◌≤◌, ◌^◌, List, [], ◌∷◌, ◌++◌, length, take, drop, refl, sym, ap, ◌∙◌, subst, arith, take-append-drop, length-take}
 use Rattle.std.specs.List.{sum_by}
 use Rattle.std.proofs.lemmas.List.Sums.{sum_by-append, sum_by_push}
 use Rattle.sf_value.specs.declared.BatchRecord.{BatchRecord}
 use Rattle.byte_sizes.specs.Sizes.{batch_size, entry_size}
+use Rattle.byte_sizes.specs.Spelt.{AreSpeltEras}
+use Rattle.session_store.proofs.EraLaws.{eras_longer}
 use Rattle.sf_bytes.proofs.Lengths.{batch-sizes}
 use Rattle.sf_outside.specs.DiskModel.{DiskFacts}
 use Rattle.program_meaning.specs.ClassTables.{Source}
@@ -54,6 +56,12 @@ module _ (p : Program) (core : Core) (position : Position) (placed : IsPlaced p 
         at = refl;
       }
 
+  -- the entries that the store has are of the history
+  pub kept_within : position.kept ≤ length core.history
+  kept_within =
+      let had : take position.kept core.history ≡ placed.kept.history = ap (λ n. take n core.history) placed.count ∙ replays_grow p placed.kept placed.batches core placed.replays in
+      omega (arith, placed.count, ap length had, length-take position.kept core.history)
+
 -- so the store keeps it then
 pub keeps_checkpoint : (store : Store) (src : Source) (core : Core) (old new : DiskFacts) → KeepsStored store src core old → store.position.epoch + 1 < 2 ^ 63
     → KeepsCore (program_with store src) new core (kept_at store.position core) → (next : Position) → next ≡ kept_at store.position core
@@ -63,5 +71,5 @@ keeps_checkpoint store src core old new kept more keeps next is = record {
   placed = subst (IsPlaced (program_with store src) core) (sym is) (placed_checked (program_with store src) core store.position kept.placed);
   epoch = let in_range : IsEpoch (store.position.epoch + 1) = (omega arith, omega (arith, more)) in subst (λ (q : Position). IsEpoch q.epoch) (sym is) in_range;
   every = kept.every;
-  text = kept.text;
+  eras = subst (λ (q : Position). AreSpeltEras store.settings.eras q.kept) (sym is) (eras_longer store.settings.eras store.position.kept (length core.history) (kept_within (program_with store src) core store.position kept.placed) kept.eras);
 }

@@ -5,9 +5,10 @@ use Rattle.std.specs.declared.option.Option.{Option}
 use Rattle.sf_outside.specs.DiskModel.{Image, DiskFacts}
 use Rattle.sf_value.specs.declared.BatchRecord.{BatchRecord}
 use Rattle.sf_value.specs.Heads.{snapshot_of}
+use Rattle.sf_value.specs.declared.heads.Era.{Era}
 use Rattle.sf_value.specs.declared.heads.Head.{Head}
 use Rattle.byte_sizes.specs.Sizes.{batch_size, entry_size, head_size}
-use Rattle.byte_sizes.specs.Spelt.{IsShortText}
+use Rattle.byte_sizes.specs.Spelt.{AreSpeltEras}
 use Rattle.program_meaning.specs.ClassTables.{Source}
 use Rattle.keyed_state.specs.Works.{entities_differ}
 use Rattle.request_log.specs.LogFile.{IsBatch}
@@ -30,7 +31,7 @@ settings_of (Some store) = Some store.settings
 
 -- the program that a store is of
 abbrev pub program_with : Store → Source → Program
-program_with store src = record { source = src; text = store.settings.program }
+program_with store src = record { source = src; eras = store.settings.eras }
 
 -- ---- what a disk keeps
 
@@ -40,7 +41,7 @@ pub record KeepsStored (store : Store) (src : Source) (core : Core) (facts : Dis
   pub placed : IsPlaced (program_with store src) core store.position
   pub epoch : IsEpoch store.position.epoch
   pub every : 1 ≤ store.settings.every
-  pub text : IsShortText store.settings.program
+  pub eras : AreSpeltEras store.settings.eras store.position.kept
 
 abbrev pub Keeps : Option Store → Source → Core → DiskFacts → Type 0
 Keeps None src core facts = ⊤
@@ -77,10 +78,10 @@ abbrev pub RecordEndsPast : Option Store → BatchRecord → Type 0
 RecordEndsPast None batch = ⊥
 RecordEndsPast (Some store) batch = 2 ^ 62 < store.position.at + 6 + batch_size batch
 
--- a head of this core that has each entity once would
-pub record HasSnapshotPast (text : List ℕ) (core : Core) : Type 0 where
+-- a head of this core and these programs that has each entity once would
+pub record HasSnapshotPast (eras : List Era) (core : Core) : Type 0 where
   pub head : Head
-  pub program : head.program ≡ text
+  pub same_eras : head.eras ≡ eras
   pub holds : core_of_snapshot (snapshot_of head core.history) ≡ core
   pub once : entities_differ head.records ≡ true
   pub past : 2 ^ 62 < 17 + head_size head
@@ -90,12 +91,12 @@ abbrev pub HistoryEndsPast : Position → Core → Type 0
 HistoryEndsPast position core = 2 ^ 62 < position.bytes + sum_by entry_size (drop position.kept core.history)
 
 -- one of these two: a checkpoint would end past it
-abbrev pub CheckpointEndsPast : Position → List ℕ → Core → Type 0
-CheckpointEndsPast position text core = HasSnapshotPast text core ⊎ HistoryEndsPast position core
+abbrev pub CheckpointEndsPast : Position → List Era → Core → Type 0
+CheckpointEndsPast position eras core = HasSnapshotPast eras core ⊎ HistoryEndsPast position core
 
 abbrev pub SnapshotEndsPast : Option Store → Core → Type 0
 SnapshotEndsPast None core = ⊥
-SnapshotEndsPast (Some store) core = CheckpointEndsPast store.position store.settings.program core
+SnapshotEndsPast (Some store) core = CheckpointEndsPast store.position store.settings.eras core
 
 -- One of the two: the record of the next batch of a core, or a checkpoint of what is logged of it, where so many requests came since the last batch;
 -- and the store is where what is logged says.

@@ -4,7 +4,7 @@
 ghost use Rattle.std.specs.Prelude.{◌≡◌, ◌+◌, ◌≤◌, ◌<◌, ◌^◌, ◌⊎◌, length, IfOk, OnOk, OnErr};
 ghost use Rattle.sf_outside.specs.Causes.{Rose};
 ghost use Rattle.sf_outside.specs.DiskModel.{LeavesOnly};
-ghost use Rattle.byte_sizes.specs.Spelt.{IsShortText};
+ghost use Rattle.byte_sizes.specs.Spelt.{AreSpeltEras};
 ghost use Rattle.sf_bytes.specs.Counting.{IsSizeOf};
 ghost use Rattle.store_meaning.specs.Vocabulary.{CoreFits, core_of, source_of, tables_of};
 ghost use Rattle.store_meaning.specs.Engines.{program_of};
@@ -19,7 +19,7 @@ use crate::lending::{EntriesBehind, StateRecords};
 use crate::store::Store;
 use sf_bytes::{LentHead, Measured, Spelled, measure};
 use sf_outside::{Disk, Failed};
-use sf_value::Text;
+use sf_value::Eras;
 use store_meaning::{Engine, Position, keep_head};
 
 /// Behind this epoch there is no checkpoint any more.
@@ -80,7 +80,7 @@ fn count_batch<D: Disk>(disk: &mut D, store: &mut Store, engine: &Engine) -> Res
     if store.position.epoch == LAST_EPOCH {
         return Ok(());
     }
-    store.position = keep_core(disk, store.position, engine, &store.settings.program)?;
+    store.position = keep_core(disk, store.position, engine, &store.settings.eras)?;
     Ok(())
 }
 
@@ -91,20 +91,20 @@ pub fn keep_core<D: Disk>(
     disk: &mut D,
     position: Position,
     engine: &Engine,
-    text: &Text,
+    eras: &Eras,
 ) -> Result<Position, Failed>
     requires fits { CoreFits (tables_of engine.now) (core_of engine.now) }
     requires storable { IsStorable (core_of engine.now) 0 }
     requires few { length (core_of engine.now).pending ≤ 255 }
-    requires text { IsShortText text.now }
-    requires kept { KeepsCore (program_of engine.now text.now) (D.facts disk.old) (core_of engine.now) position }
+    requires eras { AreSpeltEras eras.now (length (core_of engine.now).history) }
+    requires kept { KeepsCore (program_of engine.now eras.now) (D.facts disk.old) (core_of engine.now) position }
     requires more { position.epoch + 1 < 2 ^ 63 }
     ensures next { IfOk result (λ next. next ≡ kept_at position (core_of engine.now)) }
-    ensures kept { OnOk result (KeepsCore (program_of engine.now text.now) (D.facts disk.new) (core_of engine.now) (kept_at position (core_of engine.now))) }
-    ensures moments { LeavesOnly (D.facts disk.old) (D.facts disk.new) (λ image. StandsSomewhere (program_of engine.now text.now) image (core_of engine.now)) }
+    ensures kept { OnOk result (KeepsCore (program_of engine.now eras.now) (D.facts disk.new) (core_of engine.now) (kept_at position (core_of engine.now))) }
+    ensures moments { LeavesOnly (D.facts disk.old) (D.facts disk.new) (λ image. StandsSomewhere (program_of engine.now eras.now) image (core_of engine.now)) }
     ensures later { D.faults disk.old ≤ D.faults disk.new }
     ensures cause { OnErr result (Rose (D.faults disk.old) (D.faults disk.new)
-        ⊎ (CheckpointEndsPast position text.now (core_of engine.now) × (disk.new ≡ disk.old))) }
+        ⊎ (CheckpointEndsPast position eras.now (core_of engine.now) × (disk.new ≡ disk.old))) }
     ensures mounts { D.mounts disk.new ≡ D.mounts disk.old }
 {
     let behind = EntriesBehind {
@@ -120,7 +120,7 @@ pub fn keep_core<D: Disk>(
         return Err(Failed);
     }
     let records = StateRecords::of(engine);
-    let head = head_of(engine, text, bytes, &records);
+    let head = head_of(engine, eras, bytes, &records);
     let body = Measured {
         spelled: &head,
         size: size_of(&head),
@@ -131,11 +131,11 @@ pub fn keep_core<D: Disk>(
 /// A head of the core of an engine, with so many bytes of its history, whose parts stand where they are.
 fn head_of<'a, 'r>(
     engine: &'a Engine,
-    text: &'a Text,
+    eras: &'a Eras,
     bytes: u64,
     records: &'a StateRecords<'r>,
 ) -> LentHead<'a, StateRecords<'r>>
-    ensures program { result.program.now ≡ text.now }
+    ensures eras { result.eras.now ≡ eras.now }
     ensures kept { result.kept ≡ length (core_of engine.now).history }
     ensures few { result.kept < 2 ^ 32 }
     ensures bytes { result.bytes ≡ bytes }
@@ -143,7 +143,7 @@ fn head_of<'a, 'r>(
     ensures pending { result.pending.now ≡ (core_of engine.now).pending }
 {
     LentHead {
-        program: text,
+        eras,
         kept: engine.entries(),
         bytes,
         records,

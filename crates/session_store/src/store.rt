@@ -1,13 +1,13 @@
 //! What a session knows of its store.
 
-use sf_value::Text;
+use sf_value::Eras;
 use store_meaning::Position;
 
 /// What stays of a store through a session.
 #[derive(Drop)]
 pub struct StoreSettings {
-    /// The text that the program was compiled from.
-    pub program: Text,
+    /// The programs that the history ran under, of which the last one is the session's.
+    pub eras: Eras,
     /// A checkpoint follows after so many batches, 1 to 65,535.
     pub every: u32,
     /// The epoch of the store as the session began.

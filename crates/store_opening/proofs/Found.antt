@@ -4,7 +4,9 @@ use Rattle.std.specs.List.{sum_by}
 use Rattle.byte_sizes.specs.Sizes.{entry_size}
 use Rattle.sf_outside.specs.Causes.{Rose}
 use Rattle.std.specs.declared.option.Option.{Option}
-use Rattle.byte_sizes.specs.Spelt.{IsShortText}
+use Rattle.byte_sizes.specs.Spelt.{IsShortText, AreSpeltEras}
+use Rattle.sf_value.specs.Heads.{one_era}
+use Rattle.sf_value.specs.declared.heads.Era.{Era}
 use Rattle.sf_outside.specs.DiskModel.{Image, DiskFacts, LeavesOnly, LeavesNoMore, IsClean}
 use Rattle.sf_outside.proofs.DiskLaws.{LeavesOnly-start, LeavesOnly-weaker, LeavesOnly-no_more}
 use Rattle.sf_outside.proofs.ImageSteps.{if_one}
@@ -33,6 +35,12 @@ use Rattle.store_opening.specs.Findings.{Judges, IsFoundFor, IsAsFound}
 use Rattle.store_opening.specs.OpenedStores.{program_for, settings_at, IsReady, KeepsOpened}
 use Rattle.store_opening.specs.Openings.{AnswersFound, AnswersOld, LeavesAsFound, LeavesFound}
 
+-- ---- one program
+
+-- any history may have run under one, whose text can be counted
+pub one_spelt : (text : List ℕ) (kept : ℕ) → IsShortText text → AreSpeltEras (one_era text) kept
+one_spelt text kept short = (record { first = refl; count = omega arith; order = (omega arith, omega arith) }, (short, tt))
+
 -- ---- an opened store
 
 module _ (compiled : Compiled) (settings : OpenSettings) (made : OpenedStore) (ready : IsReady compiled settings made) where
@@ -40,20 +48,21 @@ module _ (compiled : Compiled) (settings : OpenSettings) (made : OpenedStore) (r
   same_program : program_for compiled settings.program ≡ program_with made.store (source_of made.engine)
   same_program = λ i. record {
     source = source (compiled_names (sym ready.runs.compiled_is i)) (compiled_program (sym ready.runs.compiled_is i));
-    text = sym (ap (λ s. s.program) ready.settings_are) i;
+    eras = sym (ap (λ s. s.eras) ready.settings_are) i;
   }
 
-  pub keeps_opened : (facts : DiskFacts) (position : Position) → made.store.position ≡ position → IsEpoch position.epoch → IsShortText settings.program → 1 ≤ settings.every
+  pub keeps_opened : (facts : DiskFacts) (position : Position) → made.store.position ≡ position → IsEpoch position.epoch → AreSpeltEras (one_era settings.program) position.kept → 1 ≤ settings.every
       → KeepsCore (program_for compiled settings.program) facts (core_of made.engine) position → IsPlaced (program_for compiled settings.program) (core_of made.engine) position
       → KeepsOpened facts made
-  keeps_opened facts position place in_range short every keeps placed = record {
+  keeps_opened facts position place in_range spelt every keeps placed = record {
     keeps = subst (λ q. KeepsCore (program_with made.store (source_of made.engine)) facts (core_of made.engine) q) (sym place)
         (subst (λ p. KeepsCore p facts (core_of made.engine) position) same_program keeps);
     placed = subst (IsPlaced (program_with made.store (source_of made.engine)) (core_of made.engine)) (sym place)
         (subst (λ p. IsPlaced p (core_of made.engine) position) same_program placed);
     epoch = subst (λ (q : Position). IsEpoch q.epoch) (sym place) in_range;
     every = subst (λ s. 1 ≤ s.every) (sym ready.settings_are) every;
-    text = subst (λ s. IsShortText s.program) (sym ready.settings_are) short;
+    eras = subst (λ s. AreSpeltEras s.eras made.store.position.kept) (sym ready.settings_are)
+        (subst (λ (q : Position). AreSpeltEras (one_era settings.program) q.kept) (sym place) spelt);
   }
 
 -- ---- an old store
@@ -91,7 +100,7 @@ module _ (compiled : Compiled) (settings : OpenSettings) (made : OpenedStore) (g
   pub old_kept : (facts : DiskFacts) → LeavesAsFound found facts → IsShortText settings.program → 1 ≤ settings.every → KeepsOpened facts made
   old_kept facts left short every =
       let seen : IfSome facts.seen Stands = subst (λ s. IfSome s Stands) (sym left.1) (if_one found (Judges (Ok (Old made)) of_text) Stands (λ image old. inr old) judged) in
-      keeps_opened compiled settings made given.0 facts made.store.position refl given.1 short every
+      keeps_opened compiled settings made given.0 facts made.store.position refl given.1 (one_spelt settings.program made.store.position.kept short) every
       (clean_keeps of_text facts (core_of made.engine) made.store.position seen left.0) given.2
 
 -- ---- where nothing is written
@@ -123,15 +132,15 @@ module _ (p : Program) (facts : DiskFacts) (clean : IsClean facts) (is_new : IfS
       (λ now stands. (new_position, inr (refl, place), subst (λ c. StandsFor p now c new_position) (sym same) stands)) new_seen
 
 -- of its first checkpoint only the head can end past a file's last place
-module _ (text : List ℕ) (core : Core) (empty : core ≡ empty_core) where
-  first_past : CheckpointEndsPast new_position text core → HasSnapshotPast text empty_core
-  first_past past = by (subst (CheckpointEndsPast new_position text) empty past)
+module _ (eras : List Era) (core : Core) (empty : core ≡ empty_core) where
+  first_past : CheckpointEndsPast new_position eras core → HasSnapshotPast eras empty_core
+  first_past past = by (subst (CheckpointEndsPast new_position eras) empty past)
     where
-      by : CheckpointEndsPast new_position text empty_core → HasSnapshotPast text empty_core
+      by : CheckpointEndsPast new_position eras empty_core → HasSnapshotPast eras empty_core
       by (inl head) = head
       by (inr history) = let none : sum_by entry_size (drop 0 []) ≡ 0 = refl in absurd (omega (arith, history, none))
 
-  pub first_cause : {Same : Type 0} (old new : ℕ) → Rose old new ⊎ (CheckpointEndsPast new_position text core × Same) → Rose old new ⊎ HasSnapshotPast text empty_core
+  pub first_cause : {Same : Type 0} (old new : ℕ) → Rose old new ⊎ (CheckpointEndsPast new_position eras core × Same) → Rose old new ⊎ HasSnapshotPast eras empty_core
   first_cause old new (inl rose) = inl rose
   first_cause old new (inr past) = inr (first_past past.0)
 
@@ -161,4 +170,4 @@ module _ (settings : OpenSettings) (made : OpenedStore) (ready : IsReady (compil
       let in_range : IsEpoch 1 = (omega arith, omega arith) in
       let placed : IsPlaced of_new (core_of made.engine) (kept_at new_position (core_of made.engine)) =
       subst (λ core. IsPlaced of_new core (kept_at new_position core)) (sym empty) (placed_first of_new) in
-      keeps_opened (compiled_of made.engine) settings made ready facts (kept_at new_position (core_of made.engine)) place in_range short every keeps placed
+      keeps_opened (compiled_of made.engine) settings made ready facts (kept_at new_position (core_of made.engine)) place in_range (one_spelt settings.program (length (core_of made.engine).history) short) every keeps placed

@@ -8,6 +8,7 @@ use Rattle.byte_sizes.specs.Spelt.{IsReadSnapshot}
 use Rattle.sf_bytes.proofs.Lengths.{batch-sizes}
 use Rattle.sf_outside.specs.DiskModel.{Image}
 use Rattle.sf_outside.specs.declared.store_disk.StoreFile.{StoreFile}
+use Rattle.sf_value.specs.Heads.{one_era}
 use Rattle.sf_value.specs.declared.Snapshot.{Snapshot}
 use Rattle.snapshot_store.specs.SlotFile.{log_of}
 use Rattle.block_step.specs.declared.compiled.Compiled.{Compiled}
@@ -64,12 +65,12 @@ module _ (compiled : Compiled) (text : List ℕ) (position : Position) (kept : S
   abbrev of_text : Program
   of_text = program_for compiled text
 
-  pub other_told : (kept.program ≡ text → ⊥) → AnswersOld (Err OtherProgram) of_text image
-  other_told differs = (kept.program, of_other of_text position.epoch kept position.bytes position.at image batches old differs)
+  pub other_told : (kept.eras ≡ one_era text → ⊥) → AnswersOld (Err OtherProgram) of_text image
+  other_told differs = (kept.eras, of_other of_text position.epoch kept position.bytes position.at image batches old differs)
 
-  module _ (same_text : kept.program ≡ text) where
+  module _ (same_eras : kept.eras ≡ one_era text) where
     pub restore_told : (error : RestoreError) → IsCause (SnapshotFits (program_tables compiled) kept) error → AnswersOld (Err (restore_stop position.epoch error)) of_text image
-    restore_told of_snapshot.Wrong wrong = wrong_snapshot of_text position.epoch kept position.bytes position.at same_text image batches old wrong
+    restore_told of_snapshot.Wrong wrong = wrong_snapshot of_text position.epoch kept position.bytes position.at same_eras image batches old wrong
     restore_told of_snapshot.NoMemory cause = tt
 
     module _ (fits : SnapshotFits (program_tables compiled) kept) (count : position.kept ≡ length kept.history) where
@@ -81,14 +82,14 @@ module _ (compiled : Compiled) (text : List ℕ) (position : Position) (kept : S
       broken_told file at w is_log =
           let split = subst (λ bs. IsOld image position.epoch kept position.bytes bs position.at) w.split old in
           let here : IsWrong of_text image (log_of position.epoch) w.placed.at =
-          wrong_batch of_text position.epoch kept position.bytes position.at same_text fits image w.before w.placed w.after w.middle split w.replays w.wrong in
+          wrong_batch of_text position.epoch kept position.bytes position.at same_eras fits image w.before w.placed w.after w.middle split w.replays w.wrong in
           subst (λ f. IsWrong of_text image f at) (sym is_log) (subst (λ n. IsWrong of_text image (log_of position.epoch) n) (sym w.place) here)
 
       pub replays_told : (result : Result OpenedStore OpenStop) → IfOk result (λ made. Replays of_text (core_of_snapshot kept) (batches_of batches) (core_of made.engine))
           → IfOk result (λ made. made.store.position ≡ position) → IfErr result (IsBrokenOff of_text (core_of_snapshot kept) batches position.epoch) → AnswersOld result of_text image
       replays_told (Ok made) replays place stop =
           subst (λ q. StandsFor of_text image (core_of made.engine) q) (at_its_place ∙ sym place)
-          (old_stands of_text position.epoch kept position.bytes position.at same_text fits image batches (core_of made.engine) old replays)
+          (old_stands of_text position.epoch kept position.bytes position.at same_eras fits image batches (core_of made.engine) old replays)
       replays_told (Err (Bad file at)) replays place stop = broken_told file at stop.0 stop.1
       replays_told (Err DiskFault) replays place stop = stop
       replays_told (Err OtherProgram) replays place stop = absurd stop
@@ -96,8 +97,8 @@ module _ (compiled : Compiled) (text : List ℕ) (position : Position) (kept : S
 
       -- the same of an engine that was restored from the snapshot
       pub batches_told : (e : Engine) → compiled_of e ≡ compiled → core_of e ≡ core_of_snapshot kept → (result : Result OpenedStore OpenStop)
-          → IfOk result (λ made. Replays (program_of e text) (core_of e) (batches_of batches) (core_of made.engine))
-          → IfOk result (λ made. made.store.position ≡ position) → IfErr result (IsBrokenOff (program_of e text) (core_of e) batches position.epoch) → AnswersOld result of_text image
+          → IfOk result (λ made. Replays (program_of e (one_era text)) (core_of e) (batches_of batches) (core_of made.engine))
+          → IfOk result (λ made. made.store.position ≡ position) → IfErr result (IsBrokenOff (program_of e (one_era text)) (core_of e) batches position.epoch) → AnswersOld result of_text image
       batches_told e runs core result replays place stop =
           let ReplaysOf : Compiled → Core → Type 0 = λ k from. IfOk result (λ made. Replays (program_for k text) from (batches_of batches) (core_of made.engine)) in
           let BreaksOf : Compiled → Core → Type 0 = λ k from. IfErr result (IsBrokenOff (program_for k text) from batches position.epoch) in
@@ -132,7 +133,7 @@ module _ (compiled : Compiled) (text : List ℕ) (position : Position) (kept : S
 
   -- an engine that was restored from the snapshot and has run the batches again is where they say
   pub old_placed : (e : Engine) → compiled_of e ≡ compiled → core_of e ≡ core_of_snapshot kept → (result : Result OpenedStore OpenStop)
-      → IfOk result (λ made. Replays (program_of e text) (core_of e) (batches_of batches) (core_of made.engine)) → IfOk result (λ made. made.store.position ≡ position)
+      → IfOk result (λ made. Replays (program_of e (one_era text)) (core_of e) (batches_of batches) (core_of made.engine)) → IfOk result (λ made. made.store.position ≡ position)
       → IfOk result placed_in
   old_placed e runs core (Ok made) replays place =
       let From : Compiled → Core → Type 0 = λ k from. Replays (program_for k text) from (batches_of batches) (core_of made.engine) in

@@ -5,6 +5,7 @@ use Rattle.std.proofs.lemmas.List.{length-append, append_assoc, append-nil}
 use Rattle.std.proofs.lemmas.List.FromFn.{length-range_with_len}
 use Rattle.std.proofs.lemmas.List.Sorted.{length_permutation}
 use Rattle.byte_sizes.specs.Spelt.{IsReadBatch}
+use Rattle.sf_value.specs.declared.heads.Era.{Era}
 use Rattle.sf_value.specs.declared.BatchRecord.{BatchRecord}
 use Rattle.sf_value.specs.declared.Request.{Request}
 use Rattle.program_meaning.specs.ClassTables.{Source}
@@ -62,7 +63,7 @@ read_here before placed after batches split read = behind before (subst (AllByRe
 
 -- these batches were run again on the first engine
 pub record HasReplayed (first now : Engine) (before : List Placed) : Type 0 where
-  pub replays : (text : List ℕ) → Replays (program_of first text) (core_of first) (batches_of before) (core_of now)
+  pub replays : (eras : List Era) → Replays (program_of first eras) (core_of first) (batches_of before) (core_of now)
   pub runs : RunsProgram now (compiled_of first) (limit_of first)
   pub fits : CoreFits (tables_of now) (core_of now)
   pub storable : IsStorable (core_of now) 0
@@ -71,7 +72,7 @@ pub record HasReplayed (first now : Engine) (before : List Placed) : Type 0 wher
 
 pub none_replayed : (e : Engine) → CoreFits (tables_of e) (core_of e) → IsStorable (core_of e) 0 → length (core_of e).pending ≤ 255 → fresh_of e ≡ 0 → HasReplayed e e []
 none_replayed e fits storable few fresh = record {
-  replays = λ text. refl;
+  replays = λ eras. refl;
   runs = record { compiled_is = refl; limit_is = refl };
   fits = fits;
   storable = storable;
@@ -90,11 +91,11 @@ module _ (first now : Engine) (before : List Placed) (so_far : HasReplayed first
   pub one_more : (next : Engine) (placed : Placed) → core_of next ≡ replayed (source_of now) (core_of now) placed.batch → BatchFits (tables_of now) (core_of now) placed.batch → fresh_of next ≡ 0
       → RunsProgram next (compiled_of now) (limit_of now) → CoreFits (tables_of now) (core_of next) → IsReadBatch placed.batch → HasReplayed first next (before ++ placed ∷ [])
   one_more next placed core fits fresh runs core_fits read = record {
-    replays = λ text.
+    replays = λ eras.
         let can : BatchFits (tables_of first) (core_of now) placed.batch = subst (λ compiled. BatchFits (program_tables compiled) (core_of now) placed.batch) so_far.runs.compiled_is fits in
         let there : replayed (source_of first) (core_of now) placed.batch ≡ core_of next = sym (core ∙ ap (λ src. replayed src (core_of now) placed.batch) same_source) in
-        subst (λ c. Replays (program_of first text) (core_of first) (batches_of (before ++ placed ∷ [])) c) there
-        (replays_placed (program_of first text) (core_of first) before (core_of now) placed (so_far.replays text) can);
+        subst (λ c. Replays (program_of first eras) (core_of first) (batches_of (before ++ placed ∷ [])) c) there
+        (replays_placed (program_of first eras) (core_of first) before (core_of now) placed (so_far.replays eras) can);
     runs = record { compiled_is = runs.compiled_is ∙ so_far.runs.compiled_is; limit_is = runs.limit_is ∙ so_far.runs.limit_is };
     fits = subst (λ compiled. CoreFits (program_tables compiled) (core_of next)) (sym runs.compiled_is) core_fits;
     storable = subst (λ c. IsStorable c 0) (sym core) (replays_are_storable (source_of now) (core_of now) placed.batch (engine_accepted now) so_far.fits fits read so_far.storable);
@@ -104,15 +105,15 @@ module _ (first now : Engine) (before : List Placed) (so_far : HasReplayed first
 
   -- or one that can't follow
   pub wrong_here : (placed : Placed) (after batches : List Placed) → batches ≡ before ++ placed ∷ after → (stop : ReplayStop) → IsWrongAt (BatchFits (tables_of now) (core_of now) placed.batch) placed.at stop
-      → (text : List ℕ) → HasWrongAmong (program_of first text) (core_of first) batches stop
-  wrong_here placed after batches split NoMemory told text = tt
-  wrong_here placed after batches split (Wrong at) told text = record {
+      → (eras : List Era) → HasWrongAmong (program_of first eras) (core_of first) batches stop
+  wrong_here placed after batches split NoMemory told eras = tt
+  wrong_here placed after batches split (Wrong at) told eras = record {
     before = before;
     placed = placed;
     after = after;
     middle = core_of now;
     split = split;
-    replays = so_far.replays text;
+    replays = so_far.replays eras;
     wrong = λ fits. told.0 (subst (λ compiled. BatchFits (program_tables compiled) (core_of now) placed.batch) (sym so_far.runs.compiled_is) fits);
     place = told.1;
   }
@@ -134,7 +135,7 @@ module _ (first now : Engine) (placed : Placed) (after all : List Placed) (front
   }
 
   -- or it can't follow
-  pub wrong_next : (stop : ReplayStop) → IsWrongAt (BatchFits (tables_of now) (core_of now) placed.batch) placed.at stop → (text : List ℕ) → HasWrongAmong (program_of first text) (core_of first) all stop
+  pub wrong_next : (stop : ReplayStop) → IsWrongAt (BatchFits (tables_of now) (core_of now) placed.batch) placed.at stop → (eras : List Era) → HasWrongAmong (program_of first eras) (core_of first) all stop
   wrong_next = wrong_here first now front.before front.so_far placed after all front.split
 
 -- all were

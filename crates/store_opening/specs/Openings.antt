@@ -3,6 +3,7 @@ use Rattle.std.specs.Prelude.{ℕ, ◌≡◌, ◌⊎◌, ◌≤◌, List, ⊤, S
 use Rattle.std.specs.declared.option.Option.{Option}
 use Rattle.std.specs.declared.result.Result.{Result}
 use Rattle.sf_outside.specs.Causes.{Rose}
+use Rattle.sf_value.specs.declared.heads.Era.{Era}
 use Rattle.sf_outside.specs.DiskModel.{Image, DiskFacts, Stays, IsClean, Mounts, mounted, NotMounted}
 use Rattle.snapshot_store.specs.SlotFile.{IsNew}
 use Rattle.engine.specs.Cores.{empty_core}
@@ -26,7 +27,7 @@ WasAt place position = ((1 ≤ position.epoch) × (place ≡ position)) ⊎ ((pl
 -- what was found is bad at exactly this place, or of another program
 abbrev pub TellsWhy : OpenStop → Program → Image → Type 0
 TellsWhy (Bad file at) p image = Means p image (meaning.Bad file at) ⊎ Means p image (meaning.Wrong file at)
-TellsWhy OtherProgram p image = (text : List ℕ) × Means p image (meaning.Differs text)
+TellsWhy OtherProgram p image = (others : List Era) × Means p image (meaning.Differs others)
 TellsWhy DiskFault p image = ⊤
 TellsWhy NoMemory p image = ⊤
 
@@ -39,7 +40,7 @@ AnswersFound (Err stop) p image = TellsWhy stop p image
 abbrev pub AnswersOld : Result OpenedStore OpenStop → Program → Image → Type 0
 AnswersOld (Ok made) p image = StandsFor p image (core_of made.engine) made.store.position
 AnswersOld (Err (Bad file at)) p image = IsWrong p image file at
-AnswersOld (Err OtherProgram) p image = (text : List ℕ) × IsOfOther p image text
+AnswersOld (Err OtherProgram) p image = (others : List Era) × IsOfOther p image others
 AnswersOld (Err DiskFault) p image = ⊥
 AnswersOld (Err NoMemory) p image = ⊤
 

@@ -4,6 +4,7 @@ ghost use Rattle.std.specs.Prelude.{◌≡◌, ◌≤◌, length, IfOk, IfErr, I
 ghost use Rattle.std.specs.List.{AllByRecursion};
 ghost use Rattle.byte_sizes.specs.Spelt.{IsReadBatch, IsReadSnapshot};
 ghost use Rattle.sf_outside.specs.DiskModel.{Image};
+ghost use Rattle.sf_value.specs.Heads.{one_era};
 ghost use Rattle.block_step.specs.CompiledViews.{IsWhole};
 ghost use Rattle.recovery.specs.Answers.{AreLogged, HaveBytes};
 ghost use Rattle.recovery.specs.StoreImage.{batches_of, IsOld};
@@ -18,16 +19,23 @@ ghost use Rattle.store_opening.specs.OpenedStores.{program_for, IsReady};
 ghost use Rattle.store_opening.specs.Replayed.{IsBrokenOff};
 ghost use Rattle.store_opening.specs.Stops.{restore_stop, replay_stop};
 
-use crate::opened_store::{OpenSettings, OpenedStore, store_at};
+use crate::opened_store::{OpenSettings, OpenedStore, same_eras, store_at};
 use crate::replaying::{ReplayStop, replay_all};
 use crate::stop::OpenStop;
 use block_step::Compiled;
 use engine::{Engine, RestoreError};
 use recovery::Batches;
-use sf_value::Snapshot;
+use sf_value::{Eras, Snapshot};
 use snapshot_store::{log_of, slot_file};
 use std::alloc::Global;
 use store_meaning::Position;
+
+/// What a store is opened for, with the programs of its history.
+#[derive(Drop)]
+struct OpenWith {
+    eras: Eras,
+    settings: OpenSettings,
+}
 
 /// An engine with the core of a snapshot and of the batches behind it, which stand in a store up to this position.
 pub fn go_on(
@@ -49,18 +57,49 @@ pub fn go_on(
     ensures answer { (image : Image) → IsOld image position.epoch kept position.bytes batches position.at → AnswersOld result (program_for compiled settings.program) image }
     ensures no_disk { IsErrOf result OpenStop.DiskFault → ⊥ }
 {
-    if !kept.program.same(&settings.program) {
-        drop(kept);
-        drop(batches);
-        drop(compiled);
-        drop(settings);
-        return Err(OpenStop::OtherProgram);
+    match same_eras(alloc, kept.eras.as_slice(), &settings.program) {
+        Ok(eras) => {
+            let given = OpenWith { eras, settings };
+            restored(alloc, compiled, given, position, kept, batches)
+        }
+        Err(stop) => {
+            drop(kept);
+            drop(batches);
+            drop(compiled);
+            drop(settings);
+            Err(stop)
+        }
     }
-    match Engine::restore(alloc, compiled, settings.limit, kept) {
-        Ok(engine) => with_batches(alloc, engine, settings, position, batches),
+}
+
+/// An engine with the core of a snapshot of this program and of the batches behind it.
+fn restored(
+    alloc: Global,
+    compiled: Compiled,
+    given: OpenWith,
+    position: Position,
+    kept: Snapshot,
+    batches: Batches,
+) -> Result<OpenedStore, OpenStop>
+    requires whole { IsWhole compiled }
+    requires eras { given.eras ≡ one_era given.settings.program }
+    requires same { kept.eras ≡ one_era given.settings.program }
+    requires kept { IsReadSnapshot kept }
+    requires count { position.kept ≡ length kept.history }
+    requires bytes { HaveBytes kept.history position.bytes }
+    requires logged { AreLogged batches position.at }
+    ensures ready { IfOk result (IsReady compiled given.settings) }
+    ensures position { IfOk result (λ made. made.store.position ≡ position) }
+    ensures placed { IfOk result (λ made. IsPlaced (program_for compiled given.settings.program) (core_of made.engine) made.store.position) }
+    ensures answer { (image : Image) → IsOld image position.epoch kept position.bytes batches position.at
+        → AnswersOld result (program_for compiled given.settings.program) image }
+    ensures no_disk { IsErrOf result OpenStop.DiskFault → ⊥ }
+{
+    match Engine::restore(alloc, compiled, given.settings.limit, kept) {
+        Ok(engine) => with_batches(alloc, engine, given, position, batches),
         Err(error) => {
             drop(batches);
-            drop(settings);
+            drop(given);
             Err(restore_stop(position.epoch, error))
         }
     }
@@ -70,30 +109,31 @@ pub fn go_on(
 fn with_batches(
     alloc: Global,
     mut engine: Engine,
-    settings: OpenSettings,
+    given: OpenWith,
     position: Position,
     batches: Batches,
 ) -> Result<OpenedStore, OpenStop>
+    requires eras { given.eras ≡ one_era given.settings.program }
     requires whole { IsWhole (compiled_of engine) }
     requires fits { CoreFits (tables_of engine) (core_of engine) }
     requires storable { IsStorable (core_of engine) 0 }
     requires few { length (core_of engine).pending ≤ 255 }
     requires fresh { fresh_of engine ≡ 0 }
-    requires limit { limit_of engine ≡ settings.limit }
+    requires limit { limit_of engine ≡ given.settings.limit }
     requires read { AllByRecursion (λ placed. IsReadBatch placed.batch) batches }
-    ensures ready { IfOk result (IsReady (compiled_of engine) settings) }
+    ensures ready { IfOk result (IsReady (compiled_of engine) given.settings) }
     ensures position { IfOk result (λ made. made.store.position ≡ position) }
-    ensures replays { IfOk result (λ made. Replays (program_of engine settings.program) (core_of engine) (batches_of batches) (core_of made.engine)) }
-    ensures stop { IfErr result (IsBrokenOff (program_of engine settings.program) (core_of engine) batches position.epoch) }
+    ensures replays { IfOk result (λ made. Replays (program_of engine given.eras) (core_of engine) (batches_of batches) (core_of made.engine)) }
+    ensures stop { IfErr result (IsBrokenOff (program_of engine given.eras) (core_of engine) batches position.epoch) }
 {
     match replay_all(alloc, &mut engine, batches) {
         Ok(()) => Ok(OpenedStore {
             engine,
-            store: store_at(settings, position),
+            store: store_at(given.eras, given.settings.every, position),
         }),
         Err(stop) => {
             drop(engine);
-            drop(settings);
+            drop(given);
             Err(replay_stop(position.epoch, stop))
         }
     }

@@ -4,6 +4,7 @@ ghost use Rattle.std.specs.Prelude.{◌≡◌, ◌≢◌, ◌≤◌, ◌⊎◌, 
 ghost use Rattle.sf_outside.specs.Causes.{Rose};
 ghost use Rattle.sf_outside.specs.DiskModel.{IsClean, LeavesOnly};
 ghost use Rattle.byte_sizes.specs.Spelt.{IsShortText};
+ghost use Rattle.sf_value.specs.Heads.{one_era};
 ghost use Rattle.block_step.specs.CompiledViews.{IsWhole};
 ghost use Rattle.snapshot_store.specs.SlotFile.{IsNew};
 ghost use Rattle.engine.specs.Cores.{CoreFits, empty_core};
@@ -13,12 +14,13 @@ ghost use Rattle.store_opening.specs.Openings.{AnswersFound, KeepsFound, LeavesF
 ghost use Rattle.store_opening.specs.OpenedStores.{program_for, IsReady, KeepsOpened};
 
 use crate::finding::{FoundStore, find_store};
-use crate::opened_store::{OpenSettings, OpenedStore, store_at};
+use crate::opened_store::{OpenSettings, OpenedStore, one_era, store_at};
 use crate::stop::OpenStop;
 use block_step::Compiled;
 use engine::Engine;
 use session_store::keep_core;
 use sf_outside::Disk;
+use sf_value::Eras;
 use std::alloc::Global;
 use store_meaning::Position;
 
@@ -44,7 +46,7 @@ pub fn open_store<D: Disk>(
     ensures later { D.faults disk.old ≤ D.faults disk.new }
     ensures cause { IsErrOf result OpenStop.DiskFault → Rose (D.faults disk.old) (D.faults disk.new)
         ⊎ Rose ((D.mounts disk.old).refused name.now) ((D.mounts disk.new).refused name.now)
-        ⊎ (IfSome (D.found disk.old name.now) IsNew × HasSnapshotPast settings.program empty_core) }
+        ⊎ (IfSome (D.found disk.old name.now) IsNew × HasSnapshotPast (one_era settings.program) empty_core) }
 {
     match find_store(alloc, disk, name, compiled, settings) {
         Ok(FoundStore::New { compiled, settings }) => begin(alloc, disk, compiled, settings),
@@ -71,11 +73,17 @@ fn begin<D: Disk>(
     ensures moments { LeavesOnly (D.facts disk.old) (D.facts disk.new) (LeavesFound (program_for compiled settings.program) (D.facts disk.old).seen) }
     ensures mounts { D.mounts disk.new ≡ D.mounts disk.old }
     ensures later { D.faults disk.old ≤ D.faults disk.new }
-    ensures cause { IsErrOf result OpenStop.DiskFault → Rose (D.faults disk.old) (D.faults disk.new) ⊎ HasSnapshotPast settings.program empty_core }
+    ensures cause { IsErrOf result OpenStop.DiskFault → Rose (D.faults disk.old) (D.faults disk.new) ⊎ HasSnapshotPast (one_era settings.program) empty_core }
 {
+    let Ok(eras) = one_era(alloc, &settings.program) else {
+        drop(compiled);
+        drop(settings);
+        return Err(OpenStop::NoMemory);
+    };
     match Engine::new(alloc, compiled, settings.limit) {
-        Ok(engine) => keep_first(disk, engine, settings),
+        Ok(engine) => keep_first(disk, engine, eras, settings),
         Err(_) => {
+            drop(eras);
             drop(settings);
             Err(OpenStop::NoMemory)
         }
@@ -86,8 +94,10 @@ fn begin<D: Disk>(
 fn keep_first<D: Disk>(
     disk: &mut D,
     engine: Engine,
+    eras: Eras,
     settings: OpenSettings,
 ) -> Result<OpenedStore, OpenStop>
+    requires eras { eras ≡ one_era settings.program }
     requires core { core_of engine ≡ empty_core }
     requires fresh { fresh_of engine ≡ 0 }
     requires limit { limit_of engine ≡ settings.limit }
@@ -104,7 +114,7 @@ fn keep_first<D: Disk>(
         (LeavesFound (program_for (compiled_of engine) settings.program) (D.facts disk.old).seen) }
     ensures mounts { D.mounts disk.new ≡ D.mounts disk.old }
     ensures later { D.faults disk.old ≤ D.faults disk.new }
-    ensures cause { OnErr result (Rose (D.faults disk.old) (D.faults disk.new) ⊎ HasSnapshotPast settings.program empty_core) }
+    ensures cause { OnErr result (Rose (D.faults disk.old) (D.faults disk.new) ⊎ HasSnapshotPast (one_era settings.program) empty_core) }
     ensures memory { result ≢ Err OpenStop.NoMemory }
 {
     let nowhere = Position {
@@ -113,13 +123,14 @@ fn keep_first<D: Disk>(
         bytes: 0,
         kept: 0,
     };
-    match keep_core(disk, nowhere, &engine, &settings.program) {
+    match keep_core(disk, nowhere, &engine, &eras) {
         Ok(position) => Ok(OpenedStore {
             engine,
-            store: store_at(settings, position),
+            store: store_at(eras, settings.every, position),
         }),
         Err(fault) => {
             drop(engine);
+            drop(eras);
             drop(settings);
             Err(OpenStop::from(fault))
         }

@@ -3,6 +3,7 @@
 ghost use Rattle.std.specs.Prelude.{◌≡◌, ◌≤◌, ℕ, List, length, OnOk, IfErr};
 ghost use Rattle.std.specs.List.{AllByRecursion};
 ghost use Rattle.sf_bytes.specs.Spelt.{IsReadBatch};
+ghost use Rattle.sf_value.specs.declared.heads.Era.{Era};
 ghost use Rattle.block_step.specs.CompiledViews.{IsWhole};
 ghost use Rattle.recovery.specs.StoreImage.{batches_of};
 ghost use Rattle.engine.specs.Cores.{CoreFits};
@@ -33,8 +34,8 @@ pub fn replay_all(alloc: Global, engine: &mut Engine, batches: Batches) -> Resul
     requires few { length (core_of engine.old).pending ≤ 255 }
     requires fresh { fresh_of engine.old ≡ 0 }
     requires read { AllByRecursion (λ placed. IsReadBatch placed.batch) batches }
-    ensures replays { (text : List ℕ) → OnOk result (Replays (program_of engine.old text) (core_of engine.old) (batches_of batches) (core_of engine.new)) }
-    ensures wrong { (text : List ℕ) → IfErr result (HasWrongAmong (program_of engine.old text) (core_of engine.old) batches) }
+    ensures replays { (eras : List Era) → OnOk result (Replays (program_of engine.old eras) (core_of engine.old) (batches_of batches) (core_of engine.new)) }
+    ensures wrong { (eras : List Era) → IfErr result (HasWrongAmong (program_of engine.old eras) (core_of engine.old) batches) }
     ensures runs { RunsProgram engine.new (compiled_of engine.old) (limit_of engine.old) }
     ensures core_fits { OnOk result (CoreFits (tables_of engine.new) (core_of engine.new)) }
     ensures storable { OnOk result (IsStorable (core_of engine.new) 0) }

@@ -1,4 +1,5 @@
 use Rattle.std.proofs.Common.{refl, sym, ap, ◌∙◌}
+use Rattle.sf_value.specs.Heads.{one_era}
 use Rattle.engine.specs.EngineViews.{core_of}
 use Rattle.store_meaning.specs.Engines.{program_of}
 use Rattle.session_store.proofs.NoStore.{none_storable}
@@ -14,11 +15,11 @@ keep_core-requires-clause-storable g c = none_storable (core_of c.args.engine) 0
 
 pub keep_core-requires-clause-kept : goal.keep_core-requires-clause-kept
 keep_core-requires-clause-kept g c =
-    new_keeps (program_of c.args.engine c.args.settings.program) (g.D.Disk.facts c.args.disk.now) c.requires.clean c.requires.new (core_of c.args.engine) c.requires.core
+    new_keeps (program_of c.args.engine (one_era c.args.settings.program)) (g.D.Disk.facts c.args.disk.now) c.requires.clean c.requires.new (core_of c.args.engine) c.requires.core
 
 pub returns-in-Ok-clause-answer : goal.returns-in-Ok-clause-answer
 returns-in-Ok-clause-answer g c =
-    new_found (program_of c.args.engine c.args.settings.program) (g.D.Disk.facts c.args.disk.now) c.requires.clean c.requires.new (core_of c.args.engine) c.requires.core
+    new_found (program_of c.args.engine (one_era c.args.settings.program)) (g.D.Disk.facts c.args.disk.now) c.requires.clean c.requires.new (core_of c.args.engine) c.requires.core
     (record { engine = c.args.engine; store = c.store_at.result }) refl (c.store_at.ensures.position ∙ c.in-Ok.ensures.next ∙ ap (kept_at new_position) c.requires.core)
 
 pub returns-in-Ok-clause-ready : goal.returns-in-Ok-clause-ready
@@ -37,14 +38,14 @@ returns-in-Ok-clause-kept g c =
 
 pub returns-in-Ok-clause-moments : goal.returns-in-Ok-clause-moments
 returns-in-Ok-clause-moments g c =
-    new_left (program_of c.args.engine c.args.settings.program) (g.D.Disk.facts c.args.disk.now) c.requires.clean c.requires.new (core_of c.args.engine) c.requires.core
+    new_left (program_of c.args.engine (one_era c.args.settings.program)) (g.D.Disk.facts c.args.disk.now) c.requires.clean c.requires.new (core_of c.args.engine) c.requires.core
     (g.D.Disk.facts c.keep_core.new.disk) c.keep_core.ensures.moments
 
 pub returns-in-Err-clause-moments : goal.returns-in-Err-clause-moments
 returns-in-Err-clause-moments g c =
-    new_left (program_of c.args.engine c.args.settings.program) (g.D.Disk.facts c.args.disk.now) c.requires.clean c.requires.new (core_of c.args.engine) c.requires.core
+    new_left (program_of c.args.engine (one_era c.args.settings.program)) (g.D.Disk.facts c.args.disk.now) c.requires.clean c.requires.new (core_of c.args.engine) c.requires.core
     (g.D.Disk.facts c.keep_core.new.disk) c.keep_core.ensures.moments
 
 pub returns-in-Err-clause-cause : goal.returns-in-Err-clause-cause
 returns-in-Err-clause-cause g c =
-    first_cause c.args.settings.program (core_of c.args.engine) c.requires.core (g.D.Disk.faults c.args.disk.now) (g.D.Disk.faults c.keep_core.new.disk) c.in-Err.ensures.cause
+    first_cause (one_era c.args.settings.program) (core_of c.args.engine) c.requires.core (g.D.Disk.faults c.args.disk.now) (g.D.Disk.faults c.keep_core.new.disk) c.in-Err.ensures.cause
