@@ -2,6 +2,7 @@
 use Rattle.std.proofs.Common.{◌≡◌, ◌≢◌, ◌⊎◌, ℕ, false, if◌then◌else◌, inl, inr, List, [], ◌∷◌, ◌++◌, Some, None, Ok, Err, refl, append-nil, sym, ap, ◌∙◌, subst}
 use Rattle.std.specs.declared.option.Option.{Option}
 use Rattle.sf_outside.specs.DiskModel.{Image, DiskFacts}
+use Rattle.sf_value.specs.declared.heads.Era.{Era}
 use Rattle.sf_outside.proofs.DiskLaws.{LeavesOnly-start, LeavesOnly-then, LeavesOnly-weaker}
 use Rattle.program_meaning.specs.ClassTables.{Source}
 use Rattle.serial_order.specs.ConflictFree.{Access}
@@ -44,12 +45,12 @@ module _ (src : Source) (rule : List Access → Chosen) where
 
   -- ---- which image
 
-  stands_more : (text : List ℕ) (xs ys : List Core) (first : Core) (image : Image) → StandsLogged src rule text first xs image → StandsLogged src rule text first (xs ++ ys) image
-  stands_more text xs ys first image s = record { core = s.core; logged = logged_more xs ys first s.core s.logged; stands = s.stands }
+  stands_more : (eras : List Era) (xs ys : List Core) (first : Core) (image : Image) → StandsLogged src rule eras first xs image → StandsLogged src rule eras first (xs ++ ys) image
+  stands_more eras xs ys first image s = record { core = s.core; logged = logged_more xs ys first s.core s.logged; stands = s.stands }
 
-  stands_then : (text : List ℕ) (xs ys : List Core) (first mid : Core) (image : Image) → IsLogged src rule first xs mid → StandsLogged src rule text mid ys image
-      → StandsLogged src rule text first (xs ++ ys) image
-  stands_then text xs ys first mid image before s = record { core = s.core; logged = logged_then xs ys first mid s.core before s.logged; stands = s.stands }
+  stands_then : (eras : List Era) (xs ys : List Core) (first mid : Core) (image : Image) → IsLogged src rule first xs mid → StandsLogged src rule eras mid ys image
+      → StandsLogged src rule eras first (xs ++ ys) image
+  stands_then eras xs ys first mid image before s = record { core = s.core; logged = logged_then xs ys first mid s.core before s.logged; stands = s.stands }
 
   -- ---- at each moment
 
@@ -57,16 +58,16 @@ module _ (src : Source) (rule : List Access → Chosen) where
       → LeavesLogged src rule settings first (xs ++ ys) old new
   leaves_more None xs ys first old new left = left
   leaves_more (Some settings) xs ys first old new left =
-      LeavesOnly-weaker old new (StandsLogged src rule settings.program first xs) (StandsLogged src rule settings.program first (xs ++ ys)) left (stands_more settings.program xs ys first)
+      LeavesOnly-weaker old new (StandsLogged src rule settings.eras first xs) (StandsLogged src rule settings.eras first (xs ++ ys)) left (stands_more settings.eras xs ys first)
 
   leaves_then : (settings : Option StoreSettings) (xs ys : List Core) (first mid : Core) (old between new : DiskFacts) → IsLogged src rule first xs mid
       → LeavesLogged src rule settings first xs old between → LeavesLogged src rule settings mid ys between new → LeavesLogged src rule settings first (xs ++ ys) old new
   leaves_then None xs ys first mid old between new before left more = tt
   leaves_then (Some settings) xs ys first mid old between new before left more =
-      LeavesOnly-then old between new (StandsLogged src rule settings.program first (xs ++ ys))
-      (LeavesOnly-weaker old between (StandsLogged src rule settings.program first xs) (StandsLogged src rule settings.program first (xs ++ ys)) left (stands_more settings.program xs ys first))
-      (LeavesOnly-weaker between new (StandsLogged src rule settings.program mid ys) (StandsLogged src rule settings.program first (xs ++ ys)) more
-      (λ image. stands_then settings.program xs ys first mid image before))
+      LeavesOnly-then old between new (StandsLogged src rule settings.eras first (xs ++ ys))
+      (LeavesOnly-weaker old between (StandsLogged src rule settings.eras first xs) (StandsLogged src rule settings.eras first (xs ++ ys)) left (stands_more settings.eras xs ys first))
+      (LeavesOnly-weaker between new (StandsLogged src rule settings.eras mid ys) (StandsLogged src rule settings.eras first (xs ++ ys)) more
+      (λ image. stands_then settings.eras xs ys first mid image before))
 
   -- ---- some calls, and then more of them
 
@@ -101,7 +102,7 @@ module _ (src : Source) (rule : List Access → Chosen) where
   Logs-still None ran first last facts same kept = record { last_is = inl same; moments = tt }
   Logs-still (Some store) ran first last facts same kept = record {
     last_is = inl same;
-    moments = LeavesOnly-start facts (StandsLogged src rule store.settings.program first ran)
+    moments = LeavesOnly-start facts (StandsLogged src rule store.settings.eras first ran)
         (λ image leaves. record { core = first; logged = inl refl; stands = (store.position, kept.keeps.each image leaves) });
   }
 
@@ -118,10 +119,10 @@ module _ (src : Source) (rule : List Access → Chosen) where
       left None none = tt
       left (Some s) leaves =
           LeavesOnly-weaker old new (λ image. StandsSomewhere (program_with s src) image first ⊎ StandsSomewhere (program_with s src) image (next_core rule src core))
-          (StandsLogged src rule s.settings.program first (core ∷ [])) leaves stands
+          (StandsLogged src rule s.settings.eras first (core ∷ [])) leaves stands
         where
           stands : (image : Image) → StandsSomewhere (program_with s src) image first ⊎ StandsSomewhere (program_with s src) image (next_core rule src core)
-              → StandsLogged src rule s.settings.program first (core ∷ []) image
+              → StandsLogged src rule s.settings.eras first (core ∷ []) image
           stands image (inl here) = record { core = first; logged = inl refl; stands = here }
           stands image (inr next) = record { core = next_core rule src core; logged = inr (inl refl); stands = next }
 
@@ -131,10 +132,10 @@ module _ (src : Source) (rule : List Access → Chosen) where
   Logs-checkpoint (Some s) core old new leaves = record {
     last_is = inl refl;
     moments = LeavesOnly-weaker old new (λ image. StandsSomewhere (program_with s src) image core ⊎ StandsSomewhere (program_with s src) image core)
-        (StandsLogged src rule s.settings.program core []) leaves stands;
+        (StandsLogged src rule s.settings.eras core []) leaves stands;
   }
     where
-      stands : (image : Image) → StandsSomewhere (program_with s src) image core ⊎ StandsSomewhere (program_with s src) image core → StandsLogged src rule s.settings.program core [] image
+      stands : (image : Image) → StandsSomewhere (program_with s src) image core ⊎ StandsSomewhere (program_with s src) image core → StandsLogged src rule s.settings.eras core [] image
       stands image (inl here) = record { core = core; logged = inl refl; stands = here }
       stands image (inr also) = record { core = core; logged = inl refl; stands = also }
 

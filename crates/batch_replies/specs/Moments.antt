@@ -1,7 +1,8 @@
 -- What a store may be left with at each moment while batches run: the core that was logged before them, or the core behind one of them.
-use Rattle.std.specs.Prelude.{◌≡◌, ◌⊎◌, ℕ, ⊤, List, [], ◌∷◌, Some, None}
+use Rattle.std.specs.Prelude.{◌≡◌, ◌⊎◌, ⊤, List, [], ◌∷◌, Some, None}
 use Rattle.std.specs.declared.option.Option.{Option}
 use Rattle.sf_outside.specs.DiskModel.{Image, DiskFacts, LeavesOnly}
+use Rattle.sf_value.specs.declared.heads.Era.{Era}
 use Rattle.program_meaning.specs.ClassTables.{Source}
 use Rattle.serial_order.specs.ConflictFree.{Access}
 use Rattle.reservations.specs.CommitRules.{Chosen}
@@ -20,16 +21,16 @@ module _ (src : Source) (rule : List Access → Chosen) where
   abbrev pub IsLogged : Core → List Core → Core → Type 0
   IsLogged first ran core = (core ≡ first) ⊎ IsBehindOne ran core
 
-  -- an image stands for such a core of the program with this text
-  pub record StandsLogged (text : List ℕ) (first : Core) (ran : List Core) (image : Image) : Type 0 where
+  -- an image stands for such a core of the program, behind these
+  pub record StandsLogged (eras : List Era) (first : Core) (ran : List Core) (image : Image) : Type 0 where
     pub core : Core
     pub logged : IsLogged first ran core
-    pub stands : StandsSomewhere (record { source = src; text = text }) image core
+    pub stands : StandsSomewhere (record { source = src; eras = eras }) image core
 
   -- where there is a store, a crash at any moment since leaves such an image
   abbrev pub LeavesLogged : Option StoreSettings → Core → List Core → DiskFacts → DiskFacts → Type 0
   LeavesLogged None first ran old new = ⊤
-  LeavesLogged (Some settings) first ran old new = LeavesOnly old new (StandsLogged settings.program first ran)
+  LeavesLogged (Some settings) first ran old new = LeavesOnly old new (StandsLogged settings.eras first ran)
 
   -- of batches on these cores some may have been run: what is logged behind them, and what each moment since may leave
   pub record Logs (settings : Option StoreSettings) (ran : List Core) (first last : Core) (old new : DiskFacts) : Type 0 where

@@ -23,7 +23,7 @@ mapped_held added held = record { at = held.at; fields = record { fields = with_
 abbrev pub mapped_records : List (List Value) → List Held → List Held
 mapped_records added records = over (mapped_held added) records
 
--- the history and the requests that wait stay, and so does the text
+-- the history and the requests that wait stay, and so do the eras
 abbrev pub mapped_snapshot : List (List Value) → Snapshot → Snapshot
 mapped_snapshot added kept = record kept { records = mapped_records added kept.records }
 

@@ -60,14 +60,14 @@ pub fn map_snapshot(
     ensures { IfOk result (λ made. made ≡ mapped_snapshot (added_by mapping.now) kept) }
 {
     let Snapshot {
-        program,
+        eras,
         history,
         records,
         pending,
     } = kept;
     let records = map_records(alloc, mapping, records)?;
     Ok(Snapshot {
-        program,
+        eras,
         history,
         records,
         pending,

@@ -2,6 +2,7 @@
 use Rattle.std.proofs.Common.{◌≡◌, ℕ, ◌≤◌, ◌<◌, ◌⊎◌, inl, inr, Bool, true, false, true≢false, List, length, None, Some, refl, sym, ◌∙◌, subst, arith}
 use Rattle.std.specs.Prelude.{IfSome}
 use Rattle.std.specs.declared.option.Option.{Option}
+use Rattle.sf_value.specs.declared.heads.Era.{Era}
 use Rattle.sf_outside.specs.DiskModel.{Image}
 use Rattle.sf_outside.specs.declared.store_disk.StoreFile.{StoreFile}
 use Rattle.program_meaning.specs.ClassTables.{Source}
@@ -95,10 +96,10 @@ module _ (limit : ℕ) (fills : List ℕ → Bool) (before : Devices) where
 
 -- ---- the store
 
-bad_or_differs : {file : StoreFile} {at : ℕ} {text : List ℕ} → meaning.Bad file at ≡ meaning.Differs text → ⊥
+bad_or_differs : {file : StoreFile} {at : ℕ} {others : List Era} → meaning.Bad file at ≡ meaning.Differs others → ⊥
 bad_or_differs same = cc
 
-wrong_or_differs : {file : StoreFile} {at : ℕ} {text : List ℕ} → meaning.Wrong file at ≡ meaning.Differs text → ⊥
+wrong_or_differs : {file : StoreFile} {at : ℕ} {others : List Era} → meaning.Wrong file at ≡ meaning.Differs others → ⊥
 wrong_or_differs same = cc
 
 bad_or_stands : {file : StoreFile} {at : ℕ} {core : Core} {place : Position} → meaning.Bad file at ≡ meaning.Stands core place → ⊥
@@ -107,7 +108,7 @@ bad_or_stands same = cc
 wrong_or_stands : {file : StoreFile} {at : ℕ} {core : Core} {place : Position} → meaning.Wrong file at ≡ meaning.Stands core place → ⊥
 wrong_or_stands same = cc
 
-differs_or_stands : {text : List ℕ} {core : Core} {place : Position} → meaning.Differs text ≡ meaning.Stands core place → ⊥
+differs_or_stands : {others : List Era} {core : Core} {place : Position} → meaning.Differs others ≡ meaning.Stands core place → ⊥
 differs_or_stands same = cc
 
 same_some : {a b : List ℕ} → Some a ≡ Some b → a ≡ b
@@ -122,7 +123,7 @@ module _ (p : Program) (image : Image) where
   IsBad file at = Means p image (meaning.Bad file at) ⊎ Means p image (meaning.Wrong file at)
 
   abbrev pub IsOther : Type 0
-  IsOther = (text : List ℕ) × Means p image (meaning.Differs text)
+  IsOther = (others : List Era) × Means p image (meaning.Differs others)
 
   abbrev pub Stands : Core → Type 0
   Stands core = (place : Position) × StandsFor p image core place
@@ -146,7 +147,7 @@ module _ (p : Program) (found : List ℕ → Option Image) (dir : List ℕ) (kno
   pub bad_so : (file : StoreFile) (at : ℕ) → IfSome (found dir) (λ image. Means p image (meaning.Bad file at) ⊎ Means p image (meaning.Wrong file at)) → IsBad p known.0 file at
   bad_so file at bad = told_of (found dir) known (λ image. IsBad p image file at) bad
 
-  pub other_so : IfSome (found dir) (λ image. (text : List ℕ) × Means p image (meaning.Differs text)) → IsOther p known.0
+  pub other_so : IfSome (found dir) (λ image. (others : List Era) × Means p image (meaning.Differs others)) → IsOther p known.0
   other_so other = told_of (found dir) known (λ image. IsOther p image) other
 
   core_so : (core : Core) → BeginsWith (Some dir) found p core → Stands p known.0 core

@@ -6,6 +6,7 @@ use Rattle.std.specs.Prelude.{IfSome, IfOk, IsErrOf, option_map}
 use Rattle.std.specs.Str.{chars}
 use Rattle.std.specs.declared.option.Option.{Option}
 use Rattle.std.specs.declared.result.Result.{Result}
+use Rattle.sf_value.specs.Heads.{one_era}
 use Rattle.sf_outside.specs.Causes.{Rose}
 use Rattle.sf_outside.specs.DiskModel.{Image, DiskFacts, Mounts, untold, mounted}
 use Rattle.program_meaning.specs.ClassTables.{Source}
@@ -274,7 +275,7 @@ module _ (limit : ℕ) (file dir : List ℕ) (w : words.RunSettings) (before aft
       → KeepsFound (Err stopped) (before.disk.found dir) now
       → MountsFor {T = OpenedStore} (Err stopped) dir (LeavesFound (program_for made.compiled made.text) (before.disk.found dir)) before.disk.mounts after.disk.mounts before.disk.faults after.disk.faults was now
       → (IsErrOf {T = OpenedStore} {E = OpenStop} (Err stopped) of_store.DiskFault → Rose before.disk.faults after.disk.faults
-      ⊎ (Rose (before.disk.mounts.refused dir) (after.disk.mounts.refused dir) ⊎ (IfSome (before.disk.found dir) IsNew × HasSnapshotPast made.text empty_core)))
+      ⊎ (Rose (before.disk.mounts.refused dir) (after.disk.mounts.refused dir) ⊎ (IfSome (before.disk.found dir) IsNew × HasSnapshotPast (one_era made.text) empty_core)))
       → IsStill before after → RunEnds limit file w before after was now (Unopened stopped)
   not_opened stopped answer unchanged mounts cause still = record {
     dir = dir;
@@ -292,11 +293,11 @@ module _ (limit : ℕ) (file dir : List ℕ) (w : words.RunSettings) (before aft
   }
     where
       by : Rose before.disk.faults after.disk.faults
-          ⊎ (Rose (before.disk.mounts.refused dir) (after.disk.mounts.refused dir) ⊎ (IfSome (before.disk.found dir) IsNew × HasSnapshotPast made.text empty_core))
-          → DiskRose dir before.disk after.disk ⊎ (IfSome (before.disk.found dir) IsNew × HasSnapshotPast (chars holds.text) empty_core)
+          ⊎ (Rose (before.disk.mounts.refused dir) (after.disk.mounts.refused dir) ⊎ (IfSome (before.disk.found dir) IsNew × HasSnapshotPast (one_era made.text) empty_core))
+          → DiskRose dir before.disk after.disk ⊎ (IfSome (before.disk.found dir) IsNew × HasSnapshotPast (one_era (chars holds.text)) empty_core)
       by (inl rose) = inl (inl rose)
       by (inr (inl rose)) = inl (inr rose)
-      by (inr (inr past)) = inr (past.0, subst (λ t. HasSnapshotPast t empty_core) holds.is.characters past.1)
+      by (inr (inr past)) = inr (past.0, subst (λ t. HasSnapshotPast (one_era t) empty_core) holds.is.characters past.1)
 
   -- it was, and a run on it came to a result
   module _ (opened : OpenedStore) (settings : OpenSettings) (ready : IsReady made.compiled settings opened) (program : settings.program ≡ made.text) (every : settings.every ≡ w.every)
@@ -318,8 +319,8 @@ module _ (limit : ℕ) (file dir : List ℕ) (w : words.RunSettings) (before aft
     same_settings : opened.store.settings ≡ settings_by w holds.text opened.store.position.epoch
     same_settings =
         ready.settings_are
-        ∙ ap (λ t. record { program = t; every = settings.every; opened = opened.store.position.epoch }) (program ∙ holds.is.characters)
-        ∙ ap (λ n. record { program = chars holds.text; every = n; opened = opened.store.position.epoch }) every
+        ∙ ap (λ t. record { eras = one_era t; every = settings.every; opened = opened.store.position.epoch }) (program ∙ holds.is.characters)
+        ∙ ap (λ n. record { eras = one_era (chars holds.text); every = n; opened = opened.store.position.epoch }) every
 
     module _ (s : RunSettings) (is : s ≡ settings_for limit w) (serves : CanServe s) (result : Result Tally SessionFault) (faults : ℕ) (later : before.disk.faults ≤ faults) (moment : ℕ)
         (mounts : after.disk.mounts ≡ mounted before.disk.mounts dir moment) (mid : DiskFacts) (within : moment ≤ mid.moment)

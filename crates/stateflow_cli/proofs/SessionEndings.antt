@@ -4,6 +4,7 @@ use Rattle.std.proofs.Math.Seq.{take-nil}
 use Rattle.std.specs.Str.{chars}
 use Rattle.std.specs.declared.result.Result.{Result}
 use Rattle.std.specs.Io.KnownBytes.{Appends}
+use Rattle.sf_value.specs.Heads.{one_era}
 use Rattle.sf_outside.specs.Bytes.{AppendsPrefix}
 use Rattle.sf_outside.specs.DiskModel.{Image, DiskFacts}
 use Rattle.sf_outside.specs.Handing.{IsHandedOn}
@@ -48,14 +49,14 @@ with_reason r (inl a) = inl a
 with_reason r (inr b) = inr (r, b)
 
 -- of what a disk keeps behind a run, each image that a crash may leave stands for its core, or where the disk failed perhaps for the next one
-kept_each : (store : Store) (src : Source) (text : List ℕ) → store.settings.program ≡ chars text → (core next : Core) (now : DiskFacts) (failed : Bool)
+kept_each : (store : Store) (src : Source) (text : List ℕ) → store.settings.eras ≡ one_era (chars text) → (core next : Core) (now : DiskFacts) (failed : Bool)
     → KeepsWhere failed (Some store) src core next now → (image : Image) → now.may_leave image
     → StandsSomewhere (program_of src text) image core ⊎ ((failed ≡ true) × StandsSomewhere (program_of src text) image next)
 kept_each store src text same core next now false keeps image leaves =
-    inl (store.position, subst (λ t. StandsFor (record { source = src; text = t }) image core store.position) same (keeps.keeps.each image leaves))
+    inl (store.position, subst (λ t. StandsFor (record { source = src; eras = t }) image core store.position) same (keeps.keeps.each image leaves))
 kept_each store src text same core next now true keeps image leaves =
     with_reason refl
-    (subst (λ t. StandsSomewhere (record { source = src; text = t }) image core ⊎ StandsSomewhere (record { source = src; text = t }) image next) same
+    (subst (λ t. StandsSomewhere (record { source = src; eras = t }) image core ⊎ StandsSomewhere (record { source = src; eras = t }) image next) same
     (keeps.each image leaves))
 
 -- where nothing waits all of a core is logged
@@ -312,7 +313,7 @@ module _ (limit : ℕ) (before after : Devices) (now : DiskFacts) (behind : Outp
         keeps_committed = record {
           fresh = kept_run.fresh;
           storable = kept_run.storable;
-          each = kept_each kept_run.store (batch.source_of r.compiled) r.holds.text (ap (λ (x : StoreSettings). x.program) kept_run.settings) (settled r.last kept_run.fresh)
+          each = kept_each kept_run.store (batch.source_of r.compiled) r.holds.text (ap (λ (x : StoreSettings). x.eras) kept_run.settings) (settled r.last kept_run.fresh)
               (next_core (rule_for s) (batch.source_of r.compiled) r.last) now (disk_failed result) kept_run.kept;
         }
 
@@ -336,8 +337,8 @@ module _ (limit : ℕ) (before after : Devices) (now : DiskFacts) (behind : Outp
           keeps = record {
             position = k.store.position;
             each = λ image leaves.
-                subst (λ t. StandsFor (record { source = batch.source_of r.compiled; text = t }) image (settled r.last k.fresh) k.store.position)
-                (ap (λ (x : StoreSettings). x.program) k.settings) (kept.keeps.each image leaves);
+                subst (λ t. StandsFor (record { source = batch.source_of r.compiled; eras = t }) image (settled r.last k.fresh) k.store.position)
+                (ap (λ (x : StoreSettings). x.eras) k.settings) (kept.keeps.each image leaves);
             epoch = subst (λ (x : StoreSettings). k.store.position.epoch ≡ min (x.opened + batches / x.every) (2 ^ 63 - 1)) k.settings (turn few).epoch;
           };
         }
@@ -416,8 +417,8 @@ module _ (limit : ℕ) (before after : Devices) (now : DiskFacts) (behind : Outp
       last_each : (image : Image) → now.may_leave image → StandsFor (program_of (batch.source_of r.compiled) r.holds.text) image r.last k.store.position
       last_each image leaves =
           subst (λ core. StandsFor (program_of (batch.source_of r.compiled) r.holds.text) image core k.store.position) (all_settled r.last k.fresh r.runs.prints.none_waits)
-          (subst (λ t. StandsFor (record { source = batch.source_of r.compiled; text = t }) image (settled r.last k.fresh) k.store.position)
-          (ap (λ (x : StoreSettings). x.program) k.settings) (k.kept.keeps.each image leaves))
+          (subst (λ t. StandsFor (record { source = batch.source_of r.compiled; eras = t }) image (settled r.last k.fresh) k.store.position)
+          (ap (λ (x : StoreSettings). x.eras) k.settings) (k.kept.keeps.each image leaves))
 
       final_served : KeepsAll (session (Ok tally) r is) dir now
       final_served = record {

@@ -5,6 +5,7 @@ use Rattle.std.specs.Str.{chars}
 use Rattle.std.specs.declared.option.Option.{Option}
 use Rattle.std.specs.declared.result.Result.{Result}
 use Rattle.std.specs.Io.KnownBytes.{Appends}
+use Rattle.sf_value.specs.Heads.{one_era}
 use Rattle.sf_outside.specs.Causes.{Rose}
 use Rattle.sf_outside.specs.DiskModel.{Image, DiskFacts, Mounts, IsClean}
 use Rattle.sf_outside.specs.declared.store_disk.StoreFile.{StoreFile}
@@ -91,7 +92,7 @@ module _ (limit : ℕ) (before after : Devices) (was now : DiskFacts) (behind : 
   stopped_fails (Some dir) named r keeps = record { dir = dir; named = named; holds = holds_compiled (before.content file) r.compiled r.holds; cause = by (keeps.cause refl) }
     where
       by : DiskRose dir before.disk after.disk ⊎ EndsPast (rule_for s) (Some keeps.store) (source_of r.compiled) r.last keeps.fresh now
-          → DiskRose dir before.disk after.disk ⊎ (RunEndsPast limit file s before after now ⊎ (IfSome (before.disk.found dir) IsNew × HasSnapshotPast (chars r.holds.text) empty_core))
+          → DiskRose dir before.disk after.disk ⊎ (RunEndsPast limit file s before after now ⊎ (IfSome (before.disk.found dir) IsNew × HasSnapshotPast (one_era (chars r.holds.text)) empty_core))
       by (inl rose) = inl rose
       by (inr past) =
           inr (inl (record {
@@ -103,7 +104,7 @@ module _ (limit : ℕ) (before after : Devices) (was now : DiskFacts) (behind : 
             behind = behind;
             runs = r.runs;
             store = keeps.store;
-            program = ap (λ (x : StoreSettings). x.program) keeps.settings;
+            eras = ap (λ (x : StoreSettings). x.eras) keeps.settings;
             fresh = keeps.fresh;
             storable = keeps.storable;
             past = past;
@@ -112,9 +113,9 @@ module _ (limit : ℕ) (before after : Devices) (was now : DiskFacts) (behind : 
   unopened_fails : WasNotOpened of_store.DiskFault → DiskFails limit file s before after now
   unopened_fails u = record { dir = u.dir; named = u.named; holds = holds_compiled (before.content file) u.compiled u.holds; cause = by (u.fails.cause refl) }
     where
-      by : DiskRose u.dir before.disk after.disk ⊎ (IfSome (before.disk.found u.dir) IsNew × HasSnapshotPast (chars u.holds.text) empty_core)
+      by : DiskRose u.dir before.disk after.disk ⊎ (IfSome (before.disk.found u.dir) IsNew × HasSnapshotPast (one_era (chars u.holds.text)) empty_core)
           → DiskRose u.dir before.disk after.disk
-          ⊎ (RunEndsPast limit file s before after now ⊎ (IfSome (before.disk.found u.dir) IsNew × HasSnapshotPast (chars u.holds.text) empty_core))
+          ⊎ (RunEndsPast limit file s before after now ⊎ (IfSome (before.disk.found u.dir) IsNew × HasSnapshotPast (one_era (chars u.holds.text)) empty_core))
       by (inl rose) = inl rose
       by (inr past) = inr (inr past)
 

@@ -2,6 +2,7 @@
 use Rattle.std.specs.Prelude.{◌≡◌, List, ℕ, Some, None, IfSome}
 use Rattle.std.specs.Str.{chars}
 use Rattle.std.specs.declared.option.Option.{Option}
+use Rattle.sf_value.specs.Heads.{one_era}
 use Rattle.sf_outside.specs.DiskModel.{Image}
 use Rattle.program_meaning.specs.ClassTables.{Source}
 use Rattle.engine.specs.Cores.{Core, empty_core}
@@ -11,9 +12,9 @@ use Rattle.command_words.specs.Commands as words
 use Rattle.batch_run.specs.RunViews.{Rule, rule_by}
 use Rattle.stateflow_cli.specs.Devices.{Devices}
 
--- a program with the bytes of its text
+-- a program with the bytes of its text, as a store knows it whose history ran under no other
 abbrev pub program_of : Source → List ℕ → Program
-program_of src text = record { source = src; text = chars text }
+program_of src text = record { source = src; eras = one_era (chars text) }
 
 -- the rule that says what each batch commits
 abbrev pub rule_for : words.RunSettings → Rule

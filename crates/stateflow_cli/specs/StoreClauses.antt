@@ -3,6 +3,8 @@ use Rattle.std.specs.Prelude.{ℕ, ◌≡◌, ◌≤◌, ◌⊎◌, ◌+◌, ◌
 use Rattle.std.specs.Str.{chars}
 use Rattle.std.specs.declared.option.Option.{Option}
 use Rattle.std.specs.Io.KnownBytes.{Appends}
+use Rattle.sf_value.specs.Heads.{one_era}
+use Rattle.sf_value.specs.declared.heads.Era.{Era}
 use Rattle.sf_outside.specs.Causes.{Rose}
 use Rattle.sf_outside.specs.DiskModel.{Image, DiskFacts, Stays, IsClean, mounted}
 use Rattle.sf_outside.specs.declared.store_disk.StoreFile.{StoreFile}
@@ -43,7 +45,7 @@ IsBadAt dir before file at p =
 
 -- what was found in the folder is of a program with another text
 abbrev pub IsOfAnother : List ℕ → Devices → Program → Type 0
-IsOfAnother dir before p = IfSome (before.disk.found dir) (λ image. (text : List ℕ) × Means p image (meaning.Differs text))
+IsOfAnother dir before p = IfSome (before.disk.found dir) (λ image. (others : List Era) × Means p image (meaning.Differs others))
 
 -- what was found in the folder that is named is bad, and the place was told
 pub record TellsBadStore (file : List ℕ) (store : Option (List ℕ)) (before after : Devices) : Type 0 where
@@ -66,7 +68,7 @@ pub record RunEndsPast (limit : ℕ) (file : List ℕ) (s : words.RunSettings) (
   pub behind : Output
   pub runs : Ran compiled (settings_for limit s) start last (Err DiskFault) (shown_of before) (shown_of (with_err behind after))
   pub store : Store
-  pub program : store.settings.program ≡ chars holds.text
+  pub eras : store.settings.eras ≡ one_era (chars holds.text)
   pub fresh : ℕ
   pub storable : IsStorable last fresh
   pub past : EndsPast (rule_for s) (Some store) (source_of compiled) last fresh now
@@ -78,7 +80,7 @@ pub record DiskFails (limit : ℕ) (file : List ℕ) (s : words.RunSettings) (be
   pub named : s.store ≡ Some dir
   pub holds : Holds (before.content file)
   pub cause : DiskRose dir before.disk after.disk ⊎ (RunEndsPast limit file s before after now
-      ⊎ (IfSome (before.disk.found dir) IsNew × HasSnapshotPast (chars holds.holds.text) empty_core))
+      ⊎ (IfSome (before.disk.found dir) IsNew × HasSnapshotPast (one_era (chars holds.holds.text)) empty_core))
 
 -- ---- what is left
 

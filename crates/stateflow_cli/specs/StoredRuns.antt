@@ -3,6 +3,7 @@ use Rattle.std.specs.Prelude.{ℕ, ◌≡◌, ◌≤◌, ◌⊎◌, ⊤, true, L
 use Rattle.std.specs.Str.{chars}
 use Rattle.std.specs.declared.option.Option.{Option}
 use Rattle.std.specs.declared.result.Result.{Result}
+use Rattle.sf_value.specs.Heads.{one_era}
 use Rattle.sf_outside.specs.Causes.{Rose}
 use Rattle.sf_outside.specs.DiskModel.{Image, DiskFacts, Stays, mounted}
 use Rattle.program_meaning.specs.ClassTables.{Source}
@@ -45,7 +46,7 @@ DiskRose dir before after = Rose before.faults after.faults ⊎ Rose (before.mou
 
 -- what stays of the store of a run, which was opened at this epoch
 abbrev pub settings_by : words.RunSettings → List ℕ → ℕ → StoreSettings
-settings_by s text epoch = record { program = chars text; every = s.every; opened = epoch }
+settings_by s text epoch = record { eras = one_era (chars text); every = s.every; opened = epoch }
 
 -- A run had a store in this folder, from one core to another: the folder was mounted once; each image that a crash now may leave stands for what
 -- was logged of the last core, and where the disk failed perhaps for the core behind the batch that was next; a checkpoint followed behind each so many of the
@@ -88,7 +89,7 @@ pub record RanOpened (opened : OpenedStore) (s : RunSettings) (result : Result T
 pub record RunMoments (compiled : Compiled) (s : RunSettings) (text : List ℕ) (start : Core) (steps : List Step) (found : Option Image) (moment : ℕ)
     (now : DiskFacts) : Type 0 where
   pub each : (image : Image) → now.left_since moment image → LeavesFound (program_of (batch.source_of compiled) text) found image
-      ⊎ StandsLogged (batch.source_of compiled) (rule_of s) (chars text) start (batches_of compiled s start steps) image
+      ⊎ StandsLogged (batch.source_of compiled) (rule_of s) (one_era (chars text)) start (batches_of compiled s start steps) image
   pub grow : (core : Core) → IsLogged (batch.source_of compiled) (rule_of s) start (batches_of compiled s start steps) core
       → GrowsSerially (batch.source_of compiled) start core
 
@@ -110,4 +111,4 @@ pub record FailsToOpen (dir : List ℕ) (src : Source) (text : List ℕ) (before
   pub unchanged : KeepsFound (Err stop) (before.found dir) now
   pub mounts : MountsFor {T = OpenedStore} (Err stop) dir (LeavesFound (program_of src text) (before.found dir)) before.mounts after.mounts
       before.faults after.faults was now
-  pub cause : stop ≡ of_store.DiskFault → DiskRose dir before after ⊎ (IfSome (before.found dir) IsNew × HasSnapshotPast (chars text) empty_core)
+  pub cause : stop ≡ of_store.DiskFault → DiskRose dir before after ⊎ (IfSome (before.found dir) IsNew × HasSnapshotPast (one_era (chars text)) empty_core)

@@ -10,8 +10,8 @@ use std::alloc::{AllocError, Global};
 use std::test::Fail;
 use test_support::{hold_table, hold_text};
 use value_texts::{
-    act_told, batch_told, bytes_of, outcome_told, records_told, request_told, requests_told,
-    value_told,
+    act_told, batch_told, bytes_of, eras_told, outcome_told, records_told, request_told,
+    requests_told, value_told,
 };
 
 /// That bytes are read as this, and whether these are the bytes behind it, and it is written so again.
@@ -91,13 +91,13 @@ fn batch_of(alloc: Global, bytes: &[u8]) -> Result<String, AllocError> {
     reading(alloc, bytes, told?.as_str(), written?.as_slice(), taken)
 }
 
-/// The program of a head, how far its history goes, and its records and the requests that wait, with `;` between them.
+/// The programs of a head, how far its history goes, and its records and the requests that wait, with `;` between them.
 fn head_told(alloc: Global, item: &Head) -> Result<String, AllocError> {
+    let eras = eras_told(alloc, item.eras.as_slice())?;
     let records = records_told(alloc, item.records.as_slice())?;
     let pending = requests_told(alloc, item.pending.as_slice())?;
-    let program = item.program.as_str();
     format!(in alloc;
-        "'{program}' {} in {}; {records}; {pending}",
+        "{eras}; {} in {}; {records}; {pending}",
         item.kept, item.bytes
     )
 }
@@ -140,13 +140,15 @@ const THINGS: &str = "
     an empty batch                        | batch 00000000 00000000                                 | commits [], 0 left
     a creation that is committed          | batch 00000001 00000001 61 01 00000000 00000002 04 00000005 6170706c65 03 00000000000000000000000000000003 00000001 00000000 | a: new 0('apple', 3), commits [0], 0 left
     a creation with what it came to       | entry 00000001 61 01 00000000 00000002 04 00000005 6170706c65 03 00000000000000000000000000000003 00 06 00000000 00000005 6170706c65 | a: new 0('apple', 3) = 0:apple, 0 left
-    the head of a history of it           | head 00000001 70 00000001 0000000000000038 0000000000000001 00000000 00000005 6170706c65 00000003 04 00000005 6170706c65 03 00000000000000000000000000000003 03 00000000000000000000000000000000 00000000 | 'p' 1 in 56; 0:apple('apple', 3, 0); , 0 left
+    the head of a history of it           | head ffffffff 00000002 00000001 00000001 70 00000000 00000001 0000000000000038 0000000000000001 00000000 00000005 6170706c65 00000003 04 00000005 6170706c65 03 00000000000000000000000000000003 03 00000000000000000000000000000000 00000000 | 'p' from 0; 1 in 56; 0:apple('apple', 3, 0); , 0 left
+    the same in the first form            | head 00000001 70 00000001 0000000000000038 0000000000000001 00000000 00000005 6170706c65 00000003 04 00000005 6170706c65 03 00000000000000000000000000000003 03 00000000000000000000000000000000 00000000 | 'p' from 0; 1 in 56; 0:apple('apple', 3, 0); , written otherwise
+    a head of two programs                | head ffffffff 00000002 00000002 00000001 70 00000000 00000001 71 00000001 00000001 0000000000000038 0000000000000000 00000000 | 'p' from 0, 'q' from 1; 1 in 56; ; , 0 left
     bytes behind a value                  | value 02 09 09                                          | True, 2 left
 ";
 
 #[test]
 fn each_thing_is_read_and_written_again(rt: HostRuntime) -> Result<(), Fail> {
-    hold_table(rt.alloc(), THINGS, 11, told)
+    hold_table(rt.alloc(), THINGS, 13, told)
 }
 
 const NO_THINGS: &str = "
@@ -157,11 +159,16 @@ const NO_THINGS: &str = "
     a failure of kind 0     | outcome 01 00 00000000 | none
     an entry cut by a byte  | entry 00000001 61 01 00000000 00000002 04 00000005 6170706c65 03 00000000000000000000000000000003 00 06 00000000 00000005 6170706c | none
     a head cut by a byte    | head 00000001 70 00000001 0000000000000038 0000000000000000 000000 | none
+    a head of a third form  | head ffffffff 00000003 00000001 00000001 70 00000000 00000001 0000000000000038 0000000000000000 00000000 | none
+    a head of no program    | head ffffffff 00000002 00000000 00000001 0000000000000038 0000000000000000 00000000 | none
+    a program begins late   | head ffffffff 00000002 00000001 00000001 70 00000001 00000001 0000000000000038 0000000000000000 00000000 | none
+    one begins behind it    | head ffffffff 00000002 00000002 00000001 70 00000000 00000001 71 00000002 00000001 0000000000000038 0000000000000000 00000000 | none
+    programs that fall      | head ffffffff 00000002 00000003 00000001 70 00000000 00000001 71 00000001 00000001 70 00000000 00000001 0000000000000038 0000000000000000 00000000 | none
 ";
 
 #[test]
 fn what_is_no_value_is_none(rt: HostRuntime) -> Result<(), Fail> {
-    hold_table(rt.alloc(), NO_THINGS, 7, told)
+    hold_table(rt.alloc(), NO_THINGS, 12, told)
 }
 
 #[test]

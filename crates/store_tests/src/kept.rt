@@ -26,12 +26,12 @@ pub const RECORD: [u8; 59] = [
     0, 0, 0, 0,
 ];
 
-/// The head of the program `a` with nothing else.
+/// The head of the program `a` with nothing else, in the first form.
 pub const PROGRAM_A: [u8; 29] = [
     0, 0, 0, 1, b'a', 0, 0, 0, 0, 0, 0, 0, 0, 0, 0, 0, 0, 0, 0, 0, 0, 0, 0, 0, 0, 0, 0, 0, 0,
 ];
 
-/// The head of no program.
+/// The head of a program without a text, in the first form.
 pub const NO_PROGRAM: [u8; 28] = [0; 28];
 
 /// A disk whose files are empty, and of which these calls are to fail.

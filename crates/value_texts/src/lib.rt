@@ -8,7 +8,7 @@ mod snapshots;
 pub use hexes::{bytes_of, digits_of};
 pub use requests::{act_told, batch_told, request_told};
 use sf_value::{Failure, Outcome, Ref, Text, Value};
-pub use snapshots::{entries_told, outcomes_told, records_told, requests_told, snapshot_told};
+pub use snapshots::{entries_told, eras_told, outcomes_told, records_told, requests_told, snapshot_told};
 use std::alloc::{AllocError, Global};
 
 /// A text of this many bytes or more is told by their number.

@@ -2,7 +2,7 @@
 
 use crate::requests::request_told;
 use crate::{add_item, entity_told, outcome_told, values_told};
-use sf_value::{Entry, Held, Outcome, Request, Snapshot};
+use sf_value::{Entry, Era, Held, Outcome, Request, Snapshot};
 use std::alloc::{AllocError, Global};
 
 /// A request with what it came to.
@@ -35,6 +35,17 @@ pub fn records_told(alloc: Global, records: &[Held]) -> Result<String, AllocErro
         let at = entity_told(alloc, &held.at)?;
         let fields = values_told(alloc, held.fields.fields.as_slice())?;
         add_item(&mut told, format!(in alloc; "{at}({fields})")?.as_str())?;
+    }
+    Ok(told)
+}
+
+/// Programs, each with where it begins.
+pub fn eras_told(alloc: Global, eras: &[Era]) -> Result<String, AllocError> {
+    let mut told = String::new(alloc);
+    for era in eras {
+        let program = era.program.as_str();
+        let item = format!(in alloc; "'{program}' from {}", era.from)?;
+        add_item(&mut told, item.as_str())?;
     }
     Ok(told)
 }
