@@ -166,10 +166,25 @@ class Reader:
     def held(self):
         return self.entity(), self.values(DEEPEST)
 
+    def eras(self):
+        """The programs of a head of either form, each with the place where it begins."""
+        front = self.number()
+        if front == 2**32 - 1:
+            if self.number() != 2:
+                raise NoSpelling
+            return self.items(lambda: (self.text(), self.number()), self.number())
+        if front > 2**20:
+            raise NoSpelling
+        self.at -= 4
+        return ((self.text(), 0),)
+
     def head(self):
-        program, entries, length = self.text(), self.number(), self.long()
+        eras, entries, length = self.eras(), self.number(), self.long()
+        places = [place for _, place in eras]
+        if not 1 <= len(eras) <= 64 or places != sorted([0, *places[1:]]) or places[-1] > entries:
+            raise NoSpelling
         records = self.items(self.held, self.long())
-        return program, entries, length, records, self.items(self.request, self.number())
+        return eras, entries, length, records, self.items(self.request, self.number())
 
     def batch(self):
         return self.items(self.request, self.number()), self.items(self.number, self.number())
@@ -376,10 +391,10 @@ def stands_for(files):
     slots = [found for found in (slot(files, parity) for parity in (0, 1)) if found]
     if not slots:
         return Core([], {}, [])
-    epoch, (program, count, length, records, pending) = max(slots, key=lambda found: found[0])
+    epoch, (eras, count, length, records, pending) = max(slots, key=lambda found: found[0])
     entries = history(files, count, length)
     logged = batches(files, f"log{epoch % 2}")
-    if program != PROGRAM:
+    if eras != ((PROGRAM, 0),):
         raise OtherProgram
     try:
         core, file, at = core_of(entries, records, pending), f"log{epoch % 2}", 0

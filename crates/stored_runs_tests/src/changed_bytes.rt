@@ -154,11 +154,14 @@ fn a_changed_history_is_bad_or_taken_as_it_stands(rt: HostRuntime) -> Result<(),
 
 const BAD_SLOT: &str = "6: stateflow: bad store: snap1 at 0";
 
-const SLOT: [Case<'static, Change>; 5] = [
+const SLOT: [Case<'static, Change>; 8] = [
     ("its gate is closed", (Snap1, 0, 0x00), LOST),
     ("an epoch of the other slot", (Snap1, 8, 0x02), BAD_SLOT),
     ("a later epoch of its own", (Snap1, 8, 0x03), PRICED),
     ("more bytes than there are", (Snap1, 9, 0x01), BAD_SLOT),
+    ("a text that is too long", (Snap1, 17, 0x00), BAD_SLOT),
+    ("a form that there is none of", (Snap1, 24, 0x03), BAD_SLOT),
+    ("a program more", (Snap1, 28, 0x02), BAD_SLOT),
     ("the other slot has a byte", (Snap0, 0, 0xa5), PRICED),
 ];
 
