@@ -10,6 +10,7 @@ use Rattle.sf_outside.specs.DiskModel.{Image}
 use Rattle.sf_outside.specs.declared.store_disk.StoreFile.{StoreFile}
 use Rattle.sf_value.specs.Heads.{one_era}
 use Rattle.sf_value.specs.declared.Snapshot.{Snapshot}
+use Rattle.sf_value.specs.declared.heads.Era.{Era}
 use Rattle.snapshot_store.specs.SlotFile.{log_of}
 use Rattle.block_step.specs.declared.compiled.Compiled.{Compiled}
 use Rattle.block_step.specs.CompiledViews.{compiled_program, compiled_names}
@@ -36,7 +37,7 @@ use Rattle.store_opening.specs.declared.opened_store.OpenedStore.{OpenedStore}
 use Rattle.store_opening.specs.declared.stop.OpenStop.{OpenStop}
 use Rattle.store_opening.specs.declared.stop.OpenStop.TheVariants.{DiskFault, Bad, OtherProgram, NoMemory}
 use Rattle.store_opening.specs.Openings.{AnswersOld}
-use Rattle.store_opening.specs.OpenedStores.{program_for}
+use Rattle.store_opening.specs.OpenedStores.{program_for, AnswersEras}
 use Rattle.store_opening.specs.Replayed.{HasFirstWrong, IsBrokenOff}
 use Rattle.store_opening.specs.Stops.{restore_stop}
 
@@ -59,6 +60,9 @@ pub none_broken : (p : Program) (core : Core) (batches : List Placed) (epoch : �
 none_broken p core batches epoch (Ok made) stop is = cc
 none_broken p core batches epoch (Err fault) stop is = let same : fault ≡ DiskFault = cc in subst (IsBrokenOff p core batches epoch) same stop
 
+pub eras_no_fault : (kept : List Era) (text : List ℕ) (stop : OpenStop) → AnswersEras kept text (Err stop) → stop ≡ DiskFault → ⊥
+eras_no_fault kept text stop answer is = subst (λ stop. AnswersEras kept text (Err stop)) is answer
+
 -- ---- what it is
 
 module _ (compiled : Compiled) (text : List ℕ) (position : Position) (kept : Snapshot) (batches : List Placed) (image : Image) (old : IsOld image position.epoch kept position.bytes batches position.at) where
@@ -67,6 +71,12 @@ module _ (compiled : Compiled) (text : List ℕ) (position : Position) (kept : S
 
   pub other_told : (kept.eras ≡ one_era text → ⊥) → AnswersOld (Err OtherProgram) of_text image
   other_told differs = (kept.eras, of_other of_text position.epoch kept position.bytes position.at image batches old differs)
+
+  pub stop_told : (stop : OpenStop) → AnswersEras kept.eras text (Err stop) → AnswersOld (Err stop) of_text image
+  stop_told OtherProgram differs = other_told differs
+  stop_told NoMemory free = tt
+  stop_told DiskFault none = absurd none
+  stop_told (Bad file at) none = absurd none
 
   module _ (same_eras : kept.eras ≡ one_era text) where
     pub restore_told : (error : RestoreError) → IsCause (SnapshotFits (program_tables compiled) kept) error → AnswersOld (Err (restore_stop position.epoch error)) of_text image
