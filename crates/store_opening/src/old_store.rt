@@ -127,10 +127,15 @@ fn with_batches(
     ensures stop { IfErr result (IsBrokenOff (program_of engine given.eras) (core_of engine) batches position.epoch) }
 {
     match replay_all(alloc, &mut engine, batches) {
-        Ok(()) => Ok(OpenedStore {
-            engine,
-            store: store_at(given.eras, given.settings.every, position),
-        }),
+        Ok(()) => {
+            let OpenWith { eras, settings } = given;
+            let every = settings.every;
+            drop(settings);
+            Ok(OpenedStore {
+                engine,
+                store: store_at(eras, every, position),
+            })
+        }
         Err(stop) => {
             drop(engine);
             drop(given);

@@ -124,10 +124,14 @@ fn keep_first<D: Disk>(
         kept: 0,
     };
     match keep_core(disk, nowhere, &engine, &eras) {
-        Ok(position) => Ok(OpenedStore {
-            engine,
-            store: store_at(eras, settings.every, position),
-        }),
+        Ok(position) => {
+            let every = settings.every;
+            drop(settings);
+            Ok(OpenedStore {
+                engine,
+                store: store_at(eras, every, position),
+            })
+        }
         Err(fault) => {
             drop(engine);
             drop(eras);
