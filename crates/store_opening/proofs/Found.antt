@@ -1,5 +1,5 @@
 -- What is told of a store that was found, and what is left of it.
-use Rattle.std.proofs.Common.{◌≡◌, ◌⊎◌, ℕ, ◌≤◌, List, [], length, drop, inl, inr, Ok, Err, IfSome, refl, sym, ap, subst, arith}
+use Rattle.std.proofs.Common.{◌≡◌, ◌⊎◌, ℕ, ◌≤◌, List, [], length, drop, inl, inr, Ok, Err, IfSome, refl, sym, ap, ◌∙◌, subst, arith}
 use Rattle.std.specs.List.{sum_by}
 use Rattle.byte_sizes.specs.Sizes.{entry_size}
 use Rattle.sf_outside.specs.Causes.{Rose}
@@ -21,6 +21,7 @@ use Rattle.store_meaning.specs.Checkpoints.{start_of}
 use Rattle.store_meaning.specs.Keeping.{KeepsCore}
 use Rattle.store_meaning.specs.StandsFor.{Program, new_position, OldStandsFor, StandsFor}
 use Rattle.store_meaning.proofs.Opening.{seen_new, clean_keeps}
+use Rattle.session_store.specs.declared.store.Store.{Store}
 use Rattle.session_store.specs.Checkpoints.{kept_at}
 use Rattle.session_store.specs.Places.{IsPlaced}
 use Rattle.session_store.specs.Stores.{program_with, StandsSomewhere, HasSnapshotPast, CheckpointEndsPast}
@@ -40,6 +41,11 @@ use Rattle.store_opening.specs.Openings.{AnswersFound, AnswersOld, LeavesAsFound
 -- any history may have run under one, whose text can be counted
 pub one_spelt : (text : List ℕ) (kept : ℕ) → IsShortText text → AreSpeltEras (one_era text) kept
 one_spelt text kept short = (record { first = refl; count = omega arith; order = (omega arith, omega arith) }, (short, tt))
+
+-- what stays of a store that was made so
+pub settings_same : (settings : OpenSettings) (eras : List Era) (made : Store) (position : Position) → eras ≡ one_era settings.program
+    → made.settings ≡ record { eras = eras; every = settings.every; opened = position.epoch } → made.position ≡ position → made.settings ≡ settings_at settings made.position.epoch
+settings_same settings eras made position same is place = is ∙ (λ i. record { eras = same i; every = settings.every; opened = (sym place i).epoch })
 
 -- ---- an opened store
 

@@ -11,9 +11,8 @@ use Rattle.session_store.proofs.NoStore.{none_storable}
 use Rattle.store_meaning.specs.StandsFor.{new_position}
 use Rattle.session_store.specs.Checkpoints.{kept_at}
 use Rattle.session_store.specs.Stores.{StandsSomewhere, HasSnapshotPast}
-use Rattle.store_opening.specs.OpenedStores.{settings_at}
 use Rattle.store_opening.specs.declared.opened_store.OpenedStore.{OpenedStore}
-use Rattle.store_opening.proofs.Found.{one_spelt, new_keeps, new_found, new_left, new_ready, first_kept, first_cause}
+use Rattle.store_opening.proofs.Found.{one_spelt, settings_same, new_keeps, new_found, new_left, new_ready, first_kept, first_cause}
 use Rattle.store_opening.proofs.opening.keep_first.Goals as goal
 
 pub keep_core-requires-clause-storable : goal.keep_core-requires-clause-storable
@@ -36,16 +35,16 @@ returns-in-Ok-clause-answer g c =
 pub returns-in-Ok-clause-ready : goal.returns-in-Ok-clause-ready
 returns-in-Ok-clause-ready g c =
     let made : OpenedStore = record { engine = c.args.engine; store = c.store_at.result } in
-    let eras = λ i. record { eras = c.requires.eras i; every = c.args.settings.every; opened = sym (ap (λ q. q.epoch) c.store_at.ensures.position) i } in
-    new_ready c.args.settings made c.requires.core c.requires.fresh c.requires.limit c.requires.fits (c.store_at.ensures.settings ∙ eras) c.store_at.ensures.since
+    let stays = settings_same c.args.settings c.args.eras c.store_at.result c.in-Ok.position c.requires.eras c.store_at.ensures.settings c.store_at.ensures.position in
+    new_ready c.args.settings made c.requires.core c.requires.fresh c.requires.limit c.requires.fits stays c.store_at.ensures.since
 
 pub returns-in-Ok-clause-kept : goal.returns-in-Ok-clause-kept
 returns-in-Ok-clause-kept g c =
     let e = c.args.engine in
     let new = g.D.Disk.facts c.keep_core.new.disk in
     let made : OpenedStore = record { engine = e; store = c.store_at.result } in
-    let eras = λ i. record { eras = c.requires.eras i; every = c.args.settings.every; opened = sym (ap (λ q. q.epoch) c.store_at.ensures.position) i } in
-    let ready = new_ready c.args.settings made c.requires.core c.requires.fresh c.requires.limit c.requires.fits (c.store_at.ensures.settings ∙ eras) c.store_at.ensures.since in
+    let stays = settings_same c.args.settings c.args.eras c.store_at.result c.in-Ok.position c.requires.eras c.store_at.ensures.settings c.store_at.ensures.position in
+    let ready = new_ready c.args.settings made c.requires.core c.requires.fresh c.requires.limit c.requires.fits stays c.store_at.ensures.since in
     first_kept c.args.settings made ready new c.requires.core (c.store_at.ensures.position ∙ c.in-Ok.ensures.next) c.requires.short c.requires.every
     (subst (λ eras. KeepsCore (program_of e eras) new (core_of e) (kept_at new_position (core_of e))) c.requires.eras c.in-Ok.ensures.kept)
 
