@@ -1,7 +1,11 @@
 use Rattle.std.proofs.Common.{◌∙◌}
+use Rattle.sf_list.proofs.CopyLaws.{equal_copies}
 use Rattle.engine.specs.EngineViews.{core_of, tables_of}
 use Rattle.engine.proofs.KeptLaws.{snapshot_fits}
 use Rattle.engine.proofs.engine.Engine.head.Goals as goal
+
+pub returns-clause-eras : goal.returns-clause-eras
+returns-clause-eras c = equal_copies _ _ c.in_ok-try_clone.ensures
 
 pub returns-clause-fits : goal.returns-clause-fits
 returns-clause-fits c = λ fits few.
