@@ -1,19 +1,19 @@
 -- Names on which locals agree where a loop is left, and behind an `if`: what agrees where some ways have met does so where more
 -- of them have.
-use Rattle.std.proofs.Common.{◌≡◌, Bool, true, false, cond, not, Option, None, Ok, List, sym, ap, subst}
+use Rattle.std.proofs.Common.{◌≡◌, Bool, true, false, cond, not, Option, None, Ok, List, sym, ap, subst, refl, ℕ}
 use Rattle.std.specs.declared.result.Result.{Result}
 use Rattle.py_tree.specs.declared.rule.Rule.TheVariants.{LoopWord}
 use Rattle.py_tree.specs.declared.rule.RuleFault.{RuleFault}
 use Rattle.py_tree.specs.PlainTypes.{PlainTy}
-use Rattle.py_tree.specs.PlainStatements.{PlainStmt, PPass, PBreak, PContinue, PDo, PReturn, PRaise, PAssert, PAssign, PAugment, PIf, PWhile, PFor, PlainStmts, PNoStmt, PStmt, PArm, PlainArms, PNoArm, PMoreArms}
+use Rattle.py_tree.specs.PlainStatements.{PlainStmt, PPass, PBreak, PContinue, PDo, PReturn, PRaise, PAssert, PAssign, PAugment, PIf, PWhile, PFor, PlainStmts, PNoStmt, PStmt, PArm, PlainArms, PNoArm, PMoreArms, PTry, PClause, PlainClauses, PNoClause, PMoreClauses}
 use Rattle.py_tree.specs.FlowEnvironment.{PlainLocal, shown, narrowed}
-use Rattle.py_tree.specs.Reachability.{goes_on, all_go_on}
-use Rattle.py_tree.specs.Flow.{Context, type_at, condition_at, Known, known_at, meet, way, behind_ways, settled, needs_none, return_fault, message_fault, assigned, augmentation, Way, on, broken_off, flow, flow_all, flow_arms}
+use Rattle.py_tree.specs.Reachability.{goes_on, all_go_on, assigned_in}
+use Rattle.py_tree.specs.Flow.{Context, type_at, condition_at, Known, known_at, meet, way, behind_ways, settled, needs_none, return_fault, message_fault, assigned, augmentation, Way, on, broken_off, flow, flow_all, flow_arms, flow_clauses, at_head}
 use Rattle.program_meaning.specs.declared.vars.Var.{Var}
 use Rattle.program_meaning.proofs.TypedParts.{done, same_ok, found_ok, refuse_ok}
 use Rattle.program_meaning.proofs.LocalShapes.{shapes, Grows, alike_grows, grows_same, shapes_narrowed, shapes_settled, shapes_behind}
 use Rattle.program_meaning.proofs.FlowParts.{no_need}
-use Rattle.program_meaning.proofs.FlowGrows.{WhileParts, while_parts, ForParts, for_parts, all_parts, last_parts, ArmParts, arm_parts, follows, follows_all}
+use Rattle.program_meaning.proofs.FlowGrows.{WhileParts, while_parts, ForParts, for_parts, all_parts, last_parts, ArmParts, arm_parts, follows, follows_all, TryParts, try_parts, ClauseParts, clause_parts, behind_clauses}
 use Rattle.assigned_locals.proofs.SureNames.{sure, Agree, MetAgree, met_left, met_grown, behind_agree}
 
 module _ (us vs : List Var) where
@@ -61,6 +61,9 @@ module _ (us vs : List Var) where
     breaks_stay (PFor at name name_at over body) c w after h =
         let a : ForParts c w after name name_at over body = for_parts c w after at name name_at over body h in
         same_breaks w after (follows (PFor at name name_at over body) c w after h).grows (sym (ap breaks_of a.is))
+    breaks_stay (PTry at body clauses) c w after h m =
+        let a : TryParts c w after body clauses = try_parts c w after at body clauses h in
+        breaks_stay_clauses clauses c a.end (known_at (at_head (assigned_in body) w.locals)) (way (all_go_on body) a.end.locals) after a.rest (breaks_stay_all body c w a.end a.inside m)
 
     pub breaks_stay_all : (xs : PlainStmts) (c : Context) (w after : Way) → flow_all c w xs ≡ Ok after → BreaksStay w after
     breaks_stay_all PNoStmt c w after h m = subst (λ (v : Way). MetAgree us vs (shapes v.locals) v.breaks) (same_ok w after h) m
@@ -81,6 +84,16 @@ module _ (us vs : List Var) where
         breaks_stay_arms more c (on a.end later) (meet ended (way (all_go_on body) a.end.locals)) go other after a.rest k
         (met_grown us vs a.end.locals later a.end.breaks (alike_grows a.end.locals later (shapes_settled a.end.locals (known_at (narrowed (shown false test) w.locals)))) inside)
 
+    pub breaks_stay_clauses : (clauses : PlainClauses) (c : Context) (w : Way) (start : List Known) (ended : Option (List Known)) (after : Way) → flow_clauses c w start ended clauses ≡ Ok after → BreaksStay w after
+    breaks_stay_clauses PNoClause c w start ended after h m =
+        let behind : List PlainLocal = behind_ways w.locals ended in
+        subst (λ (v : Way). MetAgree us vs (shapes v.locals) v.breaks) (behind_clauses c w after start ended h) (met_grown us vs w.locals behind w.breaks (alike_grows w.locals behind (shapes_behind w.locals ended)) m)
+    breaks_stay_clauses (PMoreClauses (PClause kinds body) more) c w start ended after h m =
+        let a : ClauseParts c w after start ended body more = clause_parts c w after start ended kinds body more h in
+        let first : List PlainLocal = settled w.locals start in
+        breaks_stay_clauses more c a.end start (meet ended (way (all_go_on body) a.end.locals)) after a.rest
+        (breaks_stay_all body c (on w first) a.end a.inside (met_grown us vs w.locals first w.breaks (alike_grows w.locals first (shapes_settled w.locals start)) m))
+
   -- where ways through arms have met, what agrees there agrees behind all of them
   pub ended_agree : (arms : PlainArms) (c : Context) (w : Way) (ended : Option (List Known)) (go : Bool) (other : Way → Result Way RuleFault) (after : Way) → flow_arms c w ended arms go other ≡ Ok after → ((v last : Way) → other v ≡ Ok last → Grows v.locals last.locals)
       → MetAgree us vs (shapes w.locals) ended → Agree (sure after.locals) us vs
@@ -96,3 +109,14 @@ module _ (us vs : List Var) where
       let to_later : Grows w.locals later = grows_same start w.locals a.end.locals later (shapes_narrowed (shown true test) w.locals) (sym (shapes_settled a.end.locals (known_at exit))) (follows_all body c (on w start) a.end a.arm).grows in
       ended_agree more c (on a.end later) (meet ended (way (all_go_on body) a.end.locals)) go other after a.rest k
       (met_left us vs (shapes later) ended (way (all_go_on body) a.end.locals) (met_grown us vs w.locals later ended to_later met))
+
+  -- and behind all clauses, where ways through the body and some of them have met
+  pub clauses_agree : (clauses : PlainClauses) (c : Context) (w : Way) (start : List Known) (ended : Option (List Known)) (after : Way) → flow_clauses c w start ended clauses ≡ Ok after
+      → MetAgree us vs (shapes w.locals) ended → Agree (sure after.locals) us vs
+  clauses_agree PNoClause c w start ended after h met = subst (λ (v : Way). Agree (sure v.locals) us vs) (behind_clauses c w after start ended h) (behind_agree us vs w.locals ended met)
+  clauses_agree (PMoreClauses (PClause kinds body) more) c w start ended after h met =
+      let a : ClauseParts c w after start ended body more = clause_parts c w after start ended kinds body more h in
+      let first : List PlainLocal = settled w.locals start in
+      let to_end : Grows w.locals a.end.locals = grows_same first w.locals a.end.locals a.end.locals (shapes_settled w.locals start) refl (follows_all body c (on w first) a.end a.inside).grows in
+      clauses_agree more c a.end start (meet ended (way (all_go_on body) a.end.locals)) after a.rest
+      (met_left us vs (shapes a.end.locals) ended (way (all_go_on body) a.end.locals) (met_grown us vs w.locals a.end.locals ended to_end met))

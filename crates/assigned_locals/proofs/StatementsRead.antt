@@ -2,8 +2,9 @@
 --
 -- Beside that, the locals agree on some names, and still do however the statements end: each assignment gives its name one value in
 -- both. So it needn't be known that what is surely assigned stays so along a way.
+use Rattle.std.specs.List.{list_any}
 use Rattle.std.proofs.Common.{◌≡◌, ℕ, zero, suc, ℤ, pos, ◌+ℤ◌, Bool, true, false, cond, not, List, [], ◌∷◌, Option, Some, None, Ok, if◌then◌else◌, refl, sym, ap, ◌∙◌, subst, true≢false}
-use Rattle.std.specs.Prelude.{◌==◌}
+use Rattle.std.specs.Prelude.{◌==◌, nat_eq}
 use Rattle.std.specs.Ordering.{int_cmp, is_lt}
 use Rattle.std.specs.declared.result.Result.{Result}
 use Rattle.py_tree.specs.declared.names.Place.{Place}
@@ -15,28 +16,28 @@ use Rattle.py_tree.specs.declared.stmt.Target.{Target}
 use Rattle.py_tree.specs.declared.stmt.Target.TheVariants as target
 use Rattle.py_tree.specs.PlainTypes.{PlainTy, TBool, TInt, TList, TEntity, PlainWritten, type_of as type_written}
 use Rattle.py_tree.specs.PlainExpressions.{PlainExpr, PBool, PSelf, PVar}
-use Rattle.py_tree.specs.PlainStatements.{PlainOver, PRange, PItems, PlainStmt, PPass, PBreak, PContinue, PDo, PReturn, PRaise, PAssert, PAssign, PAugment, PIf, PWhile, PFor, PlainStmts, PNoStmt, PStmt, PArm, PlainArms, PNoArm, PMoreArms}
+use Rattle.py_tree.specs.PlainStatements.{PlainOver, PRange, PItems, PlainStmt, PPass, PBreak, PContinue, PDo, PReturn, PRaise, PAssert, PAssign, PAugment, PIf, PWhile, PFor, PlainStmts, PNoStmt, PStmt, PArm, PlainArms, PNoArm, PMoreArms, PTry, PClause, PlainClauses, PNoClause, PMoreClauses}
 use Rattle.py_tree.specs.FlowEnvironment.{PlainLocal, shown, narrowed}
 use Rattle.py_tree.specs.ExpressionTypes.{refuse_if, with_found, place_of, field_of, self_ty, assignable, right_wanted, type_of}
 use Rattle.py_tree.specs.Reachability.{is_true as is_true_word, goes_on, all_go_on, breaks, break_in, assigned_in}
-use Rattle.py_tree.specs.Flow.{Context, env_of, type_at, condition_at, within_loop, result_at, Known, known_at, meet, way, behind_ways, with_local, at_head, settled, value_as, item_of, needs_none, return_fault, message_fault, keeps, earlier, is_key_field, assigned as assigned_type, field_assigned, field_declared, augmentation, combined_stored, target_read, Way, on, begun, broken_off, after_while, after_for, for_head, named_at, flow, flow_all, flow_arms}
+use Rattle.py_tree.specs.Flow.{Context, env_of, type_at, condition_at, within_loop, result_at, Known, known_at, meet, way, behind_ways, with_local, at_head, settled, value_as, item_of, needs_none, return_fault, message_fault, keeps, earlier, is_key_field, assigned as assigned_type, field_assigned, field_declared, augmentation, combined_stored, target_read, Way, on, begun, broken_off, after_while, after_for, for_head, named_at, flow, flow_all, flow_arms, flow_clauses}
 use Rattle.sf_value.specs.declared.value.Value.{Value}
 use Rattle.sf_value.specs.declared.value.Value.TheVariants as value
 use Rattle.sf_value.specs.declared.Failure.{Failure}
 use Rattle.program_meaning.specs.declared.vars.Var.{Var}
-use Rattle.program_meaning.specs.World.{Gives, Got, Fell, told, Ends, Goes, Returns, Breaks, Continues, Fails, with_given, next, next_turn, local_value, assigned}
+use Rattle.program_meaning.specs.World.{Gives, Got, Fell, told, Ends, Goes, Returns, Breaks, Continues, Fails, with_given, next, next_turn, local_value, assigned, caught}
 use Rattle.program_meaning.specs.Operations.{in_range, weighed, is_true}
 use Rattle.program_meaning.specs.Evaluation.{Site, eval}
-use Rattle.program_meaning.specs.Execution.{message, stepping, store, target_value, augmented, value_or_none, start_of, turns_of, Turns, Items, Numbers, turn, over_items, over_numbers, over_turns, counting, while_turns, checked, act, act_all, act_arms}
+use Rattle.program_meaning.specs.Execution.{message, stepping, store, target_value, augmented, value_or_none, start_of, turns_of, Turns, Items, Numbers, turn, over_items, over_numbers, over_turns, counting, while_turns, checked, act, act_all, act_arms, act_clauses}
 use Rattle.program_meaning.specs.Reached.{IsReached}
 use Rattle.program_meaning.proofs.TypedParts.{done, same_ok, found_ok, refuse_ok, needs_ok, condition_ok, Joins}
 use Rattle.program_meaning.proofs.LocalShapes.{shapes, Grows, alike_grows, grows_on, grows_same, shapes_narrowed, shapes_settled, shapes_behind, local_grows}
 use Rattle.program_meaning.proofs.FlowParts.{no_need, value_ok, items_ok, short_range_ok, range_ok, return_ok, message_ok, LocalTaken, local_ok, Augments, augments_ok, stored_ok, put_local_ok, put_field_ok}
-use Rattle.program_meaning.proofs.FlowGrows.{WhileParts, while_parts, ForParts, for_parts, all_parts, last_parts, ArmParts, arm_parts, follows_all}
+use Rattle.program_meaning.proofs.FlowGrows.{WhileParts, while_parts, ForParts, for_parts, all_parts, last_parts, ArmParts, arm_parts, follows_all, TryParts, try_parts, ClauseParts, clause_parts}
 use Rattle.program_meaning.proofs.NotReached.{act_reached, acts_reached}
 use Rattle.assigned_locals.proofs.SureNames.{sure, known_before, Agree, agree_narrowed, agree_at_head, either, agree_both, agree_first, agree_second, agree_stays, agree_assigned, MetAgree, met_left, met_right, met_grown, met_here, behind_agree}
 use Rattle.assigned_locals.proofs.ExpressionsRead.{name_reads, then_same, eval_reads}
-use Rattle.assigned_locals.proofs.BreaksStay.{BreaksStay, one_or_none, breaks_stay_all, breaks_stay_arms, ended_agree}
+use Rattle.assigned_locals.proofs.BreaksStay.{BreaksStay, one_or_none, breaks_stay_all, breaks_stay_arms, ended_agree, breaks_stay_clauses, clauses_agree}
 
 -- What ends alike
 
@@ -92,6 +93,16 @@ module _ {W : Type 0} where
   turn_meets names head end after _ _ f (break {us = us} {vs = vs} k m) again left = go (agree_first names (sure head) us vs k) (left us vs m)
   turn_meets names head end after _ _ f (continue {us = us} {vs = vs} {w = w} {n = n} k) again left = again us vs w n (agree_first names (sure head) us vs k) (agree_second names (sure head) us vs k)
   turn_meets names head end after _ _ f (fail {us = us} {vs = vs} k) again left = fail (agree_first names (sure head) us vs k)
+
+  -- what a body comes to, or where it fails a clause, which begins with what is known at `head`
+  caught_meets : (names : ℕ → Bool) (go_on leave : Bool) (head : List PlainLocal) (mid after : Way) (d e : Ends W) (f : Failure → List Var → W → ℕ → Ends W) → IsReached go_on leave d → EndsMeet (either names (sure head)) mid d e
+      → ((us vs : List Var) → BreaksStay us vs mid after) → ((us vs : List Var) → go_on ≡ true → Agree (sure mid.locals) us vs → Agree (sure after.locals) us vs)
+      → ((x : Failure) (us vs : List Var) (w : W) (n : ℕ) → Agree names us vs → Agree (sure head) us vs → EndsMeet names after (f x us w n) (f x vs w n)) → EndsMeet names after (caught f d) (caught f e)
+  caught_meets names go_on leave head mid after _ _ f r (go {us = us} {vs = vs} k a) stay later taken = go (agree_first names (sure head) us vs k) (later us vs r a)
+  caught_meets names go_on leave head mid after _ _ f r return stay later taken = return
+  caught_meets names go_on leave head mid after _ _ f r (break {us = us} {vs = vs} k m) stay later taken = break (agree_first names (sure head) us vs k) (stay us vs m)
+  caught_meets names go_on leave head mid after _ _ f r (continue {us = us} {vs = vs} k) stay later taken = continue (agree_first names (sure head) us vs k)
+  caught_meets names go_on leave head mid after _ _ f r (fail {f = x} {us = us} {vs = vs} {w = w} {n = n} k) stay later taken = taken x us vs w n (agree_first names (sure head) us vs k) (agree_second names (sure head) us vs k)
 
 -- Behind a loop
 
@@ -349,6 +360,19 @@ module _ {W : Type 0} (s : Site W) where
         (λ v us vs world n both a.
         acts_meet body (either names (sure head)) (within_loop c) (begun start) p.end p.turn (assigned us name v) (assigned vs name v) (agree_stays (either names (sure head)) us vs name v both) (agree_assigned us vs name v p.item p.item head a) world n)
         turns us vs world n k (for_start (name ∷ assigned_in body) w.locals p.named us vs to_named a))))
+    act_meets (PTry at body clauses) names c w after h us vs k a world n =
+        let p : TryParts c w after body clauses = try_parts c w after at body clauses h in
+        let head : List PlainLocal = at_head (assigned_in body) w.locals in
+        let start : List Known = known_at head in
+        let ended : Option (List Known) = way (all_go_on body) p.end.locals in
+        let to_end : Grows head p.end.locals = grows_same w.locals head p.end.locals p.end.locals (sym (shapes_at_head (assigned_in body) w.locals)) refl (follows_all body c w p.end p.inside).grows in
+        let both : Agree (either names (sure head)) us vs = agree_both names (sure head) us vs k (agree_at_head (assigned_in body) w.locals us vs a) in
+        step_meets names after us vs k world n _ _ (λ n.
+        caught_meets names (all_go_on body) (break_in body) head p.end after (act_all s body us world n) (act_all s body vs world n) (λ f vars w n. act_clauses s clauses f vars w n)
+        (acts_reached s body us world n) (acts_meet body (either names (sure head)) c w p.end p.inside us vs both a world n)
+        (λ us vs. breaks_stay_clauses us vs clauses c p.end start ended after p.rest)
+        (λ us vs goes b. clauses_agree us vs clauses c p.end start ended after p.rest (subst (λ t. MetAgree us vs (shapes p.end.locals) (way t p.end.locals)) (sym goes) (met_here us vs p.end.locals b)))
+        (λ x us vs world n k a. clauses_meet clauses names c head p.end after ended p.rest to_end x us vs k a world n))
 
     pub acts_meet : (xs : PlainStmts) (names : ℕ → Bool) (c : Context) (w after : Way) → flow_all c w xs ≡ Ok after → Meets names w after (act_all s xs)
     acts_meet PNoStmt names c w after h us vs k a world n = go k (at_way us vs w after a (same_ok w after h))
@@ -385,3 +409,22 @@ module _ {W : Type 0} (s : Site W) where
         (λ us vs goes b. ended_agree us vs more c (on p.end later) met (all_go_on other) other_flow after p.rest (λ mid last e. (follows_all other c mid last e).grows)
         (met_grown us vs p.end.locals later met to_later (met_right us vs (shapes p.end.locals) ended (way (all_go_on body) p.end.locals) (subst (λ t. MetAgree us vs (shapes p.end.locals) (way t p.end.locals)) (sym goes) (met_here us vs p.end.locals b))))))
         (λ no. arms_meet more names c (on p.end later) after met other p.rest rest us vs k (λ x e. agree_narrowed (shown false test) w.locals us vs a x (sym (known_before exit p.end.locals x to_end) ∙ e)) world n))
+
+    -- from locals that agree on what is known where clauses begin
+    clauses_meet : (clauses : PlainClauses) (names : ℕ → Bool) (c : Context) (head : List PlainLocal) (w after : Way) (ended : Option (List Known)) → flow_clauses c w (known_at head) ended clauses ≡ Ok after → Grows head w.locals
+        → (f : Failure) (us vs : List Var) → Agree names us vs → Agree (sure head) us vs → (world : W) (n : ℕ) → EndsMeet names after (act_clauses s clauses f us world n) (act_clauses s clauses f vs world n)
+    clauses_meet PNoClause names c head w after ended h g f us vs k a world n = fail k
+    clauses_meet (PMoreClauses (PClause kinds body) more) names c head w after ended h g f us vs k a world n =
+        let p : ClauseParts c w after (known_at head) ended body more = clause_parts c w after (known_at head) ended kinds body more h in
+        let start : List PlainLocal = settled w.locals (known_at head) in
+        let met : Option (List Known) = meet ended (way (all_go_on body) p.end.locals) in
+        let to_start : Grows head start = grows_same head head w.locals start refl (sym (shapes_settled w.locals (known_at head))) g in
+        let to_end : Grows head p.end.locals = grows_on head start p.end.locals to_start (follows_all body c (on w start) p.end p.inside).grows in
+        let begun_with : Agree (sure start) us vs = behind_agree us vs w.locals (way true head) (met_grown us vs head w.locals (way true head) g (met_here us vs head a)) in
+        choice_meets names after (list_any (nat_eq f.kind) kinds) _ _ _ _
+        (λ yes.
+        meets_later names (all_go_on body) (break_in body) p.end after (act_all s body us world n) (act_all s body vs world n) (acts_reached s body us world n) (acts_meet body names c (on w start) p.end p.inside us vs k begun_with world n)
+        (λ us vs. breaks_stay_clauses us vs more c p.end (known_at head) met after p.rest)
+        (λ us vs goes b. clauses_agree us vs more c p.end (known_at head) met after p.rest
+        (met_right us vs (shapes p.end.locals) ended (way (all_go_on body) p.end.locals) (subst (λ t. MetAgree us vs (shapes p.end.locals) (way t p.end.locals)) (sym goes) (met_here us vs p.end.locals b)))))
+        (λ no. clauses_meet more names c head p.end after met p.rest to_end f us vs k a world n)

@@ -98,5 +98,6 @@ stmt (suc f) n c i =
     (λ if_word. do
       while_word ← fails (sees k.While i)
       for_word ← fails (sees k.For i)
+      try_word ← fails (sees k.Try i)
       (xs, m, one) ← line n i
-      Some (xs, m, stmt_simple if_word while_word for_word one))
+      Some (xs, m, stmt_simple if_word while_word for_word try_word one))

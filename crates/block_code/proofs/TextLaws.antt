@@ -8,8 +8,21 @@ use Rattle.entity_tables.specs.declared.table.Sig.{Sig}
 use Rattle.entity_tables.specs.declared.table.ClassTable.{ClassTable}
 use Rattle.entity_tables.specs.Views.{plain_sig, plain_table, plain_tables}
 use Rattle.block_code.specs.declared.block.Block.{Block}
-use Rattle.block_code.specs.PlainBlocks.{PlainBlock, plain_block, plain_blocks}
-use Rattle.block_code.specs.GraphText.{block_line, block_lines, method_line, method_lines, lines_of_class, class_lines}
+use Rattle.block_code.specs.declared.block.Catch.{Catch}
+use Rattle.block_code.specs.PlainBlocks.{PlainBlock, plain_block, plain_blocks, plain_catch, plain_catches}
+use Rattle.block_code.specs.GraphText.{block_line, block_lines, method_line, method_lines, lines_of_class, class_lines, catch_text, catches_text}
+
+-- one catch more
+pub catch_more : (ks : List Catch) (i : ℕ) (k : Catch) (old new all : List ℕ) → i < length ks → k ≡ get_or ks i k
+    → old ++ catches_text (plain_catches (drop i ks)) ≡ all → new ≡ old ++ catch_text (plain_catch k) → new ++ catches_text (plain_catches (drop (i + 1) ks)) ≡ all
+unfolding catches_text
+catch_more ks i k old new all within is so_far more =
+    let rest : List ℕ = catches_text (plain_catches (drop (i + 1) ks)) in
+    ap (λ text. text ++ rest) more ∙ append_assoc old (catch_text (plain_catch k)) rest ∙ ap (λ texts. old ++ texts) (sym (ap catches_text (map_from plain_catch ks i k within is))) ∙ so_far
+
+pub catch_none : (ks : List Catch) (i : ℕ) (text : List ℕ) → length ks ≤ i → text ++ catches_text (plain_catches (drop i ks)) ≡ text
+unfolding catches_text
+catch_none ks i text past = ap (λ xs. text ++ catches_text (plain_catches xs)) (drop_of_length-le ks past) ∙ append-nil text
 
 -- the line of one block more
 pub block_more : (names : List (List ℕ)) (tables : List PlainTable) (bs : List Block) (i : ℕ) (b : Block) (old new all : List ℕ) → i < length bs → b ≡ get_or bs i b

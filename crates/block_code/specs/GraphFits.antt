@@ -8,7 +8,7 @@ use Rattle.std.specs.declared.option.Option.{Option}
 use Rattle.std.specs.List.{All, list_all, list_any}
 use Rattle.py_tree.specs.PlainTypes.{PlainTy, TBool, TStr, TNil, TOptional, TEntity}
 use Rattle.py_tree.specs.PlainExpressions.{PlainExpr, PlainExprs}
-use Rattle.py_tree.specs.PlainStatements.{PlainStmt, PIf, PWhile, PFor, PlainStmts, PNoStmt, PStmt, PArm, PlainArms, PNoArm, PMoreArms}
+use Rattle.py_tree.specs.PlainStatements.{PlainStmt, PIf, PWhile, PFor, PlainStmts, PNoStmt, PStmt, PArm, PlainArms, PNoArm, PMoreArms, PTry, PClause, PlainClauses, PNoClause, PMoreClauses}
 use Rattle.py_tree.specs.PlainProgram.{PlainMethod, PlainProgram}
 use Rattle.py_tree.specs.ClassRules.{PlainSigParam, PlainSig, PlainTable, methods_of, tables_of}
 use Rattle.py_tree.specs.Acceptance.{members_at}
@@ -16,7 +16,7 @@ use Rattle.py_tree.specs.Bounded.{EachOfStmts, RaisesFailure}
 use Rattle.py_tree.specs.FlowEnvironment.{PlainLocal, local_of, shown, narrowed}
 use Rattle.py_tree.specs.ExpressionTypes.{same_ty, assignable, read_ty, field_of, count_of, arguments}
 use Rattle.py_tree.specs.Reachability.{goes_on, all_go_on, assigned_in}
-use Rattle.py_tree.specs.Flow.{Context, env_of, type_at, within_loop, at_head, with_local, settled, known_at, Way, on, begun, item_of, stored, named_at, for_head, flow, flow_all, result_at, in_method, sig_at, method_locals}
+use Rattle.py_tree.specs.Flow.{Context, env_of, type_at, within_loop, at_head, with_local, settled, known_at, Way, on, begun, item_of, stored, named_at, for_head, flow, flow_all, result_at, in_method, sig_at, method_locals, Known}
 use Rattle.call_graph.specs.Marks.{IsGraph}
 use Rattle.call_graph.specs.SuspendingCode.{Leaving, leaving, expr_suspends, exprs_suspend, stmts_suspend}
 use Rattle.block_code.specs.PlainVars.{PlainVar}
@@ -190,6 +190,8 @@ unfoldable mutual
   Within P c w (PFor at name name_at over body) =
       (item : PlainTy) (named : List PlainLocal) → item_of c w.locals over ≡ Ok item → stored w.locals (named_at name name_at) item ≡ Ok named
       → AtEachPoint P (within_loop c) (begun (with_local name item item (for_head (name ∷ assigned_in body) w.locals named))) body
+  Within P c w (PTry at body clauses) =
+      AtEachPoint P c w body × ((end : Way) → flow_all c w body ≡ Ok end → WithinClauses P c end (known_at (at_head (assigned_in body) w.locals)) clauses)
   Within P c w _ = Unit {0}
 
   pub WithinArms : Asked → Context → Way → PlainArms → (Way → Type 0) → Type 0
@@ -197,6 +199,12 @@ unfoldable mutual
   WithinArms P c w (PMoreArms (PArm test body) more) other =
       AtEachPoint P c (on w (narrowed (shown true test) w.locals)) body
       × ((end : Way) → flow_all c (on w (narrowed (shown true test) w.locals)) body ≡ Ok end → WithinArms P c (on end (settled end.locals (known_at (narrowed (shown false test) w.locals)))) more other)
+
+  pub WithinClauses : Asked → Context → Way → List Known → PlainClauses → Type 0
+  WithinClauses P c w start PNoClause = Unit {0}
+  WithinClauses P c w start (PMoreClauses (PClause kinds body) more) =
+      AtEachPoint P c (on w (settled w.locals start)) body
+      × ((end : Way) → flow_all c (on w (settled w.locals start)) body ≡ Ok end → WithinClauses P c end start more)
 
 -- the points of a block, where items can be reached
 unfoldable pub AtEachItem : Asked → Context → List PlainItem → Asked

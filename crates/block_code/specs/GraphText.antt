@@ -4,7 +4,7 @@ use Rattle.std.specs.declared.option.Option.{Option}
 use Rattle.std.specs.List.{concat}
 use Rattle.py_tree.specs.ClassRules.{PlainSig, PlainTable, text_of}
 use Rattle.block_code.specs.Places.{first_place}
-use Rattle.block_code.specs.PlainBlocks.{PlainEnd, EJump, EBranch, ELeave, ECall, EMake, PlainBlock}
+use Rattle.block_code.specs.PlainBlocks.{PlainEnd, EJump, EBranch, ELeave, ECall, EMake, PlainBlock, PlainCatch}
 
 -- the text of a name that is there
 abbrev pub text_if_there : List (List ℕ) → Option ℕ → List ℕ
@@ -28,8 +28,16 @@ end_text names tables ELeave = concat (codes "leave" ∷ [])
 end_text names tables (ECall on class method args into after) = concat (codes "call " ∷ class_text names tables class ∷ codes "." ∷ method_text names tables class method ∷ codes " then " ∷ decimal after ∷ [])
 end_text names tables (EMake class args into after) = concat (codes "make " ∷ class_text names tables class ∷ codes " then " ∷ decimal after ∷ [])
 
+abbrev pub catch_text : PlainCatch → List ℕ
+catch_text k = concat (codes ", catch " ∷ decimal k.to ∷ [])
+
+-- in order
+unfoldable pub catches_text : List PlainCatch → List ℕ
+catches_text [] = []
+catches_text (k ∷ ks) = catch_text k ++ catches_text ks
+
 abbrev pub block_line : List (List ℕ) → List PlainTable → ℕ → PlainBlock → List ℕ
-block_line names tables number b = concat (codes "  block " ∷ decimal number ∷ codes ": " ∷ decimal (length b.params) ∷ codes " vars, " ∷ []) ++ (end_text names tables b.end ++ concat (codes "\n" ∷ []))
+block_line names tables number b = concat (codes "  block " ∷ decimal number ∷ codes ": " ∷ decimal (length b.params) ∷ codes " vars, " ∷ []) ++ (end_text names tables b.end ++ (catches_text b.catches ++ concat (codes "\n" ∷ [])))
 
 -- the lines of blocks, from this number on
 unfoldable pub block_lines : List (List ℕ) → List PlainTable → ℕ → List PlainBlock → List ℕ

@@ -4,11 +4,11 @@ ghost use Rattle.std.specs.Prelude.{◌≡◌, ◌++◌, map, option_map, string
 ghost use Rattle.std.specs.List.{concat};
 ghost use Rattle.std.specs.Str.{chars};
 ghost use Rattle.entity_tables.specs.Views.{plain_tables, plain_table, plain_sig};
-ghost use Rattle.block_code.specs.PlainBlocks.{plain_end, plain_block, plain_blocks};
+ghost use Rattle.block_code.specs.PlainBlocks.{plain_end, plain_catch, plain_catches, plain_block, plain_blocks};
 ghost use Rattle.block_code.specs.GraphViews.{graph_tables, graph_blocks};
 ghost use Rattle.block_code.specs.GraphText as spec;
 
-use crate::block::{Block, End};
+use crate::block::{Block, Catch, End};
 use crate::graph::Graph;
 use entity_tables::{ClassTable, Sig};
 use itoa::Buffer;
@@ -111,6 +111,23 @@ fn add_end(
     }
 }
 
+fn add_catch(text: &mut String, catch: &Catch) -> Result<(), AllocError>
+    ensures { OnOk result (string_bytes text.new ≡ string_bytes text.old ++ spec.catch_text (plain_catch catch.now)) }
+{
+    let mut digits = Buffer::new();
+    add_pieces(text, &[", catch ", digits.format(catch.to)])
+}
+
+/// Adds where failures in a block go on.
+fn add_catches(text: &mut String, catches: &[Catch]) -> Result<(), AllocError>
+    ensures { OnOk result (string_bytes text.new ≡ string_bytes text.old ++ spec.catches_text (plain_catches catches.now)) }
+{
+    for catch in catches {
+        add_catch(text, catch)?;
+    }
+    Ok(())
+}
+
 /// Adds the line of the block of this number.
 fn add_block(
     text: &mut String,
@@ -135,6 +152,7 @@ fn add_block(
         ],
     )?;
     add_end(text, names, tables, &block.end)?;
+    add_catches(text, block.catches.as_slice())?;
     add_pieces(text, &["\n"])
 }
 

@@ -1,17 +1,19 @@
 -- Code only assigns to locals: what stays where a local is assigned holds of the locals at each end.
+use Rattle.sf_value.specs.declared.Failure.{Failure}
+use Rattle.std.specs.List.{list_any}
 use Rattle.std.proofs.Common.{ℕ, zero, suc, ℤ, pos, ◌+ℤ◌, Bool, true, false, List, [], ◌∷◌}
-use Rattle.std.specs.Prelude.{if◌then◌else◌}
+use Rattle.std.specs.Prelude.{if◌then◌else◌, nat_eq}
 use Rattle.std.specs.Ordering.{int_cmp, is_lt}
 use Rattle.py_tree.specs.declared.stmt.Target.{Target}
 use Rattle.py_tree.specs.declared.stmt.Target.TheVariants as target
-use Rattle.py_tree.specs.PlainStatements.{PlainStmt, PPass, PBreak, PContinue, PDo, PReturn, PRaise, PAssert, PAssign, PAugment, PIf, PWhile, PFor, PlainStmts, PNoStmt, PStmt, PArm, PlainArms, PNoArm, PMoreArms}
+use Rattle.py_tree.specs.PlainStatements.{PlainStmt, PPass, PBreak, PContinue, PDo, PReturn, PRaise, PAssert, PAssign, PAugment, PIf, PWhile, PFor, PlainStmts, PNoStmt, PStmt, PArm, PlainArms, PNoArm, PMoreArms, PTry, PClause, PlainClauses, PNoClause, PMoreClauses}
 use Rattle.sf_value.specs.declared.value.Value.{Value}
 use Rattle.sf_value.specs.declared.value.Value.TheVariants as value
 use Rattle.program_meaning.specs.declared.vars.Var.{Var}
-use Rattle.program_meaning.specs.World.{Gives, Got, Fell, told, Ends, Goes, Returns, Breaks, Continues, Fails, with_given, next, next_turn, assertion_error, assigned}
+use Rattle.program_meaning.specs.World.{Gives, Got, Fell, told, Ends, Goes, Returns, Breaks, Continues, Fails, with_given, next, next_turn, assertion_error, assigned, caught}
 use Rattle.program_meaning.specs.Operations.{in_range, is_true}
 use Rattle.program_meaning.specs.Evaluation.{Site, eval}
-use Rattle.program_meaning.specs.Execution.{stepping, store, augmented, value_or_none, message, Turns, Items, Numbers, turns_of, turn, counting, over_items, over_numbers, over_turns, while_turns, checked, act, act_all, act_arms}
+use Rattle.program_meaning.specs.Execution.{stepping, store, augmented, value_or_none, message, Turns, Items, Numbers, turns_of, turn, counting, over_items, over_numbers, over_turns, while_turns, checked, act, act_all, act_arms, act_clauses}
 use Rattle.block_code.specs.PlainBlocks.{PlainItem, IMark, ISet, IPut, IGive, IFail, ICode}
 use Rattle.block_runs.specs.BlockRuns.{run_item, run_items}
 
@@ -41,6 +43,13 @@ module _ (Q : List Var → Type 0) (stays : (vars : List Var) (x : ℕ) (v : Val
   turn_holds (Breaks vars w n) f q h = q
   turn_holds (Continues vars w n) f q h = h vars w n q
   turn_holds (Fails e vars w n) f q h = q
+
+  caught_holds : (e : Ends W) (f : Failure → List Var → W → ℕ → Ends W) → LocalsHold e → ((c : Failure) (vars : List Var) (w : W) (n : ℕ) → Q vars → LocalsHold (f c vars w n)) → LocalsHold (caught f e)
+  caught_holds (Goes vars w n) f q h = q
+  caught_holds (Returns v w n) f q h = tt
+  caught_holds (Breaks vars w n) f q h = q
+  caught_holds (Continues vars w n) f q h = q
+  caught_holds (Fails e vars w n) f q h = h e vars w n q
 
   step_holds : (vars : List Var) (w : W) (n : ℕ) (f : ℕ → Ends W) → Q vars → ((n : ℕ) → LocalsHold (f n)) → LocalsHold (stepping vars w n f)
   step_holds vars w zero f q h = q
@@ -110,6 +119,7 @@ module _ (Q : List Var → Type 0) (stays : (vars : List Var) (x : ℕ) (v : Val
           step_holds vars w n _ q (λ n.
           given_holds vars (turns_of s over vars w n) _ q (λ turns w n.
           over_holds name (λ vars w n. act_all s body vars w n) (acts_hold body) turns vars w n q))
+      act_holds (PTry at body clauses) vars w n q = step_holds vars w n _ q (λ n. caught_holds (act_all s body vars w n) _ (acts_hold body vars w n q) (clauses_hold clauses))
 
       pub acts_hold : (xs : PlainStmts) → Holds (λ vars w n. act_all s xs vars w n)
       acts_hold PNoStmt vars w n q = q
@@ -120,6 +130,11 @@ module _ (Q : List Var → Type 0) (stays : (vars : List Var) (x : ℕ) (v : Val
       arms_hold (PMoreArms (PArm test body) more) other rest vars w n q =
           given_holds vars (eval s test vars w n) _ q (λ v w n.
           if_holds (is_true v) (act_all s body vars w n) (act_arms s more other vars w n) (acts_hold body vars w n q) (arms_hold more other rest vars w n q))
+
+      clauses_hold : (clauses : PlainClauses) (c : Failure) → Holds (λ vars w n. act_clauses s clauses c vars w n)
+      clauses_hold PNoClause c vars w n q = q
+      clauses_hold (PMoreClauses (PClause kinds body) more) c vars w n q =
+          if_holds (list_any (nat_eq c.kind) kinds) (act_all s body vars w n) (act_clauses s more c vars w n) (acts_hold body vars w n q) (clauses_hold more c vars w n q)
 
     item_holds : (i : PlainItem) → Holds (run_item s i)
     unfolding run_item

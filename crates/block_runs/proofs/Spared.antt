@@ -1,28 +1,29 @@
 -- Where code fails, its locals fit what is supplied at each of its points, since the last point that it passed is one of them.
+use Rattle.std.specs.List.{list_any}
 use Rattle.std.proofs.Common.{◌≡◌, ℕ, zero, suc, ℤ, pos, ◌+ℤ◌, Bool, true, false, cond, Option, Some, None, Ok, Err, List, [], ◌∷◌, refl, sym, ap, ◌∙◌, subst}
-use Rattle.std.specs.Prelude.{if◌then◌else◌}
+use Rattle.std.specs.Prelude.{if◌then◌else◌, nat_eq}
 use Rattle.std.specs.Ordering.{int_cmp, is_lt}
 use Rattle.std.specs.declared.result.Result.{Result}
 use Rattle.py_tree.specs.declared.stmt.Target.{Target}
 use Rattle.py_tree.specs.declared.stmt.Target.TheVariants as target
 use Rattle.py_tree.specs.PlainTypes.{PlainTy, TInt, TBool, TList}
 use Rattle.py_tree.specs.PlainExpressions.{PlainExpr}
-use Rattle.py_tree.specs.PlainStatements.{PlainOver, PRange, PItems, PlainStmt, PPass, PBreak, PContinue, PDo, PReturn, PRaise, PAssert, PAssign, PAugment, PIf, PWhile, PFor, PlainStmts, PNoStmt, PStmt, PArm, PlainArms, PNoArm, PMoreArms}
+use Rattle.py_tree.specs.PlainStatements.{PlainOver, PRange, PItems, PlainStmt, PPass, PBreak, PContinue, PDo, PReturn, PRaise, PAssert, PAssign, PAugment, PIf, PWhile, PFor, PlainStmts, PNoStmt, PStmt, PArm, PlainArms, PNoArm, PMoreArms, PTry, PClause, PlainClauses, PNoClause, PMoreClauses}
 use Rattle.py_tree.specs.ClassRules.{PlainTable}
 use Rattle.py_tree.specs.FlowEnvironment.{PlainLocal, shown, narrowed}
 use Rattle.py_tree.specs.ExpressionTypes.{field_of}
 use Rattle.py_tree.specs.Reachability.{goes_on, all_go_on, break_in, assigned_in}
-use Rattle.py_tree.specs.Bounded.{EachStmt, EachOfStmts, EachOfArms, RaisesFailure}
-use Rattle.py_tree.specs.Flow.{Context, type_at, result_at, Known, known_at, meet, way, behind_ways, with_local, at_head, settled, item_of, keeps, earlier, Way, on, begun, for_head, named_at, flow, flow_all, flow_arms}
+use Rattle.py_tree.specs.Bounded.{EachStmt, EachOfStmts, EachOfArms, RaisesFailure, EachOfClauses}
+use Rattle.py_tree.specs.Flow.{Context, type_at, result_at, Known, known_at, meet, way, behind_ways, with_local, at_head, settled, item_of, keeps, earlier, Way, on, begun, for_head, named_at, flow, flow_all, flow_arms, flow_clauses}
 use Rattle.sf_value.specs.declared.Failure.{Failure}
 use Rattle.sf_value.specs.declared.value.Value.{Value}
 use Rattle.sf_value.specs.declared.value.Value.TheVariants as value
 use Rattle.program_meaning.specs.declared.vars.Var.{Var}
 use Rattle.program_meaning.specs.ClassTables.{fields_of}
-use Rattle.program_meaning.specs.World.{Gives, Got, Fell, told, Ends, Goes, Returns, Breaks, Continues, Fails, assertion_error, with_given, next, next_turn, assigned, with_field}
+use Rattle.program_meaning.specs.World.{Gives, Got, Fell, told, Ends, Goes, Returns, Breaks, Continues, Fails, assertion_error, with_given, next, next_turn, assigned, with_field, caught}
 use Rattle.program_meaning.specs.Operations.{in_range, is_true, items_of}
 use Rattle.program_meaning.specs.Evaluation.{Site, eval}
-use Rattle.program_meaning.specs.Execution.{stepping, store, augmented, value_or_none, message, Turns, Items, Numbers, start_of, turns_of, turn, over_items, over_numbers, over_turns, counting, while_turns, checked, act, act_all, act_arms}
+use Rattle.program_meaning.specs.Execution.{stepping, store, augmented, value_or_none, message, Turns, Items, Numbers, start_of, turns_of, turn, over_items, over_numbers, over_turns, counting, while_turns, checked, act, act_all, act_arms, act_clauses}
 use Rattle.program_meaning.specs.Fits.{Fits, int, AllFit, more as more_fit}
 use Rattle.program_meaning.specs.PointFits.{VarsFit, no_local, GivesFit, got, fell}
 use Rattle.program_meaning.proofs.FitsLaws.{as_list, fits_same}
@@ -32,10 +33,10 @@ use Rattle.program_meaning.proofs.EvalFits.{Anywhere, Around, Tests, fit_then, e
 use Rattle.program_meaning.proofs.LocalShapes.{shapes, type_in, Within, all_in, Sound, Grows, alike_grows, grows_on, grows_same, keeps_named, earlier_is, shapes_narrowed, shapes_at_head, shapes_settled, local_grows, within_more, MetFits, met_grown, met_here, behind_fits}
 use Rattle.program_meaning.proofs.AssignedFits.{Forgets, no_more, forgets_first, forgets_second, forgets_at_head, head_fits, kept_fits, local_given}
 use Rattle.program_meaning.proofs.FlowParts.{items_ok, short_range_ok, range_ok, stored_ok, same_assignable}
-use Rattle.program_meaning.proofs.FlowGrows.{WhileParts, while_parts, ForParts, for_parts, all_parts, last_parts, ArmParts, arm_parts, follows, follows_all, for_shapes}
+use Rattle.program_meaning.proofs.FlowGrows.{WhileParts, while_parts, ForParts, for_parts, all_parts, last_parts, ArmParts, arm_parts, follows, follows_all, for_shapes, TryParts, try_parts, ClauseParts, clause_parts}
 use Rattle.program_meaning.proofs.ActFits.{EndFits, goes, returns, leaves, turns, fails, Ready, act_fits, stmts_fit}
 use Rattle.block_code.specs.PlainVars.{PlainVar}
-use Rattle.block_code.specs.GraphFits.{AtEachPoint, Within as WithinStmt, WithinArms}
+use Rattle.block_code.specs.GraphFits.{AtEachPoint, Within as WithinStmt, WithinArms, WithinClauses}
 use Rattle.block_runs.proofs.Variables.{Kept, Supplied, supplied_kept}
 
 module _ (tables : List PlainTable) {W : Type 0} (s : Site W) (WorldFits : W → Type 0) (number : ℕ) (around : Around tables s Anywhere WorldFits)
@@ -211,6 +212,15 @@ module _ (tables : List PlainTable) {W : Type 0} (s : Site W) (WorldFits : W →
   next_spares go br b mid (Continues vars w n) k (turns i h p) spared rest = spared
   next_spares go br b mid (Fails f vars w n) k (fails g h p) spared rest = spared
 
+  -- a clause, where the body fails: what is known where it begins holds at any point of the body
+  caught_spares : (go br b : Bool) (mid : Way) (head : List PlainLocal) (e : Ends W) (f : Failure → List Var → W → ℕ → Ends W) → EndFits tables WorldFits R go br b mid head e → Spares e
+      → ((c : Failure) (vars : List Var) (w : W) (n : ℕ) → VarsFit tables vars head → WorldFits w → K vars → Spares (f c vars w n)) → Spares (caught f e)
+  caught_spares go br b mid head (Goes vars w n) f (goes g v h p) spared rest = tt
+  caught_spares go br b mid head (Returns v w n) f (returns r p) spared rest = tt
+  caught_spares go br b mid head (Breaks vars w n) f (leaves i c m h p) spared rest = tt
+  caught_spares go br b mid head (Continues vars w n) f (turns i h p) spared rest = spared
+  caught_spares go br b mid head (Fails c vars w n) f (fails g h p) spared rest = rest c vars w n h p spared
+
   ready : (names : List ℕ) (locals : List PlainLocal) (vars : List Var) → Sound (shapes locals) → VarsFit tables vars locals → Ready tables s WorldFits number around puts names locals [] vars
   ready names locals vars sound v = record { sound = sound; within = all_in; forgets = no_more; fit = v; held = no_local }
 
@@ -294,6 +304,19 @@ module _ (tables : List PlainTable) {W : Type 0} (s : Site W) (WorldFits : W →
         step_spares vars world n _ k (λ n.
         fitting_spares (TurnsFit a.item) vars (turns_of s over vars world n) (λ turns w n. over_turns name (λ vars w n. act_all s body vars w n) turns vars w n) k (over_fits b w.locals over a.item vars world n a.goes_over v p) (λ turns world n f p.
         over_spares name a.item body a.end head sound_head head_type (forgets_first (name ∷ []) (assigned_in body) head forgotten) well (first_point (ctx true) (begun start) body points) turns f vars world n (for_head_fits all w.locals a.named vars to_named v) k p))
+    act_spares (PTry at body clauses) b w after vars world n h x sound v p k inside =
+        let a : TryParts (ctx b) w after body clauses = try_parts (ctx b) w after at body clauses h in
+        let head : List PlainLocal = at_head (assigned_in body) w.locals in
+        let same_head : shapes head ≡ shapes w.locals = shapes_at_head (assigned_in body) w.locals in
+        let sound_head : Sound (shapes head) = subst (λ ss. Sound ss) (sym same_head) sound in
+        let from_head : Grows head w.locals = alike_grows head w.locals (sym same_head) in
+        let to_end : Grows head a.end.locals = grows_on head w.locals a.end.locals from_head (follows_all body (ctx b) w a.end a.inside).grows in
+        step_spares vars world n _ k (λ n.
+        caught_spares (all_go_on body) (break_in body) b a.end head (act_all s body vars world n) (λ c vars w n. act_clauses s clauses c vars w n)
+        (stmts_fit tables s WorldFits number around puts body b w a.end head vars world n a.inside x.1
+        (ready_body (assigned_in body) head w.locals vars from_head sound_head (forgets_at_head (assigned_in body) w.locals) v (head_fits tables vars (assigned_in body) w.locals v)) p)
+        (spares_less (act_all s body vars world n) (stmts_spare body b w a.end vars world n a.inside x.1 sound v p inside.0))
+        (λ c vars world n fit p k. clauses_spare clauses b head a.end after (way (all_go_on body) a.end.locals) c vars world n a.rest x.2 sound_head to_end fit p k (inside.1 a.end a.inside)))
 
     pub stmts_spare : (xs : PlainStmts) (b : Bool) (w after : Way) (vars : List Var) (world : W) (n : ℕ) → flow_all (ctx b) w xs ≡ Ok after → EachOfStmts RaisesFailure xs → Sound (shapes w.locals) → VarsFit tables vars w.locals → WorldFits world → AtEachPoint P (ctx b) w xs → SparesAll (act_all s xs vars world n)
     stmts_spare PNoStmt b w after vars world n h e sound v p at = supplied_kept tables vars w.locals params v at
@@ -323,3 +346,16 @@ module _ (tables : List PlainTable) {W : Type 0} (s : Site W) (WorldFits : W →
         (λ c. spares_less (act_all s body vars world n) (stmts_spare body b (on w start) a.end vars world n a.arm e.0 (to_start.sound sound) (narrowed_fits tables vars (shown true test) w.locals (tests.1 true c) v) p at.0))
         (λ c. arms_spare more b (on a.end later) after _ other vars world n a.rest e.1 (to_later.sound sound)
         (later_fits vars w.locals exit a.end.locals (shapes_narrowed (shown false test) w.locals) to_end (narrowed_fits tables vars (shown false test) w.locals (tests.1 false c) v)) p k (at.1 a.end a.arm) rest))
+
+    clauses_spare : (clauses : PlainClauses) (b : Bool) (head : List PlainLocal) (w after : Way) (ended : Option (List Known)) (c : Failure) (vars : List Var) (world : W) (n : ℕ)
+        → flow_clauses (ctx b) w (known_at head) ended clauses ≡ Ok after → EachOfClauses RaisesFailure clauses → Sound (shapes head) → Grows head w.locals → VarsFit tables vars head → WorldFits world → K vars
+        → WithinClauses P (ctx b) w (known_at head) clauses → Spares (act_clauses s clauses c vars world n)
+    clauses_spare PNoClause b head w after ended c vars world n h e sound g v p k at = k
+    clauses_spare (PMoreClauses (PClause kinds body) more) b head w after ended c vars world n h e sound g v p k at =
+        let a : ClauseParts (ctx b) w after (known_at head) ended body more = clause_parts (ctx b) w after (known_at head) ended kinds body more h in
+        let start : List PlainLocal = settled w.locals (known_at head) in
+        let to_start : Grows head start = grows_same head head w.locals start refl (sym (shapes_settled w.locals (known_at head))) g in
+        let to_end : Grows head a.end.locals = grows_on head start a.end.locals to_start (follows_all body (ctx b) (on w start) a.end a.inside).grows in
+        if_spares (list_any (nat_eq c.kind) kinds) (act_all s body vars world n) (act_clauses s more c vars world n)
+        (λ is. spares_less (act_all s body vars world n) (stmts_spare body b (on w start) a.end vars world n a.inside e.0 (to_start.sound sound) (later_fits vars head head w.locals refl g v) p at.0))
+        (λ is. clauses_spare more b head a.end after (meet ended (way (all_go_on body) a.end.locals)) c vars world n a.rest e.1 sound to_end v p k (at.1 a.end a.inside))

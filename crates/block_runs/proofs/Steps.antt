@@ -1,21 +1,21 @@
 -- What blocks leave of the steps: no item gives any back, and one that takes a step, a mark or code with a statement, leaves fewer.
 use Rattle.std.proofs.Common.{◌≡◌, ℕ, zero, suc, ℤ, pos, arith, ◌+ℤ◌, ◌≤◌, ◌<◌, Bool, true, false, Option, Some, None, Ok, Err, List, [], ◌∷◌, ◌++◌, refl}
-use Rattle.std.specs.Prelude.{◌||◌, if◌then◌else◌}
+use Rattle.std.specs.Prelude.{◌||◌, if◌then◌else◌, nat_eq}
 use Rattle.std.specs.Ordering.{int_cmp, is_lt}
 use Rattle.std.specs.List.{list_any}
 use Rattle.std.specs.declared.result.Result.{Result}
 use Rattle.py_tree.specs.declared.stmt.Target.{Target}
 use Rattle.py_tree.specs.declared.stmt.Target.TheVariants as target
 use Rattle.py_tree.specs.PlainExpressions.{PlainExpr, PlainExprs, PNoExpr, PExpr}
-use Rattle.py_tree.specs.PlainStatements.{PlainOver, PRange, PItems, PlainStmt, PPass, PBreak, PContinue, PDo, PReturn, PRaise, PAssert, PAssign, PAugment, PIf, PWhile, PFor, PlainStmts, PNoStmt, PStmt, PArm, PlainArms, PNoArm, PMoreArms}
+use Rattle.py_tree.specs.PlainStatements.{PlainOver, PRange, PItems, PlainStmt, PPass, PBreak, PContinue, PDo, PReturn, PRaise, PAssert, PAssign, PAugment, PIf, PWhile, PFor, PlainStmts, PNoStmt, PStmt, PArm, PlainArms, PNoArm, PMoreArms, PTry, PClause, PlainClauses, PNoClause, PMoreClauses}
 use Rattle.sf_value.specs.declared.Failure.{Failure}
 use Rattle.sf_value.specs.declared.value.Value.{Value}
 use Rattle.sf_value.specs.declared.value.Value.TheVariants as value
 use Rattle.program_meaning.specs.declared.vars.Var.{Var}
-use Rattle.program_meaning.specs.World.{Gives, Got, Fell, ◌>>=◌, told, Ends, Goes, Returns, Breaks, Continues, Fails, with_given, next, next_turn, assertion_error, assigned}
+use Rattle.program_meaning.specs.World.{Gives, Got, Fell, ◌>>=◌, told, Ends, Goes, Returns, Breaks, Continues, Fails, with_given, next, next_turn, assertion_error, assigned, caught}
 use Rattle.program_meaning.specs.Operations.{in_range, weighed, is_true, combined}
 use Rattle.program_meaning.specs.Evaluation.{Site, eval, eval_all}
-use Rattle.program_meaning.specs.Execution.{stepping, store, target_value, augmented, value_or_none, message, Turns, Items, Numbers, start_of, turns_of, turn, counting, over_items, over_numbers, over_turns, while_turns, checked, act, act_all, act_arms}
+use Rattle.program_meaning.specs.Execution.{stepping, store, target_value, augmented, value_or_none, message, Turns, Items, Numbers, start_of, turns_of, turn, counting, over_items, over_numbers, over_turns, while_turns, checked, act, act_all, act_arms, act_clauses}
 use Rattle.program_meaning.specs.StepsLeft.{left_in, left_at, CallsTakeSteps}
 use Rattle.program_meaning.proofs.StepsTaken.{eval_takes, acts_take}
 use Rattle.program_meaning.specs.Calls.{Held}
@@ -99,6 +99,13 @@ module _ (s : Site Held) (calls : CallsTakeSteps s.calls) where
   turn_left (Continues vars h m) f n less q = let few : left_at (f vars h m) ≤ m = q vars h m in omega (arith, less, few)
   turn_left (Fails e vars h m) f n less q = less
 
+  caught_left : (e : Ends Held) (f : Failure → List Var → Held → ℕ → Ends Held) (n : ℕ) → left_at e ≤ n → ((c : Failure) (vars : List Var) (h : Held) (m : ℕ) → left_at (f c vars h m) ≤ m) → left_at (caught f e) ≤ n
+  caught_left (Goes vars h m) f n less q = less
+  caught_left (Returns v h m) f n less q = less
+  caught_left (Breaks vars h m) f n less q = less
+  caught_left (Continues vars h m) f n less q = less
+  caught_left (Fails c vars h m) f n less q = let few : left_at (f c vars h m) ≤ m = q c vars h m in omega (arith, less, few)
+
   step_left : (vars : List Var) (h : Held) (n : ℕ) (f : ℕ → Ends Held) → ((m : ℕ) → left_at (f m) ≤ m) → left_at (stepping vars h n f) ≤ n
   step_left vars h zero f q = omega arith
   step_left vars h (suc n) f q = let few : left_at (f n) ≤ n = q n in omega (arith, few)
@@ -173,6 +180,15 @@ module _ (s : Site Held) (calls : CallsTakeSteps s.calls) where
       by true h m rest = acts_take s calls body vars h m
       by false h m rest = rest
 
+  clauses_left : (clauses : PlainClauses) (c : Failure) (vars : List Var) (h : Held) (n : ℕ) → left_at (act_clauses s clauses c vars h n) ≤ n
+  unfolding act_clauses
+  clauses_left PNoClause c vars h n = omega arith
+  clauses_left (PMoreClauses (PClause kinds body) more) c vars h n = by (list_any (nat_eq c.kind) kinds) (clauses_left more c vars h n)
+    where
+      by : (b : Bool) → left_at (act_clauses s more c vars h n) ≤ n → left_at (if b then act_all s body vars h n else act_clauses s more c vars h n) ≤ n
+      by true rest = acts_take s calls body vars h n
+      by false rest = rest
+
   augmented_left : (x : Target) (op : _) (e : PlainExpr) (vars : List Var) (h : Held) (n : ℕ) → left_in (augmented s x op e vars h n) ≤ n
   unfolding augmented
   augmented_left x op e vars h n =
@@ -194,6 +210,7 @@ module _ (s : Site Held) (calls : CallsTakeSteps s.calls) where
   stmt_left (PIf at arms other) vars h n = arms_left arms other vars h n
   stmt_left (PWhile at test body) vars h n = while_left (suc n) test body vars h n
   stmt_left (PFor at name name_at over body) vars h n = with_takes vars (turns_of s over vars h n) _ n (turns_left over vars h n) (λ turns h m. over_left name body turns vars h m)
+  stmt_left (PTry at body clauses) vars h n = caught_left (act_all s body vars h n) (λ c vars h n. act_clauses s clauses c vars h n) n (acts_take s calls body vars h n) (clauses_left clauses)
 
   fewer_behind : (e : Ends Held) (f : List Var → Held → ℕ → Ends Held) (n : ℕ) → left_at e ≤ n → ((vars : List Var) (h : Held) (m : ℕ) → left_at (f vars h m) ≤ m) → Went true (suc n) (next e f)
   fewer_behind (Goes vars h m) f n less q = fewer (f vars h m) (q vars h m)
@@ -223,6 +240,7 @@ module _ (s : Site Held) (calls : CallsTakeSteps s.calls) where
   no_step (PIf at arms other) vars h f = tt
   no_step (PWhile at test body) vars h f = tt
   no_step (PFor at name name_at over body) vars h f = tt
+  no_step (PTry at body clauses) vars h f = tt
 
   no_more : (e : Ends Held) (n : ℕ) → left_at e ≤ n → Went false n e
   no_more (Goes vars h m) n less = less

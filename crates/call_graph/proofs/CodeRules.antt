@@ -17,14 +17,15 @@ use Rattle.py_tree.specs.declared.stmt.Target.{Target}
 use Rattle.py_tree.specs.declared.stmt.Over.{Over}
 use Rattle.py_tree.specs.declared.stmt.Stmt.{Stmt}
 use Rattle.py_tree.specs.declared.stmt.Arm.{Arm, out-Arm}
+use Rattle.py_tree.specs.declared.stmt.Clause.{Clause, out-Clause}
 use Rattle.py_tree.specs.declared.stmt.StmtKind as s
 use Rattle.py_tree.specs.ExpressionTypes.{function_of}
 use Rattle.py_tree.specs.PlainExpressions.{plain_kind, plain_expr, plain_exprs, exprs_of, plain_links, links_of}
-use Rattle.py_tree.specs.PlainStatements.{plain_option, plain_over, plain_stmt_kind, plain_stmt, plain_stmts, stmts_of, plain_arms, arms_of}
+use Rattle.py_tree.specs.PlainStatements.{plain_option, plain_over, plain_stmt_kind, plain_stmt, plain_stmts, stmts_of, plain_arms, arms_of, plain_clauses, clauses_of}
 use Rattle.py_tree.specs.Reachability.{goes_on}
-use Rattle.py_tree.proofs.Views.{plain-Int, plain-Bool, plain-Str, plain-Nil, plain-Var, plain-SelfRef, plain-Attr, plain-Call, plain-Apply, plain-Index, plain-List, plain-Neg, plain-Pos, plain-Not, plain-Chain, plain-And, plain-Or, plain-Compare, plain-IsNone, plain-Cond, stmt-Pass, stmt-Break, stmt-Continue, stmt-Expr, stmt-Return, stmt-Raise, stmt-Assert, stmt-Assign, stmt-Augment, stmt-If, stmt-While, stmt-For}
-use Rattle.py_tree.proofs.ListWalks.{exprs_from, exprs_end, links_from, links_end, stmts_from, stmts_end, arms_from, arms_end}
-use Rattle.call_graph.specs.SuspendingCode.{Leaving, expr_suspends, exprs_suspend, links_suspend, some_suspends, over_suspends, stmt_suspends, stmts_suspend, arms_suspend}
+use Rattle.py_tree.proofs.Views.{plain-Int, plain-Bool, plain-Str, plain-Nil, plain-Var, plain-SelfRef, plain-Attr, plain-Call, plain-Apply, plain-Index, plain-List, plain-Neg, plain-Pos, plain-Not, plain-Chain, plain-And, plain-Or, plain-Compare, plain-IsNone, plain-Cond, stmt-Pass, stmt-Break, stmt-Continue, stmt-Expr, stmt-Return, stmt-Raise, stmt-Assert, stmt-Assign, stmt-Augment, stmt-If, stmt-While, stmt-For, stmt-Try}
+use Rattle.py_tree.proofs.ListWalks.{exprs_from, exprs_end, links_from, links_end, stmts_from, stmts_end, arms_from, arms_end, clauses_from, clauses_end}
+use Rattle.call_graph.specs.SuspendingCode.{Leaving, expr_suspends, exprs_suspend, links_suspend, some_suspends, over_suspends, stmt_suspends, stmts_suspend, arms_suspend, clauses_suspend}
 
 module _ (leaves : Leaving) (at : Place) where
   pub asks-Int : (x : ℤ) → expr_suspends leaves (plain_kind (e.Int x) at) ≡ false
@@ -155,6 +156,10 @@ module _ (leaves : Leaving) (at : Place) where
   unfolding stmt_suspends
   does-For x over body = ap (stmt_suspends leaves) (stmt-For at x over body)
 
+  pub does-Try : (body : List Stmt) (clauses : List Clause) → stmt_suspends leaves (plain_stmt_kind (s.Try body clauses) at) ≡ (stmts_suspend leaves (stmts_of (plain_stmts body)) || clauses_suspend leaves (clauses_of (plain_clauses clauses)))
+  unfolding stmt_suspends
+  does-Try body clauses = ap (stmt_suspends leaves) (stmt-Try at body clauses)
+
 or_of_true : (a b : Bool) → a ≡ true → a ≡ (a || b)
 or_of_true true b e = refl
 or_of_true false b e = absurd (true≢false (sym e))
@@ -184,7 +189,7 @@ module _ (leaves : Leaving) (at : Place) (k : ExprKind) (a : Box Expr Global) (x
 
 pub ruleset expr_asks = (asks-Int, asks-Bool, asks-Str, asks-Nil, asks-Var, asks-SelfRef, asks-Attr, asks-Call, asks-Apply, asks-Index, asks-List, asks-Neg, asks-Pos, asks-Not, asks-Chain, asks-And, asks-Or, asks-Compare, asks-IsNone, asks-Cond)
 
-pub ruleset stmt_does = (does-Pass, does-Break, does-Continue, does-Expr, does-Return, does-Raise, does-Assert, does-Assign, does-Augment, does-If, does-While, does-For)
+pub ruleset stmt_does = (does-Pass, does-Break, does-Continue, does-Expr, does-Return, does-Raise, does-Assert, does-Assign, does-Augment, does-If, does-While, does-For, does-Try)
 
 module _ (leaves : Leaving) where
   pub exprs_more : (es : List Expr) (i : ℕ) (x : Expr) → i < length es → x ≡ get_or es i x → exprs_suspend leaves (exprs_of (plain_exprs (drop i es))) ≡ (expr_suspends leaves (plain_expr x) || exprs_suspend leaves (exprs_of (plain_exprs (drop (i + 1) es))))
@@ -220,6 +225,14 @@ module _ (leaves : Leaving) where
   unfolding arms_suspend
   arms_done xs i past = ap (arms_suspend leaves) (arms_end xs i past)
 
+  pub clauses_more : (ks : List Clause) (i : ℕ) (k : Clause) → i < length ks → k ≡ get_or ks i k → clauses_suspend leaves (clauses_of (plain_clauses (drop i ks))) ≡ (stmts_suspend leaves (stmts_of (plain_stmts (out-Clause k).body)) || clauses_suspend leaves (clauses_of (plain_clauses (drop (i + 1) ks))))
+  unfolding clauses_suspend
+  clauses_more ks i k within is = ap (clauses_suspend leaves) (clauses_from ks i k within is)
+
+  pub clauses_done : (ks : List Clause) (i : ℕ) → length ks ≤ i → clauses_suspend leaves (clauses_of (plain_clauses (drop i ks))) ≡ false
+  unfolding clauses_suspend
+  clauses_done ks i past = ap (clauses_suspend leaves) (clauses_end ks i past)
+
 pub ruleset list_asks = (exprs_more, exprs_done)
 
 pub ruleset link_asks = (links_more, links_done)
@@ -227,3 +240,5 @@ pub ruleset link_asks = (links_more, links_done)
 pub ruleset body_does = (stmts_more, stmts_done)
 
 pub ruleset arm_does = (arms_more, arms_done)
+
+pub ruleset clause_does = (clauses_more, clauses_done)

@@ -9,15 +9,16 @@ use Rattle.py_tree.specs.declared.stmt.Target.{Target}
 use Rattle.py_tree.specs.declared.stmt.Over.{Over}
 use Rattle.py_tree.specs.declared.stmt.Stmt.{Stmt}
 use Rattle.py_tree.specs.declared.stmt.Arm.{Arm, out-Arm}
+use Rattle.py_tree.specs.declared.stmt.Clause.{Clause, out-Clause}
 use Rattle.py_tree.specs.declared.stmt.StmtKind as s
 use Rattle.py_tree.specs.PlainExpressions.{plain_expr}
-use Rattle.py_tree.specs.PlainStatements.{plain_option, plain_over, plain_stmt_kind, plain_stmt, plain_stmts, stmts_of, plain_arms, arms_of}
+use Rattle.py_tree.specs.PlainStatements.{plain_option, plain_over, plain_stmt_kind, plain_stmt, plain_stmts, stmts_of, plain_arms, arms_of, plain_clauses, clauses_of}
 use Rattle.py_tree.specs.PlainProgram.{PlainProgram}
 use Rattle.py_tree.specs.Reachability.{goes_on}
-use Rattle.py_tree.proofs.Views.{stmt-Pass, stmt-Break, stmt-Continue, stmt-Expr, stmt-Return, stmt-Raise, stmt-Assert, stmt-Assign, stmt-Augment, stmt-If, stmt-While, stmt-For}
-use Rattle.py_tree.proofs.ListWalks.{stmts_from, stmts_end, arms_from, arms_end}
+use Rattle.py_tree.proofs.Views.{stmt-Pass, stmt-Break, stmt-Continue, stmt-Expr, stmt-Return, stmt-Raise, stmt-Assert, stmt-Assign, stmt-Augment, stmt-If, stmt-While, stmt-For, stmt-Try}
+use Rattle.py_tree.proofs.ListWalks.{stmts_from, stmts_end, arms_from, arms_end, clauses_from, clauses_end}
 use Rattle.call_graph.specs.declared.sites.Site.{Site}
-use Rattle.call_graph.specs.Suspending.{sites, sites_if_there, sites_over, stmt_sites, sites_in_body, sites_in_arms}
+use Rattle.call_graph.specs.Suspending.{sites, sites_if_there, sites_over, stmt_sites, sites_in_body, sites_in_arms, sites_in_clauses}
 use Rattle.call_graph.proofs.Parts.{no_more, two_parts, three_parts}
 
 module _ (at : Place) (p : PlainProgram) (ms : List ℕ) (old : List Site) where
@@ -69,6 +70,10 @@ module _ (at : Place) (p : PlainProgram) (ms : List ℕ) (old : List Site) where
   unfolding stmt_sites
   sites-For x items body = ap (λ t. old ++ stmt_sites p ms t) (stmt-For at x items body) ∙ two_parts old (sites_over p ms (plain_over items)) (sites_in_body p ms (stmts_of (plain_stmts body)))
 
+  pub sites-Try : (body : List Stmt) (clauses : List Clause) → old ++ stmt_sites p ms (plain_stmt_kind (s.Try body clauses) at) ≡ (old ++ sites_in_body p ms (stmts_of (plain_stmts body))) ++ sites_in_clauses p ms (clauses_of (plain_clauses clauses))
+  unfolding stmt_sites
+  sites-Try body clauses = ap (λ t. old ++ stmt_sites p ms t) (stmt-Try at body clauses) ∙ two_parts old (sites_in_body p ms (stmts_of (plain_stmts body))) (sites_in_clauses p ms (clauses_of (plain_clauses clauses)))
+
 module _ (p : PlainProgram) (ms : List ℕ) (old : List Site) where
   pub body_more : (ss : List Stmt) (i : ℕ) (x : Stmt) → i < length ss → x ≡ get_or ss i x → goes_on (plain_stmt x) ≡ true → old ++ sites_in_body p ms (stmts_of (plain_stmts (drop i ss))) ≡ (old ++ stmt_sites p ms (plain_stmt x)) ++ sites_in_body p ms (stmts_of (plain_stmts (drop (i + 1) ss)))
   unfolding sites_in_body
@@ -100,8 +105,20 @@ module _ (p : PlainProgram) (ms : List ℕ) (old : List Site) where
   unfolding sites_in_arms
   arms_done xs i past = ap (λ ys. old ++ sites_in_arms p ms ys) (arms_end xs i past) ∙ no_more old
 
-pub ruleset stmt_rules = (sites-Pass, sites-Break, sites-Continue, sites-Expr, sites-Return, sites-Raise, sites-Assert, sites-Assign, sites-Augment, sites-If, sites-While, sites-For)
+  pub clauses_more : (ks : List Clause) (i : ℕ) (k : Clause) → i < length ks → k ≡ get_or ks i k → old ++ sites_in_clauses p ms (clauses_of (plain_clauses (drop i ks))) ≡ (old ++ sites_in_body p ms (stmts_of (plain_stmts (out-Clause k).body))) ++ sites_in_clauses p ms (clauses_of (plain_clauses (drop (i + 1) ks)))
+  unfolding sites_in_clauses
+  clauses_more ks i k within is =
+      ap (λ ys. old ++ sites_in_clauses p ms ys) (clauses_from ks i k within is)
+      ∙ two_parts old (sites_in_body p ms (stmts_of (plain_stmts (out-Clause k).body))) (sites_in_clauses p ms (clauses_of (plain_clauses (drop (i + 1) ks))))
+
+  pub clauses_done : (ks : List Clause) (i : ℕ) → length ks ≤ i → old ++ sites_in_clauses p ms (clauses_of (plain_clauses (drop i ks))) ≡ old
+  unfolding sites_in_clauses
+  clauses_done ks i past = ap (λ ys. old ++ sites_in_clauses p ms ys) (clauses_end ks i past) ∙ no_more old
+
+pub ruleset stmt_rules = (sites-Pass, sites-Break, sites-Continue, sites-Expr, sites-Return, sites-Raise, sites-Assert, sites-Assign, sites-Augment, sites-If, sites-While, sites-For, sites-Try)
 
 pub ruleset body_rules = (body_more, body_cut, body_done)
 
 pub ruleset arm_rules = (arms_more, arms_done)
+
+pub ruleset clause_rules = (clauses_more, clauses_done)

@@ -4,7 +4,7 @@ use Rattle.std.specs.Prelude.{◌≡◌, ℕ, ◌==◌, List, [], ◌∷◌, ◌
 use Rattle.std.specs.declared.option.Option.{Option}
 use Rattle.std.specs.List.{position_from}
 use Rattle.py_tree.specs.PlainExpressions.{PlainExpr, PInt, PBool, PStr, PNil, PVar, PSelf, PAttr, PCall, PApply, PIndex, PList, PNeg, PPos, PNot, PChain, PAnd, POr, PCompare, PIsNone, PCond, PlainExprs, PNoExpr, PExpr, PLink, PlainLinks, PNoLink, PMoreLinks}
-use Rattle.py_tree.specs.PlainStatements.{PlainOver, PRange, PItems, PlainStmt, PPass, PBreak, PContinue, PDo, PReturn, PRaise, PAssert, PAssign, PAugment, PIf, PWhile, PFor, PlainStmts, PNoStmt, PStmt, PArm, PlainArms, PNoArm, PMoreArms, stmts_of}
+use Rattle.py_tree.specs.PlainStatements.{PlainOver, PRange, PItems, PlainStmt, PPass, PBreak, PContinue, PDo, PReturn, PRaise, PAssert, PAssign, PAugment, PIf, PWhile, PFor, PTry, PlainStmts, PNoStmt, PStmt, PArm, PlainArms, PNoArm, PMoreArms, PClause, PlainClauses, PNoClause, PMoreClauses, stmts_of}
 use Rattle.py_tree.specs.PlainProgram.{PlainMethod, PlainClass, PlainProgram}
 use Rattle.py_tree.specs.ClassRules.{is_class, is_self, methods_of}
 use Rattle.py_tree.specs.Reachability.{goes_on}
@@ -83,6 +83,7 @@ unfoldable mutual
   stmt_sites program methods (PIf at arms other) = sites_in_arms program methods arms ++ sites_in_body program methods other
   stmt_sites program methods (PWhile at test body) = sites program methods test ++ sites_in_body program methods body
   stmt_sites program methods (PFor at name name_at over body) = sites_over program methods over ++ sites_in_body program methods body
+  stmt_sites program methods (PTry at body clauses) = sites_in_body program methods body ++ sites_in_clauses program methods clauses
 
   pub sites_in_body : PlainProgram → List ℕ → PlainStmts → List Site
   sites_in_body program methods PNoStmt = []
@@ -91,6 +92,10 @@ unfoldable mutual
   pub sites_in_arms : PlainProgram → List ℕ → PlainArms → List Site
   sites_in_arms program methods PNoArm = []
   sites_in_arms program methods (PMoreArms (PArm test body) more) = sites program methods test ++ sites_in_body program methods body ++ sites_in_arms program methods more
+
+  pub sites_in_clauses : PlainProgram → List ℕ → PlainClauses → List Site
+  sites_in_clauses program methods PNoClause = []
+  sites_in_clauses program methods (PMoreClauses (PClause kinds body) more) = sites_in_body program methods body ++ sites_in_clauses program methods more
 
 abbrev pub method_names : List PlainMethod → List ℕ
 method_names = map (λ m. m.name)

@@ -2,7 +2,7 @@
 use Rattle.std.specs.Prelude.{ℕ, Bool, true, false, not, ◌||◌, ◌&&◌, List, Some, None, is_none}
 use Rattle.std.specs.declared.option.Option.{Option}
 use Rattle.py_tree.specs.PlainExpressions.{PlainExpr, PInt, PBool, PStr, PNil, PVar, PSelf, PAttr, PCall, PApply, PIndex, PList, PNeg, PPos, PNot, PChain, PAnd, POr, PCompare, PIsNone, PCond, PlainExprs, PNoExpr, PExpr, PLink, PlainLinks, PNoLink, PMoreLinks}
-use Rattle.py_tree.specs.PlainStatements.{PlainOver, PRange, PItems, PlainStmt, PPass, PBreak, PContinue, PDo, PReturn, PRaise, PAssert, PAssign, PAugment, PIf, PWhile, PFor, PlainStmts, PNoStmt, PStmt, PArm, PlainArms, PNoArm, PMoreArms}
+use Rattle.py_tree.specs.PlainStatements.{PlainOver, PRange, PItems, PlainStmt, PPass, PBreak, PContinue, PDo, PReturn, PRaise, PAssert, PAssign, PAugment, PIf, PWhile, PFor, PTry, PlainStmts, PNoStmt, PStmt, PArm, PlainArms, PNoArm, PMoreArms, PClause, PlainClauses, PNoClause, PMoreClauses}
 use Rattle.py_tree.specs.PlainProgram.{PlainProgram}
 use Rattle.py_tree.specs.ClassRules.{is_self}
 use Rattle.py_tree.specs.ExpressionTypes.{function_of}
@@ -83,6 +83,7 @@ unfoldable mutual
   stmt_suspends leaves (PIf at arms other) = arms_suspend leaves arms || stmts_suspend leaves other
   stmt_suspends leaves (PWhile at test body) = expr_suspends leaves test || stmts_suspend leaves body
   stmt_suspends leaves (PFor at x x_at over body) = over_suspends leaves over || stmts_suspend leaves body
+  stmt_suspends leaves (PTry at body clauses) = stmts_suspend leaves body || clauses_suspend leaves clauses
 
   -- up to one behind which no point can be reached
   pub stmts_suspend : Leaving → PlainStmts → Bool
@@ -92,3 +93,7 @@ unfoldable mutual
   pub arms_suspend : Leaving → PlainArms → Bool
   arms_suspend leaves PNoArm = false
   arms_suspend leaves (PMoreArms (PArm test body) more) = expr_suspends leaves test || (stmts_suspend leaves body || arms_suspend leaves more)
+
+  pub clauses_suspend : Leaving → PlainClauses → Bool
+  clauses_suspend leaves PNoClause = false
+  clauses_suspend leaves (PMoreClauses (PClause kinds body) more) = stmts_suspend leaves body || clauses_suspend leaves more

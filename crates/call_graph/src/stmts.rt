@@ -1,14 +1,14 @@
 //! The calls and creations of statements, at points that can be reached.
 
 ghost use Rattle.std.specs.Prelude.{◌≡◌, ◌++◌, map, OnOk};
-ghost use Rattle.py_tree.specs.PlainStatements.{plain_stmt, plain_stmts, stmts_of, plain_arms, arms_of};
+ghost use Rattle.py_tree.specs.PlainStatements.{plain_stmt, plain_stmts, stmts_of, plain_arms, arms_of, plain_clauses, clauses_of};
 ghost use Rattle.py_tree.specs.PlainProgram.{plain_class};
 ghost use Rattle.call_graph.specs.Suspending as spec;
 ghost use Rattle.py_tree.specs.ClassViews.{numbers_of};
 
 use crate::exprs::{find, find_if_there, find_over};
 use crate::sites::Sites;
-use py_tree::{Arm, Class, Name, Stmt, StmtKind, goes_on};
+use py_tree::{Arm, Class, Clause, Name, Stmt, StmtKind, goes_on};
 use std::alloc::{AllocError, Global};
 
 /// Adds the calls and creations of a statement, in a class whose methods have these names.
@@ -45,6 +45,10 @@ fn find_by(
         StmtKind::For { over, body, .. } => {
             find_over(alloc, classes, methods, over, found)?;
             find_in_body(alloc, classes, methods, body.as_slice(), found)
+        }
+        StmtKind::Try { body, clauses } => {
+            find_in_body(alloc, classes, methods, body.as_slice(), found)?;
+            find_in_clauses(alloc, classes, methods, clauses.as_slice(), found)
         }
     }
 }
@@ -85,6 +89,24 @@ fn find_in_arms(
     for arm in arms {
         find(alloc, classes, methods, &arm.test, found)?;
         find_in_body(alloc, classes, methods, arm.body.as_slice(), found)?;
+    }
+    Ok(())
+}
+
+#[cycle(stmts)]
+#[tactic(auto, using(crate::proofs::StmtRules::clause_rules))]
+fn find_in_clauses(
+    alloc: Global,
+    classes: &[Class],
+    methods: &[Name],
+    clauses: &[Clause],
+    found: &mut Sites,
+) -> Result<(), AllocError>
+    ensures { OnOk result (found.new ≡ found.old ++ spec.sites_in_clauses (map plain_class classes.now) (numbers_of methods.now)
+        (clauses_of (plain_clauses clauses.now))) }
+{
+    for clause in clauses {
+        find_in_body(alloc, classes, methods, clause.body.as_slice(), found)?;
     }
     Ok(())
 }

@@ -2,7 +2,7 @@
 
 ghost use Rattle.std.specs.Prelude.{◌≡◌, ◌<◌, length};
 ghost use Rattle.py_tree.specs.PlainExpressions.{plain_expr, plain_exprs, exprs_of, plain_links, links_of};
-ghost use Rattle.py_tree.specs.PlainStatements.{plain_option, plain_over, plain_stmt, plain_stmts, stmts_of, plain_arms, arms_of};
+ghost use Rattle.py_tree.specs.PlainStatements.{plain_option, plain_over, plain_stmt, plain_stmts, stmts_of, plain_arms, arms_of, plain_clauses, clauses_of};
 ghost use Rattle.py_tree.specs.Acceptance.{method_named};
 ghost use Rattle.py_tree.specs.CheckedViews.{checked_program, checked_names};
 ghost use Rattle.call_graph.specs.Marks.{is_marked};
@@ -11,8 +11,8 @@ ghost use Rattle.call_graph.specs.SuspendingCode.{leaving_in};
 
 use crate::program::CallGraph;
 use py_tree::{
-    Arm, Checked, Expr, ExprKind, Exprs, Links, Name, Over, Stmt, StmtKind, function_of, goes_on,
-    is_self,
+    Arm, Checked, Clause, Expr, ExprKind, Exprs, Links, Name, Over, Stmt, StmtKind, function_of,
+    goes_on, is_self,
 };
 
 fn method_leaves(graph: &CallGraph, class: u32, method: Option<u32>) -> bool
@@ -153,6 +153,10 @@ pub(crate) fn stmt_suspends(graph: &CallGraph, program: &Checked, class: u32, st
             over_suspends(graph, program, class, over)
                 || stmts_suspend(graph, program, class, body.as_slice())
         }
+        StmtKind::Try { body, clauses } => {
+            stmts_suspend(graph, program, class, body.as_slice())
+                || clauses_suspend(graph, program, class, clauses.as_slice())
+        }
     }
 }
 
@@ -187,6 +191,19 @@ fn arms_suspend(graph: &CallGraph, program: &Checked, class: u32, arms: &[Arm]) 
             return true;
         }
         if stmts_suspend(graph, program, class, arm.body.as_slice()) {
+            return true;
+        }
+    }
+    false
+}
+
+#[cycle(suspending_stmts)]
+#[tactic(auto, using(crate::proofs::CodeRules::clause_does))]
+fn clauses_suspend(graph: &CallGraph, program: &Checked, class: u32, clauses: &[Clause]) -> bool
+    ensures { result ≡ spec.clauses_suspend (leaving_in program.now graph.now class) (clauses_of (plain_clauses clauses.now)) }
+{
+    for clause in clauses {
+        if stmts_suspend(graph, program, class, clause.body.as_slice()) {
             return true;
         }
     }

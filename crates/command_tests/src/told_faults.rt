@@ -84,7 +84,7 @@ class A:
 
 const SYNTAX: [Case<'static, &[u8]>; 4] = [
     ("a semicolon", b"import stateflow;\n", "1:17: Unexpected"),
-    ("try", b"  try\n", "1:3: LeftOut"),
+    ("with", b"  with\n", "1:3: LeftOut"),
     ("deep brackets", DEEP, "4:75: TooDeep"),
     ("else", ELSE_IN_A_SUITE, "10:13: Unexpected"),
 ];

@@ -6,9 +6,9 @@ use Rattle.std.proofs.Math.Bridge.{le_prop}
 use Rattle.std.proofs.Math.Logic.{∥∥₁_elim}
 use Rattle.py_tree.specs.PlainTypes.{PlainWritten, WInt, WBool, WStr, WNil, WList, WOptional, WEntity}
 use Rattle.py_tree.specs.PlainExpressions.{PlainExpr, PInt, PBool, PStr, PNil, PVar, PSelf, PAttr, PCall, PApply, PIndex, PList, PNeg, PPos, PNot, PChain, PAnd, POr, PCompare, PIsNone, PCond, PlainExprs, PNoExpr, PExpr, PLink, PlainLinks, PNoLink, PMoreLinks}
-use Rattle.py_tree.specs.PlainStatements.{PlainOver, PRange, PItems, PlainStmt, PPass, PBreak, PContinue, PDo, PReturn, PRaise, PAssert, PAssign, PAugment, PIf, PWhile, PFor, PlainStmts, PNoStmt, PStmt, PArm, PlainArms, PNoArm, PMoreArms, stmts_of}
+use Rattle.py_tree.specs.PlainStatements.{PlainOver, PRange, PItems, PlainStmt, PPass, PBreak, PContinue, PDo, PReturn, PRaise, PAssert, PAssign, PAugment, PIf, PWhile, PFor, PlainStmts, PNoStmt, PStmt, PArm, PlainArms, PNoArm, PMoreArms, stmts_of, PTry, PClause, PlainClauses, PNoClause, PMoreClauses}
 use Rattle.py_tree.specs.PlainProgram.{PlainMethod, PlainClass, PlainProgram}
-use Rattle.py_tree.specs.Bounded.{TypeNames, ExprNames, ExprsNames, LinksNames, LinkNames, OverNames, StmtNames, StmtsNames, ArmNames, ArmsNames, IsBounded, IsBoundedClass, IsBoundedMethod}
+use Rattle.py_tree.specs.Bounded.{TypeNames, ExprNames, ExprsNames, LinksNames, LinkNames, OverNames, StmtNames, StmtsNames, ArmNames, ArmsNames, IsBounded, IsBoundedClass, IsBoundedMethod, ClausesNames}
 use Rattle.program_meaning.proofs.TableFacts.{all_at}
 
 -- there is one proof at most
@@ -98,6 +98,7 @@ module _ (n : ℕ) where
     stmt_one (PIf at arms other) = both_one (arms_one arms) (stmts_one other)
     stmt_one (PWhile at test body) = both_one (expr_one test) (stmts_one body)
     stmt_one (PFor at name name_at over body) = all_one (below_one name) (over_one over) (stmts_one body)
+    stmt_one (PTry at body clauses) = both_one (stmts_one body) (clauses_one clauses)
 
     stmts_one : (xs : PlainStmts) → One (StmtsNames n xs)
     stmts_one PNoStmt = unit_one
@@ -106,6 +107,10 @@ module _ (n : ℕ) where
     arms_one : (arms : PlainArms) → One (ArmsNames n arms)
     arms_one PNoArm = unit_one
     arms_one (PMoreArms (PArm test body) more) = both_one (both_one (expr_one test) (stmts_one body)) (arms_one more)
+
+    clauses_one : (clauses : PlainClauses) → One (ClausesNames n clauses)
+    clauses_one PNoClause = unit_one
+    clauses_one (PMoreClauses (PClause kinds body) more) = both_one (stmts_one body) (clauses_one more)
 
 -- the names of a member's body
 pub body_below : (names : List (List ℕ)) (program : PlainProgram) → ∥ IsBounded names program ∥₁ → (k i : ℕ) (c : PlainClass) (m : PlainMethod) → slice_get program k ≡ Some c → slice_get c.members i ≡ Some m → StmtsNames (length names) (stmts_of m.body)

@@ -3,19 +3,19 @@ use Rattle.std.proofs.Common.{◌≡◌, ℕ, suc, Bool, true, false, not, cond,
 use Rattle.std.specs.Prelude.{◌||◌, ◌&&◌}
 use Rattle.py_tree.specs.declared.rule.Rule.TheVariants.{LoopWord, MissingReturn}
 use Rattle.py_tree.specs.declared.rule.RuleFault.{RuleFault}
-use Rattle.py_tree.specs.PlainStatements.{PlainStmt, PPass, PBreak, PContinue, PDo, PReturn, PRaise, PAssert, PAssign, PAugment, PIf, PWhile, PFor, PlainStmts, PNoStmt, PStmt, PArm, PlainArms, PNoArm, PMoreArms, stmts_of}
+use Rattle.py_tree.specs.PlainStatements.{PlainStmt, PPass, PBreak, PContinue, PDo, PReturn, PRaise, PAssert, PAssign, PAugment, PIf, PWhile, PFor, PlainStmts, PNoStmt, PStmt, PArm, PlainArms, PNoArm, PMoreArms, stmts_of, PTry, PClause, PlainClauses, PNoClause, PMoreClauses}
 use Rattle.py_tree.specs.PlainProgram.{PlainMethod}
 use Rattle.py_tree.specs.ClassRules.{PlainTable, body_of, tables_of}
 use Rattle.py_tree.specs.FlowEnvironment.{PlainLocal, has_none}
 use Rattle.py_tree.specs.ExpressionTypes.{refuse_if}
-use Rattle.py_tree.specs.Reachability.{goes_on, all_go_on}
-use Rattle.py_tree.specs.Flow.{Context, Known, Way, begun, broken_off, known_at, settled, result_at, locals_at_start, sig_at, in_method, method_locals, flow, flow_all, flow_arms}
+use Rattle.py_tree.specs.Reachability.{goes_on, all_go_on, assigned_in}
+use Rattle.py_tree.specs.Flow.{Context, Known, Way, begun, broken_off, known_at, settled, result_at, locals_at_start, sig_at, in_method, method_locals, flow, flow_all, flow_arms, flow_clauses, at_head, meet, way}
 use Rattle.call_graph.specs.SuspendingCode.{Leaving, leaving, stmt_suspends, stmts_suspend}
 use Rattle.program_meaning.proofs.TypedParts.{found_ok, refuse_ok, either_false}
-use Rattle.program_meaning.proofs.FlowGrows.{all_parts, last_parts, arm_parts}
+use Rattle.program_meaning.proofs.FlowGrows.{all_parts, last_parts, arm_parts, try_parts, clause_parts}
 use Rattle.program_meaning.proofs.MethodFacts.{method_flows}
 use Rattle.flat_tree.specs.PlainFlat.{PlainFlatStmt, FCode, flat_stmts_of}
-use Rattle.flat_tree.specs.Flatness.{jumps, all_jump, arms_jump}
+use Rattle.flat_tree.specs.Flatness.{jumps, all_jump, arms_jump, clauses_jump}
 use Rattle.hoisting.specs.Stages.{Stage, locals_behind}
 use Rattle.hoisting.specs.HoistStatements.{Flattened, stays, code_if, followed, opened, flat_all}
 use Rattle.method_splitter.specs.Split.{Rest, Around, split_all, leave, outermost}
@@ -53,6 +53,10 @@ module _ (c : Context) (outside : c.in_loop ≡ false) where
     stmt_remains (PIf at arms other) w after h = arms_remain arms w None (all_go_on other) (λ last. flow_all c last other) (all_jump other) (λ v last e. all_remain other v last e) after h
     stmt_remains (PWhile at test body) w after h = refl
     stmt_remains (PFor at name name_at over body) w after h = refl
+    stmt_remains (PTry at body clauses) w after h =
+        let a = try_parts c w after at body clauses h in
+        ap (λ b. b || clauses_jump clauses) (all_remain body w a.end a.inside)
+        ∙ clauses_remain clauses a.end (known_at (at_head (assigned_in body) w.locals)) (way (all_go_on body) a.end.locals) after a.rest
 
     pub all_remain : (xs : PlainStmts) (w after : Way) → flow_all c w xs ≡ Ok after → all_jump xs ≡ false
     all_remain PNoStmt w after h = refl
@@ -69,6 +73,12 @@ module _ (c : Context) (outside : c.in_loop ≡ false) where
     arms_remain (PMoreArms (PArm test body) more) w ended go other b k after h =
         let a = arm_parts c w after ended go other test body more h in
         either_way (all_jump body) (arms_jump more) b (all_remain body _ a.end a.arm) (arms_remain more _ _ go other b k after a.rest)
+
+    clauses_remain : (clauses : PlainClauses) (w : Way) (start : List Known) (ended : Option (List Known)) (after : Way) → flow_clauses c w start ended clauses ≡ Ok after → clauses_jump clauses ≡ false
+    clauses_remain PNoClause w start ended after h = refl
+    clauses_remain (PMoreClauses (PClause kinds body) more) w start ended after h =
+        let a = clause_parts c w after start ended kinds body more h in
+        ap (λ b. b || clauses_jump more) (all_remain body _ a.end a.inside) ∙ clauses_remain more a.end start _ after a.rest
 
 -- ---- and stays as it is where nothing in it suspends
 

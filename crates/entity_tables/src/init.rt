@@ -59,7 +59,8 @@ fn is_plain_assert(classes: &[Class], declared: &[Name], stmt: &Stmt) -> bool
         | StmtKind::Augment { .. }
         | StmtKind::If { .. }
         | StmtKind::While { .. }
-        | StmtKind::For { .. } => false,
+        | StmtKind::For { .. }
+        | StmtKind::Try { .. } => false,
     }
 }
 

@@ -1,12 +1,13 @@
 -- Code that ends alike from locals that are related: what two runs do whose locals agree on the names that the code mentions.
+use Rattle.std.specs.List.{list_any}
 use Rattle.std.proofs.Common.{◌≡◌, ◌<◌, ℕ, zero, suc, ℤ, pos, ◌+ℤ◌, Bool, true, false, Option, Some, None, List, [], ◌∷◌, if◌then◌else◌, refl, sym, subst, true≢false}
-use Rattle.std.specs.Prelude.{IfSome}
+use Rattle.std.specs.Prelude.{IfSome, nat_eq}
 use Rattle.std.specs.Ordering.{int_cmp, is_lt}
 use Rattle.py_tree.specs.declared.stmt.Target.{Target}
 use Rattle.py_tree.specs.declared.stmt.Target.TheVariants as target
-use Rattle.py_tree.specs.Bounded.{ExprNames, StmtNames, StmtsNames, ArmsNames, target_name}
+use Rattle.py_tree.specs.Bounded.{ExprNames, StmtNames, StmtsNames, ArmsNames, target_name, ClauseNames, ClausesNames}
 use Rattle.py_tree.specs.PlainExpressions.{PlainExpr}
-use Rattle.py_tree.specs.PlainStatements.{PlainStmt, PPass, PBreak, PContinue, PDo, PReturn, PRaise, PAssert, PAssign, PAugment, PIf, PWhile, PFor, PlainStmts, PNoStmt, PStmt, PArm, PlainArms, PNoArm, PMoreArms}
+use Rattle.py_tree.specs.PlainStatements.{PlainStmt, PPass, PBreak, PContinue, PDo, PReturn, PRaise, PAssert, PAssign, PAugment, PIf, PWhile, PFor, PlainStmts, PNoStmt, PStmt, PArm, PlainArms, PNoArm, PMoreArms, PTry, PClause, PlainClauses, PNoClause, PMoreClauses}
 use Rattle.sf_value.specs.declared.Failure.{Failure}
 use Rattle.sf_value.specs.declared.value.Value.{Value}
 use Rattle.sf_value.specs.declared.value.Value.TheVariants as value
@@ -14,7 +15,7 @@ use Rattle.program_meaning.specs.declared.vars.Var.{Var}
 use Rattle.program_meaning.specs.World.{Gives, Got, Fell, told, Ends, Goes, Returns, Breaks, Continues, Fails, with_given, next, next_turn, result_of, assigned}
 use Rattle.program_meaning.specs.Operations.{in_range, is_true}
 use Rattle.program_meaning.specs.Evaluation.{Site, eval}
-use Rattle.program_meaning.specs.Execution.{stepping, store, augmented, value_or_none, message, Turns, Items, Numbers, turns_of, turn, counting, over_items, over_numbers, over_turns, while_turns, checked, act, act_all, act_arms}
+use Rattle.program_meaning.specs.Execution.{stepping, store, augmented, value_or_none, message, Turns, Items, Numbers, turns_of, turn, counting, over_items, over_numbers, over_turns, while_turns, checked, act, act_all, act_arms, act_clauses}
 use Rattle.program_meaning.specs.Reached.{IsReached}
 use Rattle.flat_tree.specs.PlainFlat.{Point}
 use Rattle.flat_tree.specs.FlatMeaning.{Way, caught, closed}
@@ -159,6 +160,8 @@ module _ {W : Type 0} {R : List Var → List Var → Type 0} where
             step_related us vs w n _ _ r (λ n.
             given_related us vs (turns_of s over us w n) (turns_of s over vs w n) _ _ r (turns_same s (carries.agree r) over w n named.1) (λ turns w n.
             turns_related name named.0 (λ vars w n. act_all s body vars w n) (λ vars w n. act_all s body vars w n) (act_all_related body named.2) turns us vs w n r))
+        act_related (PTry at body clauses) named us vs w n r =
+            step_related us vs w n _ _ r (λ n. caught_related (act_all s body us w n) (act_all s body vs w n) _ _ (act_all_related body named.0 us vs w n r) (clauses_related clauses named.1))
 
         pub act_all_related : (xs : PlainStmts) → StmtsNames limit xs → WaysRelated R (act_all s xs) (act_all s xs)
         act_all_related PNoStmt named us vs w n r = both_go r
@@ -169,3 +172,8 @@ module _ {W : Type 0} {R : List Var → List Var → Type 0} where
         arms_related (PMoreArms (PArm test body) more) named f g later us vs w n r =
             given_related us vs (eval s test us w n) (eval s test vs w n) _ _ r (eval_same s (carries.agree r) test named.0.0 w n) (λ v w n.
             either_related (is_true v) _ _ _ _ (act_all_related body named.0.1 us vs w n r) (arms_related more named.1 f g later us vs w n r))
+
+        clauses_related : (clauses : PlainClauses) → ClausesNames limit clauses → (x : Failure) → WaysRelated R (act_clauses s clauses x) (act_clauses s clauses x)
+        clauses_related PNoClause named x us vs w n r = both_fail r
+        clauses_related (PMoreClauses (PClause kinds body) more) named x us vs w n r =
+            either_related (list_any (nat_eq x.kind) kinds) _ _ _ _ (act_all_related body named.0 us vs w n r) (clauses_related more named.1 x us vs w n r)

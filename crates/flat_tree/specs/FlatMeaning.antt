@@ -9,6 +9,7 @@ use Rattle.sf_value.specs.declared.value.Value.{Value}
 use Rattle.sf_value.specs.declared.value.Value.TheVariants as value
 use Rattle.program_meaning.specs.declared.vars.Var.{Var}
 use Rattle.program_meaning.specs.ClassTables.{fields_of}
+pub use Rattle.program_meaning.specs.World.{caught}
 use Rattle.program_meaning.specs.World.{Gives, ◌>>=◌, Ends, Goes, Returns, Breaks, Continues, Fails, step_limit, with_given, next, next_turn, result_of, assigned, with_field}
 use Rattle.program_meaning.specs.Operations.{is_true}
 use Rattle.program_meaning.specs.Evaluation.{Site, eval, eval_all, key_in, method_of, class_of}
@@ -43,14 +44,6 @@ into_field s name vars g = with_given vars g (λ v w n. Goes vars (s.own.put w (
 unfoldable pub loop_turns : {W : Type 0} → ℕ → (Way W → Way W → Way W) → Way W → Way W
 loop_turns zero test body vars w n = Fails step_limit vars w n
 loop_turns (suc most) test body vars w n = test (λ vars w n. next_turn (stepping vars w n (λ n. body vars w n)) (loop_turns most test body)) (λ vars w n. Goes vars w n) vars w n
-
--- a failure goes on where somebody takes it up, with the locals, the world and the steps that were left when it came
-abbrev pub caught : {W : Type 0} → (Failure → Way W) → Ends W → Ends W
-caught take_up (Fails f vars w n) = take_up f vars w n
-caught take_up (Goes vars w n) = Goes vars w n
-caught take_up (Returns v w n) = Returns v w n
-caught take_up (Breaks vars w n) = Breaks vars w n
-caught take_up (Continues vars w n) = Continues vars w n
 
 -- the end of a loop or of a `try`: with no point behind it, what goes on there is at the end of the method
 abbrev pub closed : {W : Type 0} → Option Point → Ends W → Ends W

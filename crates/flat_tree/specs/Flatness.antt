@@ -1,7 +1,7 @@
 -- Flat code is flat: nothing in it suspends but calls and creations that are statements of their own, over parts that don't suspend.
 use Rattle.std.specs.Prelude.{◌≡◌, Bool, true, false, ◌||◌, ◌&&◌, ⊤, IfSome}
 use Rattle.py_tree.specs.PlainExpressions.{PlainExpr}
-use Rattle.py_tree.specs.PlainStatements.{PlainStmt, PPass, PBreak, PContinue, PDo, PReturn, PRaise, PAssert, PAssign, PAugment, PIf, PWhile, PFor, PlainStmts, PNoStmt, PStmt, PArm, PlainArms, PNoArm, PMoreArms}
+use Rattle.py_tree.specs.PlainStatements.{PlainStmt, PPass, PBreak, PContinue, PDo, PReturn, PRaise, PAssert, PAssign, PAugment, PIf, PWhile, PFor, PlainStmts, PNoStmt, PStmt, PArm, PlainArms, PNoArm, PMoreArms, PTry, PClause, PlainClauses, PNoClause, PMoreClauses}
 use Rattle.py_tree.specs.Reachability.{goes_on}
 use Rattle.call_graph.specs.SuspendingCode.{Leaving, expr_suspends, exprs_suspend, stmt_suspends}
 use Rattle.flat_tree.specs.PlainFlat.{PlainFlatStmt, FMark, FSet, FPut, FGive, FFail, FCode, FBreak, FContinue, FCall, FMake, FIf, FWhile, FTry, PlainFlatStmts, FNoStmt, FStmt, FArm, PlainFlatArms, FNoArm, FMoreArms, FClause, PlainFlatClauses, FNoClause, FMoreClauses, PlainFlatTest, FLeaf, FNot, FAnd, FOr, FOperand, PlainOperands, FNoOperand, FMoreOperands}
@@ -21,6 +21,7 @@ unfoldable mutual
   jumps (PIf at arms other) = arms_jump arms || all_jump other
   jumps (PWhile at test body) = false
   jumps (PFor at name name_at over body) = false
+  jumps (PTry at body clauses) = all_jump body || clauses_jump clauses
 
   pub all_jump : PlainStmts → Bool
   all_jump PNoStmt = false
@@ -29,6 +30,10 @@ unfoldable mutual
   pub arms_jump : PlainArms → Bool
   arms_jump PNoArm = false
   arms_jump (PMoreArms (PArm test body) more) = all_jump body || arms_jump more
+
+  pub clauses_jump : PlainClauses → Bool
+  clauses_jump PNoClause = false
+  clauses_jump (PMoreClauses (PClause kinds body) more) = all_jump body || clauses_jump more
 
 module _ (leaves : Leaving) where
   abbrev pub StaysWithin : PlainExpr → Type 0

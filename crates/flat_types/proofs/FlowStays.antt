@@ -10,15 +10,15 @@ use Rattle.py_tree.specs.declared.stmt.Target.{Target}
 use Rattle.py_tree.specs.declared.stmt.Target.TheVariants.{Local, Field}
 use Rattle.py_tree.specs.PlainTypes.{PlainTy, PlainWritten, type_of as type_written}
 use Rattle.py_tree.specs.PlainExpressions.{PlainExpr}
-use Rattle.py_tree.specs.PlainStatements.{PlainStmt, PPass, PBreak, PContinue, PDo, PReturn, PRaise, PAssert, PAssign, PAugment, PIf, PWhile, PFor, PlainStmts, PNoStmt, PStmt, PArm, PlainArms, PNoArm, PMoreArms}
+use Rattle.py_tree.specs.PlainStatements.{PlainStmt, PPass, PBreak, PContinue, PDo, PReturn, PRaise, PAssert, PAssign, PAugment, PIf, PWhile, PFor, PlainStmts, PNoStmt, PStmt, PArm, PlainArms, PNoArm, PMoreArms, PTry, PClause, PlainClauses, PNoClause, PMoreClauses}
 use Rattle.py_tree.specs.FlowEnvironment.{PlainLocal, shown, narrowed}
 use Rattle.py_tree.specs.ExpressionTypes.{refuse_if, with_found, field_of}
-use Rattle.py_tree.specs.Reachability.{goes_on, all_go_on, local_assigned, assigns, assigned_in, assigned_in_arms}
-use Rattle.py_tree.specs.Flow.{Context, type_at, condition_at, within_loop, Known, known_at, meet, way, behind_ways, given, with_local, at_head, settled, value_as, needs_none, return_fault, message_fault, assigned, field_assigned, field_declared, is_key_field, augmentation, combined_stored, Way, on, begun, broken_off, after_while, after_for, for_head, named_at, flow, flow_all, flow_arms}
+use Rattle.py_tree.specs.Reachability.{goes_on, all_go_on, local_assigned, assigns, assigned_in, assigned_in_arms, assigned_in_clauses}
+use Rattle.py_tree.specs.Flow.{Context, type_at, condition_at, within_loop, Known, known_at, meet, way, behind_ways, given, with_local, at_head, settled, value_as, needs_none, return_fault, message_fault, assigned, field_assigned, field_declared, is_key_field, augmentation, combined_stored, Way, on, begun, broken_off, after_while, after_for, for_head, named_at, flow, flow_all, flow_arms, flow_clauses}
 use Rattle.program_meaning.proofs.TypedParts.{done, same_ok, found_ok, refuse_ok, needs_ok, not_false}
 use Rattle.program_meaning.proofs.LocalShapes.{Shape, shape, shapes, type_in, is_typed, given_if, new_local, shapes_narrowed, shapes_at_head, shapes_settled, shapes_behind}
 use Rattle.program_meaning.proofs.FlowParts.{no_need, stored_ok, local_ok, Augments, augments_ok, put_local_ok, put_field_ok}
-use Rattle.program_meaning.proofs.FlowGrows.{WhileParts, while_parts, ForParts, for_parts, all_parts, last_parts, ArmParts, arm_parts, for_shapes}
+use Rattle.program_meaning.proofs.FlowGrows.{WhileParts, while_parts, ForParts, for_parts, all_parts, last_parts, ArmParts, arm_parts, for_shapes, TryParts, try_parts, ClauseParts, clause_parts, behind_clauses}
 
 -- Names that are typed
 
@@ -145,12 +145,28 @@ mutual
       let to_head : EachTyped (shapes w.locals) all → shapes head ≡ shapes w.locals = λ t. for_shapes all w.locals a.named ∙ ap shapes (sym (stored_ok c w.locals (named_at name name_at) a.item a.named a.names).1) ∙ shapes_with name a.item a.item w.locals t.0 in
       let to_start : EachTyped (shapes w.locals) all → shapes start ≡ shapes w.locals = λ t. shapes_with name a.item a.item head (moved all w.locals head (to_head t) t).0 ∙ to_head t in
       on_stays c all w (after_for head a.end) after (λ t. behind_for head a.end ∙ inside.same (moved (assigned_in body) w.locals start (to_start t) t.1) ∙ to_start t) a.is
+  stmt_stays (PTry at body clauses) c w after h =
+      let a : TryParts c w after body clauses = try_parts c w after at body clauses h in
+      stays_on c (assigned_in body) (assigned_in_clauses clauses) w a.end after (all_stay body c w a.end a.inside)
+      (clauses_stay clauses c a.end (known_at (at_head (assigned_in body) w.locals)) (way (all_go_on body) a.end.locals) after a.rest)
 
   pub all_stay : (xs : PlainStmts) (c : Context) (w after : Way) → flow_all c w xs ≡ Ok after → Stays c (assigned_in xs) w after
   all_stay PNoStmt c w after h = same_stays c [] w after (same_ok w after h)
   all_stay (PStmt x xs) c w after h =
       let a : (next : Way) × (flow c w x ≡ Ok next) × (cond (goes_on x) (flow_all c next xs) (Ok next) ≡ Ok after) = all_parts c w after x xs h in
       stays_on c (assigns x) (cond (goes_on x) (assigned_in xs) []) w a.0 after (stmt_stays x c w a.0 a.1) (one_or_more (goes_on x) c (assigned_in xs) (flow_all c a.0 xs) a.0 after a.2 (λ e. all_stay xs c a.0 after e))
+
+  pub clauses_stay : (clauses : PlainClauses) (c : Context) (w : Way) (start : List Known) (ended : Option (List Known)) (after : Way) → flow_clauses c w start ended clauses ≡ Ok after → Stays c (assigned_in_clauses clauses) w after
+  clauses_stay PNoClause c w start ended after h =
+      on_stays c [] w (behind_ways w.locals ended) after (λ t. shapes_behind w.locals ended) (behind_clauses c w after start ended h)
+  clauses_stay (PMoreClauses (PClause kinds body) more) c w start ended after h =
+      let a : ClauseParts c w after start ended body more = clause_parts c w after start ended kinds body more h in
+      let first : List PlainLocal = settled w.locals start in
+      let same_first : shapes first ≡ shapes w.locals = shapes_settled w.locals start in
+      let inside : Stays c (assigned_in body) (on w first) a.end = all_stay body c (on w first) a.end a.inside in
+      stays_on c (assigned_in body) (assigned_in_clauses more) w a.end after
+      (record { same = λ t. inside.same (moved (assigned_in body) w.locals first same_first t) ∙ same_first; breaks = inside.breaks })
+      (clauses_stay more c a.end start (meet ended (way (all_go_on body) a.end.locals)) after a.rest)
 
   pub arms_stay : (arms : PlainArms) (c : Context) (w : Way) (ended : Option (List Known)) (go : Bool) (other : Way → Result Way RuleFault) (names : List ℕ) (after : Way) → flow_arms c w ended arms go other ≡ Ok after → ((v last : Way) → other v ≡ Ok last → Stays c names v last)
       → Stays c (assigned_in_arms arms ++ names) w after

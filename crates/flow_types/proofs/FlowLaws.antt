@@ -10,24 +10,25 @@ use Rattle.py_tree.specs.declared.stmt.StmtKind.{StmtKind}
 use Rattle.py_tree.specs.declared.stmt.StmtKind as s
 use Rattle.py_tree.specs.declared.stmt.Stmt.{Stmt}
 use Rattle.py_tree.specs.declared.stmt.Arm.{Arm, out-Arm}
+use Rattle.py_tree.specs.declared.stmt.Clause.{Clause, out-Clause}
 use Rattle.py_tree.specs.PlainTypes.{PlainTy}
 use Rattle.py_tree.specs.PlainExpressions.{PlainExpr, plain_expr}
-use Rattle.py_tree.specs.PlainStatements.{PlainOver, PlainStmt, PlainStmts, PIf, PWhile, PFor, PArm, PlainArms, PNoArm, PMoreArms, plain_over, plain_stmt_kind, plain_stmt, plain_stmts, stmts_of, plain_arm, plain_arms, arms_of}
+use Rattle.py_tree.specs.PlainStatements.{PlainOver, PlainStmt, PlainStmts, PIf, PWhile, PFor, PTry, PArm, PlainArms, PNoArm, PMoreArms, PClause, PlainClauses, PNoClause, PMoreClauses, plain_over, plain_stmt_kind, plain_stmt, plain_stmts, stmts_of, plain_arm, plain_arms, arms_of, plain_clause, plain_clauses, clauses_of}
 use Rattle.py_tree.specs.ClassRules.{PlainTable}
 use Rattle.py_tree.specs.FlowEnvironment.{PlainLocal, shown, narrowed}
 use Rattle.py_tree.specs.ExpressionTypes.{with_found}
-use Rattle.py_tree.specs.Reachability.{goes_on, all_go_on, an_arm_goes_on, assigned_in}
-use Rattle.py_tree.specs.Flow.{Context, Way, within_loop, condition_at, known_at, settled, meet, way, behind_ways, with_local, needs_none, local_fault, stored, item_of, on, begun, after_while, after_for, at_head, for_head, flow, flow_all, flow_arms}
-use Rattle.py_tree.proofs.ListWalks.{stmts_from, stmts_end, arms_from, arms_end}
+use Rattle.py_tree.specs.Reachability.{goes_on, all_go_on, an_arm_goes_on, a_clause_goes_on, assigned_in}
+use Rattle.py_tree.specs.Flow.{Context, Way, within_loop, condition_at, known_at, settled, meet, way, behind_ways, with_local, needs_none, local_fault, stored, item_of, on, begun, after_while, after_for, at_head, for_head, flow, flow_all, flow_arms, flow_clauses, Known}
+use Rattle.py_tree.proofs.ListWalks.{stmts_from, stmts_end, arms_from, arms_end, clauses_from, clauses_end}
 use Rattle.py_tree.proofs.ReachRules.{goes_on_rules}
-use Rattle.py_tree.proofs.Views.{stmt-Pass, stmt-If, stmt-While, stmt-For}
+use Rattle.py_tree.proofs.Views.{stmt-Pass, stmt-If, stmt-While, stmt-For, stmt-Try}
 use Rattle.entity_tables.specs.declared.fault.RuleError.{RuleError}
 use Rattle.entity_tables.specs.declared.fault.RuleError.TheVariants.{Fault, NoMemory}
 use Rattle.entity_types.specs.declared.env.FlowEnv.{FlowEnv}
 use Rattle.flow_types.specs.declared.known.Standing.{Standing}
 use Rattle.flow_types.specs.Answers.{Flows, Steps}
 use Rattle.flow_types.specs.Views.{context_of, way_of}
-use Rattle.flow_types.specs.Parts.{Fork, Entry, behind_arm, behind_arms, behind_other, behind_while, for_entry, behind_for}
+use Rattle.flow_types.specs.Parts.{Fork, Entry, behind_arm, behind_arms, behind_other, behind_while, for_entry, behind_for, behind_clause, behind_clauses, behind_try}
 
 -- steps that go on one after the other
 found_then : {X A B : Type 0} (r : Result X RuleFault) (f : X → Result A RuleFault) (g : A → Result B RuleFault) → with_found (with_found r f) g ≡ with_found r (λ x. with_found (f x) g)
@@ -81,6 +82,24 @@ for_is c w at name over body =
     ∙ (λ i. with_found items (λ item. needs_then fault (with_found (stored w.locals name item) (entered item)) end i))
     ∙ (λ i. with_found items (λ item. needs_none fault (found_then (stored w.locals name item) (entered item) end i))))
 
+-- the clauses of a `try`, and then what stands behind them
+clauses_are : (c : Context) (start : List Known) (f : Fork) (clauses : PlainClauses) → flow_clauses c f.next start f.ended clauses ≡ with_found (behind_clauses c start f clauses) (λ g. Ok (on g.next (behind_ways g.next.locals g.ended)))
+unfolding flow behind_clauses behind_clause
+clauses_are c start f PNoClause = refl
+clauses_are c start f (PMoreClauses (PClause kinds body) more) =
+    let end : Fork → Result Way RuleFault = λ g. Ok (on g.next (behind_ways g.next.locals g.ended)) in
+    let walked = flow_all c (on f.next (settled f.next.locals start)) body in
+    let next : Way → Fork = λ clause. record { next = clause; ended = meet f.ended (way (all_go_on body) clause.locals) } in
+    (λ i. with_found walked (λ clause. clauses_are c start (next clause) more i))
+    ∙ sym (found_then (with_found walked (λ clause. Ok (next clause))) (λ g. behind_clauses c start g more) end
+    ∙ found_then walked (λ clause. Ok (next clause)) (λ g. with_found (behind_clauses c start g more) end))
+
+try_is : (c : Context) (w : Way) (at : Place) (body : PlainStmts) (clauses : PlainClauses) → flow c w (PTry at body clauses) ≡ behind_try c w body clauses
+unfolding flow behind_try
+try_is c w at body clauses =
+    let start = known_at (at_head (assigned_in body) w.locals) in
+    λ i. with_found (flow_all c w body) (λ b. clauses_are c start (record { next = b; ended = way (all_go_on body) b.locals }) clauses i)
+
 -- a kind of statement, as the tree of it is seen
 module _ (c : Context) (w : Way) (at : Place) where
   pub flow-Pass : flow c w (plain_stmt_kind s.Pass at) ≡ Ok w
@@ -95,6 +114,9 @@ module _ (c : Context) (w : Way) (at : Place) where
 
   pub flow-For : (name : PlacedName) (over : Over) (body : List Stmt) → flow c w (plain_stmt_kind (s.For name over body) at) ≡ with_found (behind_for c w.locals name (plain_over over) (stmts_of (plain_stmts body))) (λ ls. Ok (on w ls))
   flow-For name over body = ap (flow c w) (stmt-For at name over body) ∙ for_is c w at name (plain_over over) (stmts_of (plain_stmts body))
+
+  pub flow-Try : (body : List Stmt) (clauses : List Clause) → flow c w (plain_stmt_kind (s.Try body clauses) at) ≡ behind_try c w (stmts_of (plain_stmts body)) (clauses_of (plain_clauses clauses))
+  flow-Try body clauses = ap (flow c w) (stmt-Try at body clauses) ∙ try_is c w at (stmts_of (plain_stmts body)) (clauses_of (plain_clauses clauses))
 
 -- what is answered of a part is answered of the statement
 pub as_statement : (c : Context) (w : Way) (at : Place) (k kind : StmtKind) (plain : PlainStmt) (goes : Bool) (old new : FlowEnv) (breaks : Option (List Standing)) (r : Result Bool RuleError) → k ≡ kind → plain_stmt_kind kind at ≡ plain → goes_on (plain_stmt_kind kind at) ≡ goes → Flows (flow c w plain) goes old new breaks r → Flows (flow c w (plain_stmt_kind k at)) (goes_on (plain_stmt_kind k at)) old new breaks r
@@ -138,6 +160,26 @@ pub arms_done : (c : Context) (f : Fork) (xs : List Arm) (i : ℕ) → length xs
 unfolding behind_arms
 arms_done c f xs i past = ap (behind_arms c f) (arms_end xs i past)
 
+-- clauses, from one of them on
+module _ (c : Context) (start : List Known) (f : Fork) (ks : List Clause) (i : ℕ) (k : Clause) where
+  from_clause : i < length ks → k ≡ get_or ks i k → behind_clauses c start f (clauses_of (plain_clauses (drop i ks))) ≡ with_found (behind_clause c start f (plain_clause k)) (λ next. behind_clauses c start next (clauses_of (plain_clauses (drop (i + 1) ks))))
+  unfolding behind_clauses
+  from_clause within is = ap (behind_clauses c start f) (clauses_from ks i k within is)
+
+  pub clauses_fail : (e : RuleFault) → i < length ks → k ≡ get_or ks i k → behind_clause c start f (plain_clause k) ≡ Err e → behind_clauses c start f (clauses_of (plain_clauses (drop i ks))) ≡ Err e
+  clauses_fail e within is fails = from_clause within is ∙ ap (λ r. with_found r (λ next. behind_clauses c start next (clauses_of (plain_clauses (drop (i + 1) ks))))) fails
+
+  pub clauses_pass : (next : Fork) → i < length ks → k ≡ get_or ks i k → behind_clause c start f (plain_clause k) ≡ Ok next → behind_clauses c start f (clauses_of (plain_clauses (drop i ks))) ≡ behind_clauses c start next (clauses_of (plain_clauses (drop (i + 1) ks)))
+  clauses_pass next within is found = from_clause within is ∙ ap (λ r. with_found r (λ next. behind_clauses c start next (clauses_of (plain_clauses (drop (i + 1) ks))))) found
+
+pub clauses_done : (c : Context) (start : List Known) (f : Fork) (ks : List Clause) (i : ℕ) → length ks ≤ i → behind_clauses c start f (clauses_of (plain_clauses (drop i ks))) ≡ Ok f
+unfolding behind_clauses
+clauses_done c start f ks i past = ap (behind_clauses c start f) (clauses_end ks i past)
+
+pub clause_goes : (ks : List Clause) (i : ℕ) (k : Clause) → i < length ks → k ≡ get_or ks i k → a_clause_goes_on (clauses_of (plain_clauses (drop i ks))) ≡ (all_go_on (stmts_of (plain_stmts (out-Clause k).body)) || a_clause_goes_on (clauses_of (plain_clauses (drop (i + 1) ks))))
+unfolding a_clause_goes_on
+clause_goes ks i k within is = ap a_clause_goes_on (clauses_from ks i k within is)
+
 pub one_goes : (xs : List Arm) (i : ℕ) (x : Arm) → i < length xs → x ≡ get_or xs i x → an_arm_goes_on (arms_of (plain_arms (drop i xs))) ≡ (all_go_on (stmts_of (plain_stmts (out-Arm x).body)) || an_arm_goes_on (arms_of (plain_arms (drop (i + 1) xs))))
 unfolding an_arm_goes_on
 one_goes xs i x within is = ap an_arm_goes_on (arms_from xs i x within is)
@@ -152,8 +194,10 @@ steps_of found goes old new breaks (Ok on) h = ((way_of new breaks, (h.0, refl))
 steps_of found goes old new breaks (Err NoMemory) h = h
 steps_of found goes old new breaks (Err (Fault f)) h = h
 
-pub ruleset statement_laws = (flow-Pass, flow-If, flow-While, flow-For, goes_on_rules)
+pub ruleset statement_laws = (flow-Pass, flow-If, flow-While, flow-For, flow-Try, goes_on_rules)
 
 pub ruleset list_laws = (list_fails, list_passes, list_stops, list_ends)
 
 pub ruleset arm_laws = (arms_fail, arms_pass, arms_done)
+
+pub ruleset clause_laws = (clauses_fail, clauses_pass, clauses_done)

@@ -5,11 +5,12 @@ use Rattle.std.proofs.lemmas.Bool.{eq-eqb, ne_eqb}
 use Rattle.std.proofs.Math.Bool.{or-false}
 use Rattle.py_tree.specs.declared.stmt.Stmt.{Stmt}
 use Rattle.py_tree.specs.declared.stmt.Arm.{Arm, out-Arm}
-use Rattle.py_tree.specs.PlainStatements.{plain_stmt, plain_stmts, stmts_of, plain_arms, arms_of}
-use Rattle.py_tree.specs.Reachability.{goes_on, assigns, assigned_in, assigned_in_arms}
+use Rattle.py_tree.specs.declared.stmt.Clause.{Clause, out-Clause}
+use Rattle.py_tree.specs.PlainStatements.{plain_stmt, plain_stmts, stmts_of, plain_arms, arms_of, plain_clauses, clauses_of}
+use Rattle.py_tree.specs.Reachability.{goes_on, assigns, assigned_in, assigned_in_arms, assigned_in_clauses}
 use Rattle.py_tree.specs.FlowEnvironment.{PlainLocal, has_name}
-use Rattle.py_tree.specs.Flow.{forgotten, at_head}
-use Rattle.py_tree.proofs.ListWalks.{stmts_from, stmts_end, arms_from, arms_end}
+use Rattle.py_tree.specs.Flow.{forgotten, known_of, with_known, known_at, settled, at_head}
+use Rattle.py_tree.proofs.ListWalks.{stmts_from, stmts_end, arms_from, arms_end, clauses_from, clauses_end}
 use Rattle.entity_types.specs.declared.env.Local.{Local}
 use Rattle.entity_types.specs.Views.{plain_local, plain_locals}
 use Rattle.entity_types.proofs.ShownLaws.{has_none_named, has_named_append}
@@ -99,3 +100,26 @@ unfolding assigned_in_arms
 arms_done xs i ls past = ap (λ b. at_head (assigned_in_arms b) ls) (arms_end xs i past) ∙ head_of_none ls
 
 pub ruleset arm_laws = (arms_pass, arms_done)
+
+-- clauses, from one of them on
+pub clauses_pass : (ks : List Clause) (i : ℕ) (k : Clause) (ls : List PlainLocal) → i < length ks → k ≡ get_or ks i k → at_head (assigned_in_clauses (clauses_of (plain_clauses (drop i ks)))) ls ≡ at_head (assigned_in_clauses (clauses_of (plain_clauses (drop (i + 1) ks)))) (at_head (assigned_in (stmts_of (plain_stmts (out-Clause k).body))) ls)
+unfolding assigned_in_clauses
+clauses_pass ks i k ls within is =
+    ap (λ b. at_head (assigned_in_clauses b) ls) (clauses_from ks i k within is)
+    ∙ head_append (assigned_in (stmts_of (plain_stmts (out-Clause k).body))) (assigned_in_clauses (clauses_of (plain_clauses (drop (i + 1) ks)))) ls
+
+pub clauses_done : (ks : List Clause) (i : ℕ) (ls : List PlainLocal) → length ks ≤ i → at_head (assigned_in_clauses (clauses_of (plain_clauses (drop i ks)))) ls ≡ ls
+unfolding assigned_in_clauses
+clauses_done ks i ls past = ap (λ b. at_head (assigned_in_clauses b) ls) (clauses_end ks i past) ∙ head_of_none ls
+
+pub ruleset clause_laws = (clauses_pass, clauses_done)
+
+one_remembered : (l : PlainLocal) (b : Bool) → with_known (if b then forgotten l else l) (known_of l) ≡ l
+one_remembered l true = refl
+one_remembered l false = refl
+
+-- locals of which something was forgotten stand as before, where what was known of them is known again
+pub remembered : (names : List ℕ) (locals : List PlainLocal) → settled (at_head names locals) (known_at locals) ≡ locals
+unfolding settled at_head known_at
+remembered names [] = refl
+remembered names (l ∷ locals) = λ i. one_remembered l (has_name names l.name) i ∷ remembered names locals i

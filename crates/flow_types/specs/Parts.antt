@@ -1,14 +1,14 @@
--- The parts of an `if` and of loops, as ways lead through them.
+-- The parts of an `if`, of loops and of a `try`, as ways lead through them.
 use Rattle.std.specs.Prelude.{true, false, ◌∷◌, List, Some, Result, Ok}
 use Rattle.std.specs.declared.option.Option.{Option}
 use Rattle.py_tree.specs.declared.names.PlacedName.{PlacedName}
 use Rattle.py_tree.specs.declared.rule.RuleFault.{RuleFault}
 use Rattle.py_tree.specs.PlainExpressions.{PlainExpr}
-use Rattle.py_tree.specs.PlainStatements.{PlainOver, PlainStmts, PArm, PlainArm, PlainArms, PNoArm, PMoreArms}
+use Rattle.py_tree.specs.PlainStatements.{PlainOver, PlainStmts, PArm, PlainArm, PlainArms, PNoArm, PMoreArms, PClause, PlainClause, PlainClauses, PNoClause, PMoreClauses}
 use Rattle.py_tree.specs.FlowEnvironment.{PlainLocal, shown, narrowed}
 use Rattle.py_tree.specs.ExpressionTypes.{with_found}
 use Rattle.py_tree.specs.Reachability.{all_go_on, assigned_in}
-use Rattle.py_tree.specs.Flow.{Context, Known, Way, within_loop, condition_at, known_at, settled, meet, way, behind_ways, with_local, needs_none, local_fault, stored, item_of, on, begun, after_while, for_head, flow_all}
+use Rattle.py_tree.specs.Flow.{Context, Known, Way, within_loop, condition_at, known_at, settled, meet, way, behind_ways, with_local, needs_none, local_fault, stored, item_of, on, begun, after_while, at_head, for_head, flow_all}
 
 -- the way to the next test of an `if`, and what is known where the ways through the arms before it meet
 pub record Fork : Type 0 where
@@ -63,3 +63,20 @@ behind_for c locals name over body =
     with_found (for_entry c locals name over body) (λ entry.
     with_found (flow_all (within_loop c) (begun entry.inside) body) (λ b.
     Ok (behind_ways b.locals (meet (Some entry.head) b.breaks))))
+
+-- behind a clause of a `try`, each of which begins with what is known at `start`
+unfoldable pub behind_clause : Context → List Known → Fork → PlainClause → Result Fork RuleFault
+behind_clause c start f (PClause kinds body) =
+    with_found (flow_all c (on f.next (settled f.next.locals start)) body) (λ clause.
+    Ok (record { next = clause; ended = meet f.ended (way (all_go_on body) clause.locals) }))
+
+unfoldable pub behind_clauses : Context → List Known → Fork → PlainClauses → Result Fork RuleFault
+behind_clauses c start f PNoClause = Ok f
+behind_clauses c start f (PMoreClauses k more) = with_found (behind_clause c start f k) (λ next. behind_clauses c start next more)
+
+-- behind a `try`
+unfoldable pub behind_try : Context → Way → PlainStmts → PlainClauses → Result Way RuleFault
+behind_try c w body clauses =
+    with_found (flow_all c w body) (λ b.
+    with_found (behind_clauses c (known_at (at_head (assigned_in body) w.locals)) (record { next = b; ended = way (all_go_on body) b.locals }) clauses) (λ f.
+    Ok (on f.next (behind_ways f.next.locals f.ended))))

@@ -1,13 +1,16 @@
 //! The head of a loop: names that its body assigns are no longer surely not None there.
 
-ghost use Rattle.std.specs.Prelude.{◌≡◌, [], ◌∷◌};
-ghost use Rattle.py_tree.specs.PlainStatements.{plain_stmt, plain_stmts, stmts_of, plain_arms, arms_of};
-ghost use Rattle.py_tree.specs.Reachability.{local_assigned, assigns, assigned_in, assigned_in_arms};
+ghost use Rattle.std.specs.Prelude.{◌≡◌, [], ◌∷◌, IfOk, OnOk};
+ghost use Rattle.py_tree.specs.PlainStatements.{plain_stmt, plain_stmts, stmts_of, plain_arms, arms_of, plain_clauses, clauses_of};
+ghost use Rattle.py_tree.specs.Reachability.{local_assigned, assigns, assigned_in, assigned_in_arms, assigned_in_clauses};
 ghost use Rattle.py_tree.specs.Flow as spec;
 ghost use Rattle.entity_types.specs.Views.{plain_local, plain_locals};
+ghost use Rattle.flow_types.specs.Views.{plain_standings};
 
+use crate::known::{Standings, known_at, settle};
 use entity_types::{Local, Locals};
-use py_tree::{Arm, Name, Stmt, StmtKind, Target, goes_on};
+use py_tree::{Arm, Clause, Name, Stmt, StmtKind, Target, goes_on};
+use std::alloc::{AllocError, Global};
 
 /// A local of this name is no longer surely not None.
 #[tactic(auto, using(crate::proofs::HeadLaws::name_laws), unfolding(py_tree::specs::Flow::at_head))]
@@ -57,6 +60,10 @@ fn forget_assigned_by(locals: &mut Locals, stmt: &Stmt)
             forget(locals, name.name);
             forget_assigned_in(locals, body.as_slice())
         }
+        StmtKind::Try { body, clauses } => {
+            forget_assigned_in(locals, body.as_slice());
+            forget_assigned_in_clauses(locals, clauses.as_slice())
+        }
         StmtKind::Pass
         | StmtKind::Break
         | StmtKind::Continue
@@ -89,4 +96,31 @@ fn forget_assigned_in_arms(locals: &mut Locals, arms: &[Arm])
     for arm in arms {
         forget_assigned_in(locals, arm.body.as_slice());
     }
+}
+
+#[cycle(forget)]
+#[tactic(auto, using(crate::proofs::HeadLaws::clause_laws))]
+fn forget_assigned_in_clauses(locals: &mut Locals, clauses: &[Clause])
+    ensures { plain_locals locals.new ≡ spec.at_head (assigned_in_clauses (clauses_of (plain_clauses clauses.now))) (plain_locals locals.old) }
+{
+    for clause in clauses {
+        forget_assigned_in(locals, clause.body.as_slice());
+    }
+}
+
+/// What is known where a clause of a `try` with this body begins. The locals stay as they are.
+#[tactic(auto, using(crate::proofs::HeadLaws::remembered))]
+pub fn known_in_clauses(
+    alloc: Global,
+    locals: &mut Locals,
+    body: &[Stmt],
+) -> Result<Standings, AllocError>
+    ensures known { IfOk result (λ made. plain_standings made ≡ spec.known_at (spec.at_head (assigned_in (stmts_of (plain_stmts body.now))) (plain_locals locals.old))) }
+    ensures locals { OnOk result (plain_locals locals.new ≡ plain_locals locals.old) }
+{
+    let before = known_at(alloc, locals.as_slice())?;
+    forget_assigned_in(locals, body);
+    let start = known_at(alloc, locals.as_slice())?;
+    settle(locals, before.as_slice());
+    Ok(start)
 }

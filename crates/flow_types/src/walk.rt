@@ -1,26 +1,28 @@
 //! The walk over statements, which carries what is known from point to point.
 
+ghost use Rattle.std.specs.Prelude.{◌||◌};
 ghost use Rattle.py_tree.specs.declared.stmt.Arm.{out-Arm};
+ghost use Rattle.py_tree.specs.declared.stmt.Clause.{out-Clause};
 ghost use Rattle.py_tree.specs.PlainExpressions.{plain_expr};
-ghost use Rattle.py_tree.specs.PlainStatements.{plain_over, plain_stmt, plain_stmts, stmts_of, plain_arm, plain_arms, arms_of};
+ghost use Rattle.py_tree.specs.PlainStatements.{plain_over, plain_stmt, plain_stmts, stmts_of, plain_arm, plain_arms, arms_of, plain_clause, plain_clauses, clauses_of};
 ghost use Rattle.py_tree.specs.Reachability as reach;
 ghost use Rattle.py_tree.specs.Flow as spec;
 ghost use Rattle.entity_types.specs.Views.{plain_locals};
-ghost use Rattle.flow_types.specs.Views.{way_of, plain_breaks, seen_at};
-ghost use Rattle.flow_types.specs.Parts.{behind_arm, behind_arms, behind_other, behind_while, behind_for};
+ghost use Rattle.flow_types.specs.Views.{way_of, plain_breaks, plain_standings, seen_at};
+ghost use Rattle.flow_types.specs.Parts.{behind_arm, behind_arms, behind_other, behind_while, behind_for, behind_clause, behind_clauses, behind_try};
 ghost use Rattle.flow_types.specs.Answers.{Locates, Flows, Forks};
 
 use crate::branch::{go_where_true, leave_arm, leave_if, leave_while};
 use crate::context::Context;
-use crate::head::forget_assigned_in;
-use crate::known::{Standings, stand_where_met};
+use crate::head::{forget_assigned_in, known_in_clauses};
+use crate::known::{Standing, Standings, join_way, settle, stand_behind, stand_where_met, way};
 use crate::loops::enter_for;
 use crate::simple::{
     assert_here, assign_here, augment_here, break_off, evaluate, go_to_head, raise_here,
     return_here,
 };
 use entity_types::{FlowEnv, RuleError};
-use py_tree::{Arm, Expr, Over, PlacedName, Stmt, StmtKind, goes_on};
+use py_tree::{Arm, Clause, Expr, Over, PlacedName, Stmt, StmtKind, goes_on};
 use std::alloc::Global;
 
 /// The way through a statement, and whether it goes on behind it.
@@ -69,6 +71,16 @@ pub fn statement(
         StmtKind::For { name, over, body } => {
             for_loop(alloc, context, env, *name, over, body.as_slice())?;
             Ok(true)
+        }
+        StmtKind::Try { body, clauses } => {
+            through_try(
+                alloc,
+                context,
+                env,
+                breaks,
+                body.as_slice(),
+                clauses.as_slice(),
+            )
         }
     }
 }
@@ -196,4 +208,74 @@ fn for_loop(
     statements(alloc, &context.within_loop(), env, &mut breaks, body)?;
     stand_where_met(alloc, &mut env.locals, Some(head), breaks)?;
     Ok(())
+}
+
+/// The ways through a `try`, and where they meet behind it.
+#[cycle(walk)]
+#[tactic(auto, unfolding(crate::specs::Parts::behind_try))]
+fn through_try(
+    alloc: Global,
+    context: &Context<'_>,
+    env: &mut FlowEnv,
+    breaks: &mut Option<Standings>,
+    body: &[Stmt],
+    clauses: &[Clause],
+) -> Result<bool, RuleError>
+    ensures { Flows (behind_try (seen_at context.now env.old) (way_of env.old breaks.old) (stmts_of (plain_stmts body.now)) (clauses_of (plain_clauses clauses.now)))
+        (reach.all_go_on (stmts_of (plain_stmts body.now)) || reach.a_clause_goes_on (clauses_of (plain_clauses clauses.now)))
+        env.old env.new breaks.new result }
+{
+    let start = known_in_clauses(alloc, &mut env.locals, body)?;
+    let body_goes_on = statements(alloc, context, env, breaks, body)?;
+    let mut ended = way(alloc, body_goes_on, env.locals.as_slice())?;
+    let start = start.as_slice();
+    let one_goes_on = through_clauses(alloc, context, env, breaks, &mut ended, start, clauses)?;
+    stand_behind(&mut env.locals, ended);
+    Ok(body_goes_on || one_goes_on)
+}
+
+/// The ways through the clauses of a `try`, each from what is known at `start`.
+#[cycle(walk)]
+#[tactic(auto, using(crate::proofs::FlowLaws::clause_laws))]
+fn through_clauses(
+    alloc: Global,
+    context: &Context<'_>,
+    env: &mut FlowEnv,
+    breaks: &mut Option<Standings>,
+    ended: &mut Option<Standings>,
+    start: &[Standing],
+    clauses: &[Clause],
+) -> Result<bool, RuleError>
+    ensures { Forks (behind_clauses (seen_at context.now env.old) (plain_standings start.now)
+        (record { next = way_of env.old breaks.old; ended = plain_breaks ended.old }) (clauses_of (plain_clauses clauses.now)))
+        (reach.a_clause_goes_on (clauses_of (plain_clauses clauses.now))) env.old env.new breaks.new ended.new result }
+{
+    let mut one_goes_on = false;
+    for clause in clauses {
+        let goes_on = through_clause(alloc, context, env, breaks, ended, start, clause)?;
+        one_goes_on = one_goes_on || goes_on;
+    }
+    Ok(one_goes_on)
+}
+
+/// The way through a clause.
+#[cycle(walk)]
+#[tactic(auto, unfolding(crate::specs::Parts::behind_clause))]
+fn through_clause(
+    alloc: Global,
+    context: &Context<'_>,
+    env: &mut FlowEnv,
+    breaks: &mut Option<Standings>,
+    ended: &mut Option<Standings>,
+    start: &[Standing],
+    clause: &Clause,
+) -> Result<bool, RuleError>
+    ensures { Forks (behind_clause (seen_at context.now env.old) (plain_standings start.now)
+        (record { next = way_of env.old breaks.old; ended = plain_breaks ended.old }) (plain_clause clause.now))
+        (reach.all_go_on (stmts_of (plain_stmts (out-Clause clause.now).body))) env.old env.new breaks.new ended.new result }
+{
+    settle(&mut env.locals, start);
+    let goes_on = statements(alloc, context, env, breaks, clause.body.as_slice())?;
+    join_way(alloc, ended, goes_on, env.locals.as_slice())?;
+    Ok(goes_on)
 }

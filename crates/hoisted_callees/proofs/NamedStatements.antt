@@ -11,26 +11,26 @@ use Rattle.py_tree.specs.declared.rule.RuleFault.{RuleFault}
 use Rattle.py_tree.specs.declared.expr.BinOp.{BinOp}
 use Rattle.py_tree.specs.declared.stmt.Target.{Target}
 use Rattle.py_tree.specs.declared.stmt.Target.TheVariants.{Local, Field}
-use Rattle.py_tree.specs.Bounded.{ExprNames, OverNames, StmtNames, StmtsNames, ArmsNames}
+use Rattle.py_tree.specs.Bounded.{ExprNames, OverNames, StmtNames, StmtsNames, ArmsNames, ClausesNames}
 use Rattle.py_tree.specs.PlainTypes.{PlainTy, TInt, TBool, TList, PlainWritten, type_of as type_written}
 use Rattle.py_tree.specs.PlainExpressions.{PlainExpr, PInt, PPos, PChain, PLink, PNoLink, PMoreLinks}
-use Rattle.py_tree.specs.PlainStatements.{PlainOver, PRange, PItems, PlainStmt, PPass, PBreak, PContinue, PDo, PReturn, PRaise, PAssert, PAssign, PAugment, PIf, PWhile, PFor, PlainStmts, PNoStmt, PStmt, PArm, PlainArms, PNoArm, PMoreArms}
+use Rattle.py_tree.specs.PlainStatements.{PlainOver, PRange, PItems, PlainStmt, PPass, PBreak, PContinue, PDo, PReturn, PRaise, PAssert, PAssign, PAugment, PIf, PWhile, PFor, PlainStmts, PNoStmt, PStmt, PArm, PlainArms, PNoArm, PMoreArms, PTry, PClause, PlainClauses, PNoClause, PMoreClauses}
 use Rattle.py_tree.specs.FlowEnvironment.{PlainLocal, shown, narrowed}
 use Rattle.py_tree.specs.ExpressionTypes.{refuse_if, with_found, place_of, right_wanted, field_of, type_of}
 use Rattle.py_tree.specs.Reachability.{goes_on, all_go_on, assigned_in}
-use Rattle.py_tree.specs.Flow.{Context, type_at, condition_at, within_loop, after_while, after_for, named_at, Known, known_at, settled as settled_at, meet, way, with_local, at_head, result_at, value_as, item_of, needs_none, return_fault, message_fault, is_key_field, field_assigned, field_declared, assigned, augmentation, target_read, Way, on, begun, for_head, flow, flow_all, flow_arms}
+use Rattle.py_tree.specs.Flow.{Context, type_at, condition_at, within_loop, after_while, after_for, named_at, Known, known_at, settled as settled_at, meet, way, with_local, at_head, result_at, value_as, item_of, needs_none, return_fault, message_fault, is_key_field, field_assigned, field_declared, assigned, augmentation, target_read, Way, on, begun, for_head, flow, flow_all, flow_arms, flow_clauses}
 use Rattle.call_graph.specs.SuspendingCode.{Leaving}
 use Rattle.program_meaning.proofs.TypedParts.{done, found_ok, needs_ok, refuse_ok, condition_ok}
-use Rattle.program_meaning.proofs.LocalShapes.{Shape, shapes, Grows, grows_same, local_grows, shapes_narrowed, shapes_settled, shapes_behind}
+use Rattle.program_meaning.proofs.LocalShapes.{Shape, shapes, Grows, grows_same, local_grows, shapes_narrowed, shapes_settled, shapes_behind, grows_on, shapes_at_head}
 use Rattle.program_meaning.proofs.FlowParts.{no_need, stored_ok, value_ok, items_ok, range_ok, short_range_ok, return_ok, message_ok, local_ok, augments_ok}
-use Rattle.program_meaning.proofs.FlowGrows.{while_parts, ForParts, for_parts, all_parts, last_parts, arm_parts, Follows, follows_all, follows_arms}
+use Rattle.program_meaning.proofs.FlowGrows.{while_parts, ForParts, for_parts, all_parts, last_parts, arm_parts, Follows, follows_all, follows_arms, try_parts, clause_parts, follows_clauses}
 use Rattle.flat_tree.specs.declared.tree.Callee.{Callee}
 use Rattle.flat_tree.specs.declared.tree.Created.{Created}
 use Rattle.flat_tree.specs.PlainFlat.{PlainFlatStmt, FMark, FGive, FFail, flat_stmts_of}
-use Rattle.method_splitter.specs.Callees.{Each, EachInAll, EachInArms, EachInTest}
+use Rattle.method_splitter.specs.Callees.{Each, EachInAll, EachInArms, EachInTest, EachInClauses}
 use Rattle.hoisting.specs.Stages.{Stage, where_shown, ty_at, found_ty, with_temporary, item_ty, locals_of, locals_behind}
 use Rattle.hoisting.specs.HoistExpressions.{Hoisted, still, built, settled, lasts, forms}
-use Rattle.hoisting.specs.HoistStatements.{Flattened, stays, code_if, followed, stored, read_of, target_ty, marked, value_or_nil, body_stage, optional, combination, range_start, range_end, opened, flat_all, flat_arms, other_stage}
+use Rattle.hoisting.specs.HoistStatements.{Flattened, stays, code_if, followed, stored, read_of, target_ty, marked, value_or_nil, body_stage, optional, combination, range_start, range_end, opened, flat_all, flat_arms, other_stage, flat_clauses}
 use Rattle.typed_hoisting.specs.KnownLocals.{seen}
 use Rattle.typed_hoisting.proofs.LocalLaws.{kept_on}
 use Rattle.typed_methods.proofs.KeptParts.{in_loop_if}
@@ -299,6 +299,41 @@ module _ (P : Callee → Type 0) (Q : Created → Type 0) (c : Context) (leaves 
       let m = named_other b n.before_other n.last g n.other_is n.early_last n.ahead_other in
       (tt, ((n.each, m), tt))
 
+  -- clauses, where what is known at their start is what a `try` leaves of what is known before it
+  abbrev NamedClauses : PlainClauses → Type 0
+  NamedClauses clauses =
+      (b : Bool) (head : List PlainLocal) (w next : Way) (ended : Option (List Known)) (locals : List PlainLocal) (n : ℕ) → flow_clauses (at_loop b) w (known_at head) ended clauses ≡ Ok next → E next.locals
+      → Grows head w.locals → A head locals → EachInClauses P Q (flat_clauses leaves c locals clauses n).code
+
+  no_clause_named : NamedClauses PNoClause
+  unfolding opened Each
+  no_clause_named b head w next ended locals n is early g a = tt
+
+  more_clauses_named : (kinds : List ℕ) (body : PlainStmts) (more : PlainClauses) → NamedAll body → NamedClauses more → NamedClauses (PMoreClauses (PClause kinds body) more)
+  unfolding opened Each
+  more_clauses_named kinds body more inside others b head w next ended locals n is early g a =
+      let p = clause_parts (at_loop b) w next (known_at head) ended kinds body more is in
+      let start : List PlainLocal = settled_at w.locals (known_at head) in
+      let met : Option (List Known) = meet ended (way (all_go_on body) p.end.locals) in
+      let early_end : E p.end.locals = early_before all p.end.locals next.locals (follows_clauses more (at_loop b) p.end (known_at head) met next p.rest).grows early in
+      let to_start : Grows head start = grows_same head head w.locals start refl (sym (shapes_settled w.locals (known_at head))) g in
+      let to_end : Grows head p.end.locals = grows_on head start p.end.locals to_start (follows_all body (at_loop b) (on w start) p.end p.inside).grows in
+      let stage : Stage = record { locals = locals; next = n } in
+      let m = inside b (on w start) p.end stage p.inside early_end (ahead_later all head w.locals locals g a) in
+      (m, others b head p.end next met locals (flat_all leaves c body stage).next p.rest early to_end a)
+
+  try_named : (at : Place) (body : PlainStmts) (clauses : PlainClauses) → NamedAll body → NamedClauses clauses → NamedAt (PTry at body clauses)
+  unfolding opened Each
+  try_named at body clauses inside others b w next h is early a =
+      let p = try_parts (at_loop b) w next at body clauses is in
+      let head : List PlainLocal = at_head (assigned_in body) w.locals in
+      let ended : Option (List Known) = way (all_go_on body) p.end.locals in
+      let early_end : E p.end.locals = early_before all p.end.locals next.locals (follows_clauses clauses (at_loop b) p.end (known_at head) ended next p.rest).grows early in
+      let to_end : Grows head p.end.locals = grows_same w.locals head p.end.locals p.end.locals (sym (shapes_at_head (assigned_in body) w.locals)) refl (follows_all body (at_loop b) w p.end p.inside).grows in
+      let m = inside b w p.end h p.inside early_end a in
+      let k = others b head p.end next ended (at_head (assigned_in body) h.locals) (flat_all leaves c body h).next p.rest early to_end (ahead_at_head all (assigned_in body) w.locals h.locals a) in
+      (tt, ((m, k), tt))
+
   -- Loops
 
   while_named : (at : Place) (test : PlainExpr) (body : PlainStmts) → ExprNames limit test → NamedAll body → NamedAt (PWhile at test body)
@@ -397,6 +432,7 @@ module _ (P : Callee → Type 0) (Q : Created → Type 0) (c : Context) (leaves 
     stmt_named (PIf at arms other) names = if_named at arms other (arms_named arms names.0) (all_named other names.1)
     stmt_named (PWhile at test body) names = while_named at test body names.0 (all_named body names.1)
     stmt_named (PFor at name name_at over body) names = for_named at name name_at over body names.1 (all_named body names.2)
+    stmt_named (PTry at body clauses) names = try_named at body clauses (all_named body names.0) (clauses_named clauses names.1)
 
     pub all_named : (xs : PlainStmts) → StmtsNames limit xs → NamedAll xs
     all_named PNoStmt names = no_stmt_named
@@ -405,3 +441,7 @@ module _ (P : Callee → Type 0) (Q : Created → Type 0) (c : Context) (leaves 
     arms_named : (arms : PlainArms) → ArmsNames limit arms → NamedArms arms
     arms_named PNoArm names = no_arm_named
     arms_named (PMoreArms (PArm test body) more) names = more_arms_named test body more names.0.0 (all_named body names.0.1) (arms_named more names.1)
+
+    clauses_named : (clauses : PlainClauses) → ClausesNames limit clauses → NamedClauses clauses
+    clauses_named PNoClause names = no_clause_named
+    clauses_named (PMoreClauses (PClause kinds body) more) names = more_clauses_named kinds body more (all_named body names.0) (clauses_named more names.1)

@@ -13,15 +13,15 @@ use Rattle.py_tree.specs.ExpressionTypes.{function_of, place_of, element_wanted,
 use Rattle.py_tree.specs.Reachability.{goes_on, assigned_in}
 use Rattle.py_tree.specs.Flow.{Context, at_head, target_read, result_at}
 use Rattle.py_tree.specs.PlainExpressions.{PlainExpr, PInt, PBool, PStr, PNil, PVar, PSelf, PAttr, PCall, PApply, PIndex, PList, PNeg, PPos, PNot, PChain, PAnd, POr, PCompare, PIsNone, PCond, PlainExprs, PNoExpr, PExpr, PlainLink, PLink, PlainLinks, PNoLink, PMoreLinks, links_of}
-use Rattle.py_tree.specs.PlainStatements.{PlainOver, PRange, PItems, PlainStmt, PPass, PBreak, PContinue, PDo, PReturn, PRaise, PAssert, PAssign, PAugment, PIf, PWhile, PFor, PlainStmts, PNoStmt, PStmt, PArm, PlainArms, PNoArm, PMoreArms, stmts_of}
+use Rattle.py_tree.specs.PlainStatements.{PlainOver, PRange, PItems, PlainStmt, PPass, PBreak, PContinue, PDo, PReturn, PRaise, PAssert, PAssign, PAugment, PIf, PWhile, PFor, PlainStmts, PNoStmt, PStmt, PArm, PlainArms, PNoArm, PMoreArms, stmts_of, PTry, PClause, PlainClauses, PNoClause, PMoreClauses}
 use Rattle.py_tree.specs.PlainProgram.{PlainProgram}
 use Rattle.py_tree.specs.Acceptance.{method_named}
 use Rattle.call_graph.specs.SuspendingCode.{Leaving, leaving, method_leaves, expr_suspends, exprs_suspend, links_suspend, stmt_suspends}
 use Rattle.flat_tree.specs.PlainFlat.{Point, PlainFlatStmt, FMark, FSet, FGive, FFail, FCode, FBreak, FContinue, FCall, FMake, PlainFlatTest, FAnd, FOr, flat_stmts_of}
-use Rattle.flat_tree.specs.Flatness.{jumps, IsFlat, AreFlat, AreFlatArms, IsFlatTest, AreFlatOperands}
+use Rattle.flat_tree.specs.Flatness.{jumps, IsFlat, AreFlat, AreFlatArms, IsFlatTest, AreFlatOperands, AreFlatClauses}
 use Rattle.hoisting.specs.Stages.{Stage, surely, with_temporary, where_shown, ty_at, item_ty, callee_of, created_of, method_params, locals_behind, point_behind}
 use Rattle.hoisting.specs.HoistExpressions.{Hoisted, Tested, Forms, still, if_suspends, built, in_turn, settled, settled_unless, kept, lasts, by_value, forms_if, made_of, chosen, with_args, call_of, apply_of, by_params, by_function, by_elements, first_wanted, others_wanted, chain, ChainPart, chain_of, so_far, linked_on, begun_anew, either, taken, taken_each, taken_links, taken_operands, forms}
-use Rattle.hoisting.specs.HoistStatements.{Flattened, stays, code_if, followed, stored, read_of, target_ty, value_or_nil, start_or_zero, list_stage, head_locals, body_stage, list_loop, range_loop, optional, combination, range_start, range_end, for_code, opened, flat_all, flat_arms, other_stage, flat}
+use Rattle.hoisting.specs.HoistStatements.{Flattened, stays, code_if, followed, stored, read_of, target_ty, value_or_nil, start_or_zero, list_stage, head_locals, body_stage, list_loop, range_loop, optional, combination, range_start, range_end, for_code, opened, flat_all, flat_arms, other_stage, flat, flat_clauses}
 use Rattle.hoisting.specs.HoistMethods.{FlatMethodsAreFlat, FlatByMarks}
 
 module _ (leaves : Leaving) where
@@ -367,6 +367,7 @@ module _ (leaves : Leaving) where
           let head : Stage = record { locals = at_head (assigned_in body) h.locals; next = h.next } in
           mark_flat _ (more_flat _ [] ((forms_flat test).test head, (all_flat body (where_shown true test head.locals ((forms leaves c test).test head).next)).each) none_flat)
       opened_flat (PFor at name name_at over body) h = for_flat at name over body (point_behind c (PFor at name name_at over body) h.locals) h (λ g. flat_all leaves c body g) (all_flat body)
+      opened_flat (PTry at body clauses) h = mark_flat _ (more_flat _ [] ((all_flat body h).each, clauses_flat (at_head (assigned_in body) h.locals) clauses (flat_all leaves c body h).next) none_flat)
 
       pub all_flat : (xs : PlainStmts) (h : Stage) → AllFlat (flat_all leaves c xs h).code
       all_flat PNoStmt h = none_flat
@@ -376,6 +377,10 @@ module _ (leaves : Leaving) where
       arms_flat : (arms : PlainArms) (h : Stage) → AreFlatArms leaves (flat_arms leaves c arms h).code
       arms_flat PNoArm h = tt
       arms_flat (PMoreArms (PArm test body) more) h = ((forms_flat test).test h, (all_flat body (where_shown true test h.locals ((forms leaves c test).test h).next)).each, arms_flat more _)
+
+      clauses_flat : (locals : List PlainLocal) (clauses : PlainClauses) (next : ℕ) → AreFlatClauses leaves (flat_clauses leaves c locals clauses next).code
+      clauses_flat locals PNoClause next = tt
+      clauses_flat locals (PMoreClauses (PClause kinds body) more) next = ((all_flat body (record { locals = locals; next = next })).each, clauses_flat locals more _)
 
 pub flat_methods_are_flat : FlatMethodsAreFlat
 flat_methods_are_flat leaves own c locals count method = (all_flat leaves c own (stmts_of (body_of method)) (record { locals = locals; next = count })).each

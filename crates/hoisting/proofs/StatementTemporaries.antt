@@ -1,11 +1,12 @@
 -- Numbers of temporaries rise over statements.
+use Rattle.py_tree.specs.FlowEnvironment.{PlainLocal}
 use Rattle.std.proofs.Common.{◌≤◌, ◌+◌, ℕ, arith, Bool, true, false, Option, Some, None, List}
 use Rattle.py_tree.specs.declared.names.Place.{Place}
 use Rattle.py_tree.specs.declared.stmt.Target.{Target}
 use Rattle.py_tree.specs.declared.expr.BinOp.{BinOp}
 use Rattle.py_tree.specs.PlainTypes.{PlainTy, TInt}
 use Rattle.py_tree.specs.PlainExpressions.{PlainExpr}
-use Rattle.py_tree.specs.PlainStatements.{PlainOver, PRange, PItems, PlainStmt, PPass, PBreak, PContinue, PDo, PReturn, PRaise, PAssert, PAssign, PAugment, PIf, PWhile, PFor, PlainStmts, PNoStmt, PStmt, PArm, PlainArms, PNoArm, PMoreArms}
+use Rattle.py_tree.specs.PlainStatements.{PlainOver, PRange, PItems, PlainStmt, PPass, PBreak, PContinue, PDo, PReturn, PRaise, PAssert, PAssign, PAugment, PIf, PWhile, PFor, PlainStmts, PNoStmt, PStmt, PArm, PlainArms, PNoArm, PMoreArms, PTry, PClause, PlainClauses, PNoClause, PMoreClauses}
 use Rattle.py_tree.specs.ExpressionTypes.{right_wanted}
 use Rattle.py_tree.specs.Reachability.{goes_on, assigned_in}
 use Rattle.py_tree.specs.Flow.{Context, at_head, target_read, result_at}
@@ -13,7 +14,7 @@ use Rattle.call_graph.specs.SuspendingCode.{Leaving}
 use Rattle.flat_tree.specs.PlainFlat.{Point, PlainFlatStmt}
 use Rattle.hoisting.specs.Stages.{Stage, ty_at, item_ty, locals_behind, point_behind}
 use Rattle.hoisting.specs.HoistExpressions.{Hoisted, still, settled, lasts, forms}
-use Rattle.hoisting.specs.HoistStatements.{Flattened, stays, code_if, followed, target_ty, start_or_zero, list_stage, body_stage, read_of, optional, combination, range_start, range_end, for_code, opened, flat_all, flat_arms, flat}
+use Rattle.hoisting.specs.HoistStatements.{Flattened, stays, code_if, followed, target_ty, start_or_zero, list_stage, body_stage, read_of, optional, combination, range_start, range_end, for_code, opened, flat_all, flat_arms, flat, flat_clauses}
 use Rattle.hoisting.proofs.Temporaries.{le_itself, le_on, le_one_more, settled_rises, forms_rise}
 
 pub code_if_rises : (b : Bool) (x : PlainStmt) (h : Stage) (f : Flattened (List PlainFlatStmt)) → h.next ≤ f.next → h.next ≤ (code_if b x h f).next
@@ -65,6 +66,7 @@ module _ (leaves : Leaving) (c : Context) where
     opened_rises (PIf at arms other) h = le_on (arms_rise arms h) (all_rise other _)
     opened_rises (PWhile at test body) h = le_on ((forms_rise leaves c test).test (record { locals = at_head (assigned_in body) h.locals; next = h.next })) (all_rise body _)
     opened_rises (PFor at name name_at over body) h = for_rises at name over body (point_behind c (PFor at name name_at over body) h.locals) h (λ g. flat_all leaves c body g) (all_rise body)
+    opened_rises (PTry at body clauses) h = le_on (all_rise body h) (clauses_rise (at_head (assigned_in body) h.locals) clauses _)
 
     pub all_rise : (xs : PlainStmts) (h : Stage) → h.next ≤ (flat_all leaves c xs h).next
     all_rise PNoStmt h = le_itself h.next
@@ -75,6 +77,10 @@ module _ (leaves : Leaving) (c : Context) where
     pub arms_rise : (arms : PlainArms) (h : Stage) → h.next ≤ (flat_arms leaves c arms h).next
     arms_rise PNoArm h = le_itself h.next
     arms_rise (PMoreArms (PArm test body) more) h = le_on (le_on ((forms_rise leaves c test).test h) (all_rise body _)) (arms_rise more _)
+
+    pub clauses_rise : (locals : List PlainLocal) (clauses : PlainClauses) (next : ℕ) → next ≤ (flat_clauses leaves c locals clauses next).next
+    clauses_rise locals PNoClause next = le_itself next
+    clauses_rise locals (PMoreClauses (PClause kinds body) more) next = le_on (all_rise body (record { locals = locals; next = next })) (clauses_rise locals more _)
 
   pub flat_rises : (x : PlainStmt) (h : Stage) → h.next ≤ (flat leaves c x h).next
   flat_rises x h = code_if_rises (stays leaves x) x h (opened leaves c x h) (opened_rises x h)

@@ -1,26 +1,28 @@
 -- Calls out of statements: flat code ends as the statement does, with locals that are related.
+use Rattle.py_tree.specs.FlowEnvironment.{PlainLocal}
+use Rattle.std.specs.List.{list_any}
 use Rattle.std.proofs.Common.{◌≡◌, ◌<◌, ◌≤◌, ◌+◌, ℕ, zero, suc, arith, Bool, true, false, Option, Some, None, Result, Ok, Err, List, [], ◌∷◌, ◌++◌, refl, sym, ap, ◌∙◌, subst, true≢false}
-use Rattle.std.specs.Prelude.{IfSome}
+use Rattle.std.specs.Prelude.{IfSome, nat_eq}
 use Rattle.py_tree.specs.declared.names.Place.{Place}
 use Rattle.py_tree.specs.declared.expr.BinOp.{BinOp}
 use Rattle.py_tree.specs.declared.stmt.Target.{Target}
 use Rattle.py_tree.specs.declared.stmt.Target.TheVariants as target
 use Rattle.py_tree.specs.PlainTypes.{PlainTy, TInt}
-use Rattle.py_tree.specs.Bounded.{ExprNames, StmtNames, StmtsNames, ArmsNames, OverNames, target_name}
+use Rattle.py_tree.specs.Bounded.{ExprNames, StmtNames, StmtsNames, ArmsNames, OverNames, target_name, ClausesNames, ClauseNames}
 use Rattle.py_tree.specs.ExpressionTypes.{right_wanted}
 use Rattle.py_tree.specs.Reachability.{goes_on, breaks, assigned_in}
 use Rattle.py_tree.specs.Flow.{Context, at_head, target_read, result_at}
 use Rattle.py_tree.specs.PlainExpressions.{PlainExpr, PVar, PPos, PLink, PNoLink, PMoreLinks}
-use Rattle.py_tree.specs.PlainStatements.{PlainOver, PRange, PItems, PlainStmt, PPass, PBreak, PContinue, PDo, PReturn, PRaise, PAssert, PAssign, PAugment, PIf, PWhile, PFor, PlainStmts, PNoStmt, PStmt, PArm, PlainArms, PNoArm, PMoreArms}
+use Rattle.py_tree.specs.PlainStatements.{PlainOver, PRange, PItems, PlainStmt, PPass, PBreak, PContinue, PDo, PReturn, PRaise, PAssert, PAssign, PAugment, PIf, PWhile, PFor, PlainStmts, PNoStmt, PStmt, PArm, PlainArms, PNoArm, PMoreArms, PTry, PClause, PlainClauses, PNoClause, PMoreClauses}
 use Rattle.call_graph.specs.SuspendingCode.{Leaving}
 use Rattle.sf_value.specs.declared.Failure.{Failure}
 use Rattle.sf_value.specs.declared.value.Value.{Value}
 use Rattle.sf_value.specs.declared.value.Value.TheVariants as value
 use Rattle.program_meaning.specs.declared.vars.Var.{Var}
-use Rattle.program_meaning.specs.World.{Gives, Got, Fell, ◌>>=◌, told, Ends, Goes, Returns, Breaks, Continues, Fails, with_given, next}
+use Rattle.program_meaning.specs.World.{Gives, Got, Fell, ◌>>=◌, told, Ends, Goes, Returns, Breaks, Continues, Fails, with_given, next, caught}
 use Rattle.program_meaning.specs.Operations.{weighed, int_of, text_of, items_of, combined}
 use Rattle.program_meaning.specs.Evaluation.{Site, eval, linked, entity}
-use Rattle.program_meaning.specs.Execution.{stepping, store, target_value, augmented, value_or_none, message, Items, Numbers, start_of, turns_of, over_turns, while_turns, checked, act, act_all, act_arms}
+use Rattle.program_meaning.specs.Execution.{stepping, store, target_value, augmented, value_or_none, message, Items, Numbers, start_of, turns_of, over_turns, while_turns, checked, act, act_all, act_arms, act_clauses}
 use Rattle.program_meaning.specs.LightValues.{IsLight, GivesLight, CallsGiveLight}
 use Rattle.program_meaning.specs.StepsLeft.{CallsTakeSteps}
 use Rattle.program_meaning.specs.Reached.{IsReached}
@@ -28,17 +30,17 @@ use Rattle.program_meaning.proofs.LightOperations.{LightResult, weighed_light, i
 use Rattle.program_meaning.proofs.LightExpressions.{eval_light}
 use Rattle.program_meaning.proofs.StepsTaken.{acts_take}
 use Rattle.program_meaning.proofs.NotReached.{act_reached}
-use Rattle.flat_tree.specs.PlainFlat.{Point, PlainFlatStmt, FMark, FGive, FFail, FCode, FBreak, FContinue, FIf, FWhile, FNoStmt, FArm, PlainFlatArms, FNoArm, FMoreArms, PlainFlatTest, flat_stmts_of}
-use Rattle.flat_tree.specs.FlatMeaning.{Way, run_stmt, run_stmts, run_arms, decide, run}
+use Rattle.flat_tree.specs.PlainFlat.{Point, PlainFlatStmt, FMark, FGive, FFail, FCode, FBreak, FContinue, FIf, FWhile, FNoStmt, FArm, PlainFlatArms, FNoArm, FMoreArms, PlainFlatTest, flat_stmts_of, FTry, PlainFlatClauses}
+use Rattle.flat_tree.specs.FlatMeaning.{Way, run_stmt, run_stmts, run_arms, decide, run, run_clauses}
 use Rattle.flat_tree.proofs.NamesBelow.{AgreeBelow, agree_with_itself, agree_on, agree_back, agree_within}
 use Rattle.flat_tree.proofs.SameNames.{behind_same}
-use Rattle.flat_tree.proofs.RelatedEnds.{Carries, EndsRelated, both_go, both_return, both_break, both_continue, both_fail, WaysRelated, next_related, closed_related, store_related, act_related}
+use Rattle.flat_tree.proofs.RelatedEnds.{Carries, EndsRelated, both_go, both_return, both_break, both_continue, both_fail, WaysRelated, next_related, closed_related, store_related, act_related, caught_related, either_related}
 use Rattle.flat_tree.proofs.InTurn.{gives_itself, run_in_turn, run_alone, run_last, Leads, leads, Holds, holds, loses, leads_through, holds_then, leads_related, decided_related, loop_related}
 use Rattle.hoisting.specs.Stages.{Stage, surely, where_shown, ty_at, item_ty, locals_behind, point_behind}
 use Rattle.hoisting.specs.HoistExpressions.{Hoisted, Tested, still, built, settled, settled_unless, lasts, forms}
-use Rattle.hoisting.specs.HoistStatements.{Flattened, stays, code_if, followed, stored, read_of, target_ty, value_or_nil, start_or_zero, list_stage, head_locals, body_stage, list_loop, range_loop, optional, combination, failure_of, range_start, range_end, for_code, opened, flat_all, flat_arms, other_stage, flat}
+use Rattle.hoisting.specs.HoistStatements.{Flattened, stays, code_if, followed, stored, read_of, target_ty, value_or_nil, start_or_zero, list_stage, head_locals, body_stage, list_loop, range_loop, optional, combination, failure_of, range_start, range_end, for_code, opened, flat_all, flat_arms, other_stage, flat, flat_clauses}
 use Rattle.hoisting.proofs.Temporaries.{le_itself, le_on, settled_rises, forms_rise}
-use Rattle.hoisting.proofs.StatementTemporaries.{flat_rises, all_rise, arms_rise}
+use Rattle.hoisting.proofs.StatementTemporaries.{flat_rises, all_rise, arms_rise, clauses_rise}
 use Rattle.hoisting.proofs.PartsMean.{means_there, means_at_once, settled_means}
 use Rattle.hoisting.proofs.Expressions.{expression_means}
 use Rattle.hoisting.proofs.Loops.{local_read}
@@ -370,6 +372,18 @@ module _ {W : Type 0} (s : Site W) (leaves : Leaving) (c : Context) (calls : Cal
         (act_reached s (PWhile at test body) vs w (suc n))))
     opened_means (PFor at name name_at over body) named h le R carries us vs w n r =
         for_related at name over body (surely (locals_behind c (PFor at name name_at over body) h.locals)) h (λ g. flat_all leaves c body g) carries named.0 named.1 le (λ g far R carries. all_mean body named.2 g far R carries) us vs w n r
+    opened_means (PTry at body clauses) named h le R carries us vs w n r =
+        let head : List PlainLocal = at_head (assigned_in body) h.locals in
+        let f : Flattened (List PlainFlatStmt) = flat_all leaves c body h in
+        let g : Flattened PlainFlatClauses = flat_clauses leaves c head clauses f.next in
+        let up : h.next ≤ f.next = all_rise leaves c body h in
+        let whole : PlainFlatStmt = FTry (surely h.locals) (flat_stmts_of f.code) g.code (point_behind c (PTry at body clauses) h.locals) in
+        mark_related s carries (whole ∷ []) _ us vs w n r (λ n.
+        subst (λ q. EndsRelated R q (caught (λ x vars w n. act_clauses s clauses x vars w n) (act_all s body vs w n))) (sym (run_alone s whole us w n))
+        (closed_related (goes_on (PTry at body clauses)) (breaks (PTry at body clauses)) (surely (locals_behind c (PTry at body clauses) h.locals)) _ _
+        (caught_related (run s f.code us w n) (act_all s body vs w n) _ _ (all_mean body named.0 h le R carries us vs w n r)
+        (clauses_mean clauses named.1 head f.next (further le up) R (carries_further up carries)))
+        (act_reached s (PTry at body clauses) vs w (suc n))))
 
     pub all_mean : (xs : PlainStmts) → StmtsNames limit xs → (h : Stage) → limit ≤ h.next → (R : List Var → List Var → Type 0) → Carries limit h.next R → WaysRelated R (run s (flat_all leaves c xs h).code) (act_all s xs)
     all_mean PNoStmt named h le R carries us vs w n r = nothing_related us vs w n r
@@ -379,6 +393,16 @@ module _ {W : Type 0} (s : Site W) (leaves : Leaving) (c : Context) (calls : Cal
         let up : h.next ≤ f.next = flat_rises leaves c x h in
         followed_related (goes_on x) x xs refl f (λ next. flat_all leaves c xs (behind next)) (code_related (stays leaves x) x h (opened leaves c x h) named.0 carries (opened_means x named.0 h le R carries))
         (all_mean xs named.1 (behind f.next) (further le up) R (carries_further up carries)) us vs w n r
+
+    clauses_mean : (clauses : PlainClauses) → ClausesNames limit clauses → (locals : List PlainLocal) (next : ℕ) → limit ≤ next → (R : List Var → List Var → Type 0) → Carries limit next R
+        → (x : Failure) → WaysRelated R (run_clauses s (flat_clauses leaves c locals clauses next).code x) (act_clauses s clauses x)
+    clauses_mean PNoClause named locals next le R carries x us vs w n r = both_fail r
+    clauses_mean (PMoreClauses (PClause kinds body) more) named locals next le R carries x us vs w n r =
+        let start : Stage = record { locals = locals; next = next } in
+        let f : Flattened (List PlainFlatStmt) = flat_all leaves c body start in
+        let up : next ≤ f.next = all_rise leaves c body start in
+        either_related (list_any (nat_eq x.kind) kinds) _ _ _ _ (all_mean body named.0 start le R carries us vs w n r)
+        (clauses_mean more named.1 locals f.next (further le up) R (carries_further up carries) x us vs w n r)
 
     arms_mean : (arms : PlainArms) → ArmsNames limit arms → (h : Stage) → limit ≤ h.next → (R : List Var → List Var → Type 0) → Carries limit h.next R → (f g : Way W) → WaysRelated R f g → WaysRelated R (run_arms s (flat_arms leaves c arms h).code f) (act_arms s arms g)
     arms_mean PNoArm named h le R carries f g rest us vs w n r = rest us vs w n r

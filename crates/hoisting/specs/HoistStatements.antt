@@ -11,13 +11,13 @@ use Rattle.py_tree.specs.declared.expr.Cmp.TheVariants as cmp
 use Rattle.py_tree.specs.ReservedNames.{reserved_number}
 use Rattle.py_tree.specs.PlainTypes.{PlainTy, TInt}
 use Rattle.py_tree.specs.PlainExpressions.{PlainExpr, PInt, PNil, PVar, PSelf, PAttr, PApply, PIndex, PList, PPos, PChain, PCompare, PNoExpr, PExpr, PLink, PNoLink, PMoreLinks}
-use Rattle.py_tree.specs.PlainStatements.{PlainOver, PRange, PItems, PlainStmt, PPass, PBreak, PContinue, PDo, PReturn, PRaise, PAssert, PAssign, PAugment, PIf, PWhile, PFor, PlainStmts, PNoStmt, PStmt, PArm, PlainArms, PNoArm, PMoreArms}
+use Rattle.py_tree.specs.PlainStatements.{PlainOver, PRange, PItems, PlainStmt, PPass, PBreak, PContinue, PDo, PReturn, PRaise, PAssert, PAssign, PAugment, PIf, PWhile, PFor, PlainStmts, PNoStmt, PStmt, PArm, PlainArms, PNoArm, PMoreArms, PTry, PClause, PlainClauses, PNoClause, PMoreClauses}
 use Rattle.py_tree.specs.FlowEnvironment.{PlainLocal}
 use Rattle.py_tree.specs.ExpressionTypes.{field_of, right_wanted}
 use Rattle.py_tree.specs.Reachability.{goes_on, assigned_in}
 use Rattle.py_tree.specs.Flow.{Context, at_head, earlier, result_at, target_read, with_local}
 use Rattle.call_graph.specs.SuspendingCode.{Leaving, stmt_suspends}
-use Rattle.flat_tree.specs.PlainFlat.{Point, PlainFlatStmt, FMark, FSet, FPut, FGive, FFail, FCode, FBreak, FContinue, FIf, FWhile, FNoStmt, FArm, PlainFlatArms, FNoArm, FMoreArms, FLeaf, PlainFlatTest, flat_stmts_of}
+use Rattle.flat_tree.specs.PlainFlat.{Point, PlainFlatStmt, FMark, FSet, FPut, FGive, FFail, FCode, FBreak, FContinue, FIf, FWhile, FNoStmt, FArm, PlainFlatArms, FNoArm, FMoreArms, FLeaf, PlainFlatTest, flat_stmts_of, FTry, FClause, PlainFlatClauses, FNoClause, FMoreClauses}
 use Rattle.flat_tree.specs.Flatness.{jumps}
 use Rattle.hoisting.specs.Stages.{Stage, surely, with_temporary, where_shown, ty_at, locals_behind, point_behind, item_ty}
 use Rattle.hoisting.specs.HoistExpressions.{Hoisted, still, built, in_turn, settled, settled_unless, lasts, forms}
@@ -178,10 +178,22 @@ module _ (leaves : Leaving) (c : Context) where
         let f = flat_all body start in
         record { code = FMark ∷ FWhile (surely head.locals) t.test (surely start.locals) (flat_stmts_of f.code) (point_behind c (PWhile at test body) h.locals) ∷ []; next = f.next }
     opened (PFor at name name_at over body) h = for_code at name over body (point_behind c (PFor at name name_at over body) h.locals) h (λ g. flat_all body g)
+    opened (PTry at body clauses) h =
+        let f = flat_all body h in
+        let g = flat_clauses (at_head (assigned_in body) h.locals) clauses f.next in
+        record { code = FMark ∷ FTry (surely h.locals) (flat_stmts_of f.code) g.code (point_behind c (PTry at body clauses) h.locals) ∷ []; next = g.next }
 
     pub flat_all : PlainStmts → Stage → Flattened (List PlainFlatStmt)
     flat_all PNoStmt h = record { code = []; next = h.next }
     flat_all (PStmt x xs) h = followed (goes_on x) (code_if (stays leaves x) x h (opened x h)) (λ next. flat_all xs (record { locals = locals_behind c x h.locals; next = next }))
+
+    -- each clause begins with what is known before the `try`, but of names that its body assigns
+    pub flat_clauses : List PlainLocal → PlainClauses → ℕ → Flattened PlainFlatClauses
+    flat_clauses locals PNoClause next = record { code = FNoClause; next = next }
+    flat_clauses locals (PMoreClauses (PClause kinds body) more) next =
+        let f = flat_all body (record { locals = locals; next = next }) in
+        let g = flat_clauses locals more f.next in
+        record { code = FMoreClauses (FClause kinds (surely locals) (flat_stmts_of f.code)) g.code; next = g.next }
 
     -- each arm begins where its test is True and those before it were False
     pub flat_arms : PlainArms → Stage → Flattened PlainFlatArms

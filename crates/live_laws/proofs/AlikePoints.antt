@@ -4,19 +4,19 @@ use Rattle.std.proofs.Common.{◌≡◌, inr, ℕ, true, false, not, List, ◌�
 use Rattle.std.specs.Prelude.{◌&&◌, ◌==◌}
 use Rattle.py_tree.specs.declared.names.Place.{Place}
 use Rattle.py_tree.specs.declared.names.PlacedName.{PlacedName}
-use Rattle.py_tree.specs.PlainStatements.{PlainOver, PlainStmt, PPass, PBreak, PContinue, PDo, PReturn, PRaise, PAssert, PAssign, PAugment, PIf, PWhile, PFor, PlainStmts, PNoStmt, PStmt, PArm, PlainArms, PNoArm, PMoreArms}
+use Rattle.py_tree.specs.PlainStatements.{PlainOver, PlainStmt, PPass, PBreak, PContinue, PDo, PReturn, PRaise, PAssert, PAssign, PAugment, PIf, PWhile, PFor, PlainStmts, PNoStmt, PStmt, PArm, PlainArms, PNoArm, PMoreArms, PTry, PClause, PlainClauses, PNoClause, PMoreClauses}
 use Rattle.py_tree.specs.FlowEnvironment.{PlainLocal, shown, narrowed}
 use Rattle.py_tree.specs.Reachability.{goes_on, all_go_on, assigned_in}
 use Rattle.py_tree.specs.Flow.{Context, within_loop, known_at, settled, with_local, at_head, item_of, stored, Way, on, begun, for_head, named_at, flow, flow_all}
-use Rattle.program_meaning.proofs.LocalShapes.{shapes, Grows, grows_same, shapes_narrowed, shapes_settled}
+use Rattle.program_meaning.proofs.LocalShapes.{shapes, Grows, grows_same, shapes_narrowed, shapes_settled, grows_on, shapes_at_head}
 use Rattle.program_meaning.proofs.FlowGrows.{follows_all}
-use Rattle.block_code.specs.GraphFits.{Asked, AtEachPoint, Within, WithinArms}
+use Rattle.block_code.specs.GraphFits.{Asked, AtEachPoint, Within, WithinArms, WithinClauses}
 use Rattle.live_laws.specs.Reads.{over_reads, reads_first, all_read_first}
 use Rattle.live_laws.proofs.AlikeLocals.{Names, Alike, MetAlike, none_met, fewer, alike_left, alike_narrowed, alike_head, If, alike_with}
 use Rattle.live_laws.proofs.AlikeTypes.{or_left}
 use Rattle.live_laws.proofs.Carried.{Found, goes}
 use Rattle.live_laws.proofs.AlikeParts.{item_same, stored_alike}
-use Rattle.live_laws.proofs.AlikeWays.{by_reading, by_always, OfStmt, OfAll, OfArms, of_first, of_body, of_more, of_if, of_turn, of_item, WayAlike, met_same, for_head_alike, named_grows, stmt_alike, all_alike}
+use Rattle.live_laws.proofs.AlikeWays.{by_reading, by_always, OfStmt, OfAll, OfArms, of_first, of_body, of_more, of_if, of_turn, of_item, WayAlike, met_same, for_head_alike, named_grows, stmt_alike, all_alike, OfClauses, of_try_body, of_try_clauses, of_clause_body, of_more_clauses}
 
 -- the second follows from the first, at points where the same is known of these variables
 abbrev pub Turns : Names → Asked → Asked → Type 0
@@ -57,6 +57,18 @@ module _ (C : Names) (P Q : Asked) (turns : Turns C P Q) where
         points_alike body C A (within_loop c) (begun (narrowed (shown true test) (at_head (assigned_in body) w.locals))) (begun (narrowed (shown true test) (at_head (assigned_in body) u.locals)))
         (alike_narrowed (shown true test) (fewer (of_turn C A B at test body) (alike_head (assigned_in body) a))) none_met p
     within_alike (PFor at name name_at over body) A B c w u a met p = for_points at name name_at over body A B c w u a p (λ start start2 b q. points_alike body C A (within_loop c) (begun start) (begun start2) b none_met q)
+    within_alike (PTry at body clauses) A B c w u a met p =
+        let N : Names = OfStmt C A B (PTry at body clauses) in
+        let head : List PlainLocal = at_head (assigned_in body) w.locals in
+        let head2 : List PlainLocal = at_head (assigned_in body) u.locals in
+        let body_alike : Alike (OfAll C A B body) w.locals u.locals = fewer {P = N} (of_try_body C A B at body clauses) a in (
+          points_alike body A B c w u body_alike met p.0,
+          λ end e.
+              let second : Found (WayAlike (If (all_go_on body) A) B) end (flow_all c u body) = goes (all_alike C body A B c w u body_alike met) end e in
+              let head_end : Grows head end.locals = grows_same w.locals head end.locals end.locals (sym (shapes_at_head (assigned_in body) w.locals)) refl (follows_all body c w end e).grows in
+              clauses_points clauses A B (If (all_go_on body) A) c head head2 end second.found head_end (alike_head (assigned_in body) (fewer {P = N} (of_try_clauses C A B at body clauses) a)) second.related.locals second.related.breaks
+              (p.1 second.found second.is),
+        )
     within_alike (PPass at) A B c w u a met p = tt
     within_alike (PBreak at) A B c w u a met p = tt
     within_alike (PContinue at) A B c w u a met p = tt
@@ -87,4 +99,22 @@ module _ (C : Names) (P Q : Asked) (turns : Turns C P Q) where
               let rest : List PlainLocal = settled end.locals (known_at left) in
               arms_points more A B D c (on end rest) (on second.found (settled second.found.locals (known_at left2))) behind behind2 others (alike_left left_alike left_end second.related.locals)
               (met_same end.locals rest (shapes_settled end.locals (known_at left)) second.related.breaks) (p.1 second.found second.is),
+        )
+
+    clauses_points : (clauses : PlainClauses) (A B R : Names) (c : Context) (head head2 : List PlainLocal) (w u : Way) → Grows head w.locals → Alike (OfClauses C A B clauses) head head2 → Alike R w.locals u.locals
+        → MetAlike B (shapes w.locals) w.breaks u.breaks → WithinClauses P c u (known_at head2) clauses → WithinClauses Q c w (known_at head) clauses
+    clauses_points PNoClause A B R c head head2 w u g a here met p = tt
+    clauses_points (PMoreClauses (PClause kinds body) more) A B R c head head2 w u g a here met p =
+        let N : Names = OfClauses C A B (PMoreClauses (PClause kinds body) more) in
+        let start : Way = on w (settled w.locals (known_at head)) in
+        let start2 : Way = on u (settled u.locals (known_at head2)) in
+        let same_start : shapes start.locals ≡ shapes w.locals = shapes_settled w.locals (known_at head) in
+        let start_alike : Alike (OfAll C A B body) start.locals start2.locals = alike_left (fewer {P = N} (of_clause_body C A B kinds body more) a) g here in
+        let start_met : MetAlike B (shapes start.locals) w.breaks u.breaks = met_same w.locals start.locals same_start met in (
+          points_alike body A B c start start2 start_alike start_met p.0,
+          λ end e.
+              let second : Found (WayAlike (If (all_go_on body) A) B) end (flow_all c start2 body) = goes (all_alike C body A B c start start2 start_alike start_met) end e in
+              let from_w : Grows w.locals end.locals = grows_same start.locals w.locals end.locals end.locals same_start refl (follows_all body c start end e).grows in
+              clauses_points more A B (If (all_go_on body) A) c head head2 end second.found (grows_on head w.locals end.locals g from_w) (fewer {P = N} (of_more_clauses C A B kinds body more) a) second.related.locals second.related.breaks
+              (p.1 second.found second.is),
         )

@@ -8,16 +8,16 @@ use Rattle.py_tree.specs.declared.rule.Rule.TheVariants.{LoopWord}
 use Rattle.py_tree.specs.declared.rule.RuleFault.{RuleFault}
 use Rattle.py_tree.specs.PlainTypes.{PlainTy}
 use Rattle.py_tree.specs.PlainExpressions.{PlainExpr}
-use Rattle.py_tree.specs.PlainStatements.{PlainOver, PlainStmt, PPass, PBreak, PContinue, PDo, PReturn, PRaise, PAssert, PAssign, PAugment, PIf, PWhile, PFor, PlainStmts, PNoStmt, PStmt, PArm, PlainArms, PNoArm, PMoreArms}
+use Rattle.py_tree.specs.PlainStatements.{PlainOver, PlainStmt, PPass, PBreak, PContinue, PDo, PReturn, PRaise, PAssert, PAssign, PAugment, PIf, PWhile, PFor, PlainStmts, PNoStmt, PStmt, PArm, PlainArms, PNoArm, PMoreArms, PTry, PClause, PlainClauses, PNoClause, PMoreClauses}
 use Rattle.py_tree.specs.FlowEnvironment.{PlainLocal, shown, narrowed}
 use Rattle.py_tree.specs.ExpressionTypes.{with_found}
-use Rattle.py_tree.specs.Reachability.{is_true, goes_on, all_go_on, an_arm_goes_on, break_in, assigned_in}
-use Rattle.py_tree.specs.Flow.{Context, type_at, condition_at, within_loop, Known, known_at, settled, meet, way, behind_ways, with_local, at_head, item_of, return_fault, message_fault, local_fault, stored, Way, on, begun, broken_off, after_while, after_for, for_head, named_at, flow, flow_all, flow_arms}
+use Rattle.py_tree.specs.Reachability.{is_true, goes_on, all_go_on, an_arm_goes_on, break_in, assigned_in, a_clause_goes_on}
+use Rattle.py_tree.specs.Flow.{Context, type_at, condition_at, within_loop, Known, known_at, settled, meet, way, behind_ways, with_local, at_head, item_of, return_fault, message_fault, local_fault, stored, Way, on, begun, broken_off, after_while, after_for, for_head, named_at, flow, flow_all, flow_arms, flow_clauses}
 use Rattle.program_meaning.proofs.LocalShapes.{shapes, Grows, alike_grows, grows_on, grows_same, shapes_narrowed, shapes_at_head, shapes_settled, shapes_behind, local_grows}
 use Rattle.program_meaning.proofs.TypedParts.{done}
 use Rattle.program_meaning.proofs.FlowParts.{stored_ok}
 use Rattle.program_meaning.proofs.FlowGrows.{follows, follows_all, for_shapes}
-use Rattle.live_laws.specs.Reads.{reads, reads_if_there, over_reads, assigns, spares, all_spare, an_arm_spares, leaves_sparing, break_spares, break_in_arm_spares, reads_first, all_read_first, arms_read_first}
+use Rattle.live_laws.specs.Reads.{reads, reads_if_there, over_reads, assigns, spares, all_spare, an_arm_spares, leaves_sparing, break_spares, break_in_arm_spares, reads_first, all_read_first, arms_read_first, a_clause_spares, break_in_clause_spares, clauses_read_first}
 use Rattle.live_laws.proofs.AlikeLocals.{Names, Alike, MetAlike, none_met, some_met, fewer, alike_known, alike_meet, met_grown, alike_left, alike_narrowed, alike_head, If, alike_way, alike_behind, alike_with}
 use Rattle.live_laws.proofs.AlikeTypes.{or_left, or_right}
 use Rattle.live_laws.proofs.Carried.{Carries, refused, carried, carry, carry_same, carry_none, carry_refuse}
@@ -44,6 +44,9 @@ OfAll C A B ss x = Needed (A x) (B x) (C x) (all_read_first ss x) (all_spare ss 
 -- of D where no test of the arms is True
 abbrev pub OfArms : Names → Names → Names → Names → PlainArms → Names
 OfArms C A B D arms x = Needed (A x) (B x) (C x) (arms_read_first arms x) (an_arm_spares arms x) (break_in_arm_spares arms x) ⊎ D x
+
+abbrev pub OfClauses : Names → Names → Names → PlainClauses → Names
+OfClauses C A B clauses x = Needed (A x) (B x) (C x) (clauses_read_first clauses x) (a_clause_spares clauses x) (break_in_clause_spares clauses x)
 
 pub and_true : (p q : Bool) → p ≡ true → q ≡ true → (p && q) ≡ true
 and_true true q e f = f
@@ -78,6 +81,34 @@ module _ (C : Names) where
   of_more A B D test body arms x (inl (by_break e b)) = inl (by_break (or_right (break_spares body x) (break_in_arm_spares arms x) e) b)
   of_more A B D test body arms x (inl (by_always c)) = inl (by_always c)
   of_more A B D test body arms x (inr d) = inr d
+
+  pub of_try_body : (A B : Names) (at : Place) (body : PlainStmts) (clauses : PlainClauses) (x : ℕ) → OfAll C A B body x → OfStmt C A B (PTry at body clauses) x
+  unfolding reads_first all_read_first spares all_spare
+  of_try_body A B at body clauses x (by_reading r) = by_reading (or_left (all_read_first body x) (clauses_read_first clauses x) r)
+  of_try_body A B at body clauses x (by_behind e a) = by_behind (or_left (all_spare body x) (a_clause_spares clauses x) e) a
+  of_try_body A B at body clauses x (by_break e b) = by_break (or_left (break_spares body x) (break_in_clause_spares clauses x) e) b
+  of_try_body A B at body clauses x (by_always c) = by_always c
+
+  pub of_try_clauses : (A B : Names) (at : Place) (body : PlainStmts) (clauses : PlainClauses) (x : ℕ) → OfClauses C A B clauses x → OfStmt C A B (PTry at body clauses) x
+  unfolding reads_first all_read_first spares all_spare
+  of_try_clauses A B at body clauses x (by_reading r) = by_reading (or_right (all_read_first body x) (clauses_read_first clauses x) r)
+  of_try_clauses A B at body clauses x (by_behind e a) = by_behind (or_right (all_spare body x) (a_clause_spares clauses x) e) a
+  of_try_clauses A B at body clauses x (by_break e b) = by_break (or_right (break_spares body x) (break_in_clause_spares clauses x) e) b
+  of_try_clauses A B at body clauses x (by_always c) = by_always c
+
+  pub of_clause_body : (A B : Names) (kinds : List ℕ) (body : PlainStmts) (more : PlainClauses) (x : ℕ) → OfAll C A B body x → OfClauses C A B (PMoreClauses (PClause kinds body) more) x
+  unfolding reads_first all_read_first spares all_spare
+  of_clause_body A B kinds body more x (by_reading r) = by_reading (or_left (all_read_first body x) (clauses_read_first more x) r)
+  of_clause_body A B kinds body more x (by_behind e a) = by_behind (or_left (all_spare body x) (a_clause_spares more x) e) a
+  of_clause_body A B kinds body more x (by_break e b) = by_break (or_left (break_spares body x) (break_in_clause_spares more x) e) b
+  of_clause_body A B kinds body more x (by_always c) = by_always c
+
+  pub of_more_clauses : (A B : Names) (kinds : List ℕ) (body : PlainStmts) (more : PlainClauses) (x : ℕ) → OfClauses C A B more x → OfClauses C A B (PMoreClauses (PClause kinds body) more) x
+  unfolding reads_first all_read_first spares all_spare
+  of_more_clauses A B kinds body more x (by_reading r) = by_reading (or_right (all_read_first body x) (clauses_read_first more x) r)
+  of_more_clauses A B kinds body more x (by_behind e a) = by_behind (or_right (all_spare body x) (a_clause_spares more x) e) a
+  of_more_clauses A B kinds body more x (by_break e b) = by_break (or_right (break_spares body x) (break_in_clause_spares more x) e) b
+  of_more_clauses A B kinds body more x (by_always c) = by_always c
 
   pub of_if : (A B : Names) (at : Place) (arms : PlainArms) (other : PlainStmts) (x : ℕ) → OfArms C A B (OfAll C A B other) arms x → OfStmt C A B (PIf at arms other) x
   unfolding reads_first spares
@@ -189,6 +220,10 @@ module _ (C : Names) where
   go_if p q more refused = refused
   go_if p q more (carried a) = carried (record { locals = fewer (λ x k. (more k.0, k.1)) a.locals; breaks = a.breaks })
 
+  first_grouped : (r p q : Bool) → (r || (p || q)) ≡ true → ((r || p) || q) ≡ true
+  first_grouped true p q h = refl
+  first_grouped false p q h = h
+
   regrouped : (r p q g : Bool) → (r || ((p || q) || g)) ≡ true → ((r || p) || (q || g)) ≡ true
   regrouped true p q g h = refl
   regrouped false true q g h = refl
@@ -225,12 +260,41 @@ module _ (C : Names) where
         (fewer (of_if C A B at arms other) a) met none_met false (λ h. h)
     stmt_alike (PWhile at test body) A B c w u a met = while_alike A B at test body c w u a met (λ start start2 b. all_alike body C A (within_loop c) (begun start) (begun start2) b none_met)
     stmt_alike (PFor at name name_at over body) A B c w u a met = for_alike A B at name name_at over body c w u a met (λ start start2 b. all_alike body C A (within_loop c) (begun start) (begun start2) b none_met)
+    stmt_alike (PTry at body clauses) A B c w u a met =
+        let N : Names = OfStmt C A B (PTry at body clauses) in
+        let head : List PlainLocal = at_head (assigned_in body) w.locals in
+        let head2 : List PlainLocal = at_head (assigned_in body) u.locals in
+        let head_alike : Alike (OfClauses C A B clauses) head head2 = alike_head (assigned_in body) (fewer {P = N} (of_try_clauses A B at body clauses) a) in
+        carry (WayAlike (If (all_go_on body) A) B) (WayAlike (If (all_go_on body || a_clause_goes_on clauses) A) B) _ _ (all_alike body A B c w u (fewer {P = N} (of_try_body A B at body clauses) a) met) (λ b d e f b_alike.
+        let head_end : Grows head b.locals = grows_same w.locals head b.locals b.locals (sym (shapes_at_head (assigned_in body) w.locals)) refl (follows_all body c w b e).grows in
+        clauses_alike clauses A B (If (all_go_on body) A) c head head2 b d (way (all_go_on body) b.locals) (way (all_go_on body) d.locals) head_end head_alike b_alike.locals b_alike.breaks
+        (alike_way (all_go_on body) b_alike.locals) (all_go_on body) (λ h. ap (λ g. is_some (way g b.locals)) h))
 
     pub all_alike : (ss : PlainStmts) (A B : Names) (c : Context) (w u : Way) → Alike (OfAll C A B ss) w.locals u.locals → MetAlike B (shapes w.locals) w.breaks u.breaks → Carries (WayAlike (If (all_go_on ss) A) B) (flow_all c w ss) (flow_all c u ss)
     all_alike PNoStmt A B c w u a met = carried (record { locals = fewer (λ x p. by_behind refl p.1) a; breaks = met })
     all_alike (PStmt s ss) A B c w u a met =
         carry (WayAlike (If (goes_on s) (OfAll C A B ss)) B) (WayAlike (If (goes_on s && all_go_on ss) A) B) _ _ (stmt_alike s (OfAll C A B ss) B c w u (fewer (of_first C A B s ss) a) met)
         (λ mid mid2 e f mid_alike. rest_alike A B (OfAll C A B ss) (goes_on s) ss c mid mid2 mid_alike (λ b. all_alike ss A B c mid mid2 b mid_alike.breaks))
+
+    pub clauses_alike : (clauses : PlainClauses) (A B Q : Names) (c : Context) (head head2 : List PlainLocal) (w u : Way) (ended ended2 : Option (List Known)) → Grows head w.locals → Alike (OfClauses C A B clauses) head head2
+        → Alike Q w.locals u.locals → MetAlike B (shapes w.locals) w.breaks u.breaks → MetAlike A (shapes w.locals) ended ended2 → (reached : Bool) → (reached ≡ true → is_some ended ≡ true)
+        → Carries (WayAlike (If (reached || a_clause_goes_on clauses) A) B) (flow_clauses c w (known_at head) ended clauses) (flow_clauses c u (known_at head2) ended2 clauses)
+    clauses_alike PNoClause A B Q c head head2 w u ended ended2 g a here met ended_alike reached some =
+        on_alike w u (behind_ways w.locals ended) (behind_ways u.locals ended2) (alike_grows w.locals (behind_ways w.locals ended) (shapes_behind w.locals ended)) met
+        (alike_behind (reached || false) here ended_alike (λ h. in_either reached false (is_some ended ≡ true) h some never))
+    clauses_alike (PMoreClauses (PClause kinds body) more) A B Q c head head2 w u ended ended2 g a here met ended_alike reached some =
+        let N : Names = OfClauses C A B (PMoreClauses (PClause kinds body) more) in
+        let start : Way = on w (settled w.locals (known_at head)) in
+        let start2 : Way = on u (settled u.locals (known_at head2)) in
+        let same_start : shapes start.locals ≡ shapes w.locals = shapes_settled w.locals (known_at head) in
+        carry (WayAlike (If (all_go_on body) A) B) (WayAlike (If (reached || (all_go_on body || a_clause_goes_on more)) A) B) _ _
+        (all_alike body A B c start start2 (alike_left (fewer {P = N} (of_clause_body A B kinds body more) a) g here) (met_same w.locals start.locals same_start met)) (λ k k2 e f k_alike.
+        let from_w : Grows w.locals k.locals = grows_same start.locals w.locals k.locals k.locals same_start refl (follows_all body c start k e).grows in
+        let o : Option (List Known) = meet ended (way (all_go_on body) k.locals) in
+        go_if (reached || (all_go_on body || a_clause_goes_on more)) ((reached || all_go_on body) || a_clause_goes_on more) (first_grouped reached (all_go_on body) (a_clause_goes_on more))
+        (clauses_alike more A B (If (all_go_on body) A) c head head2 k k2 o (meet ended2 (way (all_go_on body) k2.locals)) (grows_on head w.locals k.locals g from_w) (fewer {P = N} (of_more_clauses A B kinds body more) a)
+        k_alike.locals k_alike.breaks (alike_meet (met_grown from_w ended_alike) (alike_way (all_go_on body) k_alike.locals)) (reached || all_go_on body)
+        (λ h. in_either reached (all_go_on body) (is_some o ≡ true) h (λ r. some_left ended (way (all_go_on body) k.locals) (some r)) (λ q. some_right ended (way (all_go_on body) k.locals) (ap (λ b. is_some (way b k.locals)) q)))))
 
     arms_alike : (arms : PlainArms) (A B D : Names) (c : Context) (w u : Way) (ended ended2 : Option (List Known)) (go : Bool) (other : Way → Result Way RuleFault)
         → ((w u : Way) → Alike D w.locals u.locals → MetAlike B (shapes w.locals) w.breaks u.breaks → Carries (WayAlike (If go A) B) (other w) (other u)) → ((w last : Way) → other w ≡ Ok last → Grows w.locals last.locals)

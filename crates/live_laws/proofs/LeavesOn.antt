@@ -4,10 +4,10 @@ use Rattle.std.specs.Prelude.{◌||◌, ◌&&◌, is_some}
 use Rattle.py_tree.specs.declared.names.PlacedName.{PlacedName}
 use Rattle.py_tree.specs.declared.rule.Rule.TheVariants.{LoopWord}
 use Rattle.py_tree.specs.declared.rule.RuleFault.{RuleFault}
-use Rattle.py_tree.specs.PlainStatements.{PlainStmt, PPass, PBreak, PContinue, PDo, PReturn, PRaise, PAssert, PAssign, PAugment, PIf, PWhile, PFor, PlainStmts, PNoStmt, PStmt, PArm, PlainArms, PNoArm, PMoreArms}
+use Rattle.py_tree.specs.PlainStatements.{PlainStmt, PPass, PBreak, PContinue, PDo, PReturn, PRaise, PAssert, PAssign, PAugment, PIf, PWhile, PFor, PlainStmts, PNoStmt, PStmt, PArm, PlainArms, PNoArm, PMoreArms, PTry, PClause, PlainClauses, PNoClause, PMoreClauses}
 use Rattle.py_tree.specs.FlowEnvironment.{PlainLocal, shown, narrowed}
-use Rattle.py_tree.specs.Reachability.{goes_on, all_go_on, breaks, break_in, break_in_arm, assigned_in}
-use Rattle.py_tree.specs.Flow.{Context, type_at, condition_at, within_loop, Known, known_at, settled, meet, way, behind_ways, with_local, at_head, item_of, return_fault, message_fault, local_fault, stored, assigned, augmentation, Way, on, begun, broken_off, after_while, after_for, for_head, named_at, flow, flow_all, flow_arms}
+use Rattle.py_tree.specs.Reachability.{goes_on, all_go_on, breaks, break_in, break_in_arm, assigned_in, break_in_clause}
+use Rattle.py_tree.specs.Flow.{Context, type_at, condition_at, within_loop, Known, known_at, settled, meet, way, behind_ways, with_local, at_head, item_of, return_fault, message_fault, local_fault, stored, assigned, augmentation, Way, on, begun, broken_off, after_while, after_for, for_head, named_at, flow, flow_all, flow_arms, flow_clauses}
 use Rattle.program_meaning.proofs.LocalShapes.{shapes, Grows, alike_grows, shapes_narrowed, shapes_settled, shapes_behind}
 use Rattle.program_meaning.proofs.FlowGrows.{follows}
 use Rattle.live_laws.proofs.Said.{Says, said, hears, by_found, say, say_any, say_none, say_refuse}
@@ -99,6 +99,11 @@ mutual
       by_found (flow c w (PFor at name name_at over body)) (λ next h. kept_on (PFor at name name_at over body) c w next h
       (say_any (SameBreaks w) (item_of c w.locals over) _ (λ item is. say_none (SameBreaks w) (local_fault c.tables w.locals x) _ (λ none. say_any (SameBreaks w) (stored w.locals x item) _ (λ named e.
       say_any (SameBreaks w) (flow_all (within_loop c) (begun (with_local name item item (head named))) body) (λ b. Ok (on w (after_for (head named) b))) (λ b f. said refl))))))
+  leaves_stmt (PTry at body clauses) c w =
+      let start : List Known = known_at (at_head (assigned_in body) w.locals) in
+      say (LeavesOn (break_in body || break_in_clause clauses) w) _ (leaves_all body c w) (λ b is l.
+      by_found (flow_clauses c b start (way (all_go_on body) b.locals) clauses) (λ next h.
+      then_leaves (break_in body) (break_in_clause clauses) w b next l (hears (leaves_clauses clauses c b start (way (all_go_on body) b.locals)) next h)))
   leaves_stmt (PIf at arms other) c w = leaves_arms arms c w None (all_go_on other) (λ last. flow_all c last other) (break_in other) (λ w. leaves_all other c w)
 
   pub leaves_all : (xs : PlainStmts) (c : Context) (w : Way) → Says (LeavesOn (break_in xs) w) (flow_all c w xs)
@@ -108,6 +113,17 @@ mutual
       by : (go : Bool) (mid : Way) → LeavesOn (breaks x) w mid → Says (LeavesOn (break_in xs) mid) (flow_all c mid xs) → Says (LeavesOn (breaks x || (go && break_in xs)) w) (cond go (flow_all c mid xs) (Ok mid))
       by true mid first rest = by_found (flow_all c mid xs) (λ next h. then_leaves (breaks x) (break_in xs) w mid next first (hears rest next h))
       by false mid first rest = said (then_leaves (breaks x) false w mid mid first (stays_left mid))
+
+  pub leaves_clauses : (clauses : PlainClauses) (c : Context) (w : Way) (start : List Known) (ended : Option (List Known)) → Says (LeavesOn (break_in_clause clauses) w) (flow_clauses c w start ended clauses)
+  leaves_clauses PNoClause c w start ended = said (on_left w (behind_ways w.locals ended) (alike_grows w.locals (behind_ways w.locals ended) (shapes_behind w.locals ended)))
+  leaves_clauses (PMoreClauses (PClause kinds body) more) c w start ended =
+      let first : List PlainLocal = settled w.locals start in
+      say (LeavesOn (break_in body || break_in_clause more) w) _ (leaves_all body c (on w first)) (λ k is l.
+      let o : Option (List Known) = meet ended (way (all_go_on body) k.locals) in
+      by_found (flow_clauses c k start o more) (λ next h.
+      then_leaves (break_in body) (break_in_clause more) w k next
+      (then_leaves false (break_in body) w (on w first) k (on_left w first (alike_grows w.locals first (shapes_settled w.locals start))) l)
+      (hears (leaves_clauses more c k start o) next h)))
 
   pub leaves_arms : (arms : PlainArms) (c : Context) (w : Way) (ended : Option (List Known)) (go : Bool) (other : Way → Result Way RuleFault) (last_breaks : Bool) → ((w : Way) → Says (LeavesOn last_breaks w) (other w))
       → Says (LeavesOn (break_in_arm arms || last_breaks) w) (flow_arms c w ended arms go other)

@@ -11,20 +11,20 @@ use Rattle.py_tree.specs.declared.stmt.Target.{Target}
 use Rattle.py_tree.specs.declared.stmt.Target.TheVariants.{Local, Field}
 use Rattle.py_tree.specs.PlainTypes.{PlainTy, TInt, TList, TBool, PlainWritten, type_of as type_written}
 use Rattle.py_tree.specs.PlainExpressions.{PlainExpr}
-use Rattle.py_tree.specs.PlainStatements.{PlainOver, PRange, PItems, PlainStmt, PPass, PBreak, PContinue, PDo, PReturn, PRaise, PAssert, PAssign, PAugment, PIf, PWhile, PFor, PlainStmts, PNoStmt, PStmt, PArm, PlainArms, PNoArm, PMoreArms}
+use Rattle.py_tree.specs.PlainStatements.{PlainOver, PRange, PItems, PlainStmt, PPass, PBreak, PContinue, PDo, PReturn, PRaise, PAssert, PAssign, PAugment, PIf, PWhile, PFor, PlainStmts, PNoStmt, PStmt, PArm, PlainArms, PNoArm, PMoreArms, PTry, PClause, PlainClauses, PNoClause, PMoreClauses}
 use Rattle.py_tree.specs.FlowEnvironment.{PlainLocal, shown, narrowed}
 use Rattle.py_tree.specs.ExpressionTypes.{place_of, field_of, with_found}
-use Rattle.py_tree.specs.Reachability.{is_true, goes_on, all_go_on, an_arm_goes_on, breaks, break_in, break_in_arm, assigned_in}
-use Rattle.py_tree.specs.Flow.{Context, type_at, condition_at, value_as, within_loop, Known, known_at, settled, meet, way, behind_ways, with_local, at_head, item_of, return_fault, message_fault, local_fault, stored, assigned, field_assigned, field_declared, is_key_field, target_read, augmentation, combined_stored, result_at, Way, on, begun, broken_off, after_while, after_for, for_head, named_at, flow, flow_all, flow_arms}
-use Rattle.program_meaning.proofs.LocalShapes.{shapes, Grows, alike_grows, grows_same, grows_on, shapes_narrowed, shapes_settled, shapes_behind, local_grows}
+use Rattle.py_tree.specs.Reachability.{is_true, goes_on, all_go_on, an_arm_goes_on, breaks, break_in, break_in_arm, assigned_in, a_clause_goes_on, break_in_clause}
+use Rattle.py_tree.specs.Flow.{Context, type_at, condition_at, value_as, within_loop, Known, known_at, settled, meet, way, behind_ways, with_local, at_head, item_of, return_fault, message_fault, local_fault, stored, assigned, field_assigned, field_declared, is_key_field, target_read, augmentation, combined_stored, result_at, Way, on, begun, broken_off, after_while, after_for, for_head, named_at, flow, flow_all, flow_arms, flow_clauses}
+use Rattle.program_meaning.proofs.LocalShapes.{shapes, Grows, alike_grows, grows_same, grows_on, shapes_narrowed, shapes_settled, shapes_behind, local_grows, shapes_at_head}
 use Rattle.program_meaning.proofs.TypedParts.{condition_ok}
 use Rattle.program_meaning.proofs.FlowParts.{value_ok, local_ok, LocalTaken, items_ok, short_range_ok, range_ok, return_ok, message_ok, Augments, augments_ok, put_local_ok, put_field_ok}
 use Rattle.program_meaning.proofs.FlowGrows.{follows_all}
-use Rattle.live_laws.specs.Reads.{reads, reads_if_there, over_reads, assigns, spares, all_spare, an_arm_spares, leaves_sparing, break_spares, break_in_arm_spares, reads_first, all_read_first, arms_read_first}
+use Rattle.live_laws.specs.Reads.{reads, reads_if_there, over_reads, assigns, spares, all_spare, an_arm_spares, leaves_sparing, break_spares, break_in_arm_spares, reads_first, all_read_first, arms_read_first, a_clause_spares, break_in_clause_spares, clauses_read_first}
 use Rattle.live_laws.proofs.AlikeTypes.{or_left, or_right}
 use Rattle.live_laws.proofs.AlikeWays.{and_true, named_grows}
 use Rattle.live_laws.proofs.Said.{Says, said, hears, by_found, says_more, say, say_any, say_none, say_refuse, say_needs}
-use Rattle.live_laws.proofs.LeavesOn.{LeftUnset, LeavesOn, on_left, in_either, never, leaves_all, leaves_arms}
+use Rattle.live_laws.proofs.LeavesOn.{LeftUnset, LeavesOn, on_left, in_either, never, leaves_all, leaves_arms, leaves_clauses}
 use Rattle.live_laws.proofs.Unset.{Unset, MetUnset, met, unset_narrowed, unset_head, unset_known, unset_behind, unset_way, met_later, met_left, met_right, unset_with}
 use Rattle.live_laws.proofs.UnsetTypes.{neither, type_denied}
 
@@ -63,6 +63,15 @@ module _ (v : ℕ) where
     spared_goes (PRaise at kind message) h = h
     spared_goes (PIf at arms other) h = either_more (an_arm_spares arms v) (all_spare other v) (an_arm_goes_on arms) (all_go_on other) (spared_arms_go arms) (spared_all_go other) h
     spared_goes (PWhile at test body) h = either_more (not (is_true test)) (break_spares body v) (not (is_true test)) (break_in body) (λ k. k) (spared_break body) h
+    spared_goes (PTry at body clauses) h = either_more (all_spare body v) (a_clause_spares clauses v) (all_go_on body) (a_clause_goes_on clauses) (spared_all_go body) (spared_clauses_go clauses) h
+
+    spared_clauses_go : (clauses : PlainClauses) → a_clause_spares clauses v ≡ true → a_clause_goes_on clauses ≡ true
+    spared_clauses_go PNoClause h = h
+    spared_clauses_go (PMoreClauses (PClause kinds body) more) h = either_more (all_spare body v) (a_clause_spares more v) (all_go_on body) (a_clause_goes_on more) (spared_all_go body) (spared_clauses_go more) h
+
+    spared_clause_breaks : (clauses : PlainClauses) → break_in_clause_spares clauses v ≡ true → break_in_clause clauses ≡ true
+    spared_clause_breaks PNoClause h = h
+    spared_clause_breaks (PMoreClauses (PClause kinds body) more) h = either_more (break_spares body v) (break_in_clause_spares more v) (break_in body) (break_in_clause more) (spared_break body) (spared_clause_breaks more) h
 
     pub spared_all_go : (ss : PlainStmts) → all_spare ss v ≡ true → all_go_on ss ≡ true
     spared_all_go PNoStmt h = refl
@@ -89,6 +98,7 @@ module _ (v : ℕ) where
     spared_leaves (PReturn at e) h = h
     spared_leaves (PRaise at kind message) h = h
     spared_leaves (PIf at arms other) h = either_more (break_in_arm_spares arms v) (break_spares other v) (break_in_arm arms) (break_in other) (spared_arm_breaks arms) (spared_break other) h
+    spared_leaves (PTry at body clauses) h = either_more (break_spares body v) (break_in_clause_spares clauses v) (break_in body) (break_in_clause clauses) (spared_break body) (spared_clause_breaks clauses) h
 
     spared_arm_breaks : (arms : PlainArms) → break_in_arm_spares arms v ≡ true → break_in_arm arms ≡ true
     spared_arm_breaks PNoArm h = h
@@ -154,6 +164,12 @@ record ArmsClear (v : ℕ) (arms : PlainArms) (reads spares leaves : Bool) (w : 
   last : reads ≡ false
   behind : (an_arm_spares arms v ≡ true) ⊎ ((spares ≡ true) ⊎ MetUnset v (shapes w.locals) ended) → Unset v next.locals
   out : (break_in_arm_spares arms v || leaves) ≡ true → LeftUnset v next
+
+-- behind clauses, where some way may have ended before
+record ClausesClear (v : ℕ) (clauses : PlainClauses) (w : Way) (ended : Option (List Known)) (next : Way) : Type 0 where
+  read : clauses_read_first clauses v ≡ false
+  behind : (a_clause_spares clauses v ≡ true) ⊎ MetUnset v (shapes w.locals) ended → Unset v next.locals
+  out : break_in_clause_spares clauses v ≡ true → LeftUnset v next
 
 module _ (v : ℕ) where
   here_clear : (r s : Bool) (w : Way) → r ≡ false → Unset v w.locals → Clear v r s false w
@@ -258,6 +274,10 @@ module _ (v : ℕ) where
   in_three true q r R h f g = f refl
   in_three false q r R h f g = g h
 
+  by_clause : (p q : Bool) (R : Type 0) {E : Type 0} → (p ≡ true → R) → (q ≡ true → R) → (E → R) → ((p || q) ≡ true) ⊎ E → R
+  by_clause p q R f g k (inl h) = in_either p q R h f g
+  by_clause p q R f g k (inr e) = k e
+
   mutual
     unfolding flow reads_first spares
 
@@ -283,6 +303,20 @@ module _ (v : ℕ) where
         (spared_all_go v other) u)
     stmt_clear (PWhile at test body) c w u = while_clear at test body c w u (λ start start_unset. all_clear body (within_loop c) (begun start) start_unset)
     stmt_clear (PFor at name name_at over body) c w u = for_clear at name name_at over body c w u (λ start start_unset. all_clear body (within_loop c) (begun start) start_unset)
+    stmt_clear (PTry at body clauses) c w u =
+        let head : List PlainLocal = at_head (assigned_in body) w.locals in
+        let S : Way → Type 0 = Clear v (all_read_first body v || clauses_read_first clauses v) (all_spare body v || a_clause_spares clauses v) (break_spares body v || break_in_clause_spares clauses v) in
+        say S _ (all_clear body c w u) (λ k e b.
+        let o : Option (List Known) = way (all_go_on body) k.locals in
+        let head_end : Grows head k.locals = grows_same w.locals head k.locals k.locals (sym (shapes_at_head (assigned_in body) w.locals)) refl (follows_all body c w k e).grows in
+        by_found (flow_clauses c k (known_at head) o clauses) (λ next h.
+        let m : ClausesClear v clauses k o next = hears (clauses_clear clauses c head k o head_end (unset_head v (assigned_in body) u)) next h in
+        let out_rest : LeftUnset v k → LeftUnset v next = λ l. (hears (leaves_clauses clauses c k (known_at head) o) next h).unset v l in
+        record {
+          read = neither (all_read_first body v) (clauses_read_first clauses v) b.read m.read;
+          behind = λ q. in_either (all_spare body v) (a_clause_spares clauses v) (Unset v next.locals) q (λ r. m.behind (inr (unset_way v (b.behind r) (all_go_on body) (spared_all_go v body r)))) (λ r. m.behind (inl r));
+          out = λ q. in_either (break_spares body v) (break_in_clause_spares clauses v) (LeftUnset v next) q (λ r. out_rest (b.out r)) m.out;
+        }))
 
     pub all_clear : (ss : PlainStmts) (c : Context) (w : Way) → Unset v w.locals → Says (Clear v (all_read_first ss v) (all_spare ss v) (break_spares ss v)) (flow_all c w ss)
     all_clear PNoStmt c w u = said (here_clear false true w refl u)
@@ -317,3 +351,26 @@ module _ (v : ℕ) where
               (λ k. ends (met_left v (met_later v from_w k) (way (all_go_on body) arm.locals)));
           out = λ k. in_three (break_spares body v) (break_in_arm_spares more v) last_leaves (LeftUnset v next) k (λ q. out_rest (b.out q)) m.out;
         })))
+
+    clauses_clear : (clauses : PlainClauses) (c : Context) (head : List PlainLocal) (w : Way) (ended : Option (List Known)) → Grows head w.locals → Unset v head → Says (ClausesClear v clauses w ended) (flow_clauses c w (known_at head) ended clauses)
+    clauses_clear PNoClause c head w ended g u = said (record { read = refl; behind = by; out = never })
+      where
+        by : (false ≡ true) ⊎ MetUnset v (shapes w.locals) ended → Unset v (behind_ways w.locals ended)
+        by (inl e) = never e
+        by (inr m) = unset_behind v w.locals m
+    clauses_clear (PMoreClauses (PClause kinds body) more) c head w ended g u =
+        let start : List PlainLocal = settled w.locals (known_at head) in
+        let start_unset : Unset v start = unset_behind v w.locals (met_later v g (met (unset_known v u))) in
+        say (ClausesClear v (PMoreClauses (PClause kinds body) more) w ended) _ (all_clear body c (on w start) start_unset) (λ k e b.
+        let from_w : Grows w.locals k.locals = grows_same start w.locals k.locals k.locals (shapes_settled w.locals (known_at head)) refl (follows_all body c (on w start) k e).grows in
+        let o : Option (List Known) = meet ended (way (all_go_on body) k.locals) in
+        by_found (flow_clauses c k (known_at head) o more) (λ next h.
+        let m : ClausesClear v more k o next = hears (clauses_clear more c head k o (grows_on head w.locals k.locals g from_w) u) next h in
+        let out_rest : LeftUnset v k → LeftUnset v next = λ l. (hears (leaves_clauses more c k (known_at head) o) next h).unset v l in
+        record {
+          read = neither (all_read_first body v) (clauses_read_first more v) b.read m.read;
+          behind =
+              by_clause (all_spare body v) (a_clause_spares more v) (Unset v next.locals) (λ q. m.behind (inr (met_right v ended (unset_way v (b.behind q) (all_go_on body) (spared_all_go v body q))))) (λ q. m.behind (inl q))
+              (λ q. m.behind (inr (met_left v (met_later v from_w q) (way (all_go_on body) k.locals))));
+          out = λ q. in_either (break_spares body v) (break_in_clause_spares more v) (LeftUnset v next) q (λ r. out_rest (b.out r)) m.out;
+        }))

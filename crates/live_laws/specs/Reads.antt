@@ -7,7 +7,7 @@ use Rattle.std.specs.declared.option.Option.{Option}
 use Rattle.py_tree.specs.declared.stmt.Target.{Target}
 use Rattle.py_tree.specs.declared.stmt.Target.TheVariants.{Local, Field}
 use Rattle.py_tree.specs.PlainExpressions.{PlainExpr, PInt, PBool, PStr, PNil, PVar, PSelf, PAttr, PCall, PApply, PIndex, PList, PNeg, PPos, PNot, PChain, PAnd, POr, PCompare, PIsNone, PCond, PlainExprs, PNoExpr, PExpr, PLink, PlainLinks, PNoLink, PMoreLinks}
-use Rattle.py_tree.specs.PlainStatements.{PlainOver, PRange, PItems, PlainStmt, PPass, PBreak, PContinue, PDo, PReturn, PRaise, PAssert, PAssign, PAugment, PIf, PWhile, PFor, PlainStmts, PNoStmt, PStmt, PArm, PlainArms, PNoArm, PMoreArms}
+use Rattle.py_tree.specs.PlainStatements.{PlainOver, PRange, PItems, PlainStmt, PPass, PBreak, PContinue, PDo, PReturn, PRaise, PAssert, PAssign, PAugment, PIf, PWhile, PFor, PlainStmts, PNoStmt, PStmt, PArm, PlainArms, PNoArm, PMoreArms, PTry, PClause, PlainClauses, PNoClause, PMoreClauses}
 use Rattle.py_tree.specs.Reachability.{is_true}
 use Rattle.py_tree.specs.Flow.{target_read}
 
@@ -71,6 +71,8 @@ unfoldable mutual
   spares (PIf at arms other) x = an_arm_spares arms x || all_spare other x
   spares (PWhile at test body) x = not (is_true test) || break_spares body x
   spares (PFor at name name_at over body) x = true
+  -- a body may fail before its first statement does anything
+  spares (PTry at body clauses) x = all_spare body x || a_clause_spares clauses x
   spares (PBreak at) x = false
   spares (PContinue at) x = false
   spares (PReturn at e) x = false
@@ -84,10 +86,15 @@ unfoldable mutual
   an_arm_spares PNoArm x = false
   an_arm_spares (PMoreArms (PArm test body) arms) x = all_spare body x || an_arm_spares arms x
 
+  pub a_clause_spares : PlainClauses → ℕ → Bool
+  a_clause_spares PNoClause x = false
+  a_clause_spares (PMoreClauses (PClause kinds body) more) x = all_spare body x || a_clause_spares more x
+
   -- some path comes to a `break` of the loop around the statement, and doesn't assign the variable
   pub leaves_sparing : PlainStmt → ℕ → Bool
   leaves_sparing (PBreak at) x = true
   leaves_sparing (PIf at arms other) x = break_in_arm_spares arms x || break_spares other x
+  leaves_sparing (PTry at body clauses) x = break_spares body x || break_in_clause_spares clauses x
   leaves_sparing (PPass at) x = false
   leaves_sparing (PDo at e) x = false
   leaves_sparing (PAssert at test message) x = false
@@ -107,6 +114,10 @@ unfoldable mutual
   break_in_arm_spares PNoArm x = false
   break_in_arm_spares (PMoreArms (PArm test body) arms) x = break_spares body x || break_in_arm_spares arms x
 
+  pub break_in_clause_spares : PlainClauses → ℕ → Bool
+  break_in_clause_spares PNoClause x = false
+  break_in_clause_spares (PMoreClauses (PClause kinds body) more) x = break_spares body x || break_in_clause_spares more x
+
 unfoldable mutual
   -- some path reads the variable before it assigns it
   pub reads_first : PlainStmt → ℕ → Bool
@@ -122,6 +133,7 @@ unfoldable mutual
   reads_first (PIf at arms other) x = arms_read_first arms x || all_read_first other x
   reads_first (PWhile at test body) x = reads test x || all_read_first body x
   reads_first (PFor at name name_at over body) x = over_reads over x || (not (name == x) && all_read_first body x)
+  reads_first (PTry at body clauses) x = all_read_first body x || clauses_read_first clauses x
 
   pub all_read_first : PlainStmts → ℕ → Bool
   all_read_first PNoStmt x = false
@@ -130,3 +142,7 @@ unfoldable mutual
   pub arms_read_first : PlainArms → ℕ → Bool
   arms_read_first PNoArm x = false
   arms_read_first (PMoreArms (PArm test body) arms) x = reads test x || (all_read_first body x || arms_read_first arms x)
+
+  pub clauses_read_first : PlainClauses → ℕ → Bool
+  clauses_read_first PNoClause x = false
+  clauses_read_first (PMoreClauses (PClause kinds body) more) x = all_read_first body x || clauses_read_first more x

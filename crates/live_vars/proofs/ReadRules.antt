@@ -16,14 +16,15 @@ use Rattle.py_tree.specs.declared.stmt.Target.{Target}
 use Rattle.py_tree.specs.declared.stmt.Over.{Over}
 use Rattle.py_tree.specs.declared.stmt.Stmt.{Stmt}
 use Rattle.py_tree.specs.declared.stmt.Arm.{Arm, out-Arm}
+use Rattle.py_tree.specs.declared.stmt.Clause.{Clause, out-Clause}
 use Rattle.py_tree.specs.declared.stmt.StmtKind as stmt
 use Rattle.py_tree.specs.Flow.{target_read}
 use Rattle.py_tree.specs.Reachability.{is_true}
 use Rattle.py_tree.specs.PlainExpressions.{plain_kind, plain_expr, plain_exprs, exprs_of, plain_links, links_of}
-use Rattle.py_tree.specs.PlainStatements.{plain_option, plain_over, plain_stmt_kind, plain_stmt, plain_stmts, stmts_of, plain_arms, arms_of}
-use Rattle.py_tree.proofs.Views.{plain-Int, plain-Bool, plain-Str, plain-Nil, plain-Var, plain-SelfRef, plain-Attr, plain-Call, plain-Apply, plain-Index, plain-List, plain-Neg, plain-Pos, plain-Not, plain-Chain, plain-And, plain-Or, plain-Compare, plain-IsNone, plain-Cond, stmt-Pass, stmt-Break, stmt-Continue, stmt-Expr, stmt-Return, stmt-Raise, stmt-Assert, stmt-Assign, stmt-Augment, stmt-If, stmt-While, stmt-For}
-use Rattle.py_tree.proofs.ListWalks.{exprs_from, exprs_end, links_from, links_end, stmts_from, stmts_end, arms_from, arms_end}
-use Rattle.live_laws.specs.Reads.{reads, any_read, links_read, reads_if_there, over_reads, assigns, spares, all_spare, an_arm_spares, leaves_sparing, break_spares, break_in_arm_spares, reads_first, all_read_first, arms_read_first}
+use Rattle.py_tree.specs.PlainStatements.{plain_option, plain_over, plain_stmt_kind, plain_stmt, plain_stmts, stmts_of, plain_arms, arms_of, plain_clauses, clauses_of}
+use Rattle.py_tree.proofs.Views.{plain-Int, plain-Bool, plain-Str, plain-Nil, plain-Var, plain-SelfRef, plain-Attr, plain-Call, plain-Apply, plain-Index, plain-List, plain-Neg, plain-Pos, plain-Not, plain-Chain, plain-And, plain-Or, plain-Compare, plain-IsNone, plain-Cond, stmt-Pass, stmt-Break, stmt-Continue, stmt-Expr, stmt-Return, stmt-Raise, stmt-Assert, stmt-Assign, stmt-Augment, stmt-If, stmt-While, stmt-For, stmt-Try, stmt-Try}
+use Rattle.py_tree.proofs.ListWalks.{exprs_from, exprs_end, links_from, links_end, stmts_from, stmts_end, arms_from, arms_end, clauses_from, clauses_end}
+use Rattle.live_laws.specs.Reads.{reads, any_read, links_read, reads_if_there, over_reads, assigns, spares, all_spare, an_arm_spares, leaves_sparing, break_spares, break_in_arm_spares, reads_first, all_read_first, arms_read_first, a_clause_spares, break_in_clause_spares, clauses_read_first}
 
 module _ (v : ℕ) (at : Place) where
   pub reads-Int : (n : ℤ) → reads (plain_kind (expr.Int n) at) v ≡ false
@@ -142,6 +143,10 @@ module _ (v : ℕ) (at : Place) where
   unfolding spares
   spares-Augment target op op_at e = ap (λ k. spares k v) (stmt-Augment at target op op_at e)
 
+  pub spares-Try : (body : List Stmt) (clauses : List Clause) → spares (plain_stmt_kind (stmt.Try body clauses) at) v ≡ (all_spare (stmts_of (plain_stmts body)) v || a_clause_spares (clauses_of (plain_clauses clauses)) v)
+  unfolding spares
+  spares-Try body clauses = ap (λ k. spares k v) (stmt-Try at body clauses)
+
   pub spares-If : (arms : List Arm) (other : List Stmt) → spares (plain_stmt_kind (stmt.If arms other) at) v ≡ (an_arm_spares (arms_of (plain_arms arms)) v || all_spare (stmts_of (plain_stmts other)) v)
   unfolding spares
   spares-If arms other = ap (λ k. spares k v) (stmt-If at arms other)
@@ -189,6 +194,10 @@ module _ (v : ℕ) (at : Place) where
   pub leaves-Augment : (target : Target) (op : BinOp) (op_at : Place) (e : Expr) → leaves_sparing (plain_stmt_kind (stmt.Augment target op op_at e) at) v ≡ false
   unfolding leaves_sparing
   leaves-Augment target op op_at e = ap (λ k. leaves_sparing k v) (stmt-Augment at target op op_at e)
+
+  pub leaves-Try : (body : List Stmt) (clauses : List Clause) → leaves_sparing (plain_stmt_kind (stmt.Try body clauses) at) v ≡ (break_spares (stmts_of (plain_stmts body)) v || break_in_clause_spares (clauses_of (plain_clauses clauses)) v)
+  unfolding leaves_sparing
+  leaves-Try body clauses = ap (λ k. leaves_sparing k v) (stmt-Try at body clauses)
 
   pub leaves-If : (arms : List Arm) (other : List Stmt) → leaves_sparing (plain_stmt_kind (stmt.If arms other) at) v ≡ (break_in_arm_spares (arms_of (plain_arms arms)) v || break_spares (stmts_of (plain_stmts other)) v)
   unfolding leaves_sparing
@@ -238,6 +247,10 @@ module _ (v : ℕ) (at : Place) where
   unfolding reads_first
   first-Augment target op op_at e = ap (λ k. reads_first k v) (stmt-Augment at target op op_at e)
 
+  pub first-Try : (body : List Stmt) (clauses : List Clause) → reads_first (plain_stmt_kind (stmt.Try body clauses) at) v ≡ (all_read_first (stmts_of (plain_stmts body)) v || clauses_read_first (clauses_of (plain_clauses clauses)) v)
+  unfolding reads_first
+  first-Try body clauses = ap (λ k. reads_first k v) (stmt-Try at body clauses)
+
   pub first-If : (arms : List Arm) (other : List Stmt) → reads_first (plain_stmt_kind (stmt.If arms other) at) v ≡ (arms_read_first (arms_of (plain_arms arms)) v || all_read_first (stmts_of (plain_stmts other)) v)
   unfolding reads_first
   first-If arms other = ap (λ k. reads_first k v) (stmt-If at arms other)
@@ -286,6 +299,42 @@ module _ (v : ℕ) where
   pub all_spare_end : (xs : List Stmt) (i : ℕ) → length xs ≤ i → all_spare (stmts_of (plain_stmts (drop i xs))) v ≡ true
   unfolding all_spare
   all_spare_end xs i past = ap (λ ys. all_spare ys v) (stmts_end xs i past)
+
+  pub clause_spares_found : (ks : List Clause) (i : ℕ) (k : Clause) → i < length ks → k ≡ get_or ks i k → all_spare (stmts_of (plain_stmts (out-Clause k).body)) v ≡ true → a_clause_spares (clauses_of (plain_clauses (drop i ks))) v ≡ true
+  unfolding a_clause_spares
+  clause_spares_found ks i k within is h = ap (λ ys. a_clause_spares ys v) (clauses_from ks i k within is) ∙ (λ j. h j || a_clause_spares (clauses_of (plain_clauses (drop (i + 1) ks))) v)
+
+  pub clause_spares_past : (ks : List Clause) (i : ℕ) (k : Clause) → i < length ks → k ≡ get_or ks i k → all_spare (stmts_of (plain_stmts (out-Clause k).body)) v ≡ false → a_clause_spares (clauses_of (plain_clauses (drop i ks))) v ≡ a_clause_spares (clauses_of (plain_clauses (drop (i + 1) ks))) v
+  unfolding a_clause_spares
+  clause_spares_past ks i k within is h = ap (λ ys. a_clause_spares ys v) (clauses_from ks i k within is) ∙ (λ j. h j || a_clause_spares (clauses_of (plain_clauses (drop (i + 1) ks))) v)
+
+  pub clause_spares_end : (ks : List Clause) (i : ℕ) → length ks ≤ i → a_clause_spares (clauses_of (plain_clauses (drop i ks))) v ≡ false
+  unfolding a_clause_spares
+  clause_spares_end ks i past = ap (λ ys. a_clause_spares ys v) (clauses_end ks i past)
+
+  pub clause_break_found : (ks : List Clause) (i : ℕ) (k : Clause) → i < length ks → k ≡ get_or ks i k → break_spares (stmts_of (plain_stmts (out-Clause k).body)) v ≡ true → break_in_clause_spares (clauses_of (plain_clauses (drop i ks))) v ≡ true
+  unfolding break_in_clause_spares
+  clause_break_found ks i k within is h = ap (λ ys. break_in_clause_spares ys v) (clauses_from ks i k within is) ∙ (λ j. h j || break_in_clause_spares (clauses_of (plain_clauses (drop (i + 1) ks))) v)
+
+  pub clause_break_past : (ks : List Clause) (i : ℕ) (k : Clause) → i < length ks → k ≡ get_or ks i k → break_spares (stmts_of (plain_stmts (out-Clause k).body)) v ≡ false → break_in_clause_spares (clauses_of (plain_clauses (drop i ks))) v ≡ break_in_clause_spares (clauses_of (plain_clauses (drop (i + 1) ks))) v
+  unfolding break_in_clause_spares
+  clause_break_past ks i k within is h = ap (λ ys. break_in_clause_spares ys v) (clauses_from ks i k within is) ∙ (λ j. h j || break_in_clause_spares (clauses_of (plain_clauses (drop (i + 1) ks))) v)
+
+  pub clause_break_end : (ks : List Clause) (i : ℕ) → length ks ≤ i → break_in_clause_spares (clauses_of (plain_clauses (drop i ks))) v ≡ false
+  unfolding break_in_clause_spares
+  clause_break_end ks i past = ap (λ ys. break_in_clause_spares ys v) (clauses_end ks i past)
+
+  pub clauses_first_found : (ks : List Clause) (i : ℕ) (k : Clause) → i < length ks → k ≡ get_or ks i k → all_read_first (stmts_of (plain_stmts (out-Clause k).body)) v ≡ true → clauses_read_first (clauses_of (plain_clauses (drop i ks))) v ≡ true
+  unfolding clauses_read_first
+  clauses_first_found ks i k within is h = ap (λ ys. clauses_read_first ys v) (clauses_from ks i k within is) ∙ (λ j. h j || clauses_read_first (clauses_of (plain_clauses (drop (i + 1) ks))) v)
+
+  pub clauses_first_past : (ks : List Clause) (i : ℕ) (k : Clause) → i < length ks → k ≡ get_or ks i k → all_read_first (stmts_of (plain_stmts (out-Clause k).body)) v ≡ false → clauses_read_first (clauses_of (plain_clauses (drop i ks))) v ≡ clauses_read_first (clauses_of (plain_clauses (drop (i + 1) ks))) v
+  unfolding clauses_read_first
+  clauses_first_past ks i k within is h = ap (λ ys. clauses_read_first ys v) (clauses_from ks i k within is) ∙ (λ j. h j || clauses_read_first (clauses_of (plain_clauses (drop (i + 1) ks))) v)
+
+  pub clauses_first_end : (ks : List Clause) (i : ℕ) → length ks ≤ i → clauses_read_first (clauses_of (plain_clauses (drop i ks))) v ≡ false
+  unfolding clauses_read_first
+  clauses_first_end ks i past = ap (λ ys. clauses_read_first ys v) (clauses_end ks i past)
 
   pub arm_spares_found : (xs : List Arm) (i : ℕ) (x : Arm) → i < length xs → x ≡ get_or xs i x → all_spare (stmts_of (plain_stmts (out-Arm x).body)) v ≡ true → an_arm_spares (arms_of (plain_arms (drop i xs))) v ≡ true
   unfolding an_arm_spares
@@ -361,17 +410,23 @@ module _ (v : ℕ) where
 
 pub ruleset expr_rules = (reads-Int, reads-Bool, reads-Str, reads-Nil, reads-Var, reads-SelfRef, reads-Attr, reads-Call, reads-Apply, reads-Index, reads-List, reads-Neg, reads-Pos, reads-Not, reads-Chain, reads-And, reads-Or, reads-Compare, reads-IsNone, reads-Cond)
 
-pub ruleset spares_rules = (spares-Pass, spares-Break, spares-Continue, spares-Expr, spares-Return, spares-Raise, spares-Assert, spares-Assign, spares-Augment, spares-If, spares-While, spares-For)
+pub ruleset spares_rules = (spares-Pass, spares-Break, spares-Continue, spares-Expr, spares-Return, spares-Raise, spares-Assert, spares-Assign, spares-Augment, spares-If, spares-While, spares-For, spares-Try)
 
-pub ruleset leaves_rules = (leaves-Pass, leaves-Break, leaves-Continue, leaves-Expr, leaves-Return, leaves-Raise, leaves-Assert, leaves-Assign, leaves-Augment, leaves-If, leaves-While, leaves-For)
+pub ruleset leaves_rules = (leaves-Pass, leaves-Break, leaves-Continue, leaves-Expr, leaves-Return, leaves-Raise, leaves-Assert, leaves-Assign, leaves-Augment, leaves-If, leaves-While, leaves-For, leaves-Try)
 
-pub ruleset first_rules = (first-Pass, first-Break, first-Continue, first-Expr, first-Return, first-Raise, first-Assert, first-Assign, first-Augment, first-If, first-While, first-For)
+pub ruleset first_rules = (first-Pass, first-Break, first-Continue, first-Expr, first-Return, first-Raise, first-Assert, first-Assign, first-Augment, first-If, first-While, first-For, first-Try)
 
 pub ruleset exprs_rules = (exprs_read_found, exprs_read_past, exprs_read_end)
 
 pub ruleset links_rules = (links_are_found, links_are_past, links_are_end)
 
 pub ruleset all_spare_rules = (all_spare_stop, all_spare_past, all_spare_end)
+
+pub ruleset clause_spares_rules = (clause_spares_found, clause_spares_past, clause_spares_end)
+
+pub ruleset clause_break_rules = (clause_break_found, clause_break_past, clause_break_end)
+
+pub ruleset clauses_first_rules = (clauses_first_found, clauses_first_past, clauses_first_end)
 
 pub ruleset arm_spares_rules = (arm_spares_found, arm_spares_past, arm_spares_end)
 

@@ -2,12 +2,12 @@
 
 ghost use Rattle.std.specs.Prelude.{◌≡◌};
 ghost use Rattle.py_tree.specs.declared.names.Place.{Place};
-ghost use Rattle.py_tree.specs.PlainStatements.{plain_stmt, plain_stmts, stmts_of, plain_arms, arms_of};
+ghost use Rattle.py_tree.specs.PlainStatements.{plain_stmt, plain_stmts, stmts_of, plain_arms, arms_of, plain_clauses, clauses_of};
 ghost use Rattle.py_tree.specs.Flow.{target_read};
 ghost use Rattle.live_laws.specs.Reads as spec;
 
 use crate::expressions::{assigns, over_reads, reads, reads_if_there};
-use py_tree::{Arm, Name, Stmt, StmtKind, Target, is_true};
+use py_tree::{Arm, Clause, Name, Stmt, StmtKind, Target, is_true};
 
 /// Whether some path comes behind a statement and spares a variable.
 #[cycle(sparing)]
@@ -25,6 +25,9 @@ fn spares(stmt: &Stmt, name: Name) -> bool
             an_arm_spares(arms.as_slice(), name) || all_spare(other.as_slice(), name)
         }
         StmtKind::While { test, body } => !is_true(test) || break_spares(body.as_slice(), name),
+        StmtKind::Try { body, clauses } => {
+            all_spare(body.as_slice(), name) || a_clause_spares(clauses.as_slice(), name)
+        }
     }
 }
 
@@ -65,6 +68,9 @@ fn leaves_sparing(stmt: &Stmt, name: Name) -> bool
         StmtKind::Break => true,
         StmtKind::If { arms, other } => {
             break_in_arm_spares(arms.as_slice(), name) || break_spares(other.as_slice(), name)
+        }
+        StmtKind::Try { body, clauses } => {
+            break_spares(body.as_slice(), name) || break_in_clause_spares(clauses.as_slice(), name)
         }
         StmtKind::Pass
         | StmtKind::Expr(_)
@@ -146,6 +152,9 @@ fn reads_first(stmt: &Stmt, name: Name) -> bool
             over_reads(over, name)
                 || (item.name.0 != name.0 && all_read_first(body.as_slice(), name))
         }
+        StmtKind::Try { body, clauses } => {
+            all_read_first(body.as_slice(), name) || clauses_read_first(clauses.as_slice(), name)
+        }
     }
 }
 
@@ -176,6 +185,45 @@ fn arms_read_first(arms: &[Arm], name: Name) -> bool
             return true;
         }
         if all_read_first(arm.body.as_slice(), name) {
+            return true;
+        }
+    }
+    false
+}
+
+#[cycle(sparing)]
+#[tactic(auto, using(crate::proofs::ReadRules::clause_spares_rules))]
+fn a_clause_spares(clauses: &[Clause], name: Name) -> bool
+    ensures { result ≡ spec.a_clause_spares (clauses_of (plain_clauses clauses.now)) name.0 }
+{
+    for clause in clauses {
+        if all_spare(clause.body.as_slice(), name) {
+            return true;
+        }
+    }
+    false
+}
+
+#[cycle(sparing)]
+#[tactic(auto, using(crate::proofs::ReadRules::clause_break_rules))]
+fn break_in_clause_spares(clauses: &[Clause], name: Name) -> bool
+    ensures { result ≡ spec.break_in_clause_spares (clauses_of (plain_clauses clauses.now)) name.0 }
+{
+    for clause in clauses {
+        if break_spares(clause.body.as_slice(), name) {
+            return true;
+        }
+    }
+    false
+}
+
+#[cycle(reading)]
+#[tactic(auto, using(crate::proofs::ReadRules::clauses_first_rules))]
+fn clauses_read_first(clauses: &[Clause], name: Name) -> bool
+    ensures { result ≡ spec.clauses_read_first (clauses_of (plain_clauses clauses.now)) name.0 }
+{
+    for clause in clauses {
+        if all_read_first(clause.body.as_slice(), name) {
             return true;
         }
     }

@@ -9,12 +9,13 @@ use Rattle.py_tree.specs.declared.stmt.Target.{Target}
 use Rattle.py_tree.specs.declared.stmt.Over.{Over}
 use Rattle.py_tree.specs.declared.stmt.Stmt.{Stmt}
 use Rattle.py_tree.specs.declared.stmt.Arm.{Arm, out-Arm}
+use Rattle.py_tree.specs.declared.stmt.Clause.{Clause, out-Clause}
 use Rattle.py_tree.specs.declared.stmt.StmtKind as s
-use Rattle.py_tree.specs.PlainStatements.{plain_stmt_kind, plain_stmt, plain_stmts, stmts_of, plain_arms, arms_of}
+use Rattle.py_tree.specs.PlainStatements.{plain_stmt_kind, plain_stmt, plain_stmts, stmts_of, plain_arms, arms_of, plain_clauses, clauses_of}
 use Rattle.py_tree.specs.Reachability.{goes_on}
-use Rattle.py_tree.proofs.Views.{stmt-Pass, stmt-Break, stmt-Continue, stmt-Expr, stmt-Return, stmt-Raise, stmt-Assert, stmt-Assign, stmt-Augment, stmt-If, stmt-While, stmt-For}
-use Rattle.py_tree.proofs.ListWalks.{stmts_from, stmts_end, arms_from, arms_end}
-use Rattle.flat_tree.specs.Flatness.{jumps, all_jump, arms_jump}
+use Rattle.py_tree.proofs.Views.{stmt-Pass, stmt-Break, stmt-Continue, stmt-Expr, stmt-Return, stmt-Raise, stmt-Assert, stmt-Assign, stmt-Augment, stmt-If, stmt-While, stmt-For, stmt-Try}
+use Rattle.py_tree.proofs.ListWalks.{stmts_from, stmts_end, arms_from, arms_end, clauses_from, clauses_end}
+use Rattle.flat_tree.specs.Flatness.{jumps, all_jump, arms_jump, clauses_jump}
 
 module _ (at : Place) where
   pub jumps-Pass : jumps (plain_stmt_kind s.Pass at) ≡ false
@@ -65,6 +66,10 @@ module _ (at : Place) where
   unfolding jumps
   jumps-For x items body = ap jumps (stmt-For at x items body)
 
+  pub jumps-Try : (body : List Stmt) (clauses : List Clause) → jumps (plain_stmt_kind (s.Try body clauses) at) ≡ (all_jump (stmts_of (plain_stmts body)) || clauses_jump (clauses_of (plain_clauses clauses)))
+  unfolding jumps
+  jumps-Try body clauses = ap jumps (stmt-Try at body clauses)
+
 pub stmts_found : (ss : List Stmt) (i : ℕ) (x : Stmt) → i < length ss → x ≡ get_or ss i x → jumps (plain_stmt x) ≡ true → all_jump (stmts_of (plain_stmts (drop i ss))) ≡ true
 unfolding all_jump
 stmts_found ss i x within is found = ap all_jump (stmts_from ss i x within is) ∙ ap (λ b. b || (goes_on (plain_stmt x) && all_jump (stmts_of (plain_stmts (drop (i + 1) ss))))) found
@@ -100,8 +105,22 @@ pub arms_over : (xs : List Arm) (i : ℕ) → length xs ≤ i → arms_jump (arm
 unfolding arms_jump
 arms_over xs i past = ap arms_jump (arms_end xs i past)
 
-pub ruleset jump_rules = (jumps-Pass, jumps-Break, jumps-Continue, jumps-Expr, jumps-Return, jumps-Raise, jumps-Assert, jumps-Assign, jumps-Augment, jumps-If, jumps-While, jumps-For)
+pub clauses_found : (ks : List Clause) (i : ℕ) (k : Clause) → i < length ks → k ≡ get_or ks i k → all_jump (stmts_of (plain_stmts (out-Clause k).body)) ≡ true → clauses_jump (clauses_of (plain_clauses (drop i ks))) ≡ true
+unfolding clauses_jump
+clauses_found ks i k within is found = ap clauses_jump (clauses_from ks i k within is) ∙ ap (λ b. b || clauses_jump (clauses_of (plain_clauses (drop (i + 1) ks)))) found
+
+pub clauses_passed : (ks : List Clause) (i : ℕ) (k : Clause) → i < length ks → k ≡ get_or ks i k → all_jump (stmts_of (plain_stmts (out-Clause k).body)) ≡ false → clauses_jump (clauses_of (plain_clauses (drop i ks))) ≡ clauses_jump (clauses_of (plain_clauses (drop (i + 1) ks)))
+unfolding clauses_jump
+clauses_passed ks i k within is none = ap clauses_jump (clauses_from ks i k within is) ∙ ap (λ b. b || clauses_jump (clauses_of (plain_clauses (drop (i + 1) ks)))) none
+
+pub clauses_over : (ks : List Clause) (i : ℕ) → length ks ≤ i → clauses_jump (clauses_of (plain_clauses (drop i ks))) ≡ false
+unfolding clauses_jump
+clauses_over ks i past = ap clauses_jump (clauses_end ks i past)
+
+pub ruleset jump_rules = (jumps-Pass, jumps-Break, jumps-Continue, jumps-Expr, jumps-Return, jumps-Raise, jumps-Assert, jumps-Assign, jumps-Augment, jumps-If, jumps-While, jumps-For, jumps-Try)
 
 pub ruleset stmts_rules = (stmts_found, stmts_passed, stmts_stopped, stmts_over)
 
 pub ruleset arms_rules = (arms_found, arms_passed, arms_over)
+
+pub ruleset clauses_rules = (clauses_found, clauses_passed, clauses_over)

@@ -5,7 +5,7 @@ use Rattle.py_tree.specs.declared.stmt.Target.{Target}
 use Rattle.py_tree.specs.declared.expr.BinOp.{BinOp}
 use Rattle.py_tree.specs.PlainTypes.{TInt, PlainWritten}
 use Rattle.py_tree.specs.PlainExpressions.{PlainExpr}
-use Rattle.py_tree.specs.PlainStatements.{PlainOver, PRange, PItems, PlainStmt, PPass, PBreak, PContinue, PDo, PReturn, PRaise, PAssert, PAssign, PAugment, PIf, PWhile, PFor, PlainStmts, PlainArms}
+use Rattle.py_tree.specs.PlainStatements.{PlainOver, PRange, PItems, PlainStmt, PPass, PBreak, PContinue, PDo, PReturn, PRaise, PAssert, PAssign, PAugment, PIf, PWhile, PFor, PlainStmts, PlainArms, PTry, PlainClauses}
 use Rattle.py_tree.specs.Flow.{Context, at_head}
 use Rattle.py_tree.specs.Reachability.{assigned_in}
 use Rattle.call_graph.specs.SuspendingCode.{Leaving}
@@ -13,7 +13,7 @@ use Rattle.flat_tree.specs.PlainFlat.{Point, PlainFlatTest, PlainFlatStmt, FMark
 use Rattle.hoisting.specs.Stages.{Stage, surely, ty_at, item_ty, point_behind}
 use Rattle.hoisting.specs.HoistExpressions.{Tested, settled, forms}
 use Rattle.hoisting.specs.HoistStatements.{Flattened, stays, code_if, asserted, list_stage, body_stage, list_test, list_turn, list_loop, range_test, range_turn, opened, flat_all, flat}
-use Rattle.method_hoister.specs.SmallCode.{PlainBody, head_point, list_start, list_before, range_before, range_stage, start_number, end_number, body_where, evaluated, returned, raised, assigned, augmented, choice_code, while_code, for_loop}
+use Rattle.method_hoister.specs.SmallCode.{PlainBody, head_point, list_start, list_before, range_before, range_stage, start_number, end_number, body_where, evaluated, returned, raised, assigned, augmented, choice_code, while_code, for_loop, try_code}
 
 module _ (leaves : Leaving) (c : Context) (h : Stage) (at : Place) where
   pub open-Pass : (x : PlainStmt) → x ≡ PPass at → record { code = FMark ∷ []; next = h.next } ≡ opened leaves c x h
@@ -59,6 +59,10 @@ module _ (leaves : Leaving) (c : Context) (h : Stage) (at : Place) where
   pub open-While : (test : PlainExpr) (body : PlainStmts) (x : PlainStmt) → x ≡ PWhile at test body → while_code leaves c test body (point_behind c x h.locals) h ≡ opened leaves c x h
   unfolding opened
   open-While test body x is = ap (λ y. while_code leaves c test body (point_behind c y h.locals) h) is ∙ ap (λ y. opened leaves c y h) (sym is)
+
+  pub open-Try : (body : PlainStmts) (clauses : PlainClauses) (x : PlainStmt) → x ≡ PTry at body clauses → try_code leaves c body clauses (point_behind c x h.locals) h ≡ opened leaves c x h
+  unfolding opened
+  open-Try body clauses x is = ap (λ y. try_code leaves c body clauses (point_behind c y h.locals) h) is ∙ ap (λ y. opened leaves c y h) (sym is)
 
   pub open-For : (name : ℕ) (name_at : Place) (over : PlainOver) (body : PlainStmts) (x : PlainStmt) → x ≡ PFor at name name_at over body → for_loop leaves c at name over body (point_behind c x h.locals) h ≡ opened leaves c x h
   unfolding opened

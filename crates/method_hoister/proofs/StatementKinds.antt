@@ -9,11 +9,12 @@ use Rattle.py_tree.specs.declared.stmt.Target.{Target}
 use Rattle.py_tree.specs.declared.stmt.Over.{Over}
 use Rattle.py_tree.specs.declared.stmt.Stmt.{Stmt}
 use Rattle.py_tree.specs.declared.stmt.Arm.{Arm}
+use Rattle.py_tree.specs.declared.stmt.Clause.{Clause}
 use Rattle.py_tree.specs.declared.stmt.StmtKind as s
 use Rattle.py_tree.specs.PlainTypes.{plain_written}
 use Rattle.py_tree.specs.PlainExpressions.{plain_expr}
-use Rattle.py_tree.specs.PlainStatements.{PPass, PBreak, PContinue, PDo, PReturn, PRaise, PAssert, PAssign, PAugment, PIf, PWhile, PFor, plain_option, plain_over, plain_stmt_kind, plain_stmt, plain_stmts, stmts_of, plain_arms, arms_of}
-use Rattle.py_tree.proofs.Views.{stmt-Pass, stmt-Break, stmt-Continue, stmt-Expr, stmt-Return, stmt-Raise, stmt-Assert, stmt-Assign, stmt-Augment, stmt-If, stmt-While, stmt-For}
+use Rattle.py_tree.specs.PlainStatements.{PPass, PBreak, PContinue, PDo, PReturn, PRaise, PAssert, PAssign, PAugment, PIf, PWhile, PFor, plain_option, plain_over, plain_stmt_kind, plain_stmt, plain_stmts, stmts_of, plain_arms, arms_of, PTry, plain_clauses, clauses_of}
+use Rattle.py_tree.proofs.Views.{stmt-Pass, stmt-Break, stmt-Continue, stmt-Expr, stmt-Return, stmt-Raise, stmt-Assert, stmt-Assign, stmt-Augment, stmt-If, stmt-While, stmt-For, stmt-Try}
 
 module _ (x : Stmt) where
   pub is-Pass : x.kind ≡ s.Pass → plain_stmt x ≡ PPass x.place
@@ -51,3 +52,6 @@ module _ (x : Stmt) where
 
   pub is-For : (name : PlacedName) (over : Over) (body : List Stmt) → x.kind ≡ s.For name over body → plain_stmt x ≡ PFor x.place name.name.0 name.place (plain_over over) (stmts_of (plain_stmts body))
   is-For name over body is = ap (λ k. plain_stmt_kind k x.place) is ∙ stmt-For x.place name over body
+
+  pub is-Try : (body : List Stmt) (clauses : List Clause) → x.kind ≡ s.Try body clauses → plain_stmt x ≡ PTry x.place (stmts_of (plain_stmts body)) (clauses_of (plain_clauses clauses))
+  is-Try body clauses is = ap (λ k. plain_stmt_kind k x.place) is ∙ stmt-Try x.place body clauses

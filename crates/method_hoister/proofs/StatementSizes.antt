@@ -6,11 +6,12 @@ use Rattle.py_tree.specs.declared.expr.Expr.{Expr}
 use Rattle.py_tree.specs.declared.stmt.Over.{Over}
 use Rattle.py_tree.specs.declared.stmt.Stmt.{Stmt}
 use Rattle.py_tree.specs.declared.stmt.Arm.{Arm, out-Arm}
+use Rattle.py_tree.specs.declared.stmt.Clause.{Clause}
 use Rattle.py_tree.specs.declared.stmt.StmtKind as s
 use Rattle.py_tree.specs.PlainExpressions.{plain_expr}
-use Rattle.py_tree.specs.PlainStatements.{plain_over, plain_stmt_kind, plain_stmt, plain_stmts, stmts_of, plain_arms, arms_of}
-use Rattle.py_tree.specs.Bounded.{expr_size, over_size, stmt_size, stmts_size, arms_size}
-use Rattle.py_tree.proofs.Views.{stmt-If, stmt-While, stmt-For}
+use Rattle.py_tree.specs.PlainStatements.{plain_over, plain_stmt_kind, plain_stmt, plain_stmts, stmts_of, plain_arms, arms_of, plain_clauses, clauses_of}
+use Rattle.py_tree.specs.Bounded.{expr_size, over_size, stmt_size, stmts_size, arms_size, clauses_size}
+use Rattle.py_tree.proofs.Views.{stmt-If, stmt-While, stmt-For, stmt-Try}
 
 -- a statement is no larger than its list, and so it is with the body of an arm
 pub stmt_within : (ss : List Stmt) (i : ℕ) (x : Stmt) → i < length ss → x ≡ get_or ss i x → stmt_size (plain_stmt x) ≤ stmts_size (stmts_of (plain_stmts ss))
@@ -38,4 +39,8 @@ module _ (at : Place) where
   unfolding stmt_size
   size-For x over body = ap stmt_size (stmt-For at x over body)
 
-pub ruleset statement_sizes = (size-If, size-While, size-For)
+  pub size-Try : (body : List Stmt) (clauses : List Clause) → stmt_size (plain_stmt_kind (s.Try body clauses) at) ≡ 1 + stmts_size (stmts_of (plain_stmts body)) + clauses_size (clauses_of (plain_clauses clauses))
+  unfolding stmt_size
+  size-Try body clauses = ap stmt_size (stmt-Try at body clauses)
+
+pub ruleset statement_sizes = (size-If, size-While, size-For, size-Try)

@@ -11,12 +11,12 @@ use Rattle.py_tree.specs.FlowEnvironment.{PlainLocal}
 use Rattle.py_tree.specs.Flow.{Context, at_head, result_at}
 use Rattle.py_tree.specs.Reachability.{assigned_in}
 use Rattle.py_tree.specs.PlainTypes.{PlainTy}
-use Rattle.py_tree.specs.PlainStatements.{PlainOver, PlainStmts, PlainArm, PArm, PlainArms}
+use Rattle.py_tree.specs.PlainStatements.{PlainOver, PlainStmts, PlainArm, PArm, PlainArms, PlainClauses}
 use Rattle.call_graph.specs.SuspendingCode.{Leaving}
-use Rattle.flat_tree.specs.PlainFlat.{Point, PlainFlatStmt, FMark, FSet, FGive, FFail, FIf, FWhile, FNoStmt, PlainFlatArm, FArm, PlainFlatTest, flat_stmts_of}
+use Rattle.flat_tree.specs.PlainFlat.{Point, PlainFlatStmt, FMark, FSet, FGive, FFail, FIf, FWhile, FNoStmt, PlainFlatArm, FArm, PlainFlatTest, flat_stmts_of, FTry}
 use Rattle.hoisting.specs.Stages.{Stage, surely, where_shown, ty_at}
 use Rattle.hoisting.specs.HoistExpressions.{Hoisted, Tested, settled, settled_unless, lasts, forms}
-use Rattle.hoisting.specs.HoistStatements.{Flattened, plus, stored, target_ty, marked, value_or_nil, start_or_zero, head_locals, optional, combination, range_start, range_end, for_code, flat_all, flat_arms, other_stage}
+use Rattle.hoisting.specs.HoistStatements.{Flattened, plus, stored, target_ty, marked, value_or_nil, start_or_zero, head_locals, optional, combination, range_start, range_end, for_code, flat_all, flat_arms, other_stage, flat_clauses}
 
 -- in which nothing runs
 abbrev pub assert_arm : List PlainLocal → PlainExpr → Tested PlainFlatTest → PlainFlatArm
@@ -100,7 +100,7 @@ module _ (leaves : Leaving) (c : Context) where
   abbrev pub behind_arm : PlainArm → Stage → Stage
   behind_arm (PArm test body) h = where_shown false test h.locals (body_where test h.locals ((forms leaves c test).test h).next body).next
 
-  -- an `if` and a `while`, with the points behind them
+  -- an `if`, a `while` and a `try`, with the points behind them
   abbrev pub choice_code : PlainArms → PlainStmts → Option Point → Stage → Flattened (List PlainFlatStmt)
   choice_code arms other after h =
       let f = flat_arms leaves c arms h in
@@ -113,6 +113,12 @@ module _ (leaves : Leaving) (c : Context) where
       let t = (forms leaves c test).test head in
       let f = body_where test head.locals t.next body in
       record { code = FMark ∷ FWhile (surely head.locals) t.test f.start (flat_stmts_of f.code) after ∷ []; next = f.next }
+
+  abbrev pub try_code : PlainStmts → PlainClauses → Option Point → Stage → Flattened (List PlainFlatStmt)
+  try_code body clauses after h =
+      let f = flat_all leaves c body h in
+      let g = flat_clauses leaves c (at_head (assigned_in body) h.locals) clauses f.next in
+      record { code = FMark ∷ FTry (surely h.locals) (flat_stmts_of f.code) g.code after ∷ []; next = g.next }
 
   -- a `for`, with the point behind it
   abbrev pub for_loop : Place → ℕ → PlainOver → PlainStmts → Option Point → Stage → Flattened (List PlainFlatStmt)

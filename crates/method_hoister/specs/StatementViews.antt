@@ -10,10 +10,11 @@ use Rattle.py_tree.specs.declared.expr.Expr.{Expr}
 use Rattle.py_tree.specs.declared.stmt.Target.{Target}
 use Rattle.py_tree.specs.declared.stmt.Stmt.{Stmt}
 use Rattle.py_tree.specs.declared.stmt.Arm.{Arm}
+use Rattle.py_tree.specs.declared.stmt.Clause.{Clause}
 use Rattle.py_tree.specs.declared.checked.Checked.{Checked}
 use Rattle.py_tree.specs.PlainTypes.{plain_ty}
 use Rattle.py_tree.specs.PlainExpressions.{PlainExpr, PChain, PLink, PNoLink, PMoreLinks, plain_expr}
-use Rattle.py_tree.specs.PlainStatements.{PlainOver, PRange, plain_option, plain_stmt, plain_stmts, stmts_of, plain_arm, plain_arms, arms_of}
+use Rattle.py_tree.specs.PlainStatements.{PlainOver, PRange, plain_option, plain_stmt, plain_stmts, stmts_of, plain_arm, plain_arms, arms_of, plain_clauses, clauses_of}
 use Rattle.py_tree.specs.PlainProgram.{PlainMethod}
 use Rattle.py_tree.specs.ClassRules.{methods_of}
 use Rattle.py_tree.specs.Acceptance.{members_at}
@@ -23,20 +24,20 @@ use Rattle.entity_types.specs.declared.env.Local.{Local}
 use Rattle.entity_types.specs.Views.{plain_locals, plain_wanted}
 use Rattle.block_code.specs.declared.vars.VarType.{VarType}
 use Rattle.block_code.specs.PlainVars.{plain_vars}
-use Rattle.flat_tree.specs.PlainFlat.{Point, PlainFlat, PlainFlatStmt, PlainFlatArm, PlainFlatArms, flat_arms_of, plain_flat_stmts, plain_flat_arms}
+use Rattle.flat_tree.specs.PlainFlat.{Point, PlainFlat, PlainFlatStmt, PlainFlatArm, PlainFlatArms, flat_arms_of, plain_flat_stmts, plain_flat_arms, PlainFlatClauses}
 use Rattle.hoisting.specs.declared.parts.Hoisted.{Hoisted}
 use Rattle.hoisting.specs.declared.stages.Stage.{Stage}
 use Rattle.hoisting.specs.declared.setting.Setting.{Setting}
 use Rattle.hoisting.specs.Stages as stages
 use Rattle.hoisting.specs.HoistExpressions.{Hoisted as PlainHoisted, still, in_turn, settled, settled_unless, lasts}
-use Rattle.hoisting.specs.HoistStatements.{Flattened as PlainFlattened, body_stage, read_of, optional, combination, failure_of, asserted, range_start, range_end, opened, flat_all, flat_arms, other_stage, flat}
+use Rattle.hoisting.specs.HoistStatements.{Flattened as PlainFlattened, body_stage, read_of, optional, combination, failure_of, asserted, range_start, range_end, opened, flat_all, flat_arms, other_stage, flat, flat_clauses}
 use Rattle.hoisting.specs.FlatMethods.{start_locals, flat_method}
 use Rattle.hoisting.specs.Views.{plain_stage, context_of, leaves_of, ty_in, forms_of, hoisted_at}
 use Rattle.method_hoister.specs.declared.code.HoistedMaybe.{HoistedMaybe}
 use Rattle.method_hoister.specs.declared.code.Flattened.{Flattened}
 use Rattle.method_hoister.specs.declared.stmts.Body.{Body}
 use Rattle.method_hoister.specs.declared.stmts.ArmsCode.{ArmsCode}
-use Rattle.method_hoister.specs.SmallCode.{PlainBody, head_point, evaluated, returned, raised, assigned, augmented, list_before, start_number, end_number, range_before, range_stage, body_where, arm_code, behind_arm, choice_code, while_code, for_loop}
+use Rattle.method_hoister.specs.SmallCode.{PlainBody, head_point, evaluated, returned, raised, assigned, augmented, list_before, start_number, end_number, range_before, range_stage, body_where, arm_code, behind_arm, choice_code, while_code, for_loop, try_code}
 
 abbrev pub maybe_at : HoistedMaybe → Stage → PlainHoisted (Option PlainExpr)
 maybe_at a h = record { before = plain_flat_stmts a.before; rest = plain_option plain_expr a.rest; stage = plain_stage h }
@@ -49,6 +50,9 @@ plain_body b = record { start = plain_vars b.start; code = plain_flat_stmts b.co
 
 abbrev pub plain_arms_code : ArmsCode → PlainFlattened PlainFlatArms
 plain_arms_code a = record { code = flat_arms_of (plain_flat_arms a.arms); next = a.behind.next }
+
+abbrev pub plain_clauses_code : ClausesCode → PlainFlattened PlainFlatClauses
+plain_clauses_code k = record { code = flat_clauses_of (plain_flat_clauses k.clauses); next = k.next }
 
 -- the method of this number, in the class of that number
 abbrev pub method_in : Checked → ℕ → ℕ → Option PlainMethod
@@ -143,6 +147,19 @@ module _ (s : Setting) where
   abbrev pub while_in : Expr → List Stmt → Option (List VarType) → Stage → PlainFlattened (List PlainFlatStmt)
   while_in test body after h =
       while_code (leaves_of s) (context_of s) (plain_expr test) (stmts_of (plain_stmts body)) (plain_option plain_vars after) (plain_stage h)
+
+  abbrev pub try_in : List Stmt → List Clause → Option (List VarType) → Stage → PlainFlattened (List PlainFlatStmt)
+  try_in body clauses after h =
+      try_code (leaves_of s) (context_of s) (stmts_of (plain_stmts body)) (clauses_of (plain_clauses clauses)) (plain_option plain_vars after) (plain_stage h)
+
+  abbrev pub clause_body_in : List Local → List Stmt → ℕ → PlainBody
+  clause_body_in locals body next =
+      let h : stages.Stage = record { locals = plain_locals locals; next = next } in
+      let f = flat_all (leaves_of s) (context_of s) (stmts_of (plain_stmts body)) h in
+      record { start = surely h.locals; code = f.code; next = f.next }
+
+  abbrev pub clauses_in : List Local → List Clause → ℕ → PlainFlattened PlainFlatClauses
+  clauses_in locals clauses next = flat_clauses (leaves_of s) (context_of s) (plain_locals locals) (clauses_of (plain_clauses clauses)) next
 
   -- a `for` over what is given as a plain tree
   abbrev pub for_in : Place → Name → PlainOver → List Stmt → Option (List VarType) → Stage → PlainFlattened (List PlainFlatStmt)

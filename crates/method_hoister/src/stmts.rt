@@ -4,11 +4,12 @@ ghost use Rattle.std.specs.Prelude.{◌≡◌, IfOk, OnOk};
 ghost use Rattle.py_tree.specs.PlainExpressions.{plain_expr};
 ghost use Rattle.py_tree.specs.PlainStatements.{PItems, plain_over, plain_stmt};
 ghost use Rattle.entity_types.specs.Views.{plain_locals};
-ghost use Rattle.flat_tree.specs.PlainFlat.{plain_flat_arm};
+ghost use Rattle.py_tree.specs.declared.stmt.Clause.{out-Clause};
+ghost use Rattle.flat_tree.specs.PlainFlat.{FClause, flat_stmts_of, plain_flat_arm, plain_flat_clause};
 ghost use Rattle.hoisting.specs.HoistStatements as spec;
 ghost use Rattle.hoisting.specs.Views.{plain_stage, leaves_of};
 ghost use Rattle.method_hoister.specs.StatementViews as gives;
-ghost use Rattle.method_hoister.specs.StatementViews.{plain_flattened, plain_body, plain_arms_code};
+ghost use Rattle.method_hoister.specs.StatementViews.{plain_flattened, plain_body, plain_arms_code, plain_clauses_code};
 
 use crate::code::{
     Flattened, asserted, assigned, augmented, code_of, evaluated, marked, raised, returned, stepped,
@@ -18,10 +19,12 @@ use crate::loops::{item_ty, list_test, list_turn, range_test, range_turn, while_
 use crate::ranges::{inside_for, list_before, range_before};
 use block_code::VarTypes;
 use expression_hoister::test;
-use flat_tree::{FlatArm, FlatArms, FlatStmt, FlatStmts};
+use flat_tree::{FlatArm, FlatArms, FlatClause, FlatClauses, FlatStmt, FlatStmts};
 use flow_types::Locals;
 use hoisting::{Setting, Stage, surely, where_shown};
-use py_tree::{Arm, Arms, Expr, Name, Over, Place, Stmt, StmtKind, Stmts, Ty, goes_on};
+use py_tree::{
+    Arm, Arms, Clause, Clauses, Expr, Name, Over, Place, Stmt, StmtKind, Stmts, Ty, goes_on,
+};
 use sf_list::Sequence;
 use std::alloc::{AllocError, Global};
 
@@ -40,6 +43,14 @@ pub struct Body {
 pub struct ArmsCode {
     pub arms: FlatArms,
     pub behind: Stage,
+}
+
+/// Clauses.
+#[derive(Drop)]
+pub struct ClausesCode {
+    pub clauses: FlatClauses,
+    /// The number of the next temporary behind them.
+    pub next: u32,
 }
 
 /// Whether a statement stays as it is.
@@ -110,6 +121,10 @@ fn opened(
         StmtKind::For { name, over, body } => {
             let after = setting.point_behind(alloc, &stage.locals, stmt)?;
             for_loop(alloc, setting, stage, place, name.name, over, body, after)
+        }
+        StmtKind::Try { body, clauses } => {
+            let after = setting.point_behind(alloc, &stage.locals, stmt)?;
+            try_code(alloc, setting, stage, body, clauses, after)
         }
     }
 }
@@ -266,6 +281,94 @@ fn while_loop(
         after,
     };
     marked(alloc, Sequence::new(alloc), stmt, made.next)
+}
+
+/// A `try`, with the point behind it.
+#[cycle(flat)]
+fn try_code(
+    alloc: Global,
+    setting: &Setting<'_>,
+    stage: &Stage,
+    body: &Stmts,
+    clauses: &Clauses,
+    after: Option<VarTypes>,
+) -> Result<Flattened, AllocError>
+    ensures { IfOk result (λ made. plain_flattened made ≡ gives.try_in setting.now body.now clauses.now after stage.now) }
+{
+    let start = surely(alloc, &stage.locals)?;
+    let locals = while_locals(alloc, &stage.locals, body)?;
+    let inside = stage.copied(alloc)?;
+    let made = flat_all(alloc, setting, inside, body.as_slice())?;
+    let others = clauses_code(alloc, setting, &locals, clauses.as_slice(), made.next)?;
+    drop(locals);
+    let stmt = FlatStmt::Try {
+        start,
+        body: made.code,
+        clauses: others.clauses,
+        after,
+    };
+    marked(alloc, Sequence::new(alloc), stmt, others.next)
+}
+
+/// Clauses, each with these locals where it begins.
+#[cycle(flat)]
+fn clauses_code(
+    alloc: Global,
+    setting: &Setting<'_>,
+    locals: &Locals,
+    clauses: &[Clause],
+    next: u32,
+) -> Result<ClausesCode, AllocError>
+    ensures { IfOk result (λ made. plain_clauses_code made ≡ gives.clauses_in setting.now locals.now clauses.now next) }
+{
+    let mut made = Sequence::new(alloc);
+    let mut behind = next;
+    for clause in clauses {
+        let code = clause_body(alloc, setting, locals, clause.body.as_slice(), behind)?;
+        behind = code.next;
+        made.push(alloc, flat_clause(alloc, clause, code)?)?;
+    }
+    Ok(ClausesCode {
+        clauses: made,
+        next: behind,
+    })
+}
+
+/// The body of a clause.
+#[cycle(flat)]
+fn clause_body(
+    alloc: Global,
+    setting: &Setting<'_>,
+    locals: &Locals,
+    body: &[Stmt],
+    next: u32,
+) -> Result<Body, AllocError>
+    ensures { IfOk result (λ made. plain_body made ≡ gives.clause_body_in setting.now locals.now body.now next) }
+{
+    let start = surely(alloc, locals)?;
+    let inside = Stage {
+        locals: copy_locals(alloc, locals)?,
+        next,
+    };
+    let made = flat_all(alloc, setting, inside, body)?;
+    Ok(Body {
+        start,
+        code: made.code,
+        next: made.next,
+    })
+}
+
+/// A clause with this body.
+fn flat_clause(alloc: Global, clause: &Clause, body: Body) -> Result<FlatClause, AllocError>
+    ensures { IfOk result (λ made. plain_flat_clause made ≡ FClause (out-Clause clause.now).kinds (plain_body body).start (flat_stmts_of (plain_body body).code)) }
+{
+    let mut kinds = Sequence::new(alloc);
+    kinds.extend_from_slice(alloc, clause.kinds.as_slice())?;
+    Ok(FlatClause {
+        kinds,
+        start: body.start,
+        body: body.code,
+    })
 }
 
 /// A `for`, with the point behind it.

@@ -1,21 +1,24 @@
 -- A statement of which no `break` or `continue` of a loop outside it can be reached leaves no loop.
+use Rattle.sf_value.specs.declared.Failure.{Failure}
+use Rattle.std.specs.Prelude.{nat_eq}
+use Rattle.std.specs.List.{list_any}
 use Rattle.std.proofs.Common.{◌≡◌, ℕ, zero, suc, ℤ, pos, ◌+ℤ◌, Bool, true, false, ◌||◌, ◌&&◌, List, [], ◌∷◌, if◌then◌else◌, refl, sym, ap, ◌∙◌, true≢false}
 use Rattle.std.specs.Ordering.{int_cmp, is_lt}
-use Rattle.py_tree.specs.PlainStatements.{PlainStmt, PPass, PBreak, PContinue, PDo, PReturn, PRaise, PAssert, PAssign, PAugment, PIf, PWhile, PFor, PlainStmts, PNoStmt, PStmt, PArm, PlainArms, PNoArm, PMoreArms}
+use Rattle.py_tree.specs.PlainStatements.{PlainStmt, PPass, PBreak, PContinue, PDo, PReturn, PRaise, PAssert, PAssign, PAugment, PIf, PWhile, PFor, PlainStmts, PNoStmt, PStmt, PArm, PlainArms, PNoArm, PMoreArms, PTry, PClause, PlainClauses, PNoClause, PMoreClauses}
 use Rattle.py_tree.specs.declared.stmt.Target.{Target}
 use Rattle.py_tree.specs.declared.stmt.Target.TheVariants as target
 use Rattle.sf_value.specs.declared.value.Value.{Value}
 use Rattle.sf_value.specs.declared.value.Value.TheVariants as value
 use Rattle.program_meaning.specs.declared.vars.Var.{Var}
-use Rattle.program_meaning.specs.World.{Gives, Got, Fell, Ends, Goes, Returns, Breaks, Continues, Fails, with_given, next, next_turn}
+use Rattle.program_meaning.specs.World.{Gives, Got, Fell, Ends, Goes, Returns, Breaks, Continues, Fails, with_given, next, next_turn, caught}
 use Rattle.program_meaning.specs.Operations.{is_true}
 use Rattle.program_meaning.specs.Evaluation.{Site, eval}
-use Rattle.program_meaning.specs.Execution.{stepping, store, augmented, value_or_none, message, Turns, Items, Numbers, turns_of, turn, counting, over_items, over_numbers, over_turns, while_turns, act, act_all, act_arms}
+use Rattle.program_meaning.specs.Execution.{stepping, store, augmented, value_or_none, message, Turns, Items, Numbers, turns_of, turn, counting, over_items, over_numbers, over_turns, while_turns, act, act_all, act_arms, act_clauses}
 use Rattle.py_tree.specs.Reachability.{goes_on, breaks}
 use Rattle.program_meaning.specs.Reached.{IsReached}
 use Rattle.program_meaning.proofs.NotReached.{act_reached}
 use Rattle.flat_tree.specs.FlatMeaning.{Way}
-use Rattle.flat_tree.specs.Flatness.{jumps, all_jump, arms_jump}
+use Rattle.flat_tree.specs.Flatness.{jumps, all_jump, arms_jump, clauses_jump}
 
 -- an end that is no `break` and no `continue`
 abbrev pub StaysInLoop : {W : Type 0} → Ends W → Type 0
@@ -63,6 +66,14 @@ module _ {W : Type 0} where
   reached_stays go leave (Breaks vars w n) f reached stays later = stays
   reached_stays go leave (Continues vars w n) f reached stays later = stays
   reached_stays go leave (Fails e vars w n) f reached stays later = tt
+
+  -- a body that stays in its loop, or clauses that do
+  caught_stays : (e : Ends W) (f : Failure → Way W) → StaysInLoop e → ((x : Failure) → WayStays (f x)) → StaysInLoop (caught f e)
+  caught_stays (Goes vars w n) f stays later = tt
+  caught_stays (Returns v w n) f stays later = tt
+  caught_stays (Breaks vars w n) f stays later = stays
+  caught_stays (Continues vars w n) f stays later = stays
+  caught_stays (Fails x vars w n) f stays later = later x vars w n
 
   -- a turn may end so or so
   turn_stays : (e : Ends W) (f : Way W) → WayStays f → StaysInLoop (next_turn e f)
@@ -121,6 +132,8 @@ module _ {W : Type 0} where
       act_stays (PWhile at test body) none vars w n = step_stays vars w n _ (λ n. while_stays (suc n) (λ vars w n. eval s test vars w n) (λ vars w n. act_all s body vars w n) vars w n)
       act_stays (PFor at name name_at over body) none vars w n =
           step_stays vars w n _ (λ n. given_stays vars (turns_of s over vars w n) _ (λ t w n. turns_stay name (λ vars w n. act_all s body vars w n) t vars w n))
+      act_stays (PTry at body clauses) none vars w n =
+          step_stays vars w n _ (λ n. caught_stays (act_all s body vars w n) _ (acts_stay body (neither_first (all_jump body) _ none) vars w n) (clauses_stay clauses (neither_second (all_jump body) _ none)))
 
       acts_stay : (xs : PlainStmts) → all_jump xs ≡ false → WayStays (act_all s xs)
       acts_stay PNoStmt none vars w n = tt
@@ -133,3 +146,8 @@ module _ {W : Type 0} where
       arms_stay (PMoreArms (PArm test body) more) none other later vars w n =
           given_stays vars (eval s test vars w n) _ (λ v w n.
           either_stays (is_true v) _ _ (acts_stay body (neither_first (all_jump body) _ none) vars w n) (arms_stay more (neither_second (all_jump body) _ none) other later vars w n))
+
+      clauses_stay : (clauses : PlainClauses) → clauses_jump clauses ≡ false → (x : Failure) → WayStays (act_clauses s clauses x)
+      clauses_stay PNoClause none x vars w n = tt
+      clauses_stay (PMoreClauses (PClause kinds body) more) none x vars w n =
+          either_stays (list_any (nat_eq x.kind) kinds) _ _ (acts_stay body (neither_first (all_jump body) _ none) vars w n) (clauses_stay more (neither_second (all_jump body) _ none) x vars w n)

@@ -1,6 +1,7 @@
 -- A statement that breaks no rule leaves locals and a world that fit.
+use Rattle.std.specs.List.{list_any}
 use Rattle.std.proofs.Common.{◌≡◌, ℕ, ℤ, pos, suc, zero, arith, Bool, true, false, cond, not, Option, Some, None, Ok, Err, List, [], ◌∷◌, ◌++◌, append_assoc, refl, sym, ap, ◌∙◌, subst, true≢false}
-use Rattle.std.specs.Prelude.{◌==◌, ◌||◌, ◌&&◌, ◌+ℤ◌}
+use Rattle.std.specs.Prelude.{◌==◌, ◌||◌, ◌&&◌, ◌+ℤ◌, nat_eq}
 use Rattle.std.specs.Ordering.{int_cmp, is_lt}
 use Rattle.std.specs.declared.result.Result.{Result}
 use Rattle.py_tree.specs.declared.names.Place.{Place}
@@ -12,23 +13,23 @@ use Rattle.py_tree.specs.declared.stmt.Target.{Target}
 use Rattle.py_tree.specs.declared.stmt.Target.TheVariants as target
 use Rattle.py_tree.specs.PlainTypes.{PlainTy, TInt, TBool, TStr, TNil, TList, TEntity}
 use Rattle.py_tree.specs.PlainExpressions.{PlainExpr, PBool, PSelf, PVar}
-use Rattle.py_tree.specs.PlainStatements.{PlainOver, PRange, PItems, PlainStmt, PPass, PBreak, PContinue, PDo, PReturn, PRaise, PAssert, PAssign, PAugment, PIf, PWhile, PFor, PlainStmts, PNoStmt, PStmt, PArm, PlainArms, PNoArm, PMoreArms}
+use Rattle.py_tree.specs.PlainStatements.{PlainOver, PRange, PItems, PlainStmt, PPass, PBreak, PContinue, PDo, PReturn, PRaise, PAssert, PAssign, PAugment, PIf, PWhile, PFor, PlainStmts, PNoStmt, PStmt, PArm, PlainArms, PNoArm, PMoreArms, PTry, PClause, PlainClauses, PNoClause, PMoreClauses}
 use Rattle.py_tree.specs.ClassRules.{PlainTable, is_self}
 use Rattle.py_tree.specs.FlowEnvironment.{PlainLocal, shown, narrowed}
 use Rattle.py_tree.specs.ExpressionTypes.{field_of, self_ty, type_of, place_of, assignable, right_wanted}
-use Rattle.py_tree.specs.Reachability.{is_true as is_true_word, goes_on, all_go_on, an_arm_goes_on, breaks, break_in, break_in_arm, local_assigned, assigns, assigned_in, assigned_in_arms}
-use Rattle.py_tree.specs.Bounded.{EachStmt, EachOfStmts, EachOfArms, RaisesFailure}
-use Rattle.py_tree.specs.Flow.{Context, env_of, type_at, condition_at, within_loop, result_at, Known, known_at, meet, way, behind_ways, with_local, at_head, settled, item_of, needs_none, return_fault, message_fault, keeps, earlier, assigned as assigned_type, augmentation, target_read, Way, on, begun, broken_off, after_while, after_for, for_head, named_at, flow, flow_all, flow_arms}
+use Rattle.py_tree.specs.Reachability.{is_true as is_true_word, goes_on, all_go_on, an_arm_goes_on, breaks, break_in, break_in_arm, local_assigned, assigns, assigned_in, assigned_in_arms, a_clause_goes_on, break_in_clause, assigned_in_clauses}
+use Rattle.py_tree.specs.Bounded.{EachStmt, EachOfStmts, EachOfArms, RaisesFailure, EachOfClauses}
+use Rattle.py_tree.specs.Flow.{Context, env_of, type_at, condition_at, within_loop, result_at, Known, known_at, meet, way, behind_ways, with_local, at_head, settled, item_of, needs_none, return_fault, message_fault, keeps, earlier, assigned as assigned_type, augmentation, target_read, Way, on, begun, broken_off, after_while, after_for, for_head, named_at, flow, flow_all, flow_arms, flow_clauses}
 use Rattle.sf_value.specs.declared.value.Value.{Value}
 use Rattle.sf_value.specs.declared.value.Value.TheVariants as value
 use Rattle.sf_value.specs.declared.Failure.{Failure}
 use Rattle.program_meaning.specs.declared.vars.Var.{Var}
 use Rattle.program_meaning.specs.ClassTables.{fields_of}
-use Rattle.program_meaning.specs.World.{assigned as assigned_to}
+use Rattle.program_meaning.specs.World.{assigned as assigned_to, caught}
 use Rattle.program_meaning.specs.World.{Gives, Got, Fell, told, Ends, Goes, Returns, Breaks, Continues, Fails, step_limit, assertion_error, with_given, next, next_turn, local_value, with_field}
 use Rattle.program_meaning.specs.Operations.{in_range, weighed, is_true, items_of, combined}
 use Rattle.program_meaning.specs.Evaluation.{Site, eval}
-use Rattle.program_meaning.specs.Execution.{stepping, store, target_value, augmented, value_or_none, message, Turns, Items, Numbers, start_of, turns_of, turn, over_items, over_numbers, over_turns, counting, while_turns, checked, act, act_all, act_arms}
+use Rattle.program_meaning.specs.Execution.{stepping, store, target_value, augmented, value_or_none, message, Turns, Items, Numbers, start_of, turns_of, turn, over_items, over_numbers, over_turns, counting, while_turns, checked, act, act_all, act_arms, act_clauses}
 use Rattle.program_meaning.specs.Fits.{Fits, int, nil, AllFit, empty, more as more_fit, FailureFits}
 use Rattle.program_meaning.specs.PointFits.{VarsFit, GivesFit, got, fell}
 use Rattle.program_meaning.proofs.FitsLaws.{as_list, fits_same, fits_wider}
@@ -41,7 +42,7 @@ use Rattle.program_meaning.proofs.EvalFits.{Anywhere, Around, Tests, fit_then, f
 use Rattle.program_meaning.proofs.LocalShapes.{shapes, type_in, Within, Sound, within_more, within_both, Grows, alike_grows, grows_on, grows_same, keeps_named, shapes_behind, earlier_is, shapes_narrowed, shapes_at_head, shapes_settled, shapes_more, local_grows, MetFits, met_left, met_right, met_grown, met_here, behind_fits, fits_both, fits_first, fits_second}
 use Rattle.program_meaning.proofs.AssignedFits.{or_left, or_right, Forgets, forgets_first, forgets_second, forgets_both, forgets_at_head, head_fits, kept_fits, local_given}
 use Rattle.program_meaning.proofs.FlowParts.{no_need, items_ok, short_range_ok, range_ok, return_nothing_ok, return_ok, message_text, LocalTaken, local_ok, field_ok, Augments, augments_ok, stored_ok, put_local_ok, put_field_ok, same_assignable}
-use Rattle.program_meaning.proofs.FlowGrows.{WhileParts, while_parts, ForParts, for_parts, all_parts, last_parts, ArmParts, arm_parts, Follows, follows, follows_all, follows_arms, follows_on, same_way, alike_way, one_or_more, ended_fits, for_shapes}
+use Rattle.program_meaning.proofs.FlowGrows.{WhileParts, while_parts, ForParts, for_parts, all_parts, last_parts, ArmParts, arm_parts, Follows, follows, follows_all, follows_arms, follows_on, same_way, alike_way, one_or_more, ended_fits, for_shapes, TryParts, try_parts, ClauseParts, clause_parts, follows_clauses, clauses_ended}
 
 module _ (tables : List PlainTable) {W : Type 0} (WorldFits : W → Type 0) (result : PlainTy) where
   -- what a statement comes to fits: where it goes on, the locals fit the way after it and, as wherever else there are locals, what
@@ -88,6 +89,17 @@ module _ (tables : List PlainTable) {W : Type 0} (WorldFits : W → Type 0) (res
   turn_fits go1 br1 go br b end after head kept (Breaks vars w n) k (leaves i c m h p) again left = goes (left vars c m).0 (left vars c m).1 (fits_second tables vars head kept h) p
   turn_fits go1 br1 go br b end after head kept (Continues vars w n) k (turns i h p) again left = again vars w n (fits_first tables vars head kept h) (fits_second tables vars head kept h) p
   turn_fits go1 br1 go br b end after head kept (Fails f vars w n) k (fails c h p) again left = fails c (fits_second tables vars head kept h) p
+
+  -- what a body comes to, or where it fails a clause; `head` is what is known where a clause begins
+  caught_fit : (go1 br1 go br b : Bool) (mid after : Way) (head kept : List PlainLocal) (e : Ends W) (k : Failure → List Var → W → ℕ → Ends W) → (go1 ≡ true → go ≡ true) → (br1 ≡ true → br ≡ true)
+      → ((vars : List Var) → go1 ≡ true → VarsFit tables vars mid.locals → VarsFit tables vars after.locals) → Follows mid after → EndFits go1 br1 b mid (head ++ kept) e
+      → ((f : Failure) (vars : List Var) (w : W) (n : ℕ) → FailureFits f → VarsFit tables vars head → VarsFit tables vars kept → WorldFits w → EndFits go br b after kept (k f vars w n))
+      → EndFits go br b after kept (caught k e)
+  caught_fit go1 br1 go br b mid after head kept (Goes vars w n) k f g l m (goes c v h p) rest = goes (f c) (l vars c v) (fits_second tables vars head kept h) p
+  caught_fit go1 br1 go br b mid after head kept (Returns v w n) k f g l m (returns r p) rest = returns r p
+  caught_fit go1 br1 go br b mid after head kept (Breaks vars w n) k f g l m (leaves i c q h p) rest = leaves i (g c) (m.breaks tables vars q) (fits_second tables vars head kept h) p
+  caught_fit go1 br1 go br b mid after head kept (Continues vars w n) k f g l m (turns i h p) rest = turns i (fits_second tables vars head kept h) p
+  caught_fit go1 br1 go br b mid after head kept (Fails x vars w n) k f g l m (fails c h p) rest = rest x vars w n c (fits_first tables vars head kept h) (fits_second tables vars head kept h) p
 
 and_both : (a b : Bool) → a ≡ true → b ≡ true → (a && b) ≡ true
 and_both true b h k = k
@@ -454,6 +466,30 @@ module _ (tables : List PlainTable) {W : Type 0} (s : Site W) (WorldFits : W →
         stepping_fits tables WorldFits R true false b after kept vars world n (λ n. with_given vars (turns_of s over vars world n) (λ turns w n. over_turns name (λ vars w n. act_all s body vars w n) turns vars w n)) r.held p (λ n.
         given_fit tables WorldFits R true false b after kept vars (TurnsFit a.item) (turns_of s over vars world n) (λ turns w n. over_turns name (λ vars w n. act_all s body vars w n) turns vars w n) r.held (over_fits b w.locals over a.item vars world n a.goes_over r.fit p) (λ turns world n f p.
         along _ _ _ _ _ _ _ a.is (for_fits name a.item body b w a.end head kept g bound inside turns vars world n f (for_head_fits all w.locals a.named vars to_named r.fit) r.held p)))
+    act_fits (PTry at body clauses) b w after kept vars world n h x r p =
+        let a : TryParts (ctx b) w after body clauses = try_parts (ctx b) w after at body clauses h in
+        let head : List PlainLocal = at_head (assigned_in body) w.locals in
+        let ended : Option (List Known) = way (all_go_on body) a.end.locals in
+        let same_head : shapes head ≡ shapes w.locals = shapes_at_head (assigned_in body) w.locals in
+        let to_head : Grows w.locals head = alike_grows w.locals head same_head in
+        let from_head : Grows head w.locals = alike_grows head w.locals (sym same_head) in
+        let to_end : Grows head a.end.locals = grows_on head w.locals a.end.locals from_head (follows_all body (ctx b) w a.end a.inside).grows in
+        let go : Bool = all_go_on body || a_clause_goes_on clauses in
+        let br : Bool = break_in body || break_in_clause clauses in
+        let names : Forgets (assigned_in body) kept = forgets_first (assigned_in body) (assigned_in_clauses clauses) kept r.forgets in
+        stepping_fits tables WorldFits R go br b after kept vars world n (λ n. caught (λ f vars w n. act_clauses s clauses f vars w n) (act_all s body vars world n)) r.held p (λ n.
+        caught_fit tables WorldFits R (all_go_on body) (break_in body) go br b a.end after head kept (act_all s body vars world n) (λ f vars w n. act_clauses s clauses f vars w n)
+        (or_left (all_go_on body) (a_clause_goes_on clauses)) (or_left (break_in body) (break_in_clause clauses))
+        (λ vars d v. clauses_ended tables vars clauses (ctx b) a.end (known_at head) ended after a.rest (met_way vars a.end.locals (all_go_on body) d v))
+        (follows_clauses clauses (ctx b) a.end (known_at head) ended after a.rest)
+        (stmts_fit body b w a.end (head ++ kept) vars world n a.inside x.1
+        (ready_body (assigned_in body) (assigned_in body) w.locals head w.locals kept vars to_head from_head r.sound r.within (forgets_at_head (assigned_in body) w.locals) names r.fit
+        (fits_both tables vars head kept (head_fits tables vars (assigned_in body) w.locals r.fit) r.held)) p)
+        (λ f vars world n failure fit held p.
+        flags_fit tables WorldFits R (a_clause_goes_on clauses) (break_in_clause clauses) go br b after after kept (act_clauses s clauses f vars world n)
+        (or_right (all_go_on body) (a_clause_goes_on clauses)) (or_right (break_in body) (break_in_clause clauses)) (λ vars d v. v) (same_way after after refl)
+        (clauses_fit clauses b head a.end after ended kept f vars world n a.rest x.2 to_end (to_head.sound r.sound) (subst (λ ss. Within (shapes kept) ss) (sym same_head) r.within)
+        (forgets_second (assigned_in body) (assigned_in_clauses clauses) kept r.forgets) failure fit held p)))
 
     pub stmts_fit : (xs : PlainStmts) (b : Bool) (w after : Way) (kept : List PlainLocal) (vars : List Var) (world : W) (n : ℕ) → flow_all (ctx b) w xs ≡ Ok after → EachOfStmts RaisesFailure xs → Ready (assigned_in xs) w.locals kept vars → WorldFits world
         → EndFits tables WorldFits R (all_go_on xs) (break_in xs) b after kept (act_all s xs vars world n)
@@ -512,3 +548,30 @@ module _ (tables : List PlainTable) {W : Type 0} (s : Site W) (WorldFits : W →
         (arms_fit more b (on a.end later) after met other_go other_br other_flow other_act other_names kept vars world n a.rest e.1
         (ready_along (assigned_in_arms more ++ other_names) w.locals later kept vars to_later (later_fits vars w.locals exit a.end.locals (shapes_narrowed (shown false test) w.locals) to_end (narrowed_fits tables vars (shown false test) w.locals (tests.1 false c) r.fit)) r.sound r.within (forgets_second (assigned_in body) (assigned_in_arms more ++ other_names) kept names) r.held)
         p follow rest)))
+
+    -- a failure that was taken up, with locals that fit where clauses begin
+    clauses_fit : (clauses : PlainClauses) (b : Bool) (head : List PlainLocal) (w after : Way) (ended : Option (List Known)) (kept : List PlainLocal) (f : Failure) (vars : List Var) (world : W) (n : ℕ)
+        → flow_clauses (ctx b) w (known_at head) ended clauses ≡ Ok after → EachOfClauses RaisesFailure clauses → Grows head w.locals → Sound (shapes head) → Within (shapes kept) (shapes head)
+        → Forgets (assigned_in_clauses clauses) kept → FailureFits f → VarsFit tables vars head → VarsFit tables vars kept → WorldFits world
+        → EndFits tables WorldFits R (a_clause_goes_on clauses) (break_in_clause clauses) b after kept (act_clauses s clauses f vars world n)
+    clauses_fit PNoClause b head w after ended kept f vars world n h e g sound within names failure fit held p = fails failure held p
+    clauses_fit (PMoreClauses (PClause kinds body) more) b head w after ended kept f vars world n h e g sound within names failure fit held p =
+        let a : ClauseParts (ctx b) w after (known_at head) ended body more = clause_parts (ctx b) w after (known_at head) ended kinds body more h in
+        let start : List PlainLocal = settled w.locals (known_at head) in
+        let met : Option (List Known) = meet ended (way (all_go_on body) a.end.locals) in
+        let to_start : Grows head start = grows_same head head w.locals start refl (sym (shapes_settled w.locals (known_at head))) g in
+        let to_end : Grows head a.end.locals = grows_on head start a.end.locals to_start (follows_all body (ctx b) (on w start) a.end a.inside).grows in
+        let go : Bool = all_go_on body || a_clause_goes_on more in
+        let br : Bool = break_in body || break_in_clause more in
+        ends_by go br b after kept (list_any (nat_eq f.kind) kinds) (act_all s body vars world n) (act_clauses s more f vars world n)
+        (λ c.
+        flags_fit tables WorldFits R (all_go_on body) (break_in body) go br b a.end after kept (act_all s body vars world n)
+        (or_left (all_go_on body) (a_clause_goes_on more)) (or_left (break_in body) (break_in_clause more))
+        (λ vars d v. clauses_ended tables vars more (ctx b) a.end (known_at head) met after a.rest (met_right tables vars (shapes a.end.locals) ended (way (all_go_on body) a.end.locals) (met_way vars a.end.locals (all_go_on body) d v)))
+        (follows_clauses more (ctx b) a.end (known_at head) met after a.rest)
+        (stmts_fit body b (on w start) a.end kept vars world n a.inside e.0
+        (ready_along (assigned_in body) head start kept vars to_start (later_fits vars head head w.locals refl g fit) sound within (forgets_first (assigned_in body) (assigned_in_clauses more) kept names) held) p))
+        (λ c.
+        flags_fit tables WorldFits R (a_clause_goes_on more) (break_in_clause more) go br b after after kept (act_clauses s more f vars world n)
+        (or_right (all_go_on body) (a_clause_goes_on more)) (or_right (break_in body) (break_in_clause more)) (λ vars d v. v) (same_way after after refl)
+        (clauses_fit more b head a.end after met kept f vars world n a.rest e.1 to_end sound within (forgets_second (assigned_in body) (assigned_in_clauses more) kept names) failure fit held p))

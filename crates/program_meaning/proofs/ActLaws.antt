@@ -1,8 +1,10 @@
 -- What a statement does, at each variant and at each part of a walk.
+use Rattle.std.specs.Prelude.{nat_eq}
+use Rattle.std.specs.List.{list_any}
 use Rattle.std.proofs.Common.{◌≡◌, ◌<◌, ◌≤◌, ◌+◌, ◌-◌, ℕ, zero, suc, ℤ, pos, ◌+ℤ◌, true, false, List, [], Option, Ok, if◌then◌else◌, drop, get_or, length, refl, sym, ap, ◌∙◌, add-one, subst, arith}
 use Rattle.std.specs.Ordering.{int_cmp, is_lt}
 use Rattle.std.proofs.lemmas.List.{drop_all}
-use Rattle.py_tree.proofs.ListWalks.{from_item, stmts_from, stmts_end as stmts_past, arms_from, arms_end as arms_past}
+use Rattle.py_tree.proofs.ListWalks.{from_item, stmts_from, stmts_end as stmts_past, arms_from, arms_end as arms_past, clauses_from, clauses_end as clauses_past}
 use Rattle.py_tree.specs.declared.names.Place.{Place}
 use Rattle.py_tree.specs.declared.names.PlacedName.{PlacedName}
 use Rattle.py_tree.specs.declared.expr.BinOp.{BinOp}
@@ -13,16 +15,18 @@ use Rattle.py_tree.specs.declared.stmt.Over.{Over}
 use Rattle.py_tree.specs.declared.stmt.Stmt.{Stmt}
 use Rattle.py_tree.specs.declared.stmt.StmtKind as kind
 use Rattle.py_tree.specs.declared.stmt.Arm.{Arm, out-Arm}
+use Rattle.py_tree.specs.declared.stmt.Clause.{Clause, out-Clause}
 use Rattle.py_tree.specs.PlainExpressions.{plain_expr}
-use Rattle.py_tree.specs.PlainStatements.{plain_option, plain_over, plain_stmt_kind, plain_stmt, plain_stmts, stmts_of, plain_arms, arms_of, PlainStmt, PPass, PBreak, PContinue, PDo, PReturn, PRaise, PAssert, PAssign, PAugment, PIf, PWhile, PFor}
-use Rattle.py_tree.proofs.Views.{stmt-Pass, stmt-Break, stmt-Continue, stmt-Expr, stmt-Return, stmt-Raise, stmt-Assert, stmt-Assign, stmt-Augment, stmt-If, stmt-While, stmt-For}
+use Rattle.py_tree.specs.PlainStatements.{plain_option, plain_over, plain_stmt_kind, plain_stmt, plain_stmts, stmts_of, plain_arms, arms_of, plain_clauses, clauses_of, PlainStmt, PPass, PBreak, PContinue, PDo, PReturn, PRaise, PAssert, PAssign, PAugment, PIf, PWhile, PFor, PTry}
+use Rattle.py_tree.proofs.Views.{stmt-Pass, stmt-Break, stmt-Continue, stmt-Expr, stmt-Return, stmt-Raise, stmt-Assert, stmt-Assign, stmt-Augment, stmt-If, stmt-While, stmt-For, stmt-Try}
 use Rattle.sf_value.specs.declared.value.Value.{Value}
 use Rattle.sf_value.specs.declared.value.Value.TheVariants as value
+use Rattle.sf_value.specs.declared.Failure.{Failure}
 use Rattle.program_meaning.specs.declared.vars.Var.{Var}
-use Rattle.program_meaning.specs.World.{Gives, Got, Ends, Goes, Returns, Breaks, Continues, Fails, step, step_limit, with_given, next, next_turn, assigned, told}
+use Rattle.program_meaning.specs.World.{Gives, Got, Ends, Goes, Returns, Breaks, Continues, Fails, step, step_limit, with_given, next, next_turn, assigned, told, caught}
 use Rattle.program_meaning.specs.Operations.{in_range, is_true}
 use Rattle.program_meaning.specs.Evaluation.{Site, eval}
-use Rattle.program_meaning.specs.Execution.{act, act_all, act_arms, all_of, checked, store, augmented, value_or_none, message, turns_of, over_turns, over_items, over_numbers, counting, while_turns, stepping}
+use Rattle.program_meaning.specs.Execution.{act, act_all, act_arms, all_of, checked, store, augmented, value_or_none, message, turns_of, over_turns, over_items, over_numbers, counting, while_turns, stepping, act_clauses}
 
 -- a step that there is
 pub step_more : {A : Type 0} (n m : ℕ) (a : A) (f : ℕ → A) → n ≡ m + 1 → step n a f ≡ f m
@@ -48,6 +52,7 @@ module _ {W : Type 0} (s : Site W) (vars : List Var) (w : W) where
   act_zero (PIf at arms other) = refl
   act_zero (PWhile at t body) = refl
   act_zero (PFor at x x_at over body) = refl
+  act_zero (PTry at body clauses) = refl
 
   pub act_none : (x : PlainStmt) (n : ℕ) → n ≡ 0 → act s x vars w n ≡ Fails step_limit vars w n
   act_none x n h = subst (λ k. act s x vars w k ≡ Fails step_limit vars w k) (sym h) (act_zero x)
@@ -102,7 +107,11 @@ module _ {W : Type 0} (s : Site W) (at : Place) (vars : List Var) (w : W) (n : �
   unfolding act
   act-For x over body = ap (λ t. act s t vars w (n + 1)) (stmt-For at x over body) ∙ step_more (n + 1) n _ _ refl
 
-pub ruleset act_is = (act-Pass, act-Break, act-Continue, act-Expr, act-Return, act-Raise, act-Assert, act-Assign, act-Augment, act-If, act-While, act-For, act_none)
+  pub act-Try : (body : List Stmt) (clauses : List Clause) → act s (plain_stmt_kind (kind.Try body clauses) at) vars w (n + 1) ≡ caught (λ f vars w n. act_clauses s (clauses_of (plain_clauses clauses)) f vars w n) (act_all s (stmts_of (plain_stmts body)) vars w n)
+  unfolding act
+  act-Try body clauses = ap (λ t. act s t vars w (n + 1)) (stmt-Try at body clauses) ∙ step_more (n + 1) n _ _ refl
+
+pub ruleset act_is = (act-Pass, act-Break, act-Continue, act-Expr, act-Return, act-Raise, act-Assert, act-Assign, act-Augment, act-If, act-While, act-For, act-Try, act_none)
 
 module _ {W : Type 0} (s : Site W) (vars : List Var) (w : W) (n : ℕ) where
   pub stmts_next : (ss : List Stmt) (i : ℕ) (x : Stmt) → i < length ss → x ≡ get_or ss i x
@@ -122,6 +131,15 @@ module _ {W : Type 0} (s : Site W) (vars : List Var) (w : W) (n : ℕ) where
   pub arms_end : (xs : List Arm) (i : ℕ) (other : List Var → W → ℕ → Ends W) → length xs ≤ i → act_arms s (arms_of (plain_arms (drop i xs))) other vars w n ≡ other vars w n
   unfolding act_arms
   arms_end xs i other le = ap (λ t. act_arms s t other vars w n) (arms_past xs i le)
+
+  pub clauses_next : (ks : List Clause) (i : ℕ) (k : Clause) (f : Failure) → i < length ks → k ≡ get_or ks i k
+      → act_clauses s (clauses_of (plain_clauses (drop i ks))) f vars w n ≡ (if list_any (nat_eq f.kind) (out-Clause k).kinds then act_all s (stmts_of (plain_stmts (out-Clause k).body)) vars w n else act_clauses s (clauses_of (plain_clauses (drop (i + 1) ks))) f vars w n)
+  unfolding act_clauses
+  clauses_next ks i k f lt is = ap (λ t. act_clauses s t f vars w n) (clauses_from ks i k lt is)
+
+  pub clauses_end : (ks : List Clause) (i : ℕ) (f : Failure) → length ks ≤ i → act_clauses s (clauses_of (plain_clauses (drop i ks))) f vars w n ≡ Fails f vars w n
+  unfolding act_clauses
+  clauses_end ks i f le = ap (λ t. act_clauses s t f vars w n) (clauses_past ks i le)
 
 module _ {W : Type 0} (vars : List Var) (w : W) (n : ℕ) where
   pub while_next : (most : ℕ) (test : List Var → W → ℕ → Gives W Value) (body : List Var → W → ℕ → Ends W) → 0 < most

@@ -15,7 +15,7 @@ use Rattle.py_tree.specs.declared.stmt.Stmt.{Stmt}
 use Rattle.py_tree.specs.declared.stmt.Arm.{Arm}
 use Rattle.py_tree.specs.declared.stmt.StmtKind as kind
 use Rattle.py_tree.specs.PlainExpressions.{PlainExpr, plain_expr}
-use Rattle.py_tree.specs.PlainStatements.{plain_option, plain_stmt_kind, plain_stmt, plain_stmts, PlainStmt, PPass, PBreak, PContinue, PDo, PReturn, PRaise, PAssert, PAssign, PAugment, PIf, PWhile, PFor}
+use Rattle.py_tree.specs.PlainStatements.{plain_option, plain_stmt_kind, plain_stmt, plain_stmts, PlainStmt, PPass, PBreak, PContinue, PDo, PReturn, PRaise, PAssert, PAssign, PAugment, PIf, PWhile, PFor, PTry}
 use Rattle.py_tree.proofs.Views.{stmt-Assign, stmt-Assert, stmt-Pass, stmt-Break, stmt-Continue, stmt-Expr, stmt-Return, stmt-Raise, stmt-Augment, stmt-If, stmt-While, stmt-For}
 use Rattle.sf_value.specs.Keys.{Key, key_cmp}
 use Rattle.sf_value.proofs.Maps.{key_total}
@@ -64,6 +64,7 @@ module _ (src : Source) (me : Key) where
   declare_zero (PIf at arms other) vars fields = refl
   declare_zero (PWhile at t body) vars fields = refl
   declare_zero (PFor at x x_at over body) vars fields = refl
+  declare_zero (PTry at body clauses) vars fields = refl
 
   pub declare_none : (x : PlainStmt) (vars : List Var) (fields : List Value) (n : ℕ) → n ≡ 0 → declare src me x vars fields n ≡ Fell step_limit fields n
   declare_none x vars fields n none = subst (λ k. declare src me x vars fields k ≡ Fell step_limit fields k) (sym none) (declare_zero x vars fields)

@@ -9,12 +9,12 @@ use Rattle.py_tree.specs.declared.stmt.Target.{Target}
 use Rattle.py_tree.specs.declared.stmt.Target.TheVariants.{Local, Field}
 use Rattle.py_tree.specs.PlainTypes.{PlainTy, TBool, PlainWritten, type_of as type_written}
 use Rattle.py_tree.specs.PlainExpressions.{PlainExpr}
-use Rattle.py_tree.specs.PlainStatements.{PlainOver, PlainStmt, PPass, PBreak, PContinue, PDo, PReturn, PRaise, PAssert, PAssign, PAugment, PIf, PWhile, PFor, PlainStmts, PNoStmt, PStmt, PArm, PlainArms, PNoArm, PMoreArms}
+use Rattle.py_tree.specs.PlainStatements.{PlainOver, PlainStmt, PPass, PBreak, PContinue, PDo, PReturn, PRaise, PAssert, PAssign, PAugment, PIf, PWhile, PFor, PlainStmts, PNoStmt, PStmt, PArm, PlainArms, PNoArm, PMoreArms, PTry, PClause, PlainClauses, PNoClause, PMoreClauses}
 use Rattle.py_tree.specs.ClassRules.{PlainTable}
 use Rattle.py_tree.specs.FlowEnvironment.{PlainLocal, shown, narrowed}
 use Rattle.py_tree.specs.ExpressionTypes.{refuse_if, with_found, place_of, field_of}
-use Rattle.py_tree.specs.Reachability.{goes_on, all_go_on, assigned_in}
-use Rattle.py_tree.specs.Flow.{Context, type_at, condition_at, within_loop, Known, known_at, meet, way, behind_ways, with_local, at_head, settled, value_as, item_of, needs_none, return_fault, message_fault, local_fault, stored, assigned, field_assigned, field_declared, is_key_field, augmentation, combined_stored, Way, on, begun, broken_off, after_while, after_for, for_head, named_at, flow, flow_all, flow_arms}
+use Rattle.py_tree.specs.Reachability.{goes_on, all_go_on, assigned_in, a_clause_goes_on}
+use Rattle.py_tree.specs.Flow.{Context, type_at, condition_at, within_loop, Known, known_at, meet, way, behind_ways, with_local, at_head, settled, value_as, item_of, needs_none, return_fault, message_fault, local_fault, stored, assigned, field_assigned, field_declared, is_key_field, augmentation, combined_stored, Way, on, begun, broken_off, after_while, after_for, for_head, named_at, flow, flow_all, flow_arms, flow_clauses}
 use Rattle.program_meaning.specs.declared.vars.Var.{Var}
 use Rattle.program_meaning.specs.PointFits.{VarsFit}
 use Rattle.program_meaning.proofs.TypedParts.{done, same_ok, found_ok, refuse_ok, needs_ok, condition_ok}
@@ -62,6 +62,35 @@ module _ (c : Context) (w : Way) (after : Way) where
       let b : (named : List PlainLocal) × (stored w.locals (named_at name name_at) a.0 ≡ Ok named) × (then_body a.0 named ≡ Ok after) = found_ok (stored w.locals (named_at name name_at) a.0) (then_body a.0) after (no_need (local_fault c.tables w.locals (named_at name name_at)) (then_named a.0) after a.2).1 in
       let d : (e : Way) × (turn a.0 b.0 ≡ Ok e) × (then_behind b.0 e ≡ Ok after) = found_ok (turn a.0 b.0) (then_behind b.0) after b.2 in
       record { item = a.0; goes_over = a.1; named = b.0; names = b.1; end = d.0; turn = d.1; is = same_ok (on w (after_for (head b.0) d.0)) after d.2 }
+
+  pub record TryParts (body : PlainStmts) (clauses : PlainClauses) : Type 0 where
+    pub end : Way
+    pub inside : flow_all c w body ≡ Ok end
+    pub rest : flow_clauses c end (known_at (at_head (assigned_in body) w.locals)) (way (all_go_on body) end.locals) clauses ≡ Ok after
+
+  pub try_parts : (at : Place) (body : PlainStmts) (clauses : PlainClauses) → flow c w (PTry at body clauses) ≡ Ok after → TryParts body clauses
+  unfolding flow
+  try_parts at body clauses h =
+      let then_clauses : Way → Result Way RuleFault = λ b. flow_clauses c b (known_at (at_head (assigned_in body) w.locals)) (way (all_go_on body) b.locals) clauses in
+      let a : (e : Way) × (flow_all c w body ≡ Ok e) × (then_clauses e ≡ Ok after) = found_ok (flow_all c w body) then_clauses after h in
+      record { end = a.0; inside = a.1; rest = a.2 }
+
+  module _ (start : List Known) (ended : Option (List Known)) where
+    pub behind_clauses : flow_clauses c w start ended PNoClause ≡ Ok after → on w (behind_ways w.locals ended) ≡ after
+    unfolding flow
+    behind_clauses h = same_ok (on w (behind_ways w.locals ended)) after h
+
+    pub record ClauseParts (body : PlainStmts) (more : PlainClauses) : Type 0 where
+      pub end : Way
+      pub inside : flow_all c (on w (settled w.locals start)) body ≡ Ok end
+      pub rest : flow_clauses c end start (meet ended (way (all_go_on body) end.locals)) more ≡ Ok after
+
+    pub clause_parts : (kinds : List ℕ) (body : PlainStmts) (more : PlainClauses) → flow_clauses c w start ended (PMoreClauses (PClause kinds body) more) ≡ Ok after → ClauseParts body more
+    unfolding flow
+    clause_parts kinds body more h =
+        let then_rest : Way → Result Way RuleFault = λ k. flow_clauses c k start (meet ended (way (all_go_on body) k.locals)) more in
+        let a : (e : Way) × (flow_all c (on w (settled w.locals start)) body ≡ Ok e) × (then_rest e ≡ Ok after) = found_ok (flow_all c (on w (settled w.locals start)) body) then_rest after h in
+        record { end = a.0; inside = a.1; rest = a.2 }
 
   pub all_parts : (x : PlainStmt) (xs : PlainStmts) → flow_all c w (PStmt x xs) ≡ Ok after → (next : Way) × (flow c w x ≡ Ok next) × (cond (goes_on x) (flow_all c next xs) (Ok next) ≡ Ok after)
   unfolding flow
@@ -184,6 +213,10 @@ mutual
       let to_head : Grows w.locals head = grows_same w.locals w.locals a.named head refl (sym (for_shapes (name ∷ assigned_in body) w.locals a.named)) named in
       let to_end : Grows w.locals a.end.locals = grows_on w.locals (with_local name a.item a.item head) a.end.locals (grows_on w.locals head (with_local name a.item a.item head) to_head (local_grows name a.item a.item head)) inside.grows in
       subst (λ v. Follows w v) a.is (grown_way w (after_for head a.end) (grows_same w.locals w.locals a.end.locals (after_for head a.end) refl (sym (behind_for head a.end)) to_end))
+  follows (PTry at body clauses) c w after h =
+      let a : TryParts c w after body clauses = try_parts c w after at body clauses h in
+      follows_on w a.end after (follows_all body c w a.end a.inside)
+      (follows_clauses clauses c a.end (known_at (at_head (assigned_in body) w.locals)) (way (all_go_on body) a.end.locals) after a.rest)
 
   pub follows_all : (xs : PlainStmts) (c : Context) (w after : Way) → flow_all c w xs ≡ Ok after → Follows w after
   follows_all PNoStmt c w after h = same_way w after (same_ok w after h)
@@ -203,6 +236,14 @@ mutual
       (follows_on w a.end next_way (follows_on w true_way a.end (alike_way w (narrowed (shown true test) w.locals) (shapes_narrowed (shown true test) w.locals)) (follows_all body c true_way a.end a.arm)) (alike_way a.end _ (shapes_settled a.end.locals (known_at (narrowed (shown false test) w.locals)))))
       (follows_arms more c next_way (meet ended (way (all_go_on body) a.end.locals)) go other after a.rest k)
 
+  pub follows_clauses : (clauses : PlainClauses) (c : Context) (w : Way) (start : List Known) (ended : Option (List Known)) (after : Way) → flow_clauses c w start ended clauses ≡ Ok after → Follows w after
+  follows_clauses PNoClause c w start ended after h = subst (λ v. Follows w v) (behind_clauses c w after start ended h) (alike_way w _ (shapes_behind w.locals ended))
+  follows_clauses (PMoreClauses (PClause kinds body) more) c w start ended after h =
+      let a : ClauseParts c w after start ended body more = clause_parts c w after start ended kinds body more h in
+      let first : Way = on w (settled w.locals start) in
+      follows_on w a.end after (follows_on w first a.end (alike_way w _ (shapes_settled w.locals start)) (follows_all body c first a.end a.inside))
+      (follows_clauses more c a.end start (meet ended (way (all_go_on body) a.end.locals)) after a.rest)
+
 -- where ways through arms have met, the values fit behind all of them
 pub ended_fits : (tables : List PlainTable) (vars : List Var) (arms : PlainArms) (c : Context) (w : Way) (ended : Option (List Known)) (go : Bool) (other : Way → Result Way RuleFault) (after : Way) → flow_arms c w ended arms go other ≡ Ok after → ((v last : Way) → other v ≡ Ok last → Follows v last)
     → MetFits tables vars (shapes w.locals) ended → VarsFit tables vars after.locals
@@ -219,3 +260,16 @@ ended_fits tables vars (PMoreArms (PArm test body) more) c w ended go other afte
     let to_later : Grows w.locals later = grows_same w.locals w.locals a.end.locals later refl (sym (shapes_settled a.end.locals (known_at (narrowed (shown false test) w.locals)))) to_end in
     ended_fits tables vars more c (on a.end later) (meet ended (way (all_go_on body) a.end.locals)) go other after a.rest k
     (met_left tables vars (shapes later) ended (way (all_go_on body) a.end.locals) (met_grown tables vars w.locals later ended to_later met))
+
+-- and where ways through a body and clauses have met
+pub clauses_ended : (tables : List PlainTable) (vars : List Var) (clauses : PlainClauses) (c : Context) (w : Way) (start : List Known) (ended : Option (List Known)) (after : Way) → flow_clauses c w start ended clauses ≡ Ok after
+    → MetFits tables vars (shapes w.locals) ended → VarsFit tables vars after.locals
+clauses_ended tables vars PNoClause c w start ended after h met =
+    subst (λ (v : Way). VarsFit tables vars v.locals) (behind_clauses c w after start ended h) (behind_fits tables vars w.locals ended met)
+clauses_ended tables vars (PMoreClauses (PClause kinds body) more) c w start ended after h met =
+    let a : ClauseParts c w after start ended body more = clause_parts c w after start ended kinds body more h in
+    let first : List PlainLocal = settled w.locals start in
+    let f : Follows (on w first) a.end = follows_all body c (on w first) a.end a.inside in
+    let to_end : Grows w.locals a.end.locals = grows_same first w.locals a.end.locals a.end.locals (shapes_settled w.locals start) refl f.grows in
+    clauses_ended tables vars more c a.end start (meet ended (way (all_go_on body) a.end.locals)) after a.rest
+    (met_left tables vars (shapes a.end.locals) ended (way (all_go_on body) a.end.locals) (met_grown tables vars w.locals a.end.locals ended to_end met))

@@ -13,7 +13,7 @@ use Rattle.py_tree.specs.declared.rule.RuleFault.{RuleFault}
 use Rattle.py_tree.specs.declared.stmt.Target.TheVariants.{Local, Field}
 use Rattle.py_tree.specs.PlainTypes.{PlainTy, TBool, TStr, PlainWritten, WStr, type_of as type_written}
 use Rattle.py_tree.specs.PlainExpressions.{PlainExpr, PVar}
-use Rattle.py_tree.specs.PlainStatements.{PlainStmt, PPass, PBreak, PContinue, PDo, PReturn, PRaise, PAssert, PAssign, PAugment, PIf, PWhile, PFor, stmts_of}
+use Rattle.py_tree.specs.PlainStatements.{PlainStmt, PPass, PBreak, PContinue, PDo, PReturn, PRaise, PAssert, PAssign, PAugment, PIf, PWhile, PFor, stmts_of, PTry}
 use Rattle.py_tree.specs.PlainProgram.{PlainMethod, PlainProgram}
 use Rattle.py_tree.specs.ClassRules.{PlainField, PlainTable, declaration, variable, is_str, source_in, field_declared, fields_of, field_names, is_field, acts, option_acts, place_of_stmt, broken, first_behind, is_full, is_member, is_called, written_fault, is_plain_assert, other_fault, init_stmt_fault, program_fault, tables_of}
 use Rattle.py_tree.specs.FlowEnvironment.{PlainLocal, shown, narrowed}
@@ -84,6 +84,7 @@ init_stmt names program members fields (PAugment at x o op_at e) none = absurd (
 init_stmt names program members fields (PIf at arms other) none = absurd (no_other program fields (PIf at arms other) refl none)
 init_stmt names program members fields (PWhile at test body) none = absurd (no_other program fields (PWhile at test body) refl none)
 init_stmt names program members fields (PFor at x x_at items body) none = absurd (no_other program fields (PFor at x x_at items body) refl none)
+init_stmt names program members fields (PTry at body clauses) none = absurd (no_other program fields (PTry at body clauses) refl none)
 
 -- Fields that are declared behind others
 

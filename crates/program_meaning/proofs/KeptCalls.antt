@@ -4,7 +4,7 @@ use Rattle.std.specs.Prelude.{slice_get, unwrap_or}
 use Rattle.std.specs.FinMap as map
 use Rattle.std.specs.Ordering.{eq_by_cmp}
 use Rattle.std.proofs.lemmas.Option.{same_Some}
-use Rattle.py_tree.specs.PlainStatements.{PlainStmt, PAssign, PAssert, PPass, PBreak, PContinue, PDo, PReturn, PRaise, PAugment, PIf, PWhile, PFor, stmts_of}
+use Rattle.py_tree.specs.PlainStatements.{PlainStmt, PAssign, PAssert, PPass, PBreak, PContinue, PDo, PReturn, PRaise, PAugment, PIf, PWhile, PFor, stmts_of, PTry}
 use Rattle.py_tree.specs.ClassRules.{body_of, params_of}
 use Rattle.sf_value.specs.Keys.{Key, key_cmp}
 use Rattle.sf_value.specs.declared.Act.{Act}
@@ -95,6 +95,7 @@ module _ (K : Kinds) where
     declare_kept me key (PIf at arms other) ints vars fields n hold held = stepped_kept K (AreHeld K) fields n _ held (λ n. got K.nil held)
     declare_kept me key (PWhile at test body) ints vars fields n hold held = stepped_kept K (AreHeld K) fields n _ held (λ n. got K.nil held)
     declare_kept me key (PFor at x x_at over body) ints vars fields n hold held = stepped_kept K (AreHeld K) fields n _ held (λ n. got K.nil held)
+    declare_kept me key (PTry at body clauses) ints vars fields n hold held = stepped_kept K (AreHeld K) fields n _ held (λ n. got K.nil held)
 
     declares_kept : (me : Key) → K.Held (entity me) → (xs : List PlainStmt) → StmtsInts K.Written (stmts_of xs) → (vars : List Var) (fields : List Value) (n : ℕ) → VarsHold K vars → AreHeld K fields
         → GivesKept K (AreHeld K) K.Given (declare_all src me xs vars fields n)

@@ -14,7 +14,7 @@ use Rattle.sf_value.specs.declared.value.Value.{Value}
 use Rattle.sf_value.specs.declared.value.Value.TheVariants as value
 use Rattle.program_meaning.specs.declared.vars.Var.{Var}
 use Rattle.program_meaning.specs.ClassTables.{Source, methods_of, init_of}
-use Rattle.program_meaning.specs.World.{Calls, Gives, Got, Fell, ◌>>=◌, told, Ends, Goes, Returns, Breaks, Continues, Fails, step, step_limit, with_given, next, next_turn, result_of, value_of_var, var_at, local_value, placed, assigned, value_at, field_value, set_at, with_field}
+use Rattle.program_meaning.specs.World.{Calls, Gives, Got, Fell, ◌>>=◌, told, Ends, Goes, Returns, Breaks, Continues, Fails, step, step_limit, with_given, next, next_turn, result_of, value_of_var, var_at, local_value, placed, assigned, value_at, field_value, set_at, with_field, caught}
 use Rattle.program_meaning.specs.Operations.{in_range, weighed, int_of, text_of, items_of, combined, given_by}
 use Rattle.program_meaning.specs.Evaluation.{Site, entity, literal, class_of}
 use Rattle.program_meaning.specs.Execution.{stepping}
@@ -223,6 +223,13 @@ module _ (K : Kinds) where
     turn_kept (Breaks vars w n) f (breaks hold kept) rest = goes hold kept
     turn_kept (Continues vars w n) f (continues hold kept) rest = rest vars w n hold kept
     turn_kept (Fails c vars w n) f (fails of hold kept) rest = fails of hold kept
+
+    pub caught_kept : (e : Ends W) (f : Failure → List Var → W → ℕ → Ends W) → EndsKept K IsKept e → ((c : Failure) → K.Said c.message → CodeKeeps (f c)) → EndsKept K IsKept (caught f e)
+    caught_kept (Goes vars w n) f (goes hold kept) rest = goes hold kept
+    caught_kept (Returns v w n) f (returns of kept) rest = returns of kept
+    caught_kept (Breaks vars w n) f (breaks hold kept) rest = breaks hold kept
+    caught_kept (Continues vars w n) f (continues hold kept) rest = continues hold kept
+    caught_kept (Fails c vars w n) f (fails of hold kept) rest = rest c of vars w n hold kept
 
     pub result_kept : (e : Ends W) → EndsKept K IsKept e → GivesKept K IsKept K.Given (result_of e)
     result_kept (Goes vars w n) (goes hold kept) = got K.nil kept

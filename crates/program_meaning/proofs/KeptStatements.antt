@@ -1,25 +1,27 @@
 -- Statements keep the world, leave locals that hold what may be held, and return and fail as expressions do.
+use Rattle.std.specs.List.{list_any}
 use Rattle.std.proofs.Common.{◌≡◌, ℕ, zero, suc, ℤ, pos, ◌+ℤ◌, Bool, true, false, Option, Some, None, List, [], ◌∷◌, if◌then◌else◌, refl}
-use Rattle.std.specs.Prelude.{IfSome}
+use Rattle.std.specs.Prelude.{IfSome, nat_eq}
 use Rattle.std.specs.Ordering.{int_cmp, is_lt}
 use Rattle.py_tree.specs.declared.expr.BinOp.{BinOp}
 use Rattle.py_tree.specs.declared.stmt.Target.{Target}
 use Rattle.py_tree.specs.declared.stmt.Target.TheVariants as target
 use Rattle.py_tree.specs.ClassRules.{body_of, params_of}
 use Rattle.py_tree.specs.PlainExpressions.{PlainExpr}
-use Rattle.py_tree.specs.PlainStatements.{PlainOver, PRange, PItems, PlainStmt, PAssign, PAugment, PAssert, PPass, PBreak, PContinue, PDo, PReturn, PRaise, PIf, PWhile, PFor, PlainStmts, PNoStmt, PStmt, PArm, PlainArms, PNoArm, PMoreArms, stmts_of}
+use Rattle.py_tree.specs.PlainStatements.{PlainOver, PRange, PItems, PlainStmt, PAssign, PAugment, PAssert, PPass, PBreak, PContinue, PDo, PReturn, PRaise, PIf, PWhile, PFor, PlainStmts, PNoStmt, PStmt, PArm, PlainArms, PNoArm, PMoreArms, stmts_of, PTry, PClause, PlainClauses, PNoClause, PMoreClauses}
 use Rattle.py_tree.specs.PlainProgram.{PlainMethod}
 use Rattle.sf_value.specs.declared.value.Value.{Value}
 use Rattle.sf_value.specs.declared.value.Value.TheVariants as value
+use Rattle.sf_value.specs.declared.Failure.{Failure}
 use Rattle.program_meaning.specs.declared.vars.Var.{Var}
 use Rattle.program_meaning.specs.ClassTables.{fields_of}
-use Rattle.program_meaning.specs.World.{Gives, Ends, Goes, Fails, assertion_error, told, assigned, with_given, next_turn, with_field}
+use Rattle.program_meaning.specs.World.{Gives, Ends, Goes, Fails, assertion_error, told, assigned, with_given, next_turn, with_field, caught}
 use Rattle.program_meaning.specs.Operations.{in_range, weighed, is_true}
 use Rattle.program_meaning.specs.Evaluation.{Site, eval}
-use Rattle.program_meaning.specs.Execution.{stepping, store, target_value, augmented, value_or_none, message, Turns, Items, Numbers, start_of, turns_of, turn, over_items, over_numbers, over_turns, counting, while_turns, checked, act, act_all, act_arms}
+use Rattle.program_meaning.specs.Execution.{stepping, store, target_value, augmented, value_or_none, message, Turns, Items, Numbers, start_of, turns_of, turn, over_items, over_numbers, over_turns, counting, while_turns, checked, act, act_all, act_arms, act_clauses}
 use Rattle.program_meaning.specs.Calls.{run_body, bound}
-use Rattle.program_meaning.specs.WrittenInts.{ExprInts, OverInts, StmtInts, StmtsInts, ArmsInts}
-use Rattle.program_meaning.proofs.KeptKinds.{Kinds, AreGiven, VarsHold, GivesKept, got, EndsKept, goes, returns, breaks, continues, fails, SiteKeeps, CodeKeeps, local_held, field_held, put_held, assigned_held, bound_held, told_kept, then_kept, stepping_kept, choice_kept, uses_kept, next_kept, turn_kept, result_kept}
+use Rattle.program_meaning.specs.WrittenInts.{ExprInts, OverInts, StmtInts, StmtsInts, ArmsInts, ClausesInts}
+use Rattle.program_meaning.proofs.KeptKinds.{Kinds, AreGiven, VarsHold, GivesKept, got, EndsKept, goes, returns, breaks, continues, fails, SiteKeeps, CodeKeeps, local_held, field_held, put_held, assigned_held, bound_held, told_kept, then_kept, stepping_kept, choice_kept, uses_kept, next_kept, turn_kept, result_kept, caught_kept}
 use Rattle.program_meaning.proofs.KeptExpressions.{weighed_kept, combined_kept, eval_kept, option_kept, message_kept}
 
 -- what a `for` goes over is given
@@ -142,6 +144,9 @@ module _ (K : Kinds) {W : Type 0} (IsKept : W → Type 0) (s : Site W) (k : Site
         stepping_kept K IsKept vars w n _ hold kept (λ n.
         uses_kept K IsKept vars (turns_of s over vars w n) _ hold (over_kept over ints.0 vars w n hold kept) (λ turns w n of kept.
         turns_kept K IsKept name (λ vars w n. act_all s body vars w n) (acts_kept body ints.1) turns of vars w n hold kept))
+    act_kept (PTry at body clauses) ints vars w n hold kept =
+        stepping_kept K IsKept vars w n _ hold kept (λ n.
+        caught_kept K IsKept (act_all s body vars w n) _ (acts_kept body ints.0 vars w n hold kept) (clauses_kept clauses ints.1))
 
     acts_kept : (xs : PlainStmts) → StmtsInts K.Written xs → CodeKeeps K IsKept (act_all s xs)
     acts_kept PNoStmt ints vars w n hold kept = goes hold kept
@@ -152,6 +157,11 @@ module _ (K : Kinds) {W : Type 0} (IsKept : W → Type 0) (s : Site W) (k : Site
     arms_kept (PMoreArms (PArm test body) more) ints other rest vars w n hold kept =
         uses_kept K IsKept vars (eval s test vars w n) _ hold (eval_kept K IsKept s k test ints.0 vars w n hold kept) (λ v w n of kept.
         choice_kept K IsKept (is_true v) (act_all s body vars w n) (act_arms s more other vars w n) (acts_kept body ints.1 vars w n hold kept) (arms_kept more ints.2 other rest vars w n hold kept))
+
+    clauses_kept : (clauses : PlainClauses) → ClausesInts K.Written clauses → (c : Failure) → K.Said c.message → CodeKeeps K IsKept (λ vars w n. act_clauses s clauses c vars w n)
+    clauses_kept PNoClause ints c of vars w n hold kept = fails of hold kept
+    clauses_kept (PMoreClauses (PClause kinds body) more) ints c of vars w n hold kept =
+        choice_kept K IsKept (list_any (nat_eq c.kind) kinds) (act_all s body vars w n) (act_clauses s more c vars w n) (acts_kept body ints.0 vars w n hold kept) (clauses_kept more ints.1 c of vars w n hold kept)
 
   pub body_kept : (method : Option PlainMethod) → StmtsInts K.Written (stmts_of (body_of method)) → (args : List Value) (w : W) (n : ℕ) → AreGiven K args → IsKept w → GivesKept K IsKept K.Given (run_body s method args w n)
   unfolding run_body

@@ -9,13 +9,13 @@ use Rattle.std.proofs.Math.Bridge.{le_prop}
 use Rattle.std.proofs.Math.Logic.{∥∥₁_elim}
 use Rattle.py_tree.specs.declared.rule.Rule.TheVariants.{TooMany, ReservedName, DuplicateMember, MissingReturn}
 use Rattle.py_tree.specs.declared.rule.RuleFault.{RuleFault}
-use Rattle.py_tree.specs.PlainStatements.{PlainStmt, PPass, PBreak, PContinue, PDo, PReturn, PRaise, PAssert, PAssign, PAugment, PIf, PWhile, PFor, PlainStmts, PNoStmt, PStmt, PArm, PlainArms, PNoArm, PMoreArms, stmts_of}
+use Rattle.py_tree.specs.PlainStatements.{PlainStmt, PPass, PBreak, PContinue, PDo, PReturn, PRaise, PAssert, PAssign, PAugment, PIf, PWhile, PFor, PlainStmts, PNoStmt, PStmt, PArm, PlainArms, PNoArm, PMoreArms, stmts_of, PTry, PClause, PlainClauses, PNoClause, PMoreClauses}
 use Rattle.py_tree.specs.PlainProgram.{PlainParam, PlainMethod, PlainClass, PlainProgram}
 use Rattle.py_tree.specs.ClassRules.{PlainTable, is_reserved, is_class, is_param, is_init, is_full, broken, first_behind, first_in, param_fault, annotation_fault, member_fault, member_name_fault, result_fault, init_body_fault, class_fault, whole_fault, program_fault, methods_of as methods_among, init_of as init_among, body_of, written_or_none, sig_param, sig_params, tables_of}
 use Rattle.py_tree.specs.FlowEnvironment.{PlainLocal, has_none}
 use Rattle.py_tree.specs.ExpressionTypes.{inside, refuse_if}
 use Rattle.py_tree.specs.Reachability.{all_go_on}
-use Rattle.py_tree.specs.Bounded.{IsBounded, IsBoundedClass, IsBoundedMethod, EachStmt, EachOfStmts, EachOfArms, RaisesFailure}
+use Rattle.py_tree.specs.Bounded.{IsBounded, IsBoundedClass, IsBoundedMethod, EachStmt, EachOfStmts, EachOfArms, RaisesFailure, EachOfClauses}
 use Rattle.py_tree.specs.Flow.{param_local, result_at, known_at, settled, Way, begun, flow_all, fault_in, locals_at_start, sig_at, in_method, method_locals, init_locals, in_init, init_flow_fault, methods_flow_fault, class_flow_fault, classes_flow_fault, flow_fault}
 use Rattle.py_tree.proofs.ClassRuleLaws.{head_none, rest_none, not_broken, class_kept}
 use Rattle.sf_value.specs.declared.value.Value.{Value}
@@ -57,6 +57,7 @@ mutual
   raise_same (PIf at arms other) a b = three_same unit_same (arms_same arms) (raises_same other) a b
   raise_same (PWhile at test body) a b = two_same unit_same (raises_same body) a b
   raise_same (PFor at x x_at over body) a b = two_same unit_same (raises_same body) a b
+  raise_same (PTry at body clauses) a b = three_same unit_same (raises_same body) (clauses_same clauses) a b
 
   raises_same : (xs : PlainStmts) (a b : EachOfStmts RaisesFailure xs) → a ≡ b
   raises_same PNoStmt a b = unit_same a b
@@ -65,6 +66,10 @@ mutual
   arms_same : (arms : PlainArms) (a b : EachOfArms RaisesFailure arms) → a ≡ b
   arms_same PNoArm a b = unit_same a b
   arms_same (PMoreArms (PArm test body) more) a b = two_same (raises_same body) (arms_same more) a b
+
+  clauses_same : (clauses : PlainClauses) (a b : EachOfClauses RaisesFailure clauses) → a ≡ b
+  clauses_same PNoClause a b = unit_same a b
+  clauses_same (PMoreClauses (PClause kinds body) more) a b = two_same (raises_same body) (clauses_same more) a b
 
 -- Parameters
 

@@ -1,18 +1,21 @@
 -- A point that can't be reached never is.
+use Rattle.std.specs.Prelude.{nat_eq}
+use Rattle.std.specs.List.{list_any}
 use Rattle.std.proofs.Common.{◌≡◌, ℕ, zero, suc, ℤ, pos, ◌+ℤ◌, Bool, true, false, true≢false, not, ◌||◌, ◌&&◌, List, [], ◌∷◌, if◌then◌else◌, refl, sym, ◌∙◌}
 use Rattle.std.specs.Ordering.{int_cmp, is_lt}
 use Rattle.py_tree.specs.declared.stmt.Target.{Target}
 use Rattle.py_tree.specs.declared.stmt.Target.TheVariants as target
 use Rattle.py_tree.specs.PlainExpressions.{PlainExpr, PBool}
-use Rattle.py_tree.specs.PlainStatements.{PlainStmt, PPass, PBreak, PContinue, PDo, PReturn, PRaise, PAssert, PAssign, PAugment, PIf, PWhile, PFor, PlainStmts, PNoStmt, PStmt, PArm, PlainArms, PNoArm, PMoreArms}
-use Rattle.py_tree.specs.Reachability.{is_true as is_true_word, goes_on, all_go_on, an_arm_goes_on, breaks, break_in, break_in_arm}
+use Rattle.py_tree.specs.PlainStatements.{PlainStmt, PPass, PBreak, PContinue, PDo, PReturn, PRaise, PAssert, PAssign, PAugment, PIf, PWhile, PFor, PlainStmts, PNoStmt, PStmt, PArm, PlainArms, PNoArm, PMoreArms, PTry, PClause, PlainClauses, PNoClause, PMoreClauses}
+use Rattle.py_tree.specs.Reachability.{is_true as is_true_word, goes_on, all_go_on, an_arm_goes_on, breaks, break_in, break_in_arm, a_clause_goes_on, break_in_clause}
 use Rattle.sf_value.specs.declared.value.Value.{Value}
 use Rattle.sf_value.specs.declared.value.Value.TheVariants as value
+use Rattle.sf_value.specs.declared.Failure.{Failure}
 use Rattle.program_meaning.specs.declared.vars.Var.{Var}
-use Rattle.program_meaning.specs.World.{Gives, Got, Fell, told, Ends, Goes, Returns, Breaks, Continues, Fails, with_given, next, next_turn}
+use Rattle.program_meaning.specs.World.{Gives, Got, Fell, told, Ends, Goes, Returns, Breaks, Continues, Fails, with_given, next, next_turn, caught}
 use Rattle.program_meaning.specs.Operations.{in_range, is_true}
 use Rattle.program_meaning.specs.Evaluation.{Site, eval}
-use Rattle.program_meaning.specs.Execution.{stepping, store, augmented, value_or_none, message, Turns, Items, Numbers, turns_of, turn, over_items, over_numbers, over_turns, counting, while_turns, act, act_all, act_arms}
+use Rattle.program_meaning.specs.Execution.{stepping, store, augmented, value_or_none, message, Turns, Items, Numbers, turns_of, turn, over_items, over_numbers, over_turns, counting, while_turns, act, act_all, act_arms, act_clauses}
 use Rattle.program_meaning.specs.Reached.{IsReached}
 
 first_true : (a b : Bool) → a ≡ true → (a || b) ≡ true
@@ -60,6 +63,14 @@ module _ {W : Type 0} where
   next_reached go leave more other (Breaks vars w n) f r later = first_true leave (go && other) r
   next_reached go leave more other (Continues vars w n) f r later = tt
   next_reached go leave more other (Fails c vars w n) f r later = tt
+
+  -- what a body or a clause comes to
+  caught_reached : (go leave more other : Bool) (e : Ends W) (f : Failure → List Var → W → ℕ → Ends W) → IsReached go leave e → ((c : Failure) (vars : List Var) (w : W) (n : ℕ) → IsReached more other (f c vars w n)) → IsReached (go || more) (leave || other) (caught f e)
+  caught_reached go leave more other (Goes vars w n) f r later = first_true go more r
+  caught_reached go leave more other (Returns v w n) f r later = tt
+  caught_reached go leave more other (Breaks vars w n) f r later = first_true leave other r
+  caught_reached go leave more other (Continues vars w n) f r later = tt
+  caught_reached go leave more other (Fails c vars w n) f r later = wider more other (go || more) (leave || other) (f c vars w n) (second_true go more) (second_true leave other) (later c vars w n)
 
   -- a loop is left by a `break` of its body, and then it goes on
   turn_reached : (go leave more : Bool) (e : Ends W) (f : List Var → W → ℕ → Ends W) → IsReached go leave e → (leave ≡ true → more ≡ true) → ((vars : List Var) (w : W) (n : ℕ) → IsReached more false (f vars w n)) → IsReached more false (next_turn e f)
@@ -153,6 +164,9 @@ module _ {W : Type 0} where
       act_reached (PFor at name name_at over body) vars w n =
           step_reached true false vars w n _ (λ n. given_reached true false vars (turns_of s over vars w n) _ (λ turns w n.
           turns_reached (all_go_on body) (break_in body) name (λ vars w n. act_all s body vars w n) (acts_reached body) turns vars w n))
+      act_reached (PTry at body clauses) vars w n =
+          step_reached (all_go_on body || a_clause_goes_on clauses) (break_in body || break_in_clause clauses) vars w n _ (λ n.
+          caught_reached (all_go_on body) (break_in body) (a_clause_goes_on clauses) (break_in_clause clauses) (act_all s body vars w n) _ (acts_reached body vars w n) (clauses_reached clauses))
 
       pub acts_reached : (xs : PlainStmts) (vars : List Var) (w : W) (n : ℕ) → IsReached (all_go_on xs) (break_in xs) (act_all s xs vars w n)
       acts_reached PNoStmt vars w n = refl
@@ -166,3 +180,12 @@ module _ {W : Type 0} where
           choice_reached ((all_go_on body || an_arm_goes_on more) || go) ((break_in body || break_in_arm more) || leave) (is_true v) (act_all s body vars w n) (act_arms s more other vars w n)
           (wider (all_go_on body) (break_in body) ((all_go_on body || an_arm_goes_on more) || go) ((break_in body || break_in_arm more) || leave) (act_all s body vars w n) (in_first (all_go_on body) (an_arm_goes_on more) go) (in_first (break_in body) (break_in_arm more) leave) (acts_reached body vars w n))
           (wider (an_arm_goes_on more || go) (break_in_arm more || leave) ((all_go_on body || an_arm_goes_on more) || go) ((break_in body || break_in_arm more) || leave) (act_arms s more other vars w n) (in_rest (all_go_on body) (an_arm_goes_on more) go) (in_rest (break_in body) (break_in_arm more) leave) (arms_reached more go leave other r vars w n)))
+
+      clauses_reached : (clauses : PlainClauses) (c : Failure) (vars : List Var) (w : W) (n : ℕ) → IsReached (a_clause_goes_on clauses) (break_in_clause clauses) (act_clauses s clauses c vars w n)
+      clauses_reached PNoClause c vars w n = tt
+      clauses_reached (PMoreClauses (PClause kinds body) more) c vars w n =
+          let go : Bool = all_go_on body || a_clause_goes_on more in
+          let leave : Bool = break_in body || break_in_clause more in
+          choice_reached go leave (list_any (nat_eq c.kind) kinds) (act_all s body vars w n) (act_clauses s more c vars w n)
+          (wider (all_go_on body) (break_in body) go leave (act_all s body vars w n) (first_true (all_go_on body) (a_clause_goes_on more)) (first_true (break_in body) (break_in_clause more)) (acts_reached body vars w n))
+          (wider (a_clause_goes_on more) (break_in_clause more) go leave (act_clauses s more c vars w n) (second_true (all_go_on body) (a_clause_goes_on more)) (second_true (break_in body) (break_in_clause more)) (clauses_reached more c vars w n))

@@ -1,30 +1,32 @@
 -- One world seen through another by code that doesn't suspend: it is enough that the view keeps what those calls do that stay.
+use Rattle.std.specs.List.{list_any}
 use Rattle.std.proofs.Common.{◌≡◌, ◌∙◌, ℕ, suc, pos, ◌-ℤ◌, Bool, true, false, true≢false, not, ◌||◌, ◌&&◌, List, [], ◌∷◌, ◌++◌, Option, Some, None, Ok, Err, if◌then◌else◌, refl, sym, ap, subst}
-use Rattle.std.specs.Prelude.{nat_le, is_none}
+use Rattle.std.specs.Prelude.{nat_le, is_none, nat_eq}
 use Rattle.py_tree.specs.declared.expr.BinOp.{BinOp}
 use Rattle.py_tree.specs.declared.stmt.Target.{Target}
 use Rattle.py_tree.specs.declared.stmt.Target.TheVariants as target
 use Rattle.py_tree.specs.ClassRules.{is_self, body_of, params_of}
 use Rattle.py_tree.specs.ExpressionTypes.{Function, function_of}
 use Rattle.py_tree.specs.PlainExpressions.{PlainExpr, PInt, PBool, PStr, PNil, PVar, PSelf, PAttr, PCall, PApply, PIndex, PList, PNeg, PPos, PNot, PChain, PAnd, POr, PCompare, PIsNone, PCond, PlainExprs, PNoExpr, PExpr, PLink, PlainLinks, PNoLink, PMoreLinks}
-use Rattle.py_tree.specs.PlainStatements.{PlainOver, PRange, PItems, PlainStmt, PPass, PBreak, PContinue, PDo, PReturn, PRaise, PAssert, PAssign, PAugment, PIf, PWhile, PFor, PlainStmts, PNoStmt, PStmt, PArm, PlainArms, PNoArm, PMoreArms, stmts_of}
+use Rattle.py_tree.specs.PlainStatements.{PlainOver, PRange, PItems, PlainStmt, PPass, PBreak, PContinue, PDo, PReturn, PRaise, PAssert, PAssign, PAugment, PIf, PWhile, PFor, PlainStmts, PNoStmt, PStmt, PArm, PlainArms, PNoArm, PMoreArms, stmts_of, PTry, PClause, PlainClauses, PNoClause, PMoreClauses}
 use Rattle.py_tree.specs.PlainProgram.{PlainMethod}
 use Rattle.py_tree.specs.Reachability.{goes_on, breaks}
-use Rattle.call_graph.specs.SuspendingCode.{Leaving, expr_suspends, exprs_suspend, links_suspend, some_suspends, over_suspends, stmt_suspends, stmts_suspend, arms_suspend}
+use Rattle.call_graph.specs.SuspendingCode.{Leaving, expr_suspends, exprs_suspend, links_suspend, some_suspends, over_suspends, stmt_suspends, stmts_suspend, arms_suspend, clauses_suspend}
 use Rattle.sf_value.specs.Keys.{Key}
 use Rattle.sf_value.specs.Weight.{weight_of}
 use Rattle.sf_value.specs.declared.value.Value.{Value}
 use Rattle.sf_value.specs.declared.value.Value.TheVariants as value
+use Rattle.sf_value.specs.declared.Failure.{Failure}
 use Rattle.program_meaning.specs.declared.vars.Var.{Var}
 use Rattle.program_meaning.specs.ClassTables.{Source, fields_of}
-use Rattle.program_meaning.specs.World.{Calls, Own, Gives, Got, ◌>>=◌, Ends, Goes, Returns, Breaks, Continues, Fails, told, size_limit, assertion_error, with_given, next, local_value, field_value, with_field}
+use Rattle.program_meaning.specs.World.{Calls, Own, Gives, Got, ◌>>=◌, Ends, Goes, Returns, Breaks, Continues, Fails, told, size_limit, assertion_error, with_given, next, local_value, field_value, with_field, caught}
 use Rattle.program_meaning.specs.Operations.{in_range, weighed, int_of, is_true, is_nil, items_of, text_of, element, combined, holds, given_by}
 use Rattle.program_meaning.specs.Evaluation.{Site, eval, eval_all, linked, each_is, same_truth, applied, entity, method_of, literal, own_field}
-use Rattle.program_meaning.specs.Execution.{message, store, target_value, augmented, value_or_none, start_of, turns_of, Items, Numbers, over_turns, while_turns, checked, act, act_all, act_arms}
+use Rattle.program_meaning.specs.Execution.{message, store, target_value, augmented, value_or_none, start_of, turns_of, Items, Numbers, over_turns, while_turns, checked, act, act_all, act_arms, act_clauses}
 use Rattle.program_meaning.specs.Calls.{bound, run_body}
 use Rattle.program_meaning.specs.Reached.{IsReached}
 use Rattle.program_meaning.proofs.NotReached.{act_reached}
-use Rattle.program_meaning.proofs.ViewLaws.{viewed, viewed_end, told_viewed, then_viewed, if_viewed, given_viewed, next_viewed, choice_viewed, stepping_viewed, result_viewed, over_viewed, while_viewed}
+use Rattle.program_meaning.proofs.ViewLaws.{viewed, viewed_end, told_viewed, then_viewed, if_viewed, given_viewed, next_viewed, choice_viewed, stepping_viewed, result_viewed, over_viewed, while_viewed, caught_viewed}
 
 not_first : (a b : Bool) → (a || b) ≡ false → a ≡ false
 not_first true b e = e
@@ -212,6 +214,10 @@ module _ {V W : Type 0} (f : W → V) (leaves : Leaving) (src : Source) (me : Ke
         stepping_viewed f vars w n (λ n. with_given vars (turns_of s over vars w n) (λ turns w n. over_turns name (λ vars w n. act_all s body vars w n) turns vars w n)) _ (λ n.
         given_viewed f vars (turns_of s over vars w n) _ (λ turns w n. over_turns name (λ vars w n. act_all s body vars w n) turns vars w n) _ (over_quiet over (not_first (over_suspends leaves over) (stmts_suspend leaves body) q) vars w n) (λ turns w n.
         over_viewed f (λ vars w n. act_all s body vars w n) (λ vars w n. act_all t body vars w n) (acts_quiet body (not_second (over_suspends leaves over) (stmts_suspend leaves body) q)) name turns vars w n))
+    act_quiet (PTry at body clauses) q vars w n =
+        stepping_viewed f vars w n (λ n. caught (λ c vars w n. act_clauses s clauses c vars w n) (act_all s body vars w n)) _ (λ n.
+        caught_viewed f (act_all s body vars w n) _ (λ c vars w n. act_clauses s clauses c vars w n) _ (acts_quiet body (not_first (stmts_suspend leaves body) (clauses_suspend leaves clauses) q) vars w n)
+        (clauses_quiet clauses (not_second (stmts_suspend leaves body) (clauses_suspend leaves clauses) q)))
 
     pub acts_quiet : (xs : PlainStmts) → stmts_suspend leaves xs ≡ false → (vars : List Var) (w : W) (n : ℕ) → act_all t xs vars (f w) n ≡ viewed_end f (act_all s xs vars w n)
     acts_quiet PNoStmt q vars w n = refl
@@ -236,6 +242,13 @@ module _ {V W : Type 0} (f : W → V) (leaves : Leaving) (src : Source) (me : Ke
         given_viewed f vars (eval s test vars w n) _ (λ v w n. if is_true v then act_all s body vars w n else act_arms s more other vars w n) _ (eval_quiet test (not_first (expr_suspends leaves test) (stmts_suspend leaves body || arms_suspend leaves more) q) vars w n) (λ v w n.
         choice_viewed f (is_true v) (act_all s body vars w n) (act_arms s more other vars w n) _ _ (acts_quiet body (not_first (stmts_suspend leaves body) (arms_suspend leaves more) rest) vars w n)
         (arms_quiet more (not_second (stmts_suspend leaves body) (arms_suspend leaves more) rest) other last same vars w n))
+
+    clauses_quiet : (clauses : PlainClauses) → clauses_suspend leaves clauses ≡ false → (c : Failure) (vars : List Var) (w : W) (n : ℕ) → act_clauses t clauses c vars (f w) n ≡ viewed_end f (act_clauses s clauses c vars w n)
+    clauses_quiet PNoClause q c vars w n = refl
+    clauses_quiet (PMoreClauses (PClause kinds body) more) q c vars w n =
+        choice_viewed f (list_any (nat_eq c.kind) kinds) (act_all s body vars w n) (act_clauses s more c vars w n) _ _
+        (acts_quiet body (not_first (stmts_suspend leaves body) (clauses_suspend leaves more) q) vars w n)
+        (clauses_quiet more (not_second (stmts_suspend leaves body) (clauses_suspend leaves more) q) c vars w n)
 
   pub body_quiet : (method : Option PlainMethod) → stmts_suspend leaves (stmts_of (body_of method)) ≡ false → (args : List Value) (w : W) (n : ℕ) → run_body t method args (f w) n ≡ viewed f (run_body s method args w n)
   unfolding run_body

@@ -1,19 +1,21 @@
 -- Locals that agree by name give runs that agree.
+use Rattle.std.specs.List.{list_any}
 use Rattle.std.proofs.Common.{◌≡◌, ◌∙◌, ℕ, zero, suc, ℤ, pos, ◌+ℤ◌, Bool, true, false, not, cond, List, [], ◌∷◌, ◌++◌, Option, Some, None, if◌then◌else◌, refl, sym, ap, subst}
-use Rattle.std.specs.Prelude.{find, position, option_map, unwrap_or, ◌==◌}
+use Rattle.std.specs.Prelude.{find, position, option_map, unwrap_or, ◌==◌, nat_eq}
 use Rattle.std.specs.Ordering.{int_cmp, is_lt}
 use Rattle.py_tree.specs.declared.expr.BinOp.{BinOp}
 use Rattle.py_tree.specs.declared.stmt.Target.{Target}
 use Rattle.py_tree.specs.declared.stmt.Target.TheVariants as target
 use Rattle.py_tree.specs.PlainExpressions.{PlainExpr, PInt, PBool, PStr, PNil, PVar, PSelf, PAttr, PCall, PApply, PIndex, PList, PNeg, PPos, PNot, PChain, PAnd, POr, PCompare, PIsNone, PCond, PlainExprs, PNoExpr, PExpr, PLink, PlainLinks, PNoLink, PMoreLinks}
-use Rattle.py_tree.specs.PlainStatements.{PlainOver, PRange, PItems, PlainStmt, PPass, PBreak, PContinue, PDo, PReturn, PRaise, PAssert, PAssign, PAugment, PIf, PWhile, PFor, PlainStmts, PNoStmt, PStmt, PArm, PlainArms, PNoArm, PMoreArms}
+use Rattle.py_tree.specs.PlainStatements.{PlainOver, PRange, PItems, PlainStmt, PPass, PBreak, PContinue, PDo, PReturn, PRaise, PAssert, PAssign, PAugment, PIf, PWhile, PFor, PlainStmts, PNoStmt, PStmt, PArm, PlainArms, PNoArm, PMoreArms, PTry, PClause, PlainClauses, PNoClause, PMoreClauses}
 use Rattle.sf_value.specs.declared.value.Value.{Value}
 use Rattle.sf_value.specs.declared.value.Value.TheVariants as value
+use Rattle.sf_value.specs.declared.Failure.{Failure}
 use Rattle.program_meaning.specs.declared.vars.Var.{Var}
-use Rattle.program_meaning.specs.World.{Gives, Got, Fell, ◌>>=◌, Ends, told, with_given, next, next_turn, is_named, var_at, local_value, assigned}
+use Rattle.program_meaning.specs.World.{Gives, Got, Fell, ◌>>=◌, Ends, told, with_given, next, next_turn, is_named, var_at, local_value, assigned, caught}
 use Rattle.program_meaning.specs.Operations.{in_range, weighed, is_true, combined}
 use Rattle.program_meaning.specs.Evaluation.{Site, eval, eval_all, linked, each_is, same_truth}
-use Rattle.program_meaning.specs.Execution.{message, stepping, store, target_value, augmented, value_or_none, start_of, turns_of, Turns, Items, Numbers, turn, over_items, over_numbers, over_turns, counting, while_turns, checked, act, act_all, act_arms}
+use Rattle.program_meaning.specs.Execution.{message, stepping, store, target_value, augmented, value_or_none, start_of, turns_of, Turns, Items, Numbers, turn, over_items, over_numbers, over_turns, counting, while_turns, checked, act, act_all, act_arms, act_clauses}
 use Rattle.program_meaning.specs.SameLocals.{AgreeByName, EndsAgree, go, return, break, continue, fail}
 use Rattle.program_meaning.proofs.Places.{position_of_more}
 use Rattle.program_meaning.proofs.LocalsFit.{value_found, assigned_found}
@@ -161,6 +163,13 @@ module _ {W : Type 0} where
   next_agrees _ _ f (continue same) later = continue same
   next_agrees _ _ f (fail same) later = fail same
 
+  caught_agrees : (d e : Ends W) (f : Failure → List Var → W → ℕ → Ends W) → EndsAgree d e → ((c : Failure) → Agreeing (f c)) → EndsAgree (caught f d) (caught f e)
+  caught_agrees _ _ f (go same) later = go same
+  caught_agrees _ _ f return later = return
+  caught_agrees _ _ f (break same) later = break same
+  caught_agrees _ _ f (continue same) later = continue same
+  caught_agrees _ _ f (fail {f = c} {us = us} {vs = vs} {w = w} {n = n} same) later = later c us vs same w n
+
   turn_agrees : (d e : Ends W) (f : List Var → W → ℕ → Ends W) → EndsAgree d e → Agreeing f → EndsAgree (next_turn d f) (next_turn e f)
   turn_agrees _ _ f (go {us = us} {vs = vs} {w = w} {n = n} same) later = later us vs same w n
   turn_agrees _ _ f return later = return
@@ -231,6 +240,8 @@ module _ {W : Type 0} where
       act_agrees (PFor at name name_at over body) us vs same w n =
           step_agrees us vs same w n _ _ (λ n. given_agrees us vs same (turns_of s over us w n) (turns_of s over vs w n) (over_same s us vs same over w n) _ _ (λ turns w n.
           turns_agree name (λ vars w n. act_all s body vars w n) (acts_agree body) turns us vs same w n))
+      act_agrees (PTry at body clauses) us vs same w n =
+          step_agrees us vs same w n _ _ (λ n. caught_agrees (act_all s body us w n) (act_all s body vs w n) (λ c vars w n. act_clauses s clauses c vars w n) (acts_agree body us vs same w n) (clauses_agree clauses))
 
       pub acts_agree : (xs : PlainStmts) → Agreeing (act_all s xs)
       acts_agree PNoStmt us vs same w n = go same
@@ -241,3 +252,8 @@ module _ {W : Type 0} where
       arms_agree (PMoreArms (PArm test body) more) other rest us vs same w n =
           given_agrees us vs same (eval s test us w n) (eval s test vs w n) (eval_same s us vs same test w n) _ _ (λ v w n.
           choice_agrees (is_true v) _ _ _ _ (acts_agree body us vs same w n) (arms_agree more other rest us vs same w n))
+
+      clauses_agree : (clauses : PlainClauses) (c : Failure) → Agreeing (λ vars w n. act_clauses s clauses c vars w n)
+      clauses_agree PNoClause c us vs same w n = fail same
+      clauses_agree (PMoreClauses (PClause kinds body) more) c us vs same w n =
+          choice_agrees (list_any (nat_eq c.kind) kinds) _ _ _ _ (acts_agree body us vs same w n) (clauses_agree more c us vs same w n)

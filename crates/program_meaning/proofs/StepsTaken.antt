@@ -3,7 +3,7 @@ use Rattle.std.proofs.Common.{◌≤◌, ℕ, zero, suc, arith, Bool, true, fals
 use Rattle.std.specs.Prelude.{slice_get}
 use Rattle.std.specs.FinMap as map
 use Rattle.py_tree.specs.PlainExpressions.{PlainExpr}
-use Rattle.py_tree.specs.PlainStatements.{PlainStmts, PlainStmt, PAssign, PAssert, PPass, PBreak, PContinue, PDo, PReturn, PRaise, PAugment, PIf, PWhile, PFor}
+use Rattle.py_tree.specs.PlainStatements.{PlainStmts, PlainStmt, PAssign, PAssert, PPass, PBreak, PContinue, PDo, PReturn, PRaise, PAugment, PIf, PWhile, PFor, PTry}
 use Rattle.py_tree.specs.PlainProgram.{PlainMethod}
 use Rattle.py_tree.specs.ClassRules.{body_of, params_of}
 use Rattle.sf_value.specs.Keys.{Key}
@@ -140,6 +140,7 @@ declare_takes src me (PAugment at x op op_at e) vars fields n = stepped_takes n 
 declare_takes src me (PIf at arms other) vars fields n = stepped_takes n _ _ (omega arith) (λ m. omega arith)
 declare_takes src me (PWhile at test body) vars fields n = stepped_takes n _ _ (omega arith) (λ m. omega arith)
 declare_takes src me (PFor at x x_at over body) vars fields n = stepped_takes n _ _ (omega arith) (λ m. omega arith)
+declare_takes src me (PTry at body clauses) vars fields n = stepped_takes n _ _ (omega arith) (λ m. omega arith)
 
 pub declares_take : (src : Source) (me : Key) (xs : List PlainStmt) (vars : List Var) (fields : List Value) (n : ℕ) → left_in (declare_all src me xs vars fields n) ≤ n
 unfolding declare_all

@@ -1,4 +1,6 @@
 -- What each part of code keeps, all of it keeps: one walk over expressions and statements, for many laws.
+use Rattle.std.specs.Prelude.{nat_eq}
+use Rattle.std.specs.List.{list_any}
 use Rattle.std.proofs.Common.{ℕ, zero, suc, ℤ, pos, ◌-ℤ◌, ◌+ℤ◌, Bool, true, false, not, Option, Some, None, Result, Ok, Err, List, [], ◌∷◌, ◌++◌, if◌then◌else◌}
 use Rattle.std.specs.Ordering.{int_cmp, is_lt}
 use Rattle.py_tree.specs.declared.expr.BinOp.{BinOp}
@@ -7,7 +9,7 @@ use Rattle.py_tree.specs.declared.stmt.Target.TheVariants as target
 use Rattle.py_tree.specs.ClassRules.{body_of, params_of}
 use Rattle.py_tree.specs.ExpressionTypes.{Function, function_of}
 use Rattle.py_tree.specs.PlainExpressions.{PlainExpr, PInt, PBool, PStr, PNil, PVar, PSelf, PAttr, PCall, PApply, PIndex, PList, PNeg, PPos, PNot, PChain, PAnd, POr, PCompare, PIsNone, PCond, PlainExprs, PNoExpr, PExpr, PLink, PlainLinks, PNoLink, PMoreLinks}
-use Rattle.py_tree.specs.PlainStatements.{PlainOver, PRange, PItems, PlainStmt, PPass, PBreak, PContinue, PDo, PReturn, PRaise, PAssert, PAssign, PAugment, PIf, PWhile, PFor, PlainStmts, PNoStmt, PStmt, PArm, PlainArms, PNoArm, PMoreArms, stmts_of}
+use Rattle.py_tree.specs.PlainStatements.{PlainOver, PRange, PItems, PlainStmt, PPass, PBreak, PContinue, PDo, PReturn, PRaise, PAssert, PAssign, PAugment, PIf, PWhile, PFor, PlainStmts, PNoStmt, PStmt, PArm, PlainArms, PNoArm, PMoreArms, stmts_of, PTry, PClause, PlainClauses, PNoClause, PMoreClauses}
 use Rattle.py_tree.specs.PlainProgram.{PlainMethod}
 use Rattle.sf_value.specs.Keys.{Key}
 use Rattle.sf_value.specs.declared.Failure.{Failure}
@@ -18,7 +20,7 @@ use Rattle.program_meaning.specs.ClassTables.{fields_of}
 use Rattle.program_meaning.specs.World.{Gives, Got, Fell, ◌>>=◌, told, Ends, Goes, Returns, Breaks, Continues, Fails, assertion_error, step_limit, with_given, next, next_turn, caught, result_of, local_value, assigned, field_value, with_field}
 use Rattle.program_meaning.specs.Operations.{in_range, weighed, int_of, is_true, is_nil, items_of, element, combined, text_of, given_by, holds}
 use Rattle.program_meaning.specs.Evaluation.{Site, eval, eval_all, linked, each_is, same_truth, applied, entity, literal, key_in, method_of, class_of}
-use Rattle.program_meaning.specs.Execution.{stepping, store, target_value, augmented, value_or_none, message, Turns, Items, Numbers, start_of, turns_of, turn, over_items, over_numbers, over_turns, counting, while_turns, checked, act, act_all, act_arms}
+use Rattle.program_meaning.specs.Execution.{stepping, store, target_value, augmented, value_or_none, message, Turns, Items, Numbers, start_of, turns_of, turn, over_items, over_numbers, over_turns, counting, while_turns, checked, act, act_all, act_arms, act_clauses}
 use Rattle.program_meaning.specs.Calls.{run_body, bound}
 
 -- A property of what gives something and one of what statements do, each of them as functions of the world and the steps, which
@@ -218,6 +220,9 @@ module _ {W : Type 0} (P : (A : Type 0) → (W → ℕ → Gives W A) → Type 0
     act_keeps (PFor at name name_at over body) vars =
         k.steps vars (λ w n. with_given vars (turns_of s over vars w n) (λ turns w n. over_turns name (λ vars w n. act_all s body vars w n) turns vars w n))
         (k.uses vars (turns_of s over vars) _ (over_keeps over vars) (λ turns. turns_keep name (λ vars w n. act_all s body vars w n) (acts_keep body) turns vars))
+    act_keeps (PTry at body clauses) vars =
+        k.steps vars (λ w n. caught (λ f vars w n. act_clauses s clauses f vars w n) (act_all s body vars w n))
+        (k.catches (act_all s body vars) (λ f vars w n. act_clauses s clauses f vars w n) (acts_keep body vars) (clauses_keep clauses))
 
     pub acts_keep : (xs : PlainStmts) (vars : List Var) → Q (act_all s xs vars)
     acts_keep PNoStmt vars = k.goes vars
@@ -228,6 +233,11 @@ module _ {W : Type 0} (P : (A : Type 0) → (W → ℕ → Gives W A) → Type 0
     arms_keep (PMoreArms (PArm test body) more) other rest vars =
         k.uses vars (eval s test vars) _ (eval_keeps test vars) (λ v.
         choice_keeps (is_true v) (act_all s body vars) (act_arms s more other vars) (acts_keep body vars) (arms_keep more other rest vars))
+
+    clauses_keep : (clauses : PlainClauses) (f : Failure) (vars : List Var) → Q (act_clauses s clauses f vars)
+    clauses_keep PNoClause f vars = k.fails f vars
+    clauses_keep (PMoreClauses (PClause kinds body) more) f vars =
+        choice_keeps (list_any (nat_eq f.kind) kinds) (act_all s body vars) (act_clauses s more f vars) (acts_keep body vars) (clauses_keep more f vars)
 
   pub body_keeps : (method : Option PlainMethod) (args : List Value) → P Value (run_body s method args)
   unfolding run_body

@@ -1,6 +1,7 @@
 -- One world seen through another: where a view keeps the own record, and what calls do, it keeps what code does.
+use Rattle.std.specs.List.{list_any}
 use Rattle.std.proofs.Common.{◌≡◌, ◌∙◌, ℕ, zero, suc, ℤ, pos, ◌+ℤ◌, ◌-ℤ◌, Bool, true, false, not, List, [], ◌∷◌, ◌++◌, Option, Some, None, Ok, Err, Result, if◌then◌else◌, refl, ap}
-use Rattle.std.specs.Prelude.{slice_get}
+use Rattle.std.specs.Prelude.{slice_get, nat_eq}
 use Rattle.std.specs.Ordering.{int_cmp, is_lt}
 use Rattle.py_tree.specs.declared.expr.BinOp.{BinOp}
 use Rattle.py_tree.specs.declared.stmt.Target.{Target}
@@ -8,7 +9,7 @@ use Rattle.py_tree.specs.declared.stmt.Target.TheVariants as target
 use Rattle.py_tree.specs.ClassRules.{body_of, params_of}
 use Rattle.py_tree.specs.ExpressionTypes.{Function, function_of}
 use Rattle.py_tree.specs.PlainExpressions.{PlainExpr, PInt, PBool, PStr, PNil, PVar, PSelf, PAttr, PCall, PApply, PIndex, PList, PNeg, PPos, PNot, PChain, PAnd, POr, PCompare, PIsNone, PCond, PlainExprs, PNoExpr, PExpr, PLink, PlainLinks, PNoLink, PMoreLinks}
-use Rattle.py_tree.specs.PlainStatements.{PlainOver, PRange, PItems, PlainStmt, PPass, PBreak, PContinue, PDo, PReturn, PRaise, PAssert, PAssign, PAugment, PIf, PWhile, PFor, PlainStmts, PNoStmt, PStmt, PArm, PlainArms, PNoArm, PMoreArms, stmts_of}
+use Rattle.py_tree.specs.PlainStatements.{PlainOver, PRange, PItems, PlainStmt, PPass, PBreak, PContinue, PDo, PReturn, PRaise, PAssert, PAssign, PAugment, PIf, PWhile, PFor, PlainStmts, PNoStmt, PStmt, PArm, PlainArms, PNoArm, PMoreArms, stmts_of, PTry, PClause, PlainClauses, PNoClause, PMoreClauses}
 use Rattle.py_tree.specs.PlainProgram.{PlainMethod}
 use Rattle.sf_value.specs.Keys.{Key}
 use Rattle.sf_value.specs.declared.value.Value.{Value}
@@ -16,10 +17,10 @@ use Rattle.sf_value.specs.declared.value.Value.TheVariants as value
 use Rattle.sf_value.specs.declared.Failure.{Failure}
 use Rattle.program_meaning.specs.declared.vars.Var.{Var}
 use Rattle.program_meaning.specs.ClassTables.{Source, fields_of, methods_of}
-use Rattle.program_meaning.specs.World.{Calls, Own, Gives, Got, Fell, ◌>>=◌, Ends, Goes, Returns, Breaks, Continues, Fails, told, step, assertion_error, with_given, next, next_turn, result_of, local_value, assigned, field_value, with_field}
+use Rattle.program_meaning.specs.World.{Calls, Own, Gives, Got, Fell, ◌>>=◌, Ends, Goes, Returns, Breaks, Continues, Fails, told, step, assertion_error, with_given, next, next_turn, result_of, local_value, assigned, field_value, with_field, caught}
 use Rattle.program_meaning.specs.Operations.{in_range, weighed, int_of, is_true, is_nil, items_of, text_of, element, combined, holds, given_by}
 use Rattle.program_meaning.specs.Evaluation.{Site, eval, eval_all, linked, each_is, same_truth, applied, entity, key_in, method_of, class_of, literal, own_field}
-use Rattle.program_meaning.specs.Execution.{message, stepping, store, target_value, augmented, value_or_none, start_of, turns_of, Turns, Items, Numbers, turn, over_items, over_numbers, over_turns, counting, while_turns, checked, act, act_all, act_arms}
+use Rattle.program_meaning.specs.Execution.{message, stepping, store, target_value, augmented, value_or_none, start_of, turns_of, Turns, Items, Numbers, turn, over_items, over_numbers, over_turns, counting, while_turns, checked, act, act_all, act_arms, act_clauses}
 use Rattle.program_meaning.specs.Calls.{bound, run_body, calls_within}
 
 abbrev pub viewed : {V W A : Type 0} → (W → V) → Gives W A → Gives V A
@@ -58,6 +59,13 @@ module _ {V W : Type 0} (f : W → V) where
   next_viewed (Breaks vars w n) h k l same later = ap (λ y. next y l) same
   next_viewed (Continues vars w n) h k l same later = ap (λ y. next y l) same
   next_viewed (Fails e vars w n) h k l same later = ap (λ y. next y l) same
+
+  pub caught_viewed : (e : Ends W) (h : Ends V) (k : Failure → List Var → W → ℕ → Ends W) (l : Failure → List Var → V → ℕ → Ends V) → h ≡ viewed_end f e → ((c : Failure) (vars : List Var) (w : W) (n : ℕ) → l c vars (f w) n ≡ viewed_end f (k c vars w n)) → caught l h ≡ viewed_end f (caught k e)
+  caught_viewed (Goes vars w n) h k l same later = ap (λ y. caught l y) same
+  caught_viewed (Returns v w n) h k l same later = ap (λ y. caught l y) same
+  caught_viewed (Breaks vars w n) h k l same later = ap (λ y. caught l y) same
+  caught_viewed (Continues vars w n) h k l same later = ap (λ y. caught l y) same
+  caught_viewed (Fails c vars w n) h k l same later = ap (λ y. caught l y) same ∙ later c vars w n
 
   next_turn_viewed : (e : Ends W) (h : Ends V) (k : List Var → W → ℕ → Ends W) (l : List Var → V → ℕ → Ends V) → h ≡ viewed_end f e → ((vars : List Var) (w : W) (n : ℕ) → l vars (f w) n ≡ viewed_end f (k vars w n)) → next_turn h l ≡ viewed_end f (next_turn e k)
   next_turn_viewed (Goes vars w n) h k l same later = ap (λ y. next_turn y l) same ∙ later vars w n
@@ -267,6 +275,9 @@ module _ {V W : Type 0} (f : W → V) where
             stepping_viewed vars w n (λ n. with_given vars (turns_of s over vars w n) (λ turns w n. over_turns name (λ vars w n. act_all s body vars w n) turns vars w n)) _ (λ n.
             given_viewed vars (turns_of s over vars w n) _ (λ turns w n. over_turns name (λ vars w n. act_all s body vars w n) turns vars w n) _ (turns_viewed over vars w n) (λ turns w n.
             over_viewed (λ vars w n. act_all s body vars w n) (λ vars w n. act_all t body vars w n) (λ vars w n. acts_viewed body vars w n) name turns vars w n))
+        act_viewed (PTry at body clauses) vars w n =
+            stepping_viewed vars w n (λ n. caught (λ c vars w n. act_clauses s clauses c vars w n) (act_all s body vars w n)) _ (λ n.
+            caught_viewed (act_all s body vars w n) _ (λ c vars w n. act_clauses s clauses c vars w n) _ (acts_viewed body vars w n) (clauses_viewed clauses))
 
         pub acts_viewed : (xs : PlainStmts) (vars : List Var) (w : W) (n : ℕ) → act_all t xs vars (f w) n ≡ viewed_end f (act_all s xs vars w n)
         acts_viewed PNoStmt vars w n = refl
@@ -277,6 +288,11 @@ module _ {V W : Type 0} (f : W → V) where
         arms_viewed (PMoreArms (PArm test body) more) other shown same vars w n =
             given_viewed vars (eval s test vars w n) _ (λ v w n. if is_true v then act_all s body vars w n else act_arms s more other vars w n) _ (eval_viewed test vars w n) (λ v w n.
             choice_viewed (is_true v) (act_all s body vars w n) (act_arms s more other vars w n) _ _ (acts_viewed body vars w n) (arms_viewed more other shown same vars w n))
+
+        clauses_viewed : (clauses : PlainClauses) (c : Failure) (vars : List Var) (w : W) (n : ℕ) → act_clauses t clauses c vars (f w) n ≡ viewed_end f (act_clauses s clauses c vars w n)
+        clauses_viewed PNoClause c vars w n = refl
+        clauses_viewed (PMoreClauses (PClause kinds body) more) c vars w n =
+            choice_viewed (list_any (nat_eq c.kind) kinds) (act_all s body vars w n) (act_clauses s more c vars w n) _ _ (acts_viewed body vars w n) (clauses_viewed more c vars w n)
 
       body_viewed : (method : Option PlainMethod) (args : List Value) (w : W) (n : ℕ) → run_body t method args (f w) n ≡ viewed f (run_body s method args w n)
       unfolding run_body

@@ -2,8 +2,8 @@
 use Rattle.std.proofs.Common.{ℤ, Option, Some, None}
 use Rattle.std.specs.Prelude.{IfSome}
 use Rattle.py_tree.specs.PlainExpressions.{PlainExpr, PInt, PBool, PStr, PNil, PVar, PSelf, PAttr, PCall, PApply, PIndex, PList, PNeg, PPos, PNot, PChain, PAnd, POr, PCompare, PIsNone, PCond, PlainExprs, PNoExpr, PExpr, PLink, PlainLinks, PNoLink, PMoreLinks}
-use Rattle.py_tree.specs.PlainStatements.{PlainOver, PRange, PItems, PlainStmt, PPass, PBreak, PContinue, PDo, PReturn, PRaise, PAssert, PAssign, PAugment, PIf, PWhile, PFor, PlainStmts, PNoStmt, PStmt, PArm, PlainArms, PNoArm, PMoreArms}
-use Rattle.program_meaning.specs.WrittenInts.{ExprInts, ExprsInts, LinksInts, OverInts, StmtInts, StmtsInts, ArmsInts}
+use Rattle.py_tree.specs.PlainStatements.{PlainOver, PRange, PItems, PlainStmt, PPass, PBreak, PContinue, PDo, PReturn, PRaise, PAssert, PAssign, PAugment, PIf, PWhile, PFor, PlainStmts, PNoStmt, PStmt, PArm, PlainArms, PNoArm, PMoreArms, PTry, PClause, PlainClauses, PNoClause, PMoreClauses}
+use Rattle.program_meaning.specs.WrittenInts.{ExprInts, ExprsInts, LinksInts, OverInts, StmtInts, StmtsInts, ArmsInts, ClausesInts}
 
 module _ (P : ℤ → Type 0) (any : (z : ℤ) → P z) where
   mutual
@@ -63,6 +63,7 @@ module _ (P : ℤ → Type 0) (any : (z : ℤ) → P z) where
     stmt_any (PIf at arms other) = (arms_any arms, stmts_any other)
     stmt_any (PWhile at test body) = (expr_any test, stmts_any body)
     stmt_any (PFor at name name_at over body) = (over_any over, stmts_any body)
+    stmt_any (PTry at body clauses) = (stmts_any body, clauses_any clauses)
 
     pub stmts_any : (xs : PlainStmts) → StmtsInts P xs
     stmts_any PNoStmt = tt
@@ -71,3 +72,7 @@ module _ (P : ℤ → Type 0) (any : (z : ℤ) → P z) where
     arms_any : (arms : PlainArms) → ArmsInts P arms
     arms_any PNoArm = tt
     arms_any (PMoreArms (PArm test body) more) = (expr_any test, stmts_any body, arms_any more)
+
+    clauses_any : (clauses : PlainClauses) → ClausesInts P clauses
+    clauses_any PNoClause = tt
+    clauses_any (PMoreClauses (PClause kinds body) more) = (stmts_any body, clauses_any more)

@@ -1,17 +1,19 @@
 -- What a statement does. Each takes one step first; a turn of a loop takes one more.
-use Rattle.std.specs.Prelude.{ℕ, zero, suc, ℤ, pos, ◌+ℤ◌, if◌then◌else◌, List, [], ◌∷◌, Some, None}
+use Rattle.std.specs.Prelude.{ℕ, zero, suc, ℤ, pos, ◌+ℤ◌, if◌then◌else◌, List, [], ◌∷◌, Some, None, nat_eq}
 use Rattle.std.specs.declared.option.Option.{Option}
 use Rattle.std.specs.Ordering.{int_cmp, is_lt}
+use Rattle.std.specs.List.{list_any}
 use Rattle.py_tree.specs.declared.expr.BinOp.{BinOp}
 use Rattle.py_tree.specs.declared.stmt.Target.{Target}
 use Rattle.py_tree.specs.declared.stmt.Target.TheVariants as target
 use Rattle.py_tree.specs.PlainExpressions.{PlainExpr}
-use Rattle.py_tree.specs.PlainStatements.{PlainOver, PRange, PItems, PlainStmt, PPass, PBreak, PContinue, PDo, PReturn, PRaise, PAssert, PAssign, PAugment, PIf, PWhile, PFor, PlainStmts, PNoStmt, PStmt, PArm, PlainArms, PNoArm, PMoreArms}
+use Rattle.py_tree.specs.PlainStatements.{PlainOver, PRange, PItems, PlainStmt, PPass, PBreak, PContinue, PDo, PReturn, PRaise, PAssert, PAssign, PAugment, PIf, PWhile, PFor, PlainStmts, PNoStmt, PStmt, PArm, PlainArms, PNoArm, PMoreArms, PTry, PClause, PlainClauses, PNoClause, PMoreClauses}
+use Rattle.sf_value.specs.declared.Failure.{Failure}
 use Rattle.sf_value.specs.declared.value.Value.{Value}
 use Rattle.sf_value.specs.declared.value.Value.TheVariants as value
 use Rattle.program_meaning.specs.declared.vars.Var.{Var}
 use Rattle.program_meaning.specs.ClassTables.{fields_of}
-use Rattle.program_meaning.specs.World.{Gives, Got, ◌>>=◌, told, Ends, Goes, Returns, Breaks, Continues, Fails, step, step_limit, assertion_error, with_given, next, next_turn, local_value, assigned, with_field}
+use Rattle.program_meaning.specs.World.{Gives, Got, ◌>>=◌, told, Ends, Goes, Returns, Breaks, Continues, Fails, step, step_limit, assertion_error, with_given, next, next_turn, local_value, assigned, with_field, caught}
 use Rattle.program_meaning.specs.Operations.{in_range, weighed, int_of, is_true, text_of, items_of, combined}
 use Rattle.program_meaning.specs.Evaluation.{Site, eval, own_field}
 
@@ -117,6 +119,7 @@ unfoldable mutual
       stepping vars w n (λ n.
       with_given vars (turns_of s over vars w n) (λ turns w n.
       over_turns name (λ vars w n. act_all s body vars w n) turns vars w n))
+  act s (PTry at body clauses) vars w n = stepping vars w n (λ n. caught (λ f vars w n. act_clauses s clauses f vars w n) (act_all s body vars w n))
 
   pub act_all : {W : Type 0} → Site W → PlainStmts → List Var → W → ℕ → Ends W
   act_all s PNoStmt vars w n = Goes vars w n
@@ -128,6 +131,11 @@ unfoldable mutual
   act_arms s (PMoreArms (PArm test body) more) other vars w n =
       with_given vars (eval s test vars w n) (λ v w n.
       if is_true v then act_all s body vars w n else act_arms s more other vars w n)
+
+  -- the first clause that names the failure, or else the failure
+  pub act_clauses : {W : Type 0} → Site W → PlainClauses → Failure → List Var → W → ℕ → Ends W
+  act_clauses s PNoClause f vars w n = Fails f vars w n
+  act_clauses s (PMoreClauses (PClause kinds body) more) f vars w n = if list_any (nat_eq f.kind) kinds then act_all s body vars w n else act_clauses s more f vars w n
 
 -- statements as the body of a loop
 abbrev pub all_of : {W : Type 0} → Site W → PlainStmts → List Var → W → ℕ → Ends W

@@ -1,7 +1,7 @@
 -- What holds of each int that is written in code.
 use Rattle.std.specs.Prelude.{ℤ, IfSome}
 use Rattle.py_tree.specs.PlainExpressions.{PlainExpr, PInt, PBool, PStr, PNil, PVar, PSelf, PAttr, PCall, PApply, PIndex, PList, PNeg, PPos, PNot, PChain, PAnd, POr, PCompare, PIsNone, PCond, PlainExprs, PNoExpr, PExpr, PLink, PlainLinks, PNoLink, PMoreLinks}
-use Rattle.py_tree.specs.PlainStatements.{PlainOver, PRange, PItems, PlainStmt, PPass, PBreak, PContinue, PDo, PReturn, PRaise, PAssert, PAssign, PAugment, PIf, PWhile, PFor, PlainStmts, PNoStmt, PStmt, PArm, PlainArms, PNoArm, PMoreArms}
+use Rattle.py_tree.specs.PlainStatements.{PlainOver, PRange, PItems, PlainStmt, PPass, PBreak, PContinue, PDo, PReturn, PRaise, PAssert, PAssign, PAugment, PIf, PWhile, PFor, PlainStmts, PNoStmt, PStmt, PArm, PlainArms, PNoArm, PMoreArms, PTry, PClause, PlainClauses, PNoClause, PMoreClauses}
 
 unfoldable mutual
   pub ExprInts : (ℤ → Type 0) → PlainExpr → Type 0
@@ -52,6 +52,7 @@ unfoldable mutual
   StmtInts P (PIf at arms other) = ArmsInts P arms × StmtsInts P other
   StmtInts P (PWhile at test body) = ExprInts P test × StmtsInts P body
   StmtInts P (PFor at name name_at over body) = OverInts P over × StmtsInts P body
+  StmtInts P (PTry at body clauses) = StmtsInts P body × ClausesInts P clauses
 
   pub StmtsInts : (ℤ → Type 0) → PlainStmts → Type 0
   StmtsInts P PNoStmt = Unit {0}
@@ -60,3 +61,7 @@ unfoldable mutual
   pub ArmsInts : (ℤ → Type 0) → PlainArms → Type 0
   ArmsInts P PNoArm = Unit {0}
   ArmsInts P (PMoreArms (PArm test body) more) = ExprInts P test × StmtsInts P body × ArmsInts P more
+
+  pub ClausesInts : (ℤ → Type 0) → PlainClauses → Type 0
+  ClausesInts P PNoClause = Unit {0}
+  ClausesInts P (PMoreClauses (PClause kinds body) more) = StmtsInts P body × ClausesInts P more

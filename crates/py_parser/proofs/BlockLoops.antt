@@ -6,16 +6,17 @@ use Rattle.py_tree.specs.declared.names.PlacedName.{PlacedName}
 use Rattle.py_tree.specs.declared.fault.SyntaxFault.{SyntaxFault}
 use Rattle.py_tree.specs.declared.stmt.Stmt.{Stmt}
 use Rattle.py_tree.specs.declared.stmt.Arm.{Arm}
+use Rattle.py_tree.specs.declared.stmt.Clause.{Clause}
 use Rattle.py_tree.specs.declared.ty.WrittenTy.{WrittenTy}
 use Rattle.py_tree.specs.declared.program.Param.{Param}
 use Rattle.py_tree.specs.declared.program.Method.{Method}
 use Rattle.py_tree.specs.declared.program.Class.{Class}
 use Rattle.py_tree.specs.PlainTypes.{PlainWritten, plain_written}
-use Rattle.py_tree.specs.PlainStatements.{PlainOver, PlainStmt, PlainArm, PFor, stmts_of, plain_stmt, plain_stmts, plain_arm, plain_arms, plain_option}
+use Rattle.py_tree.specs.PlainStatements.{PlainOver, PlainStmt, PlainArm, PFor, stmts_of, plain_stmt, plain_stmts, plain_arm, plain_arms, plain_option, PlainClause, plain_clause, plain_clauses}
 use Rattle.py_tree.specs.PlainProgram.{PlainParam, PlainMethod, PlainClass, plain_param, plain_params, plain_method, plain_methods, plain_class, plain_classes}
 use Rattle.py_tree.specs.Reading.{Input, Outcome, found, stops, Nothing, next, here, ends, sees, sees_name, named, placed_name, refused, next_line, has_line, is_at, is_deeper, goes_on, begins_import}
 use Rattle.py_tree.specs.TypeGrammar.{IsAnnotation}
-use Rattle.py_tree.specs.StatementGrammar.{IsSimple, IsMoreSimples, IsStmt, IsStmts, IsArm, IsArms, IsOver, IsBody, IsFor, for_is, more_simples_end, more_simples_last, more_simples_more_stops_x, more_simples_more_stops_xs, more_simples_more, stmts_end, stmts_shifted, stmts_more_stops_xs, stmts_more_stops_ys, stmts_more, arms_end, arms_more_stops_a, arms_more_stops_bs, arms_more}
+use Rattle.py_tree.specs.StatementGrammar.{IsSimple, IsMoreSimples, IsStmt, IsStmts, IsArm, IsArms, IsOver, IsBody, IsFor, for_is, more_simples_end, more_simples_last, more_simples_more_stops_x, more_simples_more_stops_xs, more_simples_more, stmts_end, stmts_shifted, stmts_more_stops_xs, stmts_more_stops_ys, stmts_more, arms_end, arms_more_stops_a, arms_more_stops_bs, arms_more, IsClause, IsClauses, clauses_end, clauses_stops_x, clauses_last, clauses_more_stops_ks, clauses_more}
 use Rattle.py_tree.specs.Grammar.{param_of, IsParams, IsMethod, IsMethods, IsMoreNames, IsImport, IsClass, IsItems, params_end, params_last, params_more_stops_t, params_more_stops_ps, params_more, methods_end, methods_shifted, methods_more_stops_d, methods_more_stops_ds, methods_more, more_names_end, more_names_more, more_names_last, more_names_other, items_end, items_shifted, items_import_stops_u, items_import, items_class_stops_d, items_class_stops_ds, items_class}
 use Rattle.py_parser.specs.declared.syntax_error.SyntaxError.{SyntaxError}
 use Rattle.py_parser.specs.declared.syntax_error.SyntaxError.TheVariants.{Fault, NoMemory}
@@ -99,6 +100,28 @@ arms_pushed n c start now mid items all x g s u is = viewed plain_arm (IsArms n 
 pub arms_fails : (n c : ℕ) (start now after mid new : Input) (items : List PlainArm) (e : SyntaxError) → GoesOn (IsArms n c) start now items → goes_on k.Elif c now ≡ true → after ≡ next (next_line now) → Comes plain_arm (IsArm n c after) (Err e) mid → Comes plain_arms (IsArms n c start) (Err e) new
 arms_fails n c start now after mid new items NoMemory g s is u = tt
 arms_fails n c start now after mid new items (Fault f) g s is u = arms_stopped n c start now items f g s (subst (λ (i : Input). IsArm n c i (stops f)) is u)
+
+-- clauses of a `try`
+clauses_one : (n c : ℕ) (now mid : Input) (x : PlainClause) → goes_on k.Except c now ≡ true → sees k.Colon (next (next_line now)) ≡ false → IsClause n c (next (next_line now)) (found x mid) → (o : Outcome (List PlainClause)) → IsClauses n c mid o → IsClauses n c now (with_front (x ∷ []) o)
+clauses_one n c now mid x s b u (found xs rest) h = clauses_more s b u h
+clauses_one n c now mid x s b u (stops f) h = clauses_more_stops_ks s b u h
+
+pub clauses_done : (n c : ℕ) (start now : Input) (items : List PlainClause) → GoesOn (IsClauses n c) start now items → goes_on k.Except c now ≡ false → IsClauses n c start (found items now)
+clauses_done n c start now items g s = nothing_more (IsClauses n c) start now now items g (clauses_end s)
+
+pub clauses_stopped : (n c : ℕ) (start now : Input) (items : List PlainClause) (f : SyntaxFault) → GoesOn (IsClauses n c) start now items → goes_on k.Except c now ≡ true → IsClause n c (next (next_line now)) (stops f) → IsClauses n c start (stops f)
+clauses_stopped n c start now items f g s u = g (stops f) (clauses_stops_x s u)
+
+pub clauses_pushed : (n c : ℕ) (start now mid : Input) (items all : List Clause) (x : Clause) → GoesOn (IsClauses n c) start now (plain_clauses items) → goes_on k.Except c now ≡ true → sees k.Colon (next (next_line now)) ≡ false → IsClause n c (next (next_line now)) (found (plain_clause x) mid) → all ≡ items ++ x ∷ [] → GoesOn (IsClauses n c) start mid (plain_clauses all)
+clauses_pushed n c start now mid items all x g s b u is = viewed plain_clause (IsClauses n c) start mid items (x ∷ []) all is (grown (IsClauses n c) start now mid (plain_clauses items) (plain_clause x ∷ []) g (clauses_one n c now mid (plain_clause x) s b u))
+
+-- one that names no kind ends them
+pub clauses_ended : (n c : ℕ) (start now mid : Input) (items all : List Clause) (x : Clause) → GoesOn (IsClauses n c) start now (plain_clauses items) → goes_on k.Except c now ≡ true → sees k.Colon (next (next_line now)) ≡ true → IsClause n c (next (next_line now)) (found (plain_clause x) mid) → all ≡ items ++ x ∷ [] → IsClauses n c start (found (plain_clauses all) mid)
+clauses_ended n c start now mid items all x g s b u is = subst (λ (ys : List PlainClause). IsClauses n c start (found ys mid)) (sym (ap plain_clauses is ∙ map-append plain_clause items (x ∷ []))) (g (found (plain_clause x ∷ []) mid) (clauses_last s b u))
+
+pub clauses_fails : (n c : ℕ) (start now after mid new : Input) (items : List PlainClause) (e : SyntaxError) → GoesOn (IsClauses n c) start now items → goes_on k.Except c now ≡ true → after ≡ next (next_line now) → Comes plain_clause (IsClause n c after) (Err e) mid → Comes plain_clauses (IsClauses n c start) (Err e) new
+clauses_fails n c start now after mid new items NoMemory g s is u = tt
+clauses_fails n c start now after mid new items (Fault f) g s is u = clauses_stopped n c start now items f g s (subst (λ (i : Input). IsClause n c i (stops f)) is u)
 
 -- parameters
 params_one : (n : ℕ) (now mid : Input) (t : Option PlainWritten) → sees k.Comma now ≡ true → sees_name (next now) ≡ true → IsAnnotation n k.Colon (named (next now)) (found t mid) → (o : Outcome (List PlainParam)) → IsParams n mid o → IsParams n now (with_front (param_of (placed_name (next now)) t ∷ []) o)
@@ -203,6 +226,8 @@ pub ruleset more_simples_loop = (more_simples_done, more_simples_trailing, more_
 pub ruleset stmts_loop = (stmts_done, stmts_moved, stmts_stopped, stmts_appended)
 
 pub ruleset arms_loop = (arms_done, arms_stopped, arms_pushed)
+
+pub ruleset clauses_loop = (clauses_done, clauses_stopped, clauses_pushed, clauses_ended)
 
 pub ruleset params_loop = (params_done, params_trailing, params_stopped, params_pushed)
 

@@ -109,7 +109,8 @@ fn is_docstring(stmt: &Stmt) -> bool
         | StmtKind::Augment { .. }
         | StmtKind::If { .. }
         | StmtKind::While { .. }
-        | StmtKind::For { .. } => false,
+        | StmtKind::For { .. }
+        | StmtKind::Try { .. } => false,
     }
 }
 

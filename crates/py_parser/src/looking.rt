@@ -1,7 +1,7 @@
 //! What the next token begins.
-#![tactic(auto, unfolding(py_tree::specs::Reading::comparison, py_tree::specs::Reading::addition, py_tree::specs::Reading::multiplication, py_tree::specs::Reading::augmentation, py_tree::specs::Reading::failure_kind, py_tree::specs::Reading::begins_expr, py_tree::specs::Reading::begins_range, py_tree::specs::Reading::begins_import, py_tree::specs::Reading::sees_module, py_tree::specs::Reading::goes_on, py_tree::specs::Reading::begins_docstring, py_tree::specs::Reading::begins_string, py_tree::specs::Reading::atom_start, py_tree::specs::Reading::type_start, py_tree::specs::Reading::simple_start))]
+#![tactic(auto, unfolding(py_tree::specs::Reading::comparison, py_tree::specs::Reading::addition, py_tree::specs::Reading::multiplication, py_tree::specs::Reading::augmentation, py_tree::specs::Reading::failure_kind, py_tree::specs::Reading::named_kinds, py_tree::specs::Reading::begins_expr, py_tree::specs::Reading::begins_range, py_tree::specs::Reading::begins_import, py_tree::specs::Reading::sees_module, py_tree::specs::Reading::goes_on, py_tree::specs::Reading::begins_docstring, py_tree::specs::Reading::begins_string, py_tree::specs::Reading::atom_start, py_tree::specs::Reading::type_start, py_tree::specs::Reading::simple_start))]
 
-ghost use Rattle.std.specs.Prelude.{◌≡◌, ◌<◌, ◌||◌, IfSome, IsTrue};
+ghost use Rattle.std.specs.Prelude.{◌≡◌, ◌<◌, ◌||◌, option_map, IfSome, IsTrue};
 ghost use Rattle.py_tree.specs.Reading as spec;
 
 use crate::input::Reader;
@@ -91,6 +91,41 @@ pub fn failure_kind(reader: &Reader<'_>) -> Option<u8>
         Some(7)
     } else if reader.sees(Terminal::RuntimeErrorWord) {
         Some(8)
+    } else {
+        None
+    }
+}
+
+/// The numbers of all kinds of failures that can be caught.
+pub const EVERY_KIND: [u8; 11] = [1, 2, 3, 4, 5, 6, 7, 8, 9, 10, 11];
+
+/// The numbers of the kinds that the next token names in a clause.
+pub fn named_kinds(reader: &Reader<'_>) -> Option<&'static [u8]>
+    ensures value { option_map (λ kinds. kinds.now) result ≡ spec.named_kinds reader.now }
+    ensures some { IfSome result (λ _. 0 < spec.left reader.now) }
+{
+    if reader.sees(Terminal::ExceptionWord) {
+        Some(&EVERY_KIND)
+    } else if reader.sees(Terminal::RuntimeErrorWord) {
+        Some(&[4, 8])
+    } else if reader.sees(Terminal::ZeroDivisionErrorWord) {
+        Some(&[1])
+    } else if reader.sees(Terminal::IndexErrorWord) {
+        Some(&[2])
+    } else if reader.sees(Terminal::AssertionErrorWord) {
+        Some(&[3])
+    } else if reader.sees(Terminal::RecursionErrorWord) {
+        Some(&[4])
+    } else if reader.sees(Terminal::OverflowErrorWord) {
+        Some(&[5])
+    } else if reader.sees(Terminal::ValueErrorWord) {
+        Some(&[7])
+    } else if reader.sees(Terminal::NoEntityWord) {
+        Some(&[9])
+    } else if reader.sees(Terminal::AlreadyExistsWord) {
+        Some(&[10])
+    } else if reader.sees(Terminal::SizeLimitWord) {
+        Some(&[11])
     } else {
         None
     }

@@ -54,17 +54,15 @@ const KEYWORDS: [&[u8]; 35] = [
 ];
 
 /// The keywords of what the language leaves out.
-const LEFT_OUT: [&[u8]; 12] = [
+const LEFT_OUT: [&[u8]; 10] = [
     b"async",
     b"await",
     b"del",
-    b"except",
     b"finally",
     b"global",
     b"in",
     b"lambda",
     b"nonlocal",
-    b"try",
     b"with",
     b"yield",
 ];

@@ -1,17 +1,17 @@
 //! Compound statements, and the blocks that they hold (Python Language Reference, compound statements).
 
 ghost use Rattle.std.specs.Prelude.{◌≡◌, ◌≤◌, [], ◌∷◌, IfOk, OnOk};
-ghost use Rattle.py_tree.specs.PlainStatements.{plain_stmt, plain_stmts, plain_arm, plain_arms, plain_over};
+ghost use Rattle.py_tree.specs.PlainStatements.{plain_stmt, plain_stmts, plain_arm, plain_arms, plain_clause, plain_clauses, plain_over};
 ghost use Rattle.py_tree.specs.Reading.{lines_left};
-ghost use Rattle.py_tree.specs.StatementGrammar.{IsBody, IsSuite, IsBlock, IsStmts, IsStmt, IsIf, IsWhile, IsFor, IsArm, IsArms, IsOther, IsOver};
+ghost use Rattle.py_tree.specs.StatementGrammar.{IsBody, IsSuite, IsBlock, IsStmts, IsStmt, IsIf, IsWhile, IsFor, IsArm, IsArms, IsOther, IsOver, IsTry, IsClause, IsClauses};
 ghost use Rattle.py_parser.specs.Reads.{Comes};
 
 use crate::expressions::expr;
 use crate::input::Reader;
-use crate::looking::{begins_range, goes_on};
+use crate::looking::{EVERY_KIND, begins_range, goes_on, named_kinds};
 use crate::simple_statements::line;
 use crate::syntax_error::SyntaxError;
-use py_tree::{Arm, Arms, Over, Stmt, Stmts, Terminal, nodes};
+use py_tree::{Arm, Arms, Clause, Clauses, Kinds, Over, Stmt, Stmts, Terminal, nodes};
 use sf_list::Sequence;
 use std::alloc::{AllocError, Global};
 
@@ -32,6 +32,15 @@ fn all_arms(alloc: Global, first: Arm, more: Arms) -> Result<Arms, AllocError>
     all.push(alloc, first)?;
     all.append(alloc, more)?;
     Ok(all)
+}
+
+/// A list of kinds.
+fn listed(alloc: Global, kinds: &[u8]) -> Result<Kinds, AllocError>
+    ensures { IfOk result (λ listed. listed ≡ kinds.now) }
+{
+    let mut listed = Sequence::new(alloc);
+    listed.extend_from_slice(alloc, kinds)?;
+    Ok(listed)
 }
 
 /// The colon and the suite of a head that stands at `column`. The colon opens a level.
@@ -141,6 +150,9 @@ fn stmt(
     if reader.sees(Terminal::For) {
         return Ok(alone(alloc, for_stmt(alloc, reader, levels, column)?)?);
     }
+    if reader.sees(Terminal::Try) {
+        return Ok(alone(alloc, try_stmt(alloc, reader, levels, column)?)?);
+    }
     line(alloc, reader, levels)
 }
 
@@ -205,6 +217,77 @@ fn for_stmt(
     let over = over(alloc, reader, levels)?;
     let body = body(alloc, reader, levels, column)?;
     Ok(nodes::for_of(place, name, over, body))
+}
+
+#[cycle(block)]
+#[tactic(auto, using(crate::proofs::GrammarRules::try_rules))]
+fn try_stmt(
+    alloc: Global,
+    reader: &mut Reader<'_>,
+    levels: u32,
+    column: u32,
+) -> Result<Stmt, SyntaxError>
+    ensures comes { Comes plain_stmt (IsTry levels column reader.old) result reader.new }
+    ensures no_more { OnOk result (lines_left reader.new ≤ lines_left reader.old) }
+{
+    let place = reader.here();
+    reader.pass();
+    let body = body(alloc, reader, levels, column)?;
+    if !goes_on(reader, Terminal::Except, column) {
+        reader.begin_line();
+        return Err(reader.refusal());
+    }
+    let clauses = clauses(alloc, reader, levels, column)?;
+    Ok(nodes::try_of(place, body, clauses))
+}
+
+/// The kind that an `except` names, if there is one, and its suite.
+#[cycle(block)]
+#[tactic(auto, using(crate::proofs::GrammarRules::clause_rules))]
+fn clause(
+    alloc: Global,
+    reader: &mut Reader<'_>,
+    levels: u32,
+    column: u32,
+) -> Result<Clause, SyntaxError>
+    ensures comes { Comes plain_clause (IsClause levels column reader.old) result reader.new }
+    ensures no_more { OnOk result (lines_left reader.new ≤ lines_left reader.old) }
+{
+    if reader.sees(Terminal::Colon) {
+        let body = body(alloc, reader, levels, column)?;
+        return Ok(nodes::clause_of(listed(alloc, &EVERY_KIND)?, body));
+    }
+    let Some(kinds) = named_kinds(reader) else {
+        return Err(reader.refusal());
+    };
+    reader.pass();
+    let body = body(alloc, reader, levels, column)?;
+    Ok(nodes::clause_of(listed(alloc, kinds)?, body))
+}
+
+/// The `except` lines at this column, up to one that names no kind.
+#[cycle(block)]
+#[tactic(auto, using(crate::proofs::BlockLoops::clauses_loop))]
+fn clauses(
+    alloc: Global,
+    reader: &mut Reader<'_>,
+    levels: u32,
+    column: u32,
+) -> Result<Clauses, SyntaxError>
+    ensures comes { Comes plain_clauses (IsClauses levels column reader.old) result reader.new }
+    ensures no_more { OnOk result (lines_left reader.new ≤ lines_left reader.old) }
+{
+    let mut items = Sequence::new(alloc);
+    'clauses: while goes_on(reader, Terminal::Except, column) {
+        reader.begin_line();
+        reader.pass();
+        let is_last = reader.sees(Terminal::Colon);
+        items.push(alloc, clause(alloc, reader, levels, column)?)?;
+        if is_last {
+            return Ok(items);
+        }
+    }
+    Ok(items)
 }
 
 /// A test and its suite.

@@ -6,8 +6,9 @@ use Rattle.py_tree.specs.declared.expr.Expr.{Expr}
 use Rattle.py_tree.specs.declared.expr.Link.{Link}
 use Rattle.py_tree.specs.declared.stmt.Stmt.{Stmt}
 use Rattle.py_tree.specs.declared.stmt.Arm.{Arm}
+use Rattle.py_tree.specs.declared.stmt.Clause.{Clause}
 use Rattle.py_tree.specs.PlainExpressions.{PNoExpr, PExpr, PNoLink, PMoreLinks, plain_expr, plain_exprs, exprs_of, plain_link, plain_links, links_of}
-use Rattle.py_tree.specs.PlainStatements.{PNoStmt, PStmt, PNoArm, PMoreArms, plain_stmt, plain_stmts, stmts_of, plain_arm, plain_arms, arms_of}
+use Rattle.py_tree.specs.PlainStatements.{PNoStmt, PStmt, PNoArm, PMoreArms, plain_stmt, plain_stmts, stmts_of, plain_arm, plain_arms, arms_of, PMoreClauses, PNoClause, clauses_of, plain_clause, plain_clauses}
 
 -- an item and those behind it
 pub from_item : {X : Type 0} (xs : List X) (i : ℕ) (x : X) → i < length xs → x ≡ get_or xs i x → drop i xs ≡ x ∷ drop (i + 1) xs
@@ -71,3 +72,9 @@ arms_from xs i x within is = ap (λ ys. arms_of (plain_arms ys)) (from_item xs i
 
 pub arms_end : (xs : List Arm) (i : ℕ) → length xs ≤ i → arms_of (plain_arms (drop i xs)) ≡ PNoArm
 arms_end xs i past = ap (λ ys. arms_of (plain_arms ys)) (drop_all i xs past)
+
+pub clauses_from : (ks : List Clause) (i : ℕ) (k : Clause) → i < length ks → k ≡ get_or ks i k → clauses_of (plain_clauses (drop i ks)) ≡ PMoreClauses (plain_clause k) (clauses_of (plain_clauses (drop (i + 1) ks)))
+clauses_from ks i k within is = ap (λ ys. clauses_of (plain_clauses ys)) (from_item ks i k within is)
+
+pub clauses_end : (ks : List Clause) (i : ℕ) → length ks ≤ i → clauses_of (plain_clauses (drop i ks)) ≡ PNoClause
+clauses_end ks i past = ap (λ ys. clauses_of (plain_clauses ys)) (drop_all i ks past)

@@ -4,9 +4,9 @@ use Rattle.py_tree.specs.declared.names.Place.{Place}
 use Rattle.py_tree.specs.declared.stmt.Target.{Target}
 use Rattle.py_tree.specs.declared.stmt.Target.TheVariants as target
 use Rattle.py_tree.specs.PlainExpressions.{PlainExpr}
-use Rattle.py_tree.specs.PlainStatements.{PlainOver, PlainStmt, PlainArm}
+use Rattle.py_tree.specs.PlainStatements.{PlainOver, PlainStmt, PlainArm, PlainClause}
 use Rattle.py_tree.specs.Reading.{Input, Outcome, next, here, named, placed_name, next_line, column}
-use Rattle.py_tree.specs.StatementGrammar.{IsSimple, IsValue, IsMessage, IsDetail, IsAssigned, IsRaise, IsField, IsSimples, IsMoreSimples, IsLine, simple_pass, simple_break, simple_continue, simple_return_stops_v, simple_return, simple_raise, simple_assert_stops_x, simple_assert_stops_v, simple_assert, simple_local, simple_field, simple_expr_stops_x, simple_expr, value_none, value_is_stops_x, value_is, message_none, message_is_deep, message_is_stops_v, message_is_needs_close, message_is, detail_none, detail_is_stops_x, detail_is, assigned_typed_stops_ty, assigned_typed_needs_assign, assigned_typed_stops_x, assigned_typed, assigned_plain_stops_x, assigned_plain, assigned_augmented_stops_x, assigned_augmented, assigned_other, raise_other, raise_is_stops_v, raise_is, field_deep, field_is, simples_is_stops_x, simples_is_stops_xs, simples_is, more_simples_end, more_simples_last, more_simples_more_stops_x, more_simples_more_stops_xs, more_simples_more, line_is_stops_xs, line_is_needs_line_end, line_is, IsBody, IsSuite, IsBlock, IsStmts, IsStmt, IsIf, IsWhile, IsFor, IsArm, IsArms, IsOther, IsOver, body_is_needs_colon, body_is_deep, body_is, suite_line, suite_block, block_missing, block_is, stmts_end, stmts_shifted, stmts_more_stops_xs, stmts_more_stops_ys, stmts_more, stmt_if_stops_x, stmt_if, stmt_while_stops_x, stmt_while, stmt_for_stops_x, stmt_for, stmt_simple, if_is_stops_a, if_is_stops_bs, if_is_stops_ys, if_is, while_is_stops_x, while_is_stops_ys, while_is, for_is_needs_name, for_is_needs_in, for_is_stops_v, for_is_stops_ys, for_is, arm_is_stops_x, arm_is_stops_ys, arm_is, arms_end, arms_more_stops_a, arms_more_stops_bs, arms_more, other_none, other_is, over_items_stops_x, over_items, over_end_deep, over_end_stops_x, over_end_needs_close, over_end, over_ends_stops_y, over_ends_needs_close, over_ends}
+use Rattle.py_tree.specs.StatementGrammar.{IsSimple, IsValue, IsMessage, IsDetail, IsAssigned, IsRaise, IsField, IsSimples, IsMoreSimples, IsLine, simple_pass, simple_break, simple_continue, simple_return_stops_v, simple_return, simple_raise, simple_assert_stops_x, simple_assert_stops_v, simple_assert, simple_local, simple_field, simple_expr_stops_x, simple_expr, value_none, value_is_stops_x, value_is, message_none, message_is_deep, message_is_stops_v, message_is_needs_close, message_is, detail_none, detail_is_stops_x, detail_is, assigned_typed_stops_ty, assigned_typed_needs_assign, assigned_typed_stops_x, assigned_typed, assigned_plain_stops_x, assigned_plain, assigned_augmented_stops_x, assigned_augmented, assigned_other, raise_other, raise_is_stops_v, raise_is, field_deep, field_is, simples_is_stops_x, simples_is_stops_xs, simples_is, more_simples_end, more_simples_last, more_simples_more_stops_x, more_simples_more_stops_xs, more_simples_more, line_is_stops_xs, line_is_needs_line_end, line_is, IsBody, IsSuite, IsBlock, IsStmts, IsStmt, IsIf, IsWhile, IsFor, IsArm, IsArms, IsOther, IsOver, body_is_needs_colon, body_is_deep, body_is, suite_line, suite_block, block_missing, block_is, stmts_end, stmts_shifted, stmts_more_stops_xs, stmts_more_stops_ys, stmts_more, stmt_if_stops_x, stmt_if, stmt_while_stops_x, stmt_while, stmt_for_stops_x, stmt_for, stmt_simple, if_is_stops_a, if_is_stops_bs, if_is_stops_ys, if_is, while_is_stops_x, while_is_stops_ys, while_is, for_is_needs_name, for_is_needs_in, for_is_stops_v, for_is_stops_ys, for_is, arm_is_stops_x, arm_is_stops_ys, arm_is, arms_end, arms_more_stops_a, arms_more_stops_bs, arms_more, other_none, other_is, over_items_stops_x, over_items, over_end_deep, over_end_stops_x, over_end_needs_close, over_end, over_ends_stops_y, over_ends_needs_close, over_ends, try_is_stops_ys, try_is_needs_clause, try_is_stops_ks, try_is, clause_all_stops_ys, clause_all, clause_other, clause_is_stops_ys, clause_is, clauses_end, clauses_stops_x, clauses_last, clauses_more_stops_ks, clauses_more, stmt_try_stops_x, stmt_try, IsTry, IsClause, IsClauses}
 use Rattle.py_tree.proofs.OneOutcome.{same_rest}
 use Rattle.py_tree.proofs.OneExpression.{whole_one}
 use Rattle.py_tree.proofs.OneType.{type_one}
@@ -521,49 +521,81 @@ mutual
   stmt_one (stmt_if_stops_x h0 h1) en ec ei (stmt_while h0' h1' h2') = cc
   stmt_one (stmt_if_stops_x h0 h1) en ec ei (stmt_for_stops_x h0' h1' h2' h3') = cc
   stmt_one (stmt_if_stops_x h0 h1) en ec ei (stmt_for h0' h1' h2' h3') = cc
-  stmt_one (stmt_if_stops_x h0 h1) en ec ei (stmt_simple h0' h1' h2' h3') = cc
+  stmt_one (stmt_if_stops_x h0 h1) en ec ei (stmt_try_stops_x h0' h1' h2' h3' h4') = cc
+  stmt_one (stmt_if_stops_x h0 h1) en ec ei (stmt_try h0' h1' h2' h3' h4') = cc
+  stmt_one (stmt_if_stops_x h0 h1) en ec ei (stmt_simple h0' h1' h2' h3' h4') = cc
   stmt_one (stmt_if h0 h1) en ec ei (stmt_if_stops_x h0' h1') = let s1 = if_one h1 en ec ei h1' in cc
   stmt_one (stmt_if h0 h1) en ec ei (stmt_if h0' h1') = let s1 = if_one h1 en ec ei h1' in cc
   stmt_one (stmt_if h0 h1) en ec ei (stmt_while_stops_x h0' h1' h2') = cc
   stmt_one (stmt_if h0 h1) en ec ei (stmt_while h0' h1' h2') = cc
   stmt_one (stmt_if h0 h1) en ec ei (stmt_for_stops_x h0' h1' h2' h3') = cc
   stmt_one (stmt_if h0 h1) en ec ei (stmt_for h0' h1' h2' h3') = cc
-  stmt_one (stmt_if h0 h1) en ec ei (stmt_simple h0' h1' h2' h3') = cc
+  stmt_one (stmt_if h0 h1) en ec ei (stmt_try_stops_x h0' h1' h2' h3' h4') = cc
+  stmt_one (stmt_if h0 h1) en ec ei (stmt_try h0' h1' h2' h3' h4') = cc
+  stmt_one (stmt_if h0 h1) en ec ei (stmt_simple h0' h1' h2' h3' h4') = cc
   stmt_one (stmt_while_stops_x h0 h1 h2) en ec ei (stmt_if_stops_x h0' h1') = cc
   stmt_one (stmt_while_stops_x h0 h1 h2) en ec ei (stmt_if h0' h1') = cc
   stmt_one (stmt_while_stops_x h0 h1 h2) en ec ei (stmt_while_stops_x h0' h1' h2') = let s1 = while_one h2 en ec ei h2' in cc
   stmt_one (stmt_while_stops_x h0 h1 h2) en ec ei (stmt_while h0' h1' h2') = let s1 = while_one h2 en ec ei h2' in cc
   stmt_one (stmt_while_stops_x h0 h1 h2) en ec ei (stmt_for_stops_x h0' h1' h2' h3') = cc
   stmt_one (stmt_while_stops_x h0 h1 h2) en ec ei (stmt_for h0' h1' h2' h3') = cc
-  stmt_one (stmt_while_stops_x h0 h1 h2) en ec ei (stmt_simple h0' h1' h2' h3') = cc
+  stmt_one (stmt_while_stops_x h0 h1 h2) en ec ei (stmt_try_stops_x h0' h1' h2' h3' h4') = cc
+  stmt_one (stmt_while_stops_x h0 h1 h2) en ec ei (stmt_try h0' h1' h2' h3' h4') = cc
+  stmt_one (stmt_while_stops_x h0 h1 h2) en ec ei (stmt_simple h0' h1' h2' h3' h4') = cc
   stmt_one (stmt_while h0 h1 h2) en ec ei (stmt_if_stops_x h0' h1') = cc
   stmt_one (stmt_while h0 h1 h2) en ec ei (stmt_if h0' h1') = cc
   stmt_one (stmt_while h0 h1 h2) en ec ei (stmt_while_stops_x h0' h1' h2') = let s1 = while_one h2 en ec ei h2' in cc
   stmt_one (stmt_while h0 h1 h2) en ec ei (stmt_while h0' h1' h2') = let s1 = while_one h2 en ec ei h2' in cc
   stmt_one (stmt_while h0 h1 h2) en ec ei (stmt_for_stops_x h0' h1' h2' h3') = cc
   stmt_one (stmt_while h0 h1 h2) en ec ei (stmt_for h0' h1' h2' h3') = cc
-  stmt_one (stmt_while h0 h1 h2) en ec ei (stmt_simple h0' h1' h2' h3') = cc
+  stmt_one (stmt_while h0 h1 h2) en ec ei (stmt_try_stops_x h0' h1' h2' h3' h4') = cc
+  stmt_one (stmt_while h0 h1 h2) en ec ei (stmt_try h0' h1' h2' h3' h4') = cc
+  stmt_one (stmt_while h0 h1 h2) en ec ei (stmt_simple h0' h1' h2' h3' h4') = cc
   stmt_one (stmt_for_stops_x h0 h1 h2 h3) en ec ei (stmt_if_stops_x h0' h1') = cc
   stmt_one (stmt_for_stops_x h0 h1 h2 h3) en ec ei (stmt_if h0' h1') = cc
   stmt_one (stmt_for_stops_x h0 h1 h2 h3) en ec ei (stmt_while_stops_x h0' h1' h2') = cc
   stmt_one (stmt_for_stops_x h0 h1 h2 h3) en ec ei (stmt_while h0' h1' h2') = cc
   stmt_one (stmt_for_stops_x h0 h1 h2 h3) en ec ei (stmt_for_stops_x h0' h1' h2' h3') = let s1 = for_one h3 en ec ei h3' in cc
   stmt_one (stmt_for_stops_x h0 h1 h2 h3) en ec ei (stmt_for h0' h1' h2' h3') = let s1 = for_one h3 en ec ei h3' in cc
-  stmt_one (stmt_for_stops_x h0 h1 h2 h3) en ec ei (stmt_simple h0' h1' h2' h3') = cc
+  stmt_one (stmt_for_stops_x h0 h1 h2 h3) en ec ei (stmt_try_stops_x h0' h1' h2' h3' h4') = cc
+  stmt_one (stmt_for_stops_x h0 h1 h2 h3) en ec ei (stmt_try h0' h1' h2' h3' h4') = cc
+  stmt_one (stmt_for_stops_x h0 h1 h2 h3) en ec ei (stmt_simple h0' h1' h2' h3' h4') = cc
   stmt_one (stmt_for h0 h1 h2 h3) en ec ei (stmt_if_stops_x h0' h1') = cc
   stmt_one (stmt_for h0 h1 h2 h3) en ec ei (stmt_if h0' h1') = cc
   stmt_one (stmt_for h0 h1 h2 h3) en ec ei (stmt_while_stops_x h0' h1' h2') = cc
   stmt_one (stmt_for h0 h1 h2 h3) en ec ei (stmt_while h0' h1' h2') = cc
   stmt_one (stmt_for h0 h1 h2 h3) en ec ei (stmt_for_stops_x h0' h1' h2' h3') = let s1 = for_one h3 en ec ei h3' in cc
   stmt_one (stmt_for h0 h1 h2 h3) en ec ei (stmt_for h0' h1' h2' h3') = let s1 = for_one h3 en ec ei h3' in cc
-  stmt_one (stmt_for h0 h1 h2 h3) en ec ei (stmt_simple h0' h1' h2' h3') = cc
-  stmt_one (stmt_simple h0 h1 h2 h3) en ec ei (stmt_if_stops_x h0' h1') = cc
-  stmt_one (stmt_simple h0 h1 h2 h3) en ec ei (stmt_if h0' h1') = cc
-  stmt_one (stmt_simple h0 h1 h2 h3) en ec ei (stmt_while_stops_x h0' h1' h2') = cc
-  stmt_one (stmt_simple h0 h1 h2 h3) en ec ei (stmt_while h0' h1' h2') = cc
-  stmt_one (stmt_simple h0 h1 h2 h3) en ec ei (stmt_for_stops_x h0' h1' h2' h3') = cc
-  stmt_one (stmt_simple h0 h1 h2 h3) en ec ei (stmt_for h0' h1' h2' h3') = cc
-  stmt_one (stmt_simple h0 h1 h2 h3) en ec ei (stmt_simple h0' h1' h2' h3') = let s1 = line_one h3 en ei h3' in cc
+  stmt_one (stmt_for h0 h1 h2 h3) en ec ei (stmt_try_stops_x h0' h1' h2' h3' h4') = cc
+  stmt_one (stmt_for h0 h1 h2 h3) en ec ei (stmt_try h0' h1' h2' h3' h4') = cc
+  stmt_one (stmt_for h0 h1 h2 h3) en ec ei (stmt_simple h0' h1' h2' h3' h4') = cc
+  stmt_one (stmt_try_stops_x h0 h1 h2 h3 h4) en ec ei (stmt_if_stops_x h0' h1') = cc
+  stmt_one (stmt_try_stops_x h0 h1 h2 h3 h4) en ec ei (stmt_if h0' h1') = cc
+  stmt_one (stmt_try_stops_x h0 h1 h2 h3 h4) en ec ei (stmt_while_stops_x h0' h1' h2') = cc
+  stmt_one (stmt_try_stops_x h0 h1 h2 h3 h4) en ec ei (stmt_while h0' h1' h2') = cc
+  stmt_one (stmt_try_stops_x h0 h1 h2 h3 h4) en ec ei (stmt_for_stops_x h0' h1' h2' h3') = cc
+  stmt_one (stmt_try_stops_x h0 h1 h2 h3 h4) en ec ei (stmt_for h0' h1' h2' h3') = cc
+  stmt_one (stmt_try_stops_x h0 h1 h2 h3 h4) en ec ei (stmt_try_stops_x h0' h1' h2' h3' h4') = let s1 = try_one h4 en ec ei h4' in cc
+  stmt_one (stmt_try_stops_x h0 h1 h2 h3 h4) en ec ei (stmt_try h0' h1' h2' h3' h4') = let s1 = try_one h4 en ec ei h4' in cc
+  stmt_one (stmt_try_stops_x h0 h1 h2 h3 h4) en ec ei (stmt_simple h0' h1' h2' h3' h4') = cc
+  stmt_one (stmt_try h0 h1 h2 h3 h4) en ec ei (stmt_if_stops_x h0' h1') = cc
+  stmt_one (stmt_try h0 h1 h2 h3 h4) en ec ei (stmt_if h0' h1') = cc
+  stmt_one (stmt_try h0 h1 h2 h3 h4) en ec ei (stmt_while_stops_x h0' h1' h2') = cc
+  stmt_one (stmt_try h0 h1 h2 h3 h4) en ec ei (stmt_while h0' h1' h2') = cc
+  stmt_one (stmt_try h0 h1 h2 h3 h4) en ec ei (stmt_for_stops_x h0' h1' h2' h3') = cc
+  stmt_one (stmt_try h0 h1 h2 h3 h4) en ec ei (stmt_for h0' h1' h2' h3') = cc
+  stmt_one (stmt_try h0 h1 h2 h3 h4) en ec ei (stmt_try_stops_x h0' h1' h2' h3' h4') = let s1 = try_one h4 en ec ei h4' in cc
+  stmt_one (stmt_try h0 h1 h2 h3 h4) en ec ei (stmt_try h0' h1' h2' h3' h4') = let s1 = try_one h4 en ec ei h4' in cc
+  stmt_one (stmt_try h0 h1 h2 h3 h4) en ec ei (stmt_simple h0' h1' h2' h3' h4') = cc
+  stmt_one (stmt_simple h0 h1 h2 h3 h4) en ec ei (stmt_if_stops_x h0' h1') = cc
+  stmt_one (stmt_simple h0 h1 h2 h3 h4) en ec ei (stmt_if h0' h1') = cc
+  stmt_one (stmt_simple h0 h1 h2 h3 h4) en ec ei (stmt_while_stops_x h0' h1' h2') = cc
+  stmt_one (stmt_simple h0 h1 h2 h3 h4) en ec ei (stmt_while h0' h1' h2') = cc
+  stmt_one (stmt_simple h0 h1 h2 h3 h4) en ec ei (stmt_for_stops_x h0' h1' h2' h3') = cc
+  stmt_one (stmt_simple h0 h1 h2 h3 h4) en ec ei (stmt_for h0' h1' h2' h3') = cc
+  stmt_one (stmt_simple h0 h1 h2 h3 h4) en ec ei (stmt_try_stops_x h0' h1' h2' h3' h4') = cc
+  stmt_one (stmt_simple h0 h1 h2 h3 h4) en ec ei (stmt_try h0' h1' h2' h3' h4') = cc
+  stmt_one (stmt_simple h0 h1 h2 h3 h4) en ec ei (stmt_simple h0' h1' h2' h3' h4') = line_one h4 en ei h4'
 
   pub if_one : {n n' : ℕ} {c c' : ℕ} {i i' : Input} {o o' : Outcome PlainStmt} → IsIf n c i o → n ≡ n' → c ≡ c' → i ≡ i' → IsIf n' c' i' o' → o ≡ o'
   if_one (if_is_stops_a h0) en ec ei (if_is_stops_a h0') = let s1 = arm_one h0 en ec (ap (λ z. next z) ei) h0' in cc
@@ -655,3 +687,75 @@ mutual
   other_one (other_none h0) en ec ei (other_is h0' h1') = cc
   other_one (other_is h0 h1) en ec ei (other_none h0') = cc
   other_one (other_is h0 h1) en ec ei (other_is h0' h1') = let s1 = body_one h1 en ec (ap (λ z. next (next_line z)) ei) h1' in cc
+
+  pub try_one : {n n' : ℕ} {c c' : ℕ} {i i' : Input} {o o' : Outcome PlainStmt} → IsTry n c i o → n ≡ n' → c ≡ c' → i ≡ i' → IsTry n' c' i' o' → o ≡ o'
+  try_one (try_is_stops_ys h0) en ec ei (try_is_stops_ys h0') = let s1 = body_one h0 en ec (ap (λ z. next z) ei) h0' in cc
+  try_one (try_is_stops_ys h0) en ec ei (try_is_needs_clause h0' h1') = let s1 = body_one h0 en ec (ap (λ z. next z) ei) h0' in cc
+  try_one (try_is_stops_ys h0) en ec ei (try_is_stops_ks h0' h1' h2') = let s1 = body_one h0 en ec (ap (λ z. next z) ei) h0' in cc
+  try_one (try_is_stops_ys h0) en ec ei (try_is h0' h1' h2') = let s1 = body_one h0 en ec (ap (λ z. next z) ei) h0' in cc
+  try_one (try_is_needs_clause h0 h1) en ec ei (try_is_stops_ys h0') = let s1 = body_one h0 en ec (ap (λ z. next z) ei) h0' in cc
+  try_one (try_is_needs_clause h0 h1) en ec ei (try_is_needs_clause h0' h1') = let s1 = body_one h0 en ec (ap (λ z. next z) ei) h0' in cc
+  try_one (try_is_needs_clause h0 h1) en ec ei (try_is_stops_ks h0' h1' h2') = let s1 = body_one h0 en ec (ap (λ z. next z) ei) h0' in cc
+  try_one (try_is_needs_clause h0 h1) en ec ei (try_is h0' h1' h2') = let s1 = body_one h0 en ec (ap (λ z. next z) ei) h0' in cc
+  try_one (try_is_stops_ks h0 h1 h2) en ec ei (try_is_stops_ys h0') = let s1 = body_one h0 en ec (ap (λ z. next z) ei) h0' in cc
+  try_one (try_is_stops_ks h0 h1 h2) en ec ei (try_is_needs_clause h0' h1') = let s1 = body_one h0 en ec (ap (λ z. next z) ei) h0' in cc
+  try_one (try_is_stops_ks h0 h1 h2) en ec ei (try_is_stops_ks h0' h1' h2') = let s1 = body_one h0 en ec (ap (λ z. next z) ei) h0' in let s2 = clauses_one h2 en ec (same_rest s1) h2' in cc
+  try_one (try_is_stops_ks h0 h1 h2) en ec ei (try_is h0' h1' h2') = let s1 = body_one h0 en ec (ap (λ z. next z) ei) h0' in let s2 = clauses_one h2 en ec (same_rest s1) h2' in cc
+  try_one (try_is h0 h1 h2) en ec ei (try_is_stops_ys h0') = let s1 = body_one h0 en ec (ap (λ z. next z) ei) h0' in cc
+  try_one (try_is h0 h1 h2) en ec ei (try_is_needs_clause h0' h1') = let s1 = body_one h0 en ec (ap (λ z. next z) ei) h0' in cc
+  try_one (try_is h0 h1 h2) en ec ei (try_is_stops_ks h0' h1' h2') = let s1 = body_one h0 en ec (ap (λ z. next z) ei) h0' in let s2 = clauses_one h2 en ec (same_rest s1) h2' in cc
+  try_one (try_is h0 h1 h2) en ec ei (try_is h0' h1' h2') = let s1 = body_one h0 en ec (ap (λ z. next z) ei) h0' in let s2 = clauses_one h2 en ec (same_rest s1) h2' in cc
+
+  pub clause_one : {n n' : ℕ} {c c' : ℕ} {i i' : Input} {o o' : Outcome PlainClause} → IsClause n c i o → n ≡ n' → c ≡ c' → i ≡ i' → IsClause n' c' i' o' → o ≡ o'
+  clause_one (clause_all_stops_ys h0 h1) en ec ei (clause_all_stops_ys h0' h1') = let s1 = body_one h1 en ec ei h1' in cc
+  clause_one (clause_all_stops_ys h0 h1) en ec ei (clause_all h0' h1') = let s1 = body_one h1 en ec ei h1' in cc
+  clause_one (clause_all_stops_ys h0 h1) en ec ei (clause_other h0' h1') = cc
+  clause_one (clause_all_stops_ys h0 h1) en ec ei (clause_is_stops_ys h0' h1' h2') = cc
+  clause_one (clause_all_stops_ys h0 h1) en ec ei (clause_is h0' h1' h2') = cc
+  clause_one (clause_all h0 h1) en ec ei (clause_all_stops_ys h0' h1') = let s1 = body_one h1 en ec ei h1' in cc
+  clause_one (clause_all h0 h1) en ec ei (clause_all h0' h1') = let s1 = body_one h1 en ec ei h1' in cc
+  clause_one (clause_all h0 h1) en ec ei (clause_other h0' h1') = cc
+  clause_one (clause_all h0 h1) en ec ei (clause_is_stops_ys h0' h1' h2') = cc
+  clause_one (clause_all h0 h1) en ec ei (clause_is h0' h1' h2') = cc
+  clause_one (clause_other h0 h1) en ec ei (clause_all_stops_ys h0' h1') = cc
+  clause_one (clause_other h0 h1) en ec ei (clause_all h0' h1') = cc
+  clause_one (clause_other h0 h1) en ec ei (clause_other h0' h1') = cc
+  clause_one (clause_other h0 h1) en ec ei (clause_is_stops_ys h0' h1' h2') = cc
+  clause_one (clause_other h0 h1) en ec ei (clause_is h0' h1' h2') = cc
+  clause_one (clause_is_stops_ys h0 h1 h2) en ec ei (clause_all_stops_ys h0' h1') = cc
+  clause_one (clause_is_stops_ys h0 h1 h2) en ec ei (clause_all h0' h1') = cc
+  clause_one (clause_is_stops_ys h0 h1 h2) en ec ei (clause_other h0' h1') = cc
+  clause_one (clause_is_stops_ys h0 h1 h2) en ec ei (clause_is_stops_ys h0' h1' h2') = let s1 = body_one h2 en ec (ap (λ z. next z) ei) h2' in cc
+  clause_one (clause_is_stops_ys h0 h1 h2) en ec ei (clause_is h0' h1' h2') = let s1 = body_one h2 en ec (ap (λ z. next z) ei) h2' in cc
+  clause_one (clause_is h0 h1 h2) en ec ei (clause_all_stops_ys h0' h1') = cc
+  clause_one (clause_is h0 h1 h2) en ec ei (clause_all h0' h1') = cc
+  clause_one (clause_is h0 h1 h2) en ec ei (clause_other h0' h1') = cc
+  clause_one (clause_is h0 h1 h2) en ec ei (clause_is_stops_ys h0' h1' h2') = let s1 = body_one h2 en ec (ap (λ z. next z) ei) h2' in cc
+  clause_one (clause_is h0 h1 h2) en ec ei (clause_is h0' h1' h2') = let s1 = body_one h2 en ec (ap (λ z. next z) ei) h2' in cc
+
+  pub clauses_one : {n n' : ℕ} {c c' : ℕ} {i i' : Input} {o o' : Outcome (List PlainClause)} → IsClauses n c i o → n ≡ n' → c ≡ c' → i ≡ i' → IsClauses n' c' i' o' → o ≡ o'
+  clauses_one (clauses_end h0) en ec ei (clauses_end h0') = cc
+  clauses_one (clauses_end h0) en ec ei (clauses_stops_x h0' h1') = cc
+  clauses_one (clauses_end h0) en ec ei (clauses_last h0' h1' h2') = cc
+  clauses_one (clauses_end h0) en ec ei (clauses_more_stops_ks h0' h1' h2' h3') = cc
+  clauses_one (clauses_end h0) en ec ei (clauses_more h0' h1' h2' h3') = cc
+  clauses_one (clauses_stops_x h0 h1) en ec ei (clauses_end h0') = cc
+  clauses_one (clauses_stops_x h0 h1) en ec ei (clauses_stops_x h0' h1') = let s1 = clause_one h1 en ec (ap (λ z. next (next_line z)) ei) h1' in cc
+  clauses_one (clauses_stops_x h0 h1) en ec ei (clauses_last h0' h1' h2') = let s1 = clause_one h1 en ec (ap (λ z. next (next_line z)) ei) h2' in cc
+  clauses_one (clauses_stops_x h0 h1) en ec ei (clauses_more_stops_ks h0' h1' h2' h3') = let s1 = clause_one h1 en ec (ap (λ z. next (next_line z)) ei) h2' in cc
+  clauses_one (clauses_stops_x h0 h1) en ec ei (clauses_more h0' h1' h2' h3') = let s1 = clause_one h1 en ec (ap (λ z. next (next_line z)) ei) h2' in cc
+  clauses_one (clauses_last h0 h1 h2) en ec ei (clauses_end h0') = cc
+  clauses_one (clauses_last h0 h1 h2) en ec ei (clauses_stops_x h0' h1') = let s1 = clause_one h2 en ec (ap (λ z. next (next_line z)) ei) h1' in cc
+  clauses_one (clauses_last h0 h1 h2) en ec ei (clauses_last h0' h1' h2') = let s1 = clause_one h2 en ec (ap (λ z. next (next_line z)) ei) h2' in cc
+  clauses_one (clauses_last h0 h1 h2) en ec ei (clauses_more_stops_ks h0' h1' h2' h3') = cc
+  clauses_one (clauses_last h0 h1 h2) en ec ei (clauses_more h0' h1' h2' h3') = cc
+  clauses_one (clauses_more_stops_ks h0 h1 h2 h3) en ec ei (clauses_end h0') = cc
+  clauses_one (clauses_more_stops_ks h0 h1 h2 h3) en ec ei (clauses_stops_x h0' h1') = let s1 = clause_one h2 en ec (ap (λ z. next (next_line z)) ei) h1' in cc
+  clauses_one (clauses_more_stops_ks h0 h1 h2 h3) en ec ei (clauses_last h0' h1' h2') = cc
+  clauses_one (clauses_more_stops_ks h0 h1 h2 h3) en ec ei (clauses_more_stops_ks h0' h1' h2' h3') = let s1 = clause_one h2 en ec (ap (λ z. next (next_line z)) ei) h2' in let s2 = clauses_one h3 en ec (same_rest s1) h3' in cc
+  clauses_one (clauses_more_stops_ks h0 h1 h2 h3) en ec ei (clauses_more h0' h1' h2' h3') = let s1 = clause_one h2 en ec (ap (λ z. next (next_line z)) ei) h2' in let s2 = clauses_one h3 en ec (same_rest s1) h3' in cc
+  clauses_one (clauses_more h0 h1 h2 h3) en ec ei (clauses_end h0') = cc
+  clauses_one (clauses_more h0 h1 h2 h3) en ec ei (clauses_stops_x h0' h1') = let s1 = clause_one h2 en ec (ap (λ z. next (next_line z)) ei) h1' in cc
+  clauses_one (clauses_more h0 h1 h2 h3) en ec ei (clauses_last h0' h1' h2') = cc
+  clauses_one (clauses_more h0 h1 h2 h3) en ec ei (clauses_more_stops_ks h0' h1' h2' h3') = let s1 = clause_one h2 en ec (ap (λ z. next (next_line z)) ei) h2' in let s2 = clauses_one h3 en ec (same_rest s1) h3' in cc
+  clauses_one (clauses_more h0 h1 h2 h3) en ec ei (clauses_more h0' h1' h2' h3') = let s1 = clause_one h2 en ec (ap (λ z. next (next_line z)) ei) h2' in let s2 = clauses_one h3 en ec (same_rest s1) h3' in cc

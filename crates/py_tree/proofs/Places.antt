@@ -35,5 +35,6 @@ stmt_place (s.Augment target op op_at x) at = refl
 stmt_place (s.If' m arms n other) at = refl
 stmt_place (s.While' test n body) at = refl
 stmt_place (s.For' x items n body) at = refl
+stmt_place (s.Try' n body m clauses) at = refl
 
 pub ruleset places = (written_place, stmt_place)

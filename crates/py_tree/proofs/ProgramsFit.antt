@@ -34,6 +34,7 @@ method_kept h x b = record {
   body_named = stmts_kept h (stmts_of x.body) b.body_named;
   failures = b.failures;
   types_flat = b.types_flat;
+  caught = b.caught;
   small = b.small;
   flat = b.flat;
 }
@@ -106,6 +107,7 @@ def_fits (def_is {i = i} {ps = ps} {t = t} {ys = ys} _ h1 h2 h3 h4) short =
         body_named = body.names;
         failures = body.failures;
         types_flat = body.types;
+        caught = body.caught;
         small = omega arith;
         flat = omega (arith, shallow);
       };

@@ -15,12 +15,13 @@ use Rattle.py_tree.specs.declared.stmt.Target.{Target}
 use Rattle.py_tree.specs.declared.stmt.Over.{Over}
 use Rattle.py_tree.specs.declared.stmt.Stmt.{Stmt}
 use Rattle.py_tree.specs.declared.stmt.Arm.{Arm, out-Arm}
+use Rattle.py_tree.specs.declared.stmt.Clause.{Clause, out-Clause}
 use Rattle.py_tree.specs.declared.stmt.StmtKind as s
 use Rattle.py_tree.specs.PlainExpressions.{plain_kind, plain_expr}
-use Rattle.py_tree.specs.PlainStatements.{plain_stmt_kind, plain_stmt, plain_stmts, stmts_of, plain_arms, arms_of}
-use Rattle.py_tree.specs.Reachability.{is_true, goes_on, all_go_on, an_arm_goes_on, breaks, break_in, break_in_arm, local_assigned, assigns, assigned_in, assigned_in_arms}
-use Rattle.py_tree.proofs.ListWalks.{stmts_from, stmts_end, arms_from, arms_end}
-use Rattle.py_tree.proofs.Views.{plain-Int, plain-Bool, plain-Str, plain-Nil, plain-Var, plain-SelfRef, plain-Attr, plain-Call, plain-Apply, plain-Index, plain-List, plain-Neg, plain-Pos, plain-Not, plain-Chain, plain-And, plain-Or, plain-Compare, plain-IsNone, plain-Cond, stmt-Pass, stmt-Break, stmt-Continue, stmt-Expr, stmt-Return, stmt-Raise, stmt-Assert, stmt-Assign, stmt-Augment, stmt-If, stmt-While, stmt-For}
+use Rattle.py_tree.specs.PlainStatements.{plain_stmt_kind, plain_stmt, plain_stmts, stmts_of, plain_arms, arms_of, plain_clauses, clauses_of}
+use Rattle.py_tree.specs.Reachability.{is_true, goes_on, all_go_on, an_arm_goes_on, a_clause_goes_on, breaks, break_in, break_in_arm, break_in_clause, local_assigned, assigns, assigned_in, assigned_in_arms, assigned_in_clauses}
+use Rattle.py_tree.proofs.ListWalks.{stmts_from, stmts_end, arms_from, arms_end, clauses_from, clauses_end}
+use Rattle.py_tree.proofs.Views.{plain-Int, plain-Bool, plain-Str, plain-Nil, plain-Var, plain-SelfRef, plain-Attr, plain-Call, plain-Apply, plain-Index, plain-List, plain-Neg, plain-Pos, plain-Not, plain-Chain, plain-And, plain-Or, plain-Compare, plain-IsNone, plain-Cond, stmt-Pass, stmt-Break, stmt-Continue, stmt-Expr, stmt-Return, stmt-Raise, stmt-Assert, stmt-Assign, stmt-Augment, stmt-If, stmt-While, stmt-For, stmt-Try}
 
 module _ (at : Place) where
   pub goes-Pass : goes_on (plain_stmt_kind s.Pass at) ≡ true
@@ -71,6 +72,10 @@ module _ (at : Place) where
   unfolding goes_on
   goes-For x items body = ap goes_on (stmt-For at x items body)
 
+  pub goes-Try : (body : List Stmt) (clauses : List Clause) → goes_on (plain_stmt_kind (s.Try body clauses) at) ≡ (all_go_on (stmts_of (plain_stmts body)) || a_clause_goes_on (clauses_of (plain_clauses clauses)))
+  unfolding goes_on
+  goes-Try body clauses = ap goes_on (stmt-Try at body clauses)
+
   pub breaks-Pass : breaks (plain_stmt_kind s.Pass at) ≡ false
   unfolding breaks
   breaks-Pass = ap breaks (stmt-Pass at)
@@ -119,6 +124,10 @@ module _ (at : Place) where
   unfolding breaks
   breaks-For x items body = ap breaks (stmt-For at x items body)
 
+  pub breaks-Try : (body : List Stmt) (clauses : List Clause) → breaks (plain_stmt_kind (s.Try body clauses) at) ≡ (break_in (stmts_of (plain_stmts body)) || break_in_clause (clauses_of (plain_clauses clauses)))
+  unfolding breaks
+  breaks-Try body clauses = ap breaks (stmt-Try at body clauses)
+
   pub assigns-Pass : assigns (plain_stmt_kind s.Pass at) ≡ []
   unfolding assigns
   assigns-Pass = ap assigns (stmt-Pass at)
@@ -166,6 +175,10 @@ module _ (at : Place) where
   pub assigns-For : (x : PlacedName) (items : Over) (body : List Stmt) → assigns (plain_stmt_kind (s.For x items body) at) ≡ x.name.0 ∷ assigned_in (stmts_of (plain_stmts body))
   unfolding assigns
   assigns-For x items body = ap assigns (stmt-For at x items body)
+
+  pub assigns-Try : (body : List Stmt) (clauses : List Clause) → assigns (plain_stmt_kind (s.Try body clauses) at) ≡ assigned_in (stmts_of (plain_stmts body)) ++ assigned_in_clauses (clauses_of (plain_clauses clauses))
+  unfolding assigns
+  assigns-Try body clauses = ap assigns (stmt-Try at body clauses)
 
   pub true-Int : (n : ℤ) → is_true (plain_kind (e.Int n) at) ≡ false
   true-Int n = ap is_true (plain-Int at n)
@@ -251,6 +264,14 @@ pub break_arm_ends : (xs : List Arm) (i : ℕ) → length xs ≤ i → break_in_
 unfolding break_in_arm
 break_arm_ends xs i past = ap break_in_arm (arms_end xs i past)
 
+pub clause_ends : (ks : List Clause) (i : ℕ) → length ks ≤ i → a_clause_goes_on (clauses_of (plain_clauses (drop i ks))) ≡ false
+unfolding a_clause_goes_on
+clause_ends ks i past = ap a_clause_goes_on (clauses_end ks i past)
+
+pub break_clause_ends : (ks : List Clause) (i : ℕ) → length ks ≤ i → break_in_clause (clauses_of (plain_clauses (drop i ks))) ≡ false
+unfolding break_in_clause
+break_clause_ends ks i past = ap break_in_clause (clauses_end ks i past)
+
 -- what one more of them adds
 pub all_from : (ss : List Stmt) (i : ℕ) (x : Stmt) → i < length ss → x ≡ get_or ss i x → all_go_on (stmts_of (plain_stmts (drop i ss))) ≡ (goes_on (plain_stmt x) && all_go_on (stmts_of (plain_stmts (drop (i + 1) ss))))
 unfolding all_go_on
@@ -268,6 +289,14 @@ pub break_arm_from : (xs : List Arm) (i : ℕ) (x : Arm) → i < length xs → x
 unfolding break_in_arm
 break_arm_from xs i x within is = ap break_in_arm (arms_from xs i x within is)
 
+pub clause_from : (ks : List Clause) (i : ℕ) (k : Clause) → i < length ks → k ≡ get_or ks i k → a_clause_goes_on (clauses_of (plain_clauses (drop i ks))) ≡ (all_go_on (stmts_of (plain_stmts (out-Clause k).body)) || a_clause_goes_on (clauses_of (plain_clauses (drop (i + 1) ks))))
+unfolding a_clause_goes_on
+clause_from ks i k within is = ap a_clause_goes_on (clauses_from ks i k within is)
+
+pub break_clause_from : (ks : List Clause) (i : ℕ) (k : Clause) → i < length ks → k ≡ get_or ks i k → break_in_clause (clauses_of (plain_clauses (drop i ks))) ≡ (break_in (stmts_of (plain_stmts (out-Clause k).body)) || break_in_clause (clauses_of (plain_clauses (drop (i + 1) ks))))
+unfolding break_in_clause
+break_clause_from ks i k within is = ap break_in_clause (clauses_from ks i k within is)
+
 -- the way on and the way out of three in turn are those of the first two in turn, and then of the third
 pub on_in_turn : (on next rest : Bool) → (on && (next && rest)) ≡ ((on && next) && rest)
 on_in_turn true next rest = refl
@@ -280,8 +309,8 @@ out_in_turn false false next_on next_out rest = refl
 
 pub ruleset true_rules = (true-Int, true-Bool, true-Str, true-Nil, true-Var, true-SelfRef, true-Attr, true-Call, true-Apply, true-Index, true-List, true-Neg, true-Pos, true-Not, true-Chain, true-And, true-Or, true-Compare, true-IsNone, true-Cond)
 
-pub ruleset goes_on_rules = (goes-Pass, goes-Break, goes-Continue, goes-Expr, goes-Return, goes-Raise, goes-Assert, goes-Assign, goes-Augment, goes-If, goes-While, goes-For)
+pub ruleset goes_on_rules = (goes-Pass, goes-Break, goes-Continue, goes-Expr, goes-Return, goes-Raise, goes-Assert, goes-Assign, goes-Augment, goes-If, goes-While, goes-For, goes-Try)
 
-pub ruleset breaks_rules = (breaks-Pass, breaks-Break, breaks-Continue, breaks-Expr, breaks-Return, breaks-Raise, breaks-Assert, breaks-Assign, breaks-Augment, breaks-If, breaks-While, breaks-For)
+pub ruleset breaks_rules = (breaks-Pass, breaks-Break, breaks-Continue, breaks-Expr, breaks-Return, breaks-Raise, breaks-Assert, breaks-Assign, breaks-Augment, breaks-If, breaks-While, breaks-For, breaks-Try)
 
-pub ruleset assigns_rules = (assigns-Pass, assigns-Break, assigns-Continue, assigns-Expr, assigns-Return, assigns-Raise, assigns-Assert, assigns-Assign, assigns-Augment, assigns-If, assigns-While, assigns-For)
+pub ruleset assigns_rules = (assigns-Pass, assigns-Break, assigns-Continue, assigns-Expr, assigns-Return, assigns-Raise, assigns-Assert, assigns-Assign, assigns-Augment, assigns-If, assigns-While, assigns-For, assigns-Try)

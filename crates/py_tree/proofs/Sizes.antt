@@ -15,12 +15,13 @@ use Rattle.py_tree.specs.declared.stmt.Target.{Target}
 use Rattle.py_tree.specs.declared.stmt.Over.{Over}
 use Rattle.py_tree.specs.declared.stmt.Stmt.{Stmt}
 use Rattle.py_tree.specs.declared.stmt.Arm.{Arm, out-Arm}
+use Rattle.py_tree.specs.declared.stmt.Clause.{Clause, out-Clause}
 use Rattle.py_tree.specs.declared.stmt.StmtKind as s
 use Rattle.py_tree.specs.PlainExpressions.{plain_kind, plain_expr, plain_exprs, exprs_of, plain_links, links_of}
-use Rattle.py_tree.specs.PlainStatements.{plain_option, plain_over, plain_stmt_kind, plain_stmt, plain_stmts, stmts_of, plain_arms, arms_of}
-use Rattle.py_tree.specs.Bounded.{of_option, expr_size, exprs_size, link_size, links_size, stmt_size, stmts_size, arm_size, arms_size, over_size}
+use Rattle.py_tree.specs.PlainStatements.{plain_option, plain_over, plain_stmt_kind, plain_stmt, plain_stmts, stmts_of, plain_arms, arms_of, clauses_of, plain_clauses}
+use Rattle.py_tree.specs.Bounded.{of_option, expr_size, exprs_size, link_size, links_size, stmt_size, stmts_size, arm_size, arms_size, over_size, clause_size, clauses_size}
 use Rattle.py_tree.proofs.ListWalks.{rest}
-use Rattle.py_tree.proofs.Views.{plain-Int, plain-Bool, plain-Str, plain-Nil, plain-Var, plain-SelfRef, plain-Attr, plain-Call, plain-Apply, plain-Index, plain-List, plain-Neg, plain-Pos, plain-Not, plain-Chain, plain-And, plain-Or, plain-Compare, plain-IsNone, plain-Cond, stmt-Pass, stmt-Break, stmt-Continue, stmt-Expr, stmt-Return, stmt-Raise, stmt-Assert, stmt-Assign, stmt-Augment, stmt-If, stmt-While, stmt-For}
+use Rattle.py_tree.proofs.Views.{plain-Int, plain-Bool, plain-Str, plain-Nil, plain-Var, plain-SelfRef, plain-Attr, plain-Call, plain-Apply, plain-Index, plain-List, plain-Neg, plain-Pos, plain-Not, plain-Chain, plain-And, plain-Or, plain-Compare, plain-IsNone, plain-Cond, stmt-Pass, stmt-Break, stmt-Continue, stmt-Expr, stmt-Return, stmt-Raise, stmt-Assert, stmt-Assign, stmt-Augment, stmt-If, stmt-While, stmt-For, stmt-Try}
 
 module _ (at : Place) where
   pub size-Int : (x : ℤ) → expr_size (plain_kind (e.Int x) at) ≡ 1
@@ -151,9 +152,13 @@ module _ (at : Place) where
   unfolding stmt_size
   stmt_size-For x over body = ap stmt_size (stmt-For at x over body)
 
+  pub stmt_size-Try : (body : List Stmt) (clauses : List Clause) → stmt_size (plain_stmt_kind (s.Try body clauses) at) ≡ 1 + stmts_size (stmts_of (plain_stmts body)) + clauses_size (clauses_of (plain_clauses clauses))
+  unfolding stmt_size
+  stmt_size-Try body clauses = ap stmt_size (stmt-Try at body clauses)
+
 pub ruleset expr_sizes = (size-Int, size-Bool, size-Str, size-Nil, size-Var, size-SelfRef, size-Attr, size-Call, size-Apply, size-Index, size-List, size-Neg, size-Pos, size-Not, size-Chain, size-And, size-Or, size-Compare, size-IsNone, size-Cond)
 
-pub ruleset stmt_sizes = (stmt_size-Pass, stmt_size-Break, stmt_size-Continue, stmt_size-Expr, stmt_size-Return, stmt_size-Raise, stmt_size-Assert, stmt_size-Assign, stmt_size-Augment, stmt_size-If, stmt_size-While, stmt_size-For)
+pub ruleset stmt_sizes = (stmt_size-Pass, stmt_size-Break, stmt_size-Continue, stmt_size-Expr, stmt_size-Return, stmt_size-Raise, stmt_size-Assert, stmt_size-Assign, stmt_size-Augment, stmt_size-If, stmt_size-While, stmt_size-For, stmt_size-Try)
 
 -- a part of a list is no larger than the list
 pub item_size : (es : List Expr) (i : ℕ) (x : Expr) → i < length es → x ≡ get_or es i x → expr_size (plain_expr x) ≤ exprs_size (exprs_of (plain_exprs es))
@@ -185,3 +190,9 @@ unfolding arms_size arm_size
 arm_part [] i x lt is = absurd (omega arith)
 arm_part (y ∷ xs) zero x lt is = let e : expr_size (plain_expr (out-Arm x).test) + stmts_size (stmts_of (plain_stmts (out-Arm x).body)) ≡ expr_size (plain_expr (out-Arm y).test) + stmts_size (stmts_of (plain_stmts (out-Arm y).body)) = ap (λ z. expr_size (plain_expr (out-Arm z).test) + stmts_size (stmts_of (plain_stmts (out-Arm z).body))) is in omega arith
 arm_part (y ∷ xs) (suc i) x lt is = let h = arm_part xs i x (omega arith) is in omega arith
+
+pub clause_part : (ks : List Clause) (i : ℕ) (k : Clause) → i < length ks → k ≡ get_or ks i k → stmts_size (stmts_of (plain_stmts (out-Clause k).body)) ≤ clauses_size (clauses_of (plain_clauses ks))
+unfolding clauses_size clause_size
+clause_part [] i k lt is = absurd (omega arith)
+clause_part (y ∷ ks) zero k lt is = let e : stmts_size (stmts_of (plain_stmts (out-Clause k).body)) ≡ stmts_size (stmts_of (plain_stmts (out-Clause y).body)) = ap (λ z. stmts_size (stmts_of (plain_stmts (out-Clause z).body))) is in omega arith
+clause_part (y ∷ ks) (suc i) k lt is = let h = clause_part ks i k (omega arith) is in omega arith

@@ -1,6 +1,8 @@
 -- What reading takes: tokens go, each name that comes takes one, and the names before stay in front.
-use Rattle.std.proofs.Common.{◌≡◌, ◌<◌, ◌≤◌, ◌+◌, ℕ, Bool, true, false, cond, Some, None, List, [], ◌∷◌, ◌++◌, length, refl, sym, ap, ◌∙◌, arith, length-append, append_assoc}
-use Rattle.std.specs.Prelude.{is_some, not, nat_lt, ◌&&◌, unwrap_or, bytes_eq}
+use Rattle.std.proofs.Common.{◌≡◌, ◌<◌, ◌≤◌, ◌+◌, ℕ, Bool, true, false, cond, Option, Some, None, List, [], ◌∷◌, ◌++◌, length, refl, sym, ap, subst, ◌∙◌, arith, length-append, append_assoc}
+use Rattle.std.specs.List.{All}
+use Rattle.std.proofs.lemmas.List.Elements.{All-nil, All-cons}
+use Rattle.std.specs.Prelude.{is_some, IfSome, not, nat_lt, ◌&&◌, unwrap_or, bytes_eq}
 use Rattle.std.specs.List.{prefix_len}
 use Rattle.std.proofs.lemmas.Bool.Decides.{nat_tests}
 use Rattle.std.proofs.lemmas.List.{append-nil}
@@ -19,8 +21,8 @@ use Rattle.py_tree.specs.declared.starts.SimpleStart.TheVariants as simple
 use Rattle.py_tree.specs.NameTable.{place_of, with_name}
 use Rattle.py_tree.specs.Tokens.{PlainToken, PlainLine}
 use Rattle.py_tree.specs.Terminals.{spelling, is_name}
-use Rattle.py_tree.specs.Bounded.{tokens_of}
-use Rattle.py_tree.specs.Reading.{Input, next, named, texted, next_line, other_tokens, first_token, other_lines, first_of_lines, sees, sees_name, sees_int, sees_str, number_of, name_number, text_number, text_of, comparison, addition, multiplication, augmentation, failure_kind, atom_start, type_start, simple_start, begins_local, begins_field, assigns}
+use Rattle.py_tree.specs.Bounded.{tokens_of, CanBeCaught}
+use Rattle.py_tree.specs.Reading.{Input, next, named, texted, next_line, other_tokens, first_token, other_lines, first_of_lines, sees, sees_name, sees_int, sees_str, number_of, name_number, text_number, text_of, comparison, addition, multiplication, augmentation, failure_kind, every_kind, named_kinds, atom_start, type_start, simple_start, begins_local, begins_field, assigns}
 
 -- the tokens that are left, of this line and of the lines behind it
 pub tokens_left : Input → ℕ
@@ -129,6 +131,8 @@ spelt k.Elif h = cc
 spelt k.Else h = cc
 spelt k.While h = cc
 spelt k.For h = cc
+spelt k.Try h = cc
+spelt k.Except h = cc
 spelt k.In h = cc
 spelt k.Not h = cc
 spelt k.And h = cc
@@ -152,6 +156,14 @@ spelt k.RangeWord h = cc
 spelt k.ExceptionWord h = cc
 spelt k.ValueErrorWord h = cc
 spelt k.RuntimeErrorWord h = cc
+spelt k.ZeroDivisionErrorWord h = cc
+spelt k.IndexErrorWord h = cc
+spelt k.AssertionErrorWord h = cc
+spelt k.RecursionErrorWord h = cc
+spelt k.OverflowErrorWord h = cc
+spelt k.NoEntityWord h = cc
+spelt k.AlreadyExistsWord h = cc
+spelt k.SizeLimitWord h = cc
 spelt k.EntityWord h = cc
 spelt k.TransactionalWord h = cc
 spelt k.StateflowWord h = cc
@@ -240,6 +252,14 @@ some_failure_kind (t ∷ ts) at ls ns r h = omega arith
 
 pub taken_failure_kind : (i : Input) (r : ℕ) → failure_kind i ≡ Some r → Takes i
 taken_failure_kind i r h = takes i (some_failure_kind i.tokens i.behind i.lines i.names r h)
+
+some_named_kinds : (ts : List PlainToken) (at : Place) (ls : List PlainLine) (ns : List (List ℕ)) (r : List ℕ) → named_kinds (record { tokens = ts; behind = at; lines = ls; names = ns }) ≡ Some r → 0 < length ts
+unfolding named_kinds sees
+some_named_kinds [] at ls ns r h = absurd (cc)
+some_named_kinds (t ∷ ts) at ls ns r h = omega arith
+
+pub taken_named_kinds : (i : Input) (r : List ℕ) → named_kinds i ≡ Some r → Takes i
+taken_named_kinds i r h = takes i (some_named_kinds i.tokens i.behind i.lines i.names r h)
 
 -- where something stands that begins the part, a token is there
 abbrev pub begins_atom : AtomStart → Bool
@@ -331,3 +351,48 @@ kinds false false false n h = absurd (cc)
 pub failure_number : (i : Input) (n : ℕ) → failure_kind i ≡ Some n → (6 ≤ n) × (n ≤ 8)
 unfolding failure_kind
 failure_number i n h = kinds (sees k.ExceptionWord i) (sees k.ValueErrorWord i) (sees k.RuntimeErrorWord i) n h
+
+-- one number more that can be caught
+more_caught : (kind : ℕ) (kinds : List ℕ) → 1 ≤ kind → kind ≤ 11 → All CanBeCaught kinds → All CanBeCaught (kind ∷ kinds)
+more_caught kind kinds p q r = All-cons CanBeCaught kind kinds (p, q) r
+
+one_caught : (kind : ℕ) → 1 ≤ kind → kind ≤ 11 → All CanBeCaught (kind ∷ [])
+one_caught kind p q = more_caught kind [] p q (All-nil CanBeCaught)
+
+pub every_can_be_caught : All CanBeCaught every_kind
+every_can_be_caught =
+    let from_11 : All CanBeCaught (11 ∷ []) = one_caught 11 (omega arith) (omega arith) in
+    let from_10 = more_caught 10 (11 ∷ []) (omega arith) (omega arith) from_11 in
+    let from_9 = more_caught 9 (10 ∷ 11 ∷ []) (omega arith) (omega arith) from_10 in
+    let from_8 = more_caught 8 (9 ∷ 10 ∷ 11 ∷ []) (omega arith) (omega arith) from_9 in
+    let from_7 = more_caught 7 (8 ∷ 9 ∷ 10 ∷ 11 ∷ []) (omega arith) (omega arith) from_8 in
+    let from_6 = more_caught 6 (7 ∷ 8 ∷ 9 ∷ 10 ∷ 11 ∷ []) (omega arith) (omega arith) from_7 in
+    let from_5 = more_caught 5 (6 ∷ 7 ∷ 8 ∷ 9 ∷ 10 ∷ 11 ∷ []) (omega arith) (omega arith) from_6 in
+    let from_4 = more_caught 4 (5 ∷ 6 ∷ 7 ∷ 8 ∷ 9 ∷ 10 ∷ 11 ∷ []) (omega arith) (omega arith) from_5 in
+    let from_3 = more_caught 3 (4 ∷ 5 ∷ 6 ∷ 7 ∷ 8 ∷ 9 ∷ 10 ∷ 11 ∷ []) (omega arith) (omega arith) from_4 in
+    let from_2 = more_caught 2 (3 ∷ 4 ∷ 5 ∷ 6 ∷ 7 ∷ 8 ∷ 9 ∷ 10 ∷ 11 ∷ []) (omega arith) (omega arith) from_3 in
+    more_caught 1 (2 ∷ 3 ∷ 4 ∷ 5 ∷ 6 ∷ 7 ∷ 8 ∷ 9 ∷ 10 ∷ 11 ∷ []) (omega arith) (omega arith) from_2
+
+-- where one list or another is chosen, both of which can be caught
+chosen_kinds : (b : Bool) (kinds : List ℕ) (rest : Option (List ℕ)) → All CanBeCaught kinds → IfSome rest (All CanBeCaught) → IfSome (cond b (Some kinds) rest) (All CanBeCaught)
+chosen_kinds true kinds rest p q = p
+chosen_kinds false kinds rest p q = q
+
+if_named : (i : Input) → IfSome (named_kinds i) (All CanBeCaught)
+unfolding named_kinds
+if_named i =
+    chosen_kinds (sees k.ExceptionWord i) every_kind _ every_can_be_caught
+    (chosen_kinds (sees k.RuntimeErrorWord i) (4 ∷ 8 ∷ []) _ (more_caught 4 (8 ∷ []) (omega arith) (omega arith) (one_caught 8 (omega arith) (omega arith)))
+    (chosen_kinds (sees k.ZeroDivisionErrorWord i) (1 ∷ []) _ (one_caught 1 (omega arith) (omega arith))
+    (chosen_kinds (sees k.IndexErrorWord i) (2 ∷ []) _ (one_caught 2 (omega arith) (omega arith))
+    (chosen_kinds (sees k.AssertionErrorWord i) (3 ∷ []) _ (one_caught 3 (omega arith) (omega arith))
+    (chosen_kinds (sees k.RecursionErrorWord i) (4 ∷ []) _ (one_caught 4 (omega arith) (omega arith))
+    (chosen_kinds (sees k.OverflowErrorWord i) (5 ∷ []) _ (one_caught 5 (omega arith) (omega arith))
+    (chosen_kinds (sees k.ValueErrorWord i) (7 ∷ []) _ (one_caught 7 (omega arith) (omega arith))
+    (chosen_kinds (sees k.NoEntityWord i) (9 ∷ []) _ (one_caught 9 (omega arith) (omega arith))
+    (chosen_kinds (sees k.AlreadyExistsWord i) (10 ∷ []) _ (one_caught 10 (omega arith) (omega arith))
+    (chosen_kinds (sees k.SizeLimitWord i) (11 ∷ []) _ (one_caught 11 (omega arith) (omega arith)) tt))))))))))
+
+-- the kinds that a clause names
+pub kinds_named : (i : Input) (kinds : List ℕ) → named_kinds i ≡ Some kinds → All CanBeCaught kinds
+kinds_named i kinds h = subst (λ o. IfSome o (All CanBeCaught)) h (if_named i)

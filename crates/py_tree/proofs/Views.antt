@@ -20,13 +20,14 @@ use Rattle.py_tree.specs.declared.stmt.Target.{Target}
 use Rattle.py_tree.specs.declared.stmt.Over.{Over}
 use Rattle.py_tree.specs.declared.stmt.Stmt.{Stmt}
 use Rattle.py_tree.specs.declared.stmt.Arm.{Arm}
+use Rattle.py_tree.specs.declared.stmt.Clause.{Clause}
 use Rattle.py_tree.specs.declared.stmt.StmtKind as s
-use Rattle.py_tree.specs.declared.stmt.StmtKind.{Row_of-Stmt, end_of-Stmt, more_of-Stmt, Row_of-Arm, end_of-Arm, more_of-Arm, items-the_row-Stmt, items_hidden-the_row-Stmt-1, items_shown-the_row-Stmt-1, items-the_row-Arm, items_hidden-the_row-Arm-0}
-use Rattle.py_tree.specs.declared.stmt.StmtKind.TheBlock.{struct-Arm, hidden-the_row-Stmt-1, shown-the_row-Stmt-1, hidden-the_row-Arm-0}
-use Rattle.py_tree.specs.declared.stmt.StmtKind.TheViews.{outs-struct-Arm}
+use Rattle.py_tree.specs.declared.stmt.StmtKind.{Row_of-Stmt, end_of-Stmt, more_of-Stmt, Row_of-Arm, end_of-Arm, more_of-Arm, items-the_row-Stmt, items_hidden-the_row-Stmt-1, items_shown-the_row-Stmt-1, items-the_row-Arm, items_hidden-the_row-Arm-0, Row_of-Clause, end_of-Clause, more_of-Clause, items-the_row-Clause, items_hidden-the_row-Clause-2}
+use Rattle.py_tree.specs.declared.stmt.StmtKind.TheBlock.{struct-Arm, struct-Clause, hidden-the_row-Stmt-1, shown-the_row-Stmt-1, hidden-the_row-Arm-0, hidden-the_row-Clause-2}
+use Rattle.py_tree.specs.declared.stmt.StmtKind.TheViews.{outs-struct-Arm, outs-struct-Clause}
 use Rattle.py_tree.specs.PlainTypes.{TInt, TBool, TStr, TNil, TList, TOptional, TEntity, WInt, WBool, WStr, WNil, WList, WOptional, WEntity, plain_ty, plain_written_kind, plain_written}
 use Rattle.py_tree.specs.PlainExpressions.{PInt, PBool, PStr, PNil, PVar, PSelf, PAttr, PCall, PApply, PIndex, PList, PNeg, PPos, PNot, PChain, PAnd, POr, PCompare, PIsNone, PCond, PExpr, PLink, PMoreLinks, plain_kind, plain_expr_row, plain_link_row, plain_expr, plain_exprs, plain_links, exprs_of, links_of}
-use Rattle.py_tree.specs.PlainStatements.{PPass, PBreak, PContinue, PDo, PReturn, PRaise, PAssert, PAssign, PAugment, PIf, PWhile, PFor, PStmt, PArm, PMoreArms, plain_option, plain_over, plain_stmt_kind, plain_stmt_row, plain_arm_row, plain_stmts, plain_arms, stmts_of, arms_of}
+use Rattle.py_tree.specs.PlainStatements.{PPass, PBreak, PContinue, PDo, PReturn, PRaise, PAssert, PAssign, PAugment, PIf, PWhile, PFor, PTry, PStmt, PArm, PMoreArms, PClause, PMoreClauses, plain_option, plain_over, plain_stmt_kind, plain_stmt_row, plain_arm_row, plain_clause_row, plain_stmts, plain_arms, plain_clauses, stmts_of, arms_of, clauses_of}
 
 expr_row-items : (m : _) (row : Row_of-Expr m) → plain_expr_row row ≡ exprs_of (plain_exprs (items-the_row-Expr m row))
 unfolding plain_expr_row
@@ -63,6 +64,15 @@ arm_row-items m (more_of-Arm (struct-Arm test n body) row) =
 
 arm_row-hidden : (xs : List Arm) → plain_arm_row (hidden-the_row-Arm-0 xs) ≡ arms_of (plain_arms xs)
 arm_row-hidden xs = arm_row-items _ (hidden-the_row-Arm-0 xs) ∙ ap (λ ys. arms_of (plain_arms ys)) (items_hidden-the_row-Arm-0 xs)
+
+clause_row-items : (m : _) (row : Row_of-Clause m) → plain_clause_row row ≡ clauses_of (plain_clauses (items-the_row-Clause m row))
+unfolding plain_clause_row
+clause_row-items m end_of-Clause = refl
+clause_row-items m (more_of-Clause (struct-Clause kinds n body) row) =
+    (λ i. PMoreClauses (PClause kinds (stmt_row-shown n body i)) (clause_row-items _ row i)) ∙ ap (λ k. PMoreClauses (PClause k.kinds (stmts_of (plain_stmts k.body))) (clauses_of (plain_clauses (items-the_row-Clause _ row)))) (sym (outs-struct-Clause kinds n body))
+
+clause_row-hidden : (ks : List Clause) → plain_clause_row (hidden-the_row-Clause-2 ks) ≡ clauses_of (plain_clauses ks)
+clause_row-hidden ks = clause_row-items _ (hidden-the_row-Clause-2 ks) ∙ ap (λ ys. clauses_of (plain_clauses ys)) (items_hidden-the_row-Clause-2 ks)
 
 pub ty-Int : plain_ty t.Int ≡ TInt
 unfolding plain_ty
@@ -249,12 +259,16 @@ module _ (at : Place) where
   unfolding plain_stmt_kind
   stmt-For x items body = ap (PFor at x.name.0 x.place (plain_over items)) (stmt_row-hidden body)
 
+  pub stmt-Try : (body : List Stmt) (clauses : List Clause) → plain_stmt_kind (s.Try body clauses) at ≡ PTry at (stmts_of (plain_stmts body)) (clauses_of (plain_clauses clauses))
+  unfolding plain_stmt_kind
+  stmt-Try body clauses = λ i. PTry at (stmt_row-hidden body i) (clause_row-hidden clauses i)
+
 pub ruleset ty_views = (ty-Int, ty-Bool, ty-Str, ty-Nil, ty-List, ty-Optional, ty-Entity)
 
 pub ruleset written_views = (written-Int, written-Bool, written-Str, written-Nil, written-List, written-Optional, written-Entity)
 
 pub ruleset expr_views = (plain-Int, plain-Bool, plain-Str, plain-Nil, plain-Var, plain-SelfRef, plain-Attr, plain-Call, plain-Apply, plain-Index, plain-List, plain-Neg, plain-Pos, plain-Not, plain-Chain, plain-And, plain-Or, plain-Compare, plain-IsNone, plain-Cond)
 
-pub ruleset stmt_views = (stmt-Pass, stmt-Break, stmt-Continue, stmt-Expr, stmt-Return, stmt-Raise, stmt-Assert, stmt-Assign, stmt-Augment, stmt-If, stmt-While, stmt-For)
+pub ruleset stmt_views = (stmt-Pass, stmt-Break, stmt-Continue, stmt-Expr, stmt-Return, stmt-Raise, stmt-Assert, stmt-Assign, stmt-Augment, stmt-If, stmt-While, stmt-For, stmt-Try)
 
 pub ruleset views = (ty_views, written_views, expr_views, stmt_views)

@@ -10,7 +10,7 @@ use Rattle.py_tree.specs.declared.stmt.Target.{Target}
 use Rattle.py_tree.specs.declared.stmt.Target.TheVariants.{Local, Field}
 use Rattle.py_tree.specs.PlainTypes.{PlainWritten, WInt, WBool, WStr, WNil, WList, WOptional, WEntity}
 use Rattle.py_tree.specs.PlainExpressions.{PlainExpr, PInt, PBool, PStr, PNil, PVar, PSelf, PAttr, PCall, PApply, PIndex, PList, PNeg, PPos, PNot, PChain, PAnd, POr, PCompare, PIsNone, PCond, PlainExprs, PNoExpr, PExpr, PlainLink, PLink, PlainLinks, PNoLink, PMoreLinks}
-use Rattle.py_tree.specs.PlainStatements.{PlainOver, PRange, PItems, PlainStmt, PPass, PBreak, PContinue, PDo, PReturn, PRaise, PAssert, PAssign, PAugment, PIf, PWhile, PFor, PlainStmts, PNoStmt, PStmt, PlainArm, PArm, PlainArms, PNoArm, PMoreArms, stmts_of}
+use Rattle.py_tree.specs.PlainStatements.{PlainOver, PRange, PItems, PlainStmt, PPass, PBreak, PContinue, PDo, PReturn, PRaise, PAssert, PAssign, PAugment, PIf, PWhile, PFor, PTry, PlainStmts, PNoStmt, PStmt, PlainArm, PArm, PlainArms, PNoArm, PMoreArms, PlainClause, PClause, PlainClauses, PNoClause, PMoreClauses, stmts_of}
 use Rattle.py_tree.specs.PlainProgram.{PlainParam, PlainMethod, PlainClass, PlainProgram}
 use Rattle.py_tree.specs.Tokens.{PlainLine}
 use Rattle.py_tree.specs.ReservedNames.{reserved_names}
@@ -176,6 +176,7 @@ unfoldable mutual
   stmt_size (PIf at arms other) = 1 + arms_size arms + stmts_size other
   stmt_size (PWhile at test body) = 1 + expr_size test + stmts_size body
   stmt_size (PFor at name name_at over body) = 1 + over_size over + stmts_size body
+  stmt_size (PTry at body clauses) = 1 + stmts_size body + clauses_size clauses
 
   pub stmts_size : PlainStmts → ℕ
   stmts_size PNoStmt = 0
@@ -187,6 +188,13 @@ unfoldable mutual
   pub arms_size : PlainArms → ℕ
   arms_size PNoArm = 0
   arms_size (PMoreArms a more) = arm_size a + arms_size more
+
+  pub clause_size : PlainClause → ℕ
+  clause_size (PClause kinds body) = stmts_size body
+
+  pub clauses_size : PlainClauses → ℕ
+  clauses_size PNoClause = 0
+  clauses_size (PMoreClauses k more) = clause_size k + clauses_size more
 
 unfoldable mutual
   pub stmt_depth : PlainStmt → ℕ
@@ -202,6 +210,7 @@ unfoldable mutual
   stmt_depth (PIf at arms other) = 1 + max (arms_depth arms) (stmts_depth other)
   stmt_depth (PWhile at test body) = 1 + max (expr_depth test) (stmts_depth body)
   stmt_depth (PFor at name name_at over body) = 1 + max (over_depth over) (stmts_depth body)
+  stmt_depth (PTry at body clauses) = 1 + max (stmts_depth body) (clauses_depth clauses)
 
   pub stmts_depth : PlainStmts → ℕ
   stmts_depth PNoStmt = 0
@@ -213,6 +222,13 @@ unfoldable mutual
   pub arms_depth : PlainArms → ℕ
   arms_depth PNoArm = 0
   arms_depth (PMoreArms a more) = max (arm_depth a) (arms_depth more)
+
+  pub clause_depth : PlainClause → ℕ
+  clause_depth (PClause kinds body) = stmts_depth body
+
+  pub clauses_depth : PlainClauses → ℕ
+  clauses_depth PNoClause = 0
+  clauses_depth (PMoreClauses k more) = max (clause_depth k) (clauses_depth more)
 
 unfoldable mutual
   pub StmtNames : ℕ → PlainStmt → Type 0
@@ -228,6 +244,7 @@ unfoldable mutual
   StmtNames n (PIf at arms other) = ArmsNames n arms × StmtsNames n other
   StmtNames n (PWhile at test body) = ExprNames n test × StmtsNames n body
   StmtNames n (PFor at name name_at over body) = (name < n) × OverNames n over × StmtsNames n body
+  StmtNames n (PTry at body clauses) = StmtsNames n body × ClausesNames n clauses
 
   pub StmtsNames : ℕ → PlainStmts → Type 0
   StmtsNames n PNoStmt = Unit {0}
@@ -239,6 +256,13 @@ unfoldable mutual
   pub ArmsNames : ℕ → PlainArms → Type 0
   ArmsNames n PNoArm = Unit {0}
   ArmsNames n (PMoreArms a more) = ArmNames n a × ArmsNames n more
+
+  pub ClauseNames : ℕ → PlainClause → Type 0
+  ClauseNames n (PClause kinds body) = StmtsNames n body
+
+  pub ClausesNames : ℕ → PlainClauses → Type 0
+  ClausesNames n PNoClause = Unit {0}
+  ClausesNames n (PMoreClauses k more) = ClauseNames n k × ClausesNames n more
 
 -- P holds of each statement in a tree
 unfoldable mutual
@@ -255,6 +279,7 @@ unfoldable mutual
   EachStmt P (PIf at arms other) = P (PIf at arms other) × EachOfArms P arms × EachOfStmts P other
   EachStmt P (PWhile at test body) = P (PWhile at test body) × EachOfStmts P body
   EachStmt P (PFor at name name_at over body) = P (PFor at name name_at over body) × EachOfStmts P body
+  EachStmt P (PTry at body clauses) = P (PTry at body clauses) × EachOfStmts P body × EachOfClauses P clauses
 
   pub EachOfStmts : (PlainStmt → Type 0) → PlainStmts → Type 0
   EachOfStmts P PNoStmt = Unit {0}
@@ -267,10 +292,30 @@ unfoldable mutual
   EachOfArms P PNoArm = Unit {0}
   EachOfArms P (PMoreArms a more) = EachOfArm P a × EachOfArms P more
 
+  pub EachOfClause : (PlainStmt → Type 0) → PlainClause → Type 0
+  EachOfClause P (PClause kinds body) = EachOfStmts P body
+
+  pub EachOfClauses : (PlainStmt → Type 0) → PlainClauses → Type 0
+  EachOfClauses P PNoClause = Unit {0}
+  EachOfClauses P (PMoreClauses k more) = EachOfClause P k × EachOfClauses P more
+
 -- what is raised is an Exception, a ValueError or a RuntimeError
 abbrev pub RaisesFailure : PlainStmt → Type 0
 RaisesFailure (PRaise at kind message) = (6 ≤ kind) × (kind ≤ 8)
 RaisesFailure _ = Unit {0}
+
+-- the number of a kind that a clause may name: all but StepLimit
+abbrev pub CanBeCaught : ℕ → Type 0
+CanBeCaught kind = (1 ≤ kind) × (kind ≤ 11)
+
+abbrev pub ClausesCatch : PlainClauses → Type 0
+ClausesCatch PNoClause = Unit {0}
+ClausesCatch (PMoreClauses (PClause kinds body) more) = All CanBeCaught kinds × ClausesCatch more
+
+-- what is caught can be
+abbrev pub CatchesFailures : PlainStmt → Type 0
+CatchesFailures (PTry at body clauses) = ClausesCatch clauses
+CatchesFailures _ = Unit {0}
 
 -- how deep the type of what is assigned may nest
 abbrev pub nesting_limit : Target → ℕ
@@ -304,6 +349,7 @@ pub record IsBoundedMethod (count : ℕ) (d : PlainMethod) : Type 0 where
   pub result_flat : IfSome d.result (λ t. nesting t ≤ 64)
   pub body_named : StmtsNames count (stmts_of d.body)
   pub failures : EachOfStmts RaisesFailure (stmts_of d.body)
+  pub caught : EachOfStmts CatchesFailures (stmts_of d.body)
   pub types_flat : EachOfStmts DeclaresFlat (stmts_of d.body)
   pub small : stmts_size (stmts_of d.body) ≤ most_nodes
   pub flat : stmts_depth (stmts_of d.body) ≤ deepest_tree

@@ -13,7 +13,7 @@ use Rattle.py_tree.specs.declared.stmt.Target.TheVariants.{Field}
 use Rattle.py_tree.specs.ReservedNames.{reserved_names}
 use Rattle.py_tree.specs.PlainTypes.{PlainTy, TNil, PlainWritten, WInt, WBool, WStr, WNil, WList, WOptional, WEntity, type_of}
 use Rattle.py_tree.specs.PlainExpressions.{PlainExpr, PInt, PBool, PStr, PNil, PVar, PSelf, PAttr, PCall, PApply, PIndex, PList, PNeg, PPos, PNot, PChain, PAnd, POr, PCompare, PIsNone, PCond, PlainExprs, PNoExpr, PExpr, PLink, PlainLinks, PNoLink, PMoreLinks}
-use Rattle.py_tree.specs.PlainStatements.{PlainStmt, PPass, PBreak, PContinue, PDo, PReturn, PRaise, PAssert, PAssign, PAugment, PIf, PWhile, PFor}
+use Rattle.py_tree.specs.PlainStatements.{PlainStmt, PPass, PBreak, PContinue, PDo, PReturn, PRaise, PAssert, PAssign, PAugment, PIf, PWhile, PFor, PTry}
 use Rattle.py_tree.specs.PlainProgram.{PlainParam, PlainMethod, PlainClass, PlainProgram}
 
 -- Names
@@ -247,6 +247,7 @@ place_of_stmt (PAugment at target op op_at value) = at
 place_of_stmt (PIf at arms other) = at
 place_of_stmt (PWhile at test body) = at
 place_of_stmt (PFor at name name_at over body) = at
+place_of_stmt (PTry at body clauses) = at
 
 -- the first fault of a declaration that begins here, in a class with these members, behind the declarations of fields of these
 -- names; no field is named as what makes an entity or tells its key

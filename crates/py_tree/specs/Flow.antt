@@ -14,7 +14,7 @@ use Rattle.py_tree.specs.declared.stmt.Target.{Target}
 use Rattle.py_tree.specs.declared.stmt.Target.TheVariants.{Local, Field}
 use Rattle.py_tree.specs.PlainTypes.{PlainTy, TInt, TNil, PlainWritten, type_of as type_written}
 use Rattle.py_tree.specs.PlainExpressions.{PlainExpr, PVar, PSelf, PAttr}
-use Rattle.py_tree.specs.PlainStatements.{PlainOver, PRange, PItems, PlainStmt, PPass, PBreak, PContinue, PDo, PReturn, PRaise, PAssert, PAssign, PAugment, PIf, PWhile, PFor, PlainStmts, PNoStmt, PStmt, PArm, PlainArms, PNoArm, PMoreArms, stmts_of}
+use Rattle.py_tree.specs.PlainStatements.{PlainOver, PRange, PItems, PlainStmt, PPass, PBreak, PContinue, PDo, PReturn, PRaise, PAssert, PAssign, PAugment, PIf, PWhile, PFor, PTry, PlainStmts, PNoStmt, PStmt, PArm, PlainArms, PNoArm, PMoreArms, PClause, PlainClauses, PNoClause, PMoreClauses, stmts_of}
 use Rattle.py_tree.specs.PlainProgram.{PlainMethod, PlainClass, PlainProgram}
 use Rattle.py_tree.specs.ClassRules.{PlainSigParam, PlainSig, PlainTable, is_reserved, is_full, type_fault, broken, first_of, init_of, body_of, methods_of, tables_of}
 use Rattle.py_tree.specs.FlowEnvironment.{PlainLocal, PlainEnv, has_name, local_of, has_none, shown, narrowed}
@@ -111,7 +111,7 @@ with_local name first ty locals =
 abbrev pub forgotten : PlainLocal → PlainLocal
 forgotten l = record l { not_none = false }
 
--- at the head of a loop the names that its body assigns are no longer surely not None
+-- at the head of a loop, and where a clause of a `try` begins, the names that the body assigns are no longer surely not None
 unfoldable pub at_head : List ℕ → List PlainLocal → List PlainLocal
 at_head names locals = map (λ l. if has_name names l.name then forgotten l else l) locals
 
@@ -299,6 +299,9 @@ unfoldable mutual
       (with_found (stored w.locals (named_at name name_at) item) (λ named.
       with_found (flow_all (within_loop c) (begun (with_local name item item (for_head (name ∷ assigned_in body) w.locals named))) body) (λ b.
       Ok (on w (after_for (for_head (name ∷ assigned_in body) w.locals named) b))))))
+  flow c w (PTry at body clauses) =
+      with_found (flow_all c w body) (λ b.
+      flow_clauses c b (known_at (at_head (assigned_in body) w.locals)) (way (all_go_on body) b.locals) clauses)
 
   pub flow_all : Context → Way → PlainStmts → Result Way RuleFault
   flow_all c w PNoStmt = Ok w
@@ -311,6 +314,13 @@ unfoldable mutual
       with_found (condition_at c w.locals test) (λ ty.
       with_found (flow_all c (on w (narrowed (shown true test) w.locals)) body) (λ arm.
       flow_arms c (on arm (settled arm.locals (known_at (narrowed (shown false test) w.locals)))) (meet ended (way (all_go_on body) arm.locals)) more other_goes_on other))
+
+  -- each clause begins with what was known before the `try`, but of names that its body assigns; `ended` is as for arms
+  pub flow_clauses : Context → Way → List Known → Option (List Known) → PlainClauses → Result Way RuleFault
+  flow_clauses c w start ended PNoClause = Ok (on w (behind_ways w.locals ended))
+  flow_clauses c w start ended (PMoreClauses (PClause kinds body) more) =
+      with_found (flow_all c (on w (settled w.locals start)) body) (λ k.
+      flow_clauses c k start (meet ended (way (all_go_on body) k.locals)) more)
 
 -- Methods
 

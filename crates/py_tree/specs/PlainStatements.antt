@@ -8,9 +8,10 @@ use Rattle.py_tree.specs.declared.stmt.Over.{Over}
 use Rattle.py_tree.specs.declared.stmt.Over.TheVariants as over
 use Rattle.py_tree.specs.declared.stmt.Stmt.{Stmt}
 use Rattle.py_tree.specs.declared.stmt.Arm.{Arm, out-Arm}
-use Rattle.py_tree.specs.declared.stmt.StmtKind.{StmtKind, Row_of-Arm, end_of-Arm, more_of-Arm, Row_of-Stmt, end_of-Stmt, more_of-Stmt}
+use Rattle.py_tree.specs.declared.stmt.Clause.{Clause, out-Clause}
+use Rattle.py_tree.specs.declared.stmt.StmtKind.{StmtKind, Row_of-Arm, end_of-Arm, more_of-Arm, Row_of-Clause, end_of-Clause, more_of-Clause, Row_of-Stmt, end_of-Stmt, more_of-Stmt}
 use Rattle.py_tree.specs.declared.stmt.StmtKind as s
-use Rattle.py_tree.specs.declared.stmt.StmtKind.TheBlock.{struct-Arm}
+use Rattle.py_tree.specs.declared.stmt.StmtKind.TheBlock.{struct-Arm, struct-Clause}
 use Rattle.py_tree.specs.PlainTypes.{PlainWritten, plain_written}
 use Rattle.py_tree.specs.PlainExpressions.{PlainExpr, plain_expr}
 
@@ -33,6 +34,7 @@ mutual
     PIf : (at : Place) → (arms : PlainArms) → (other : PlainStmts) → PlainStmt
     PWhile : (at : Place) → (test : PlainExpr) → (body : PlainStmts) → PlainStmt
     PFor : (at : Place) → (name : ℕ) → (name_at : Place) → (over : PlainOver) → (body : PlainStmts) → PlainStmt
+    PTry : (at : Place) → (body : PlainStmts) → (clauses : PlainClauses) → PlainStmt
 
   pub data PlainStmts : Type 0 where
     PNoStmt : PlainStmts
@@ -45,6 +47,14 @@ mutual
   pub data PlainArms : Type 0 where
     PNoArm : PlainArms
     PMoreArms : (a : PlainArm) → (more : PlainArms) → PlainArms
+
+  -- the numbers of the kinds of failures that it names, in rising order, and what runs then
+  pub data PlainClause : Type 0 where
+    PClause : (kinds : List ℕ) → (body : PlainStmts) → PlainClause
+
+  pub data PlainClauses : Type 0 where
+    PNoClause : PlainClauses
+    PMoreClauses : (k : PlainClause) → (more : PlainClauses) → PlainClauses
 
 abbrev pub plain_option : {X A : Type 0} → (X → A) → Option X → Option A
 plain_option view None = None
@@ -68,6 +78,7 @@ unfoldable mutual
   plain_stmt_kind (s.If' m arms n other) at = PIf at (plain_arm_row arms) (plain_stmt_row other)
   plain_stmt_kind (s.While' test n body) at = PWhile at (plain_expr test) (plain_stmt_row body)
   plain_stmt_kind (s.For' x items n body) at = PFor at x.name.0 x.place (plain_over items) (plain_stmt_row body)
+  plain_stmt_kind (s.Try' n body m clauses) at = PTry at (plain_stmt_row body) (plain_clause_row clauses)
 
   pub plain_stmt_row : {n : _} → Row_of-Stmt n → PlainStmts
   plain_stmt_row end_of-Stmt = PNoStmt
@@ -76,6 +87,10 @@ unfoldable mutual
   pub plain_arm_row : {n : _} → Row_of-Arm n → PlainArms
   plain_arm_row end_of-Arm = PNoArm
   plain_arm_row (more_of-Arm (struct-Arm test n body) row) = PMoreArms (PArm (plain_expr test) (plain_stmt_row body)) (plain_arm_row row)
+
+  pub plain_clause_row : {n : _} → Row_of-Clause n → PlainClauses
+  plain_clause_row end_of-Clause = PNoClause
+  plain_clause_row (more_of-Clause (struct-Clause kinds n body) row) = PMoreClauses (PClause kinds (plain_stmt_row body)) (plain_clause_row row)
 
 abbrev pub plain_stmt : Stmt → PlainStmt
 plain_stmt x = plain_stmt_kind x.kind x.place
@@ -92,8 +107,18 @@ abbrev pub arms_of : List PlainArm → PlainArms
 arms_of [] = PNoArm
 arms_of (a ∷ more) = PMoreArms a (arms_of more)
 
+abbrev pub clauses_of : List PlainClause → PlainClauses
+clauses_of [] = PNoClause
+clauses_of (k ∷ more) = PMoreClauses k (clauses_of more)
+
 abbrev pub plain_arm : Arm → PlainArm
 plain_arm a = PArm (plain_expr (out-Arm a).test) (stmts_of (plain_stmts (out-Arm a).body))
 
 abbrev pub plain_arms : List Arm → List PlainArm
 plain_arms = map plain_arm
+
+abbrev pub plain_clause : Clause → PlainClause
+plain_clause k = PClause (out-Clause k).kinds (stmts_of (plain_stmts (out-Clause k).body))
+
+abbrev pub plain_clauses : List Clause → List PlainClause
+plain_clauses = map plain_clause

@@ -1,10 +1,10 @@
 -- Which points of a method can be reached, and which names are assigned there. Tests are taken to come out either way, but for
--- the literal `True` of a `while`.
+-- the literal `True` of a `while`, and any statement of a `try` may fail.
 use Rattle.std.specs.Prelude.{ℕ, Bool, true, false, not, ◌||◌, ◌&&◌, if◌then◌else◌, List, [], ◌∷◌, ◌++◌}
 use Rattle.py_tree.specs.declared.stmt.Target.{Target}
 use Rattle.py_tree.specs.declared.stmt.Target.TheVariants.{Local, Field}
 use Rattle.py_tree.specs.PlainExpressions.{PlainExpr, PBool}
-use Rattle.py_tree.specs.PlainStatements.{PlainStmt, PPass, PBreak, PContinue, PDo, PReturn, PRaise, PAssert, PAssign, PAugment, PIf, PWhile, PFor, PlainStmts, PNoStmt, PStmt, PArm, PlainArms, PNoArm, PMoreArms}
+use Rattle.py_tree.specs.PlainStatements.{PlainStmt, PPass, PBreak, PContinue, PDo, PReturn, PRaise, PAssert, PAssign, PAugment, PIf, PWhile, PFor, PTry, PlainStmts, PNoStmt, PStmt, PArm, PlainArms, PNoArm, PMoreArms, PClause, PlainClauses, PNoClause, PMoreClauses}
 
 -- the literal True
 abbrev pub is_true : PlainExpr → Bool
@@ -26,6 +26,7 @@ unfoldable mutual
   goes_on (PIf at arms other) = an_arm_goes_on arms || all_go_on other
   goes_on (PWhile at test body) = not (is_true test) || break_in body
   goes_on (PFor at name name_at over body) = true
+  goes_on (PTry at body clauses) = all_go_on body || a_clause_goes_on clauses
 
   pub all_go_on : PlainStmts → Bool
   all_go_on PNoStmt = true
@@ -34,6 +35,10 @@ unfoldable mutual
   pub an_arm_goes_on : PlainArms → Bool
   an_arm_goes_on PNoArm = false
   an_arm_goes_on (PMoreArms (PArm test body) more) = all_go_on body || an_arm_goes_on more
+
+  pub a_clause_goes_on : PlainClauses → Bool
+  a_clause_goes_on PNoClause = false
+  a_clause_goes_on (PMoreClauses (PClause kinds body) more) = all_go_on body || a_clause_goes_on more
 
   pub breaks : PlainStmt → Bool
   breaks (PPass at) = false
@@ -48,6 +53,7 @@ unfoldable mutual
   breaks (PIf at arms other) = break_in_arm arms || break_in other
   breaks (PWhile at test body) = false
   breaks (PFor at name name_at over body) = false
+  breaks (PTry at body clauses) = break_in body || break_in_clause clauses
 
   pub break_in : PlainStmts → Bool
   break_in PNoStmt = false
@@ -56,6 +62,10 @@ unfoldable mutual
   pub break_in_arm : PlainArms → Bool
   break_in_arm PNoArm = false
   break_in_arm (PMoreArms (PArm test body) more) = break_in body || break_in_arm more
+
+  pub break_in_clause : PlainClauses → Bool
+  break_in_clause PNoClause = false
+  break_in_clause (PMoreClauses (PClause kinds body) more) = break_in body || break_in_clause more
 
 abbrev pub local_assigned : Target → List ℕ
 local_assigned (Local x) = x.name.0 ∷ []
@@ -76,6 +86,7 @@ unfoldable mutual
   assigns (PIf at arms other) = assigned_in_arms arms ++ assigned_in other
   assigns (PWhile at test body) = assigned_in body
   assigns (PFor at name name_at over body) = name ∷ assigned_in body
+  assigns (PTry at body clauses) = assigned_in body ++ assigned_in_clauses clauses
 
   pub assigned_in : PlainStmts → List ℕ
   assigned_in PNoStmt = []
@@ -84,3 +95,7 @@ unfoldable mutual
   pub assigned_in_arms : PlainArms → List ℕ
   assigned_in_arms PNoArm = []
   assigned_in_arms (PMoreArms (PArm test body) more) = assigned_in body ++ assigned_in_arms more
+
+  pub assigned_in_clauses : PlainClauses → List ℕ
+  assigned_in_clauses PNoClause = []
+  assigned_in_clauses (PMoreClauses (PClause kinds body) more) = assigned_in body ++ assigned_in_clauses more

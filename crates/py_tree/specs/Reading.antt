@@ -242,6 +242,26 @@ failure_kind i =
     else (if sees k.RuntimeErrorWord i then Some 8
     else None))
 
+-- the numbers of all kinds but StepLimit
+abbrev pub every_kind : List ℕ
+every_kind = 1 ∷ 2 ∷ 3 ∷ 4 ∷ 5 ∷ 6 ∷ 7 ∷ 8 ∷ 9 ∷ 10 ∷ 11 ∷ []
+
+-- the numbers of the kinds that a clause names: RecursionError is a RuntimeError, and each of them is an Exception
+unfoldable pub named_kinds : Input → Option (List ℕ)
+named_kinds i =
+    if sees k.ExceptionWord i then Some every_kind
+    else (if sees k.RuntimeErrorWord i then Some (4 ∷ 8 ∷ [])
+    else (if sees k.ZeroDivisionErrorWord i then Some (1 ∷ [])
+    else (if sees k.IndexErrorWord i then Some (2 ∷ [])
+    else (if sees k.AssertionErrorWord i then Some (3 ∷ [])
+    else (if sees k.RecursionErrorWord i then Some (4 ∷ [])
+    else (if sees k.OverflowErrorWord i then Some (5 ∷ [])
+    else (if sees k.ValueErrorWord i then Some (7 ∷ [])
+    else (if sees k.NoEntityWord i then Some (9 ∷ [])
+    else (if sees k.AlreadyExistsWord i then Some (10 ∷ [])
+    else (if sees k.SizeLimitWord i then Some (11 ∷ [])
+    else None))))))))))
+
 unfoldable pub begins_expr : Input → Bool
 begins_expr i = sees_name i || sees_int i || sees_str i || sees k.True i || sees k.False i || sees k.None i || sees k.Open i || sees k.OpenBracket i || sees k.Minus i || sees k.Plus i || sees k.Not i
 

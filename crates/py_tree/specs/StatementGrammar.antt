@@ -13,8 +13,8 @@ use Rattle.py_tree.specs.declared.terminal.Terminal.TheVariants as k
 use Rattle.py_tree.specs.declared.starts.SimpleStart.TheVariants as simple
 use Rattle.py_tree.specs.PlainTypes.{PlainWritten}
 use Rattle.py_tree.specs.PlainExpressions.{PlainExpr}
-use Rattle.py_tree.specs.PlainStatements.{PlainOver, PRange, PItems, PlainStmt, PPass, PBreak, PContinue, PDo, PReturn, PRaise, PAssert, PAssign, PAugment, PIf, PWhile, PFor, PlainArm, PArm, stmts_of, arms_of}
-use Rattle.py_tree.specs.Reading.{Input, Outcome, found, stops, next, here, ends, sees, sees_name, named, name_number, placed_name, refused, too_deep, next_line, column, is_at, is_deeper, goes_on, augmentation, failure_kind, begins_expr, begins_range, simple_start}
+use Rattle.py_tree.specs.PlainStatements.{PlainOver, PRange, PItems, PlainStmt, PPass, PBreak, PContinue, PDo, PReturn, PRaise, PAssert, PAssign, PAugment, PIf, PWhile, PFor, PTry, PlainArm, PArm, PlainClause, PClause, stmts_of, arms_of, clauses_of}
+use Rattle.py_tree.specs.Reading.{Input, Outcome, found, stops, next, here, ends, sees, sees_name, named, name_number, placed_name, refused, too_deep, next_line, column, is_at, is_deeper, goes_on, augmentation, failure_kind, every_kind, named_kinds, begins_expr, begins_range, simple_start}
 use Rattle.py_tree.specs.ExpressionGrammar.{IsWhole}
 use Rattle.py_tree.specs.TypeGrammar.{IsType}
 
@@ -133,7 +133,7 @@ mutual
     stmts_more_stops_ys : {n c b : ℕ} {i : Input} {xs : List PlainStmt} {m1 : Input} {f : SyntaxFault} → is_deeper c i ≡ true → is_at b i ≡ true → IsStmt n b (next_line i) (found xs m1) → IsStmts n c b m1 (stops f) → IsStmts n c b i (stops f)
     stmts_more : {n c b : ℕ} {i : Input} {xs : List PlainStmt} {m1 : Input} {ys : List PlainStmt} {m2 : Input} → is_deeper c i ≡ true → is_at b i ≡ true → IsStmt n b (next_line i) (found xs m1) → IsStmts n c b m1 (found ys m2) → IsStmts n c b i (found (xs ++ ys) m2)
 
-  -- stmt : simples NL | if | while | for, on a line of column c
+  -- stmt : simples NL | if | while | for | try, on a line of column c
   pub data IsStmt : ℕ → ℕ → Input → Outcome (List PlainStmt) → Type 0 where
     stmt_if_stops_x : {n c : ℕ} {i : Input} {f : SyntaxFault} → sees k.If i ≡ true → IsIf n c i (stops f) → IsStmt n c i (stops f)
     stmt_if : {n c : ℕ} {i : Input} {x : PlainStmt} {m1 : Input} → sees k.If i ≡ true → IsIf n c i (found x m1) → IsStmt n c i (found (x ∷ []) m1)
@@ -141,7 +141,9 @@ mutual
     stmt_while : {n c : ℕ} {i : Input} {x : PlainStmt} {m1 : Input} → sees k.If i ≡ false → sees k.While i ≡ true → IsWhile n c i (found x m1) → IsStmt n c i (found (x ∷ []) m1)
     stmt_for_stops_x : {n c : ℕ} {i : Input} {f : SyntaxFault} → sees k.If i ≡ false → sees k.While i ≡ false → sees k.For i ≡ true → IsFor n c i (stops f) → IsStmt n c i (stops f)
     stmt_for : {n c : ℕ} {i : Input} {x : PlainStmt} {m1 : Input} → sees k.If i ≡ false → sees k.While i ≡ false → sees k.For i ≡ true → IsFor n c i (found x m1) → IsStmt n c i (found (x ∷ []) m1)
-    stmt_simple : {n c : ℕ} {i : Input} {o : Outcome (List PlainStmt)} → sees k.If i ≡ false → sees k.While i ≡ false → sees k.For i ≡ false → IsLine n i o → IsStmt n c i o
+    stmt_try_stops_x : {n c : ℕ} {i : Input} {f : SyntaxFault} → sees k.If i ≡ false → sees k.While i ≡ false → sees k.For i ≡ false → sees k.Try i ≡ true → IsTry n c i (stops f) → IsStmt n c i (stops f)
+    stmt_try : {n c : ℕ} {i : Input} {x : PlainStmt} {m1 : Input} → sees k.If i ≡ false → sees k.While i ≡ false → sees k.For i ≡ false → sees k.Try i ≡ true → IsTry n c i (found x m1) → IsStmt n c i (found (x ∷ []) m1)
+    stmt_simple : {n c : ℕ} {i : Input} {o : Outcome (List PlainStmt)} → sees k.If i ≡ false → sees k.While i ≡ false → sees k.For i ≡ false → sees k.Try i ≡ false → IsLine n i o → IsStmt n c i o
 
   -- if : 'if' expr ':' suite { 'elif' expr ':' suite } ['else' ':' suite], from its first word
   pub data IsIf : ℕ → ℕ → Input → Outcome PlainStmt → Type 0 where
@@ -181,3 +183,26 @@ mutual
   pub data IsOther : ℕ → ℕ → Input → Outcome (List PlainStmt) → Type 0 where
     other_none : {n c : ℕ} {i : Input} → goes_on k.Else c i ≡ false → IsOther n c i (found [] i)
     other_is : {n c : ℕ} {i : Input} {o : Outcome (List PlainStmt)} → goes_on k.Else c i ≡ true → IsBody n c (next (next_line i)) o → IsOther n c i o
+
+  -- try : 'try' ':' suite clauses, from its first word; there is at least one clause
+  pub data IsTry : ℕ → ℕ → Input → Outcome PlainStmt → Type 0 where
+    try_is_stops_ys : {n c : ℕ} {i : Input} {f : SyntaxFault} → IsBody n c (next i) (stops f) → IsTry n c i (stops f)
+    try_is_needs_clause : {n c : ℕ} {i : Input} {ys : List PlainStmt} {m1 : Input} → IsBody n c (next i) (found ys m1) → goes_on k.Except c m1 ≡ false → IsTry n c i (stops (refused (next_line m1)))
+    try_is_stops_ks : {n c : ℕ} {i : Input} {ys : List PlainStmt} {m1 : Input} {f : SyntaxFault} → IsBody n c (next i) (found ys m1) → goes_on k.Except c m1 ≡ true → IsClauses n c m1 (stops f) → IsTry n c i (stops f)
+    try_is : {n c : ℕ} {i : Input} {ys : List PlainStmt} {m1 : Input} {ks : List PlainClause} {m2 : Input} → IsBody n c (next i) (found ys m1) → goes_on k.Except c m1 ≡ true → IsClauses n c m1 (found ks m2) → IsTry n c i (found (PTry (here i) (stmts_of ys) (clauses_of ks)) m2)
+
+  -- [KIND] ':' suite
+  pub data IsClause : ℕ → ℕ → Input → Outcome PlainClause → Type 0 where
+    clause_all_stops_ys : {n c : ℕ} {i : Input} {f : SyntaxFault} → sees k.Colon i ≡ true → IsBody n c i (stops f) → IsClause n c i (stops f)
+    clause_all : {n c : ℕ} {i : Input} {ys : List PlainStmt} {m1 : Input} → sees k.Colon i ≡ true → IsBody n c i (found ys m1) → IsClause n c i (found (PClause every_kind (stmts_of ys)) m1)
+    clause_other : {n c : ℕ} {i : Input} → sees k.Colon i ≡ false → named_kinds i ≡ None → IsClause n c i (stops (refused i))
+    clause_is_stops_ys : {n c : ℕ} {i : Input} {kinds : List ℕ} {f : SyntaxFault} → sees k.Colon i ≡ false → named_kinds i ≡ Some kinds → IsBody n c (next i) (stops f) → IsClause n c i (stops f)
+    clause_is : {n c : ℕ} {i : Input} {kinds : List ℕ} {ys : List PlainStmt} {m1 : Input} → sees k.Colon i ≡ false → named_kinds i ≡ Some kinds → IsBody n c (next i) (found ys m1) → IsClause n c i (found (PClause kinds (stmts_of ys)) m1)
+
+  -- { 'except' KIND ':' suite } ['except' ':' suite]: none follows a clause that names no kind
+  pub data IsClauses : ℕ → ℕ → Input → Outcome (List PlainClause) → Type 0 where
+    clauses_end : {n c : ℕ} {i : Input} → goes_on k.Except c i ≡ false → IsClauses n c i (found [] i)
+    clauses_stops_x : {n c : ℕ} {i : Input} {f : SyntaxFault} → goes_on k.Except c i ≡ true → IsClause n c (next (next_line i)) (stops f) → IsClauses n c i (stops f)
+    clauses_last : {n c : ℕ} {i : Input} {x : PlainClause} {m1 : Input} → goes_on k.Except c i ≡ true → sees k.Colon (next (next_line i)) ≡ true → IsClause n c (next (next_line i)) (found x m1) → IsClauses n c i (found (x ∷ []) m1)
+    clauses_more_stops_ks : {n c : ℕ} {i : Input} {x : PlainClause} {m1 : Input} {f : SyntaxFault} → goes_on k.Except c i ≡ true → sees k.Colon (next (next_line i)) ≡ false → IsClause n c (next (next_line i)) (found x m1) → IsClauses n c m1 (stops f) → IsClauses n c i (stops f)
+    clauses_more : {n c : ℕ} {i : Input} {x : PlainClause} {m1 : Input} {ks : List PlainClause} {m2 : Input} → goes_on k.Except c i ≡ true → sees k.Colon (next (next_line i)) ≡ false → IsClause n c (next (next_line i)) (found x m1) → IsClauses n c m1 (found ks m2) → IsClauses n c i (found (x ∷ ks) m2)

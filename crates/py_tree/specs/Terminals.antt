@@ -16,6 +16,8 @@ spelling k.Elif = codes "elif"
 spelling k.Else = codes "else"
 spelling k.While = codes "while"
 spelling k.For = codes "for"
+spelling k.Try = codes "try"
+spelling k.Except = codes "except"
 spelling k.In = codes "in"
 spelling k.Not = codes "not"
 spelling k.And = codes "and"
@@ -39,6 +41,14 @@ spelling k.RangeWord = codes "range"
 spelling k.ExceptionWord = codes "Exception"
 spelling k.ValueErrorWord = codes "ValueError"
 spelling k.RuntimeErrorWord = codes "RuntimeError"
+spelling k.ZeroDivisionErrorWord = codes "ZeroDivisionError"
+spelling k.IndexErrorWord = codes "IndexError"
+spelling k.AssertionErrorWord = codes "AssertionError"
+spelling k.RecursionErrorWord = codes "RecursionError"
+spelling k.OverflowErrorWord = codes "OverflowError"
+spelling k.NoEntityWord = codes "NoEntity"
+spelling k.AlreadyExistsWord = codes "AlreadyExists"
+spelling k.SizeLimitWord = codes "SizeLimit"
 spelling k.EntityWord = codes "entity"
 spelling k.TransactionalWord = codes "transactional"
 spelling k.StateflowWord = codes "stateflow"
@@ -83,8 +93,8 @@ keywords =
 -- the keywords of what the language leaves out
 abbrev pub left_out : List (List ℕ)
 left_out =
-    codes "async" ∷ codes "await" ∷ codes "del" ∷ codes "except" ∷ codes "finally" ∷ codes "global" ∷ codes "in" ∷ codes "lambda" ∷ codes "nonlocal"
-    ∷ codes "try" ∷ codes "with" ∷ codes "yield" ∷ []
+    codes "async" ∷ codes "await" ∷ codes "del" ∷ codes "finally" ∷ codes "global" ∷ codes "in" ∷ codes "lambda" ∷ codes "nonlocal"
+    ∷ codes "with" ∷ codes "yield" ∷ []
 
 abbrev pub is_among : List (List ℕ) → List ℕ → Bool
 is_among words word = list_any (bytes_eq word) words

@@ -4,11 +4,11 @@ ghost use Rattle.std.specs.Prelude.{◌≡◌, IfOk};
 ghost use Rattle.py_tree.specs.declared.names.Place.{Place as APlace};
 ghost use Rattle.py_tree.specs.PlainTypes.{plain_written};
 ghost use Rattle.py_tree.specs.PlainExpressions.{plain_expr};
-ghost use Rattle.py_tree.specs.PlainStatements.{plain_option, plain_over, plain_stmt_kind, plain_stmt, plain_stmts, plain_arm, plain_arms};
+ghost use Rattle.py_tree.specs.PlainStatements.{plain_option, plain_over, plain_stmt_kind, plain_stmt, plain_stmts, plain_arm, plain_arms, plain_clause, plain_clauses};
 
 use crate::copy::{copy_expr, copy_written};
 use crate::expr::Expr;
-use crate::stmt::{Arm, Arms, Over, Stmt, StmtKind, Stmts};
+use crate::stmt::{Arm, Arms, Clause, Clauses, Over, Stmt, StmtKind, Stmts};
 use crate::ty::WrittenTy;
 use sf_list::{Sequence, TryClone};
 use std::alloc::{AllocError, Global};
@@ -89,6 +89,27 @@ fn copy_arms(alloc: Global, arms: &Arms) -> Result<Arms, AllocError>
 }
 
 #[cycle(copy_stmt)]
+fn copy_clause(alloc: Global, clause: &Clause) -> Result<Clause, AllocError>
+    ensures { IfOk result (λ made. plain_clause made ≡ plain_clause clause.now) }
+{
+    let mut kinds = Sequence::new(alloc);
+    kinds.extend_from_slice(alloc, clause.kinds.as_slice())?;
+    let body = copy_stmts(alloc, &clause.body)?;
+    Ok(Clause { kinds, body })
+}
+
+#[cycle(copy_stmt)]
+fn copy_clauses(alloc: Global, clauses: &Clauses) -> Result<Clauses, AllocError>
+    ensures { IfOk result (λ made. plain_clauses made ≡ plain_clauses clauses.now) }
+{
+    let mut made = Sequence::new(alloc);
+    for clause in clauses.as_slice() {
+        made.push(alloc, copy_clause(alloc, clause)?)?;
+    }
+    Ok(made)
+}
+
+#[cycle(copy_stmt)]
 #[tactic(auto, using(crate::proofs::Views::stmt_views))]
 fn copy_kind(alloc: Global, kind: &StmtKind) -> Result<StmtKind, AllocError>
     ensures { IfOk result (λ made. (at : APlace) → plain_stmt_kind made at ≡ plain_stmt_kind kind.now at) }
@@ -139,6 +160,11 @@ fn copy_kind(alloc: Global, kind: &StmtKind) -> Result<StmtKind, AllocError>
             let name = *name;
             Ok(StmtKind::For { name, over, body })
         }
+        StmtKind::Try { body, clauses } => {
+            let body = copy_stmts(alloc, body)?;
+            let clauses = copy_clauses(alloc, clauses)?;
+            Ok(StmtKind::Try { body, clauses })
+        }
     }
 }
 
@@ -172,5 +198,16 @@ impl TryClone for Arm {
 
     fn try_clone(&self, alloc: Global) -> Result<Arm, AllocError> {
         copy_arm(alloc, self)
+    }
+}
+
+impl TryClone for Clause {
+    ghost use Rattle.std.specs.Prelude.{◌≡◌};
+    ghost use Rattle.py_tree.specs.PlainStatements.{plain_clause};
+
+    ghost is_copy = { λ old made. plain_clause made ≡ plain_clause old };
+
+    fn try_clone(&self, alloc: Global) -> Result<Clause, AllocError> {
+        copy_clause(alloc, self)
     }
 }

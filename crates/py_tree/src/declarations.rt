@@ -59,7 +59,8 @@ pub fn declared_by(stmt: &Stmt) -> Option<Declaration<'_>>
         | StmtKind::Augment { .. }
         | StmtKind::If { .. }
         | StmtKind::While { .. }
-        | StmtKind::For { .. } => None,
+        | StmtKind::For { .. }
+        | StmtKind::Try { .. } => None,
     }
 }
 

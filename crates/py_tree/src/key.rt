@@ -100,7 +100,8 @@ fn returned(stmt: &Stmt) -> Option<Name>
         | StmtKind::Augment { .. }
         | StmtKind::If { .. }
         | StmtKind::While { .. }
-        | StmtKind::For { .. } => None,
+        | StmtKind::For { .. }
+        | StmtKind::Try { .. } => None,
     }
 }
 

@@ -43,6 +43,6 @@ pub use reach::{all_go_on, goes_on, is_true};
 pub use reads::{is_self, variable};
 pub use rule::{Rule, RuleFault};
 pub use starts::{AtomStart, SimpleStart, TypeStart};
-pub use stmt::{Arm, Arms, Kinds, Over, Stmt, StmtKind, Stmts, Target};
+pub use stmt::{Arm, Arms, Clause, Clauses, Kinds, Over, Stmt, StmtKind, Stmts, Target};
 pub use terminal::Terminal;
 pub use ty::{Ty, WrittenKind, WrittenTy};

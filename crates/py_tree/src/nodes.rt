@@ -5,12 +5,12 @@ ghost use Rattle.py_tree.specs.PlainTypes.{plain_written, WInt, WBool, WStr, WNi
 ghost use Rattle.py_tree.specs.PlainExpressions.{plain_expr, plain_exprs, plain_link, plain_links, exprs_of, links_of, PInt, PBool, PStr, PNil, PVar, PSelf, PAttr, PCall, PApply, PIndex, PList, PNeg, PPos, PNot, PChain, PAnd, POr, PCompare, PIsNone, PCond, PLink};
 ghost use Rattle.py_tree.specs.Grammar as Grammar;
 ghost use Rattle.py_tree.specs.PlainProgram.{plain_param, plain_params, plain_method, plain_methods, plain_class};
-ghost use Rattle.py_tree.specs.PlainStatements.{plain_stmt, plain_stmts, plain_option, plain_over, plain_arm, plain_arms, stmts_of, arms_of, PPass, PBreak, PContinue, PDo, PReturn, PRaise, PAssert, PAssign, PAugment, PIf, PWhile, PFor, PArm};
+ghost use Rattle.py_tree.specs.PlainStatements.{plain_stmt, plain_stmts, plain_option, plain_over, plain_arm, plain_arms, plain_clause, plain_clauses, stmts_of, arms_of, clauses_of, PPass, PBreak, PContinue, PDo, PReturn, PRaise, PAssert, PAssign, PAugment, PIf, PWhile, PFor, PTry, PArm, PClause};
 
 use crate::expr::{BinOp, Cmp, Expr, ExprKind, Exprs, Link, Links};
 use crate::names::{Name, Place, PlacedName};
 use crate::program::{Class, Method, Methods, Param, Params};
-use crate::stmt::{Arm, Arms, Over, Stmt, StmtKind, Stmts, Target};
+use crate::stmt::{Arm, Arms, Clause, Clauses, Kinds, Over, Stmt, StmtKind, Stmts, Target};
 use crate::ty::{WrittenKind, WrittenTy};
 use std::alloc::{AllocError, Global};
 
@@ -465,6 +465,22 @@ pub fn for_of(place: Place, name: PlacedName, over: Over, body: Stmts) -> Stmt
     Stmt {
         place,
         kind: StmtKind::For { name, over, body },
+    }
+}
+
+pub fn clause_of(kinds: Kinds, body: Stmts) -> Clause
+    ensures { plain_clause result ≡ PClause kinds (stmts_of (plain_stmts body)) }
+{
+    Clause { kinds, body }
+}
+
+#[tactic(auto, using(crate::proofs::Views::stmt_views))]
+pub fn try_of(place: Place, body: Stmts, clauses: Clauses) -> Stmt
+    ensures { plain_stmt result ≡ PTry place (stmts_of (plain_stmts body)) (clauses_of (plain_clauses clauses)) }
+{
+    Stmt {
+        place,
+        kind: StmtKind::Try { body, clauses },
     }
 }
 

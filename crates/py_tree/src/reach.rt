@@ -2,11 +2,11 @@
 
 ghost use Rattle.std.specs.Prelude.{◌≡◌, ◌||◌, ◌&&◌};
 ghost use Rattle.py_tree.specs.PlainExpressions.{plain_expr};
-ghost use Rattle.py_tree.specs.PlainStatements.{plain_stmt, plain_stmts, stmts_of, plain_arms, arms_of};
+ghost use Rattle.py_tree.specs.PlainStatements.{plain_stmt, plain_stmts, stmts_of, plain_arms, arms_of, plain_clauses, clauses_of};
 ghost use Rattle.py_tree.specs.Reachability as spec;
 
 use crate::expr::{Expr, ExprKind};
-use crate::stmt::{Arm, Stmt, StmtKind};
+use crate::stmt::{Arm, Clause, Stmt, StmtKind};
 
 /// Whether this is the literal True.
 #[tactic(auto, using(crate::proofs::ReachRules::true_rules))]
@@ -99,6 +99,10 @@ fn ways_of(stmt: &Stmt) -> Ways
         StmtKind::If { arms, other } => {
             either(ways_of_arms(arms.as_slice()), ways_of_all(other.as_slice()))
         }
+        StmtKind::Try { body, clauses } => either(
+            ways_of_all(body.as_slice()),
+            ways_of_clauses(clauses.as_slice()),
+        ),
         StmtKind::While { test, body } => Ways {
             on: !is_true(test) || ways_of_all(body.as_slice()).out,
             out: false,
@@ -146,6 +150,22 @@ fn ways_of_arms(arms: &[Arm]) -> Ways
     };
     for arm in arms {
         ways = either(ways, ways_of_all(arm.body.as_slice()));
+    }
+    ways
+}
+
+/// The ways out of clauses, any of which may run.
+#[cycle(reach)]
+fn ways_of_clauses(clauses: &[Clause]) -> Ways
+    ensures on { result.on ≡ spec.a_clause_goes_on (clauses_of (plain_clauses clauses.now)) }
+    ensures out { result.out ≡ spec.break_in_clause (clauses_of (plain_clauses clauses.now)) }
+{
+    let mut ways = Ways {
+        on: false,
+        out: false,
+    };
+    for clause in clauses {
+        ways = either(ways, ways_of_all(clause.body.as_slice()));
     }
     ways
 }

@@ -65,6 +65,11 @@ pub enum StmtKind {
         over: Over,
         body: Stmts,
     },
+    /// The first clause that names the kind of a failure of the body runs.
+    Try {
+        body: Stmts,
+        clauses: Clauses,
+    },
 }
 
 /// Gives each owned part to a call of `drop`, so that a function that lets a tree go has one step for it.
@@ -110,6 +115,10 @@ impl Drop for StmtKind {
                 drop(over);
                 drop(body);
             }
+            StmtKind::Try { body, clauses } => {
+                drop(body);
+                drop(clauses);
+            }
         }
     }
 }
@@ -126,3 +135,14 @@ pub type Arms = Sequence<Arm>;
 
 /// The numbers of kinds of failures.
 pub type Kinds = Sequence<u8>;
+
+/// What runs where the body of a `try` fails with one of some kinds: an `except`.
+#[cycle(stmt)]
+#[derive(Drop)]
+pub struct Clause {
+    /// The numbers of all kinds that it names, in rising order.
+    pub kinds: Kinds,
+    pub body: Stmts,
+}
+
+pub type Clauses = Sequence<Clause>;

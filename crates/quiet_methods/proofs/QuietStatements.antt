@@ -7,19 +7,19 @@ use Rattle.py_tree.specs.declared.rule.RuleFault.{RuleFault}
 use Rattle.py_tree.specs.declared.stmt.Target.TheVariants.{Local, Field}
 use Rattle.py_tree.specs.PlainTypes.{PlainTy, TInt, TBool, TList}
 use Rattle.py_tree.specs.PlainExpressions.{PlainExpr}
-use Rattle.py_tree.specs.PlainStatements.{PlainOver, PRange, PItems, PlainStmt, PPass, PBreak, PContinue, PDo, PReturn, PRaise, PAssert, PAssign, PAugment, PIf, PWhile, PFor, PlainStmts, PNoStmt, PStmt, PArm, PlainArms, PNoArm, PMoreArms}
+use Rattle.py_tree.specs.PlainStatements.{PlainOver, PRange, PItems, PlainStmt, PPass, PBreak, PContinue, PDo, PReturn, PRaise, PAssert, PAssign, PAugment, PIf, PWhile, PFor, PlainStmts, PNoStmt, PStmt, PArm, PlainArms, PNoArm, PMoreArms, PTry, PClause, PlainClauses, PNoClause, PMoreClauses}
 use Rattle.py_tree.specs.PlainProgram.{PlainClass, PlainProgram}
 use Rattle.py_tree.specs.ClassRules.{program_fault}
 use Rattle.py_tree.specs.FlowEnvironment.{PlainLocal, shown, narrowed}
 use Rattle.py_tree.specs.ExpressionTypes.{assignable, field_of, place_of}
-use Rattle.py_tree.specs.Reachability.{goes_on, all_go_on}
-use Rattle.py_tree.specs.Flow.{Context, type_at, condition_at, Known, meet, way, behind_ways, item_of, result_at, needs_none, return_fault, message_fault, assigned, augmentation, Way, on, flow, flow_all, flow_arms}
+use Rattle.py_tree.specs.Reachability.{goes_on, all_go_on, assigned_in}
+use Rattle.py_tree.specs.Flow.{Context, type_at, condition_at, Known, meet, way, behind_ways, item_of, result_at, needs_none, return_fault, message_fault, assigned, augmentation, Way, on, flow, flow_all, flow_arms, flow_clauses, known_at, at_head}
 use Rattle.call_graph.specs.declared.sites.Site.{Site}
-use Rattle.call_graph.specs.Suspending.{sites, sites_if_there, sites_over, stmt_sites, sites_in_body, sites_in_arms}
-use Rattle.call_graph.specs.SuspendingCode.{Leaving, expr_suspends, some_suspends, over_suspends, stmt_suspends, stmts_suspend, arms_suspend}
+use Rattle.call_graph.specs.Suspending.{sites, sites_if_there, sites_over, stmt_sites, sites_in_body, sites_in_arms, sites_in_clauses}
+use Rattle.call_graph.specs.SuspendingCode.{Leaving, expr_suspends, some_suspends, over_suspends, stmt_suspends, stmts_suspend, arms_suspend, clauses_suspend}
 use Rattle.program_meaning.proofs.TypedParts.{done, found_ok, condition_ok}
 use Rattle.program_meaning.proofs.FlowParts.{no_need, return_ok, message_ok, items_ok, range_ok, short_range_ok, LocalTaken, local_ok, field_ok, Augments, augments_ok}
-use Rattle.program_meaning.proofs.FlowGrows.{WhileParts, while_parts, ForParts, for_parts, all_parts, last_parts, ArmParts, arm_parts}
+use Rattle.program_meaning.proofs.FlowGrows.{WhileParts, while_parts, ForParts, for_parts, all_parts, last_parts, ArmParts, arm_parts, TryParts, try_parts, ClauseParts, clause_parts}
 use Rattle.quiet_methods.proofs.QuietExpressions.{neither, tables, methods, leaves, some_suspend, neither_suspends, quiet}
 
 three_stay : (a b d e : Bool) → a ≡ false → b ≡ false → (d || e) ≡ false → ((a || (b || d)) || e) ≡ false
@@ -127,6 +127,11 @@ module _ (names : List (List ℕ)) (program : PlainProgram) (kept : program_faul
         let a : ForParts (ctx b) w after name name_at over body = for_parts (ctx b) w after at name name_at over body goes in
         let p : Quiet (sites_over program here_methods over) × Quiet (body_sites body) = parts (sites_over program here_methods over) (body_sites body) h in
         neither (over_suspends here_leaves over) (body_suspends body) (over_stays b w.locals over a.item a.goes_over p.0) (stmts_stay body true _ a.end a.turn p.1)
+    stmt_stays (PTry at body clauses) b w after goes h =
+        let a : TryParts (ctx b) w after body clauses = try_parts (ctx b) w after at body clauses goes in
+        let p : Quiet (body_sites body) × Quiet (sites_in_clauses program here_methods clauses) = parts (body_sites body) (sites_in_clauses program here_methods clauses) h in
+        neither (body_suspends body) (clauses_suspend here_leaves clauses) (stmts_stay body b w a.end a.inside p.0)
+        (clauses_stay clauses b a.end after (known_at (at_head (assigned_in body) w.locals)) (way (all_go_on body) a.end.locals) a.rest p.1)
 
     pub stmts_stay : (xs : PlainStmts) (b : Bool) (w after : Way) → flow_all (ctx b) w xs ≡ Ok after → Quiet (body_sites xs) → body_suspends xs ≡ false
     stmts_stay PNoStmt b w after goes h = refl
@@ -147,3 +152,11 @@ module _ (names : List (List ℕ)) (program : PlainProgram) (kept : program_faul
         let q : Quiet (held_in test) × Quiet (body_sites body) = parts (held_in test) (body_sites body) p.0 in
         three_stay (expr_suspends here_leaves test) (body_suspends body) (arms_suspend here_leaves more) other
         (typed_stays b w.locals None test TBool a.condition q.0) (stmts_stay body b _ a.end a.arm q.1) (arms_stay more b _ after _ other_goes_on other_flow other a.rest p.1 rest)
+
+    clauses_stay : (clauses : PlainClauses) (b : Bool) (w after : Way) (start : List Known) (ended : Option (List Known)) → flow_clauses (ctx b) w start ended clauses ≡ Ok after → Quiet (sites_in_clauses program here_methods clauses)
+        → clauses_suspend here_leaves clauses ≡ false
+    clauses_stay PNoClause b w after start ended goes h = refl
+    clauses_stay (PMoreClauses (PClause kinds body) more) b w after start ended goes h =
+        let a : ClauseParts (ctx b) w after start ended body more = clause_parts (ctx b) w after start ended kinds body more goes in
+        let p : Quiet (body_sites body) × Quiet (sites_in_clauses program here_methods more) = parts (body_sites body) (sites_in_clauses program here_methods more) h in
+        neither (body_suspends body) (clauses_suspend here_leaves more) (stmts_stay body b _ a.end a.inside p.0) (clauses_stay more b a.end after start _ a.rest p.1)

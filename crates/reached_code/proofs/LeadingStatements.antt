@@ -12,14 +12,14 @@ use Rattle.py_tree.specs.ExpressionTypes.{right_wanted}
 use Rattle.py_tree.specs.Reachability.{is_true, goes_on, assigned_in, break_in}
 use Rattle.py_tree.specs.Flow.{Context, at_head, target_read, result_at}
 use Rattle.py_tree.specs.PlainExpressions.{PlainExpr, PBool, PPos}
-use Rattle.py_tree.specs.PlainStatements.{PlainOver, PRange, PItems, PlainStmt, PPass, PBreak, PContinue, PDo, PReturn, PRaise, PAssert, PAssign, PAugment, PIf, PWhile, PFor, PlainStmts, PNoStmt, PStmt, PArm, PlainArms, PNoArm, PMoreArms, stmts_of}
+use Rattle.py_tree.specs.PlainStatements.{PlainOver, PRange, PItems, PlainStmt, PPass, PBreak, PContinue, PDo, PReturn, PRaise, PAssert, PAssign, PAugment, PIf, PWhile, PFor, PlainStmts, PNoStmt, PStmt, PArm, PlainArms, PNoArm, PMoreArms, stmts_of, PTry, PClause, PlainClauses, PNoClause, PMoreClauses}
 use Rattle.call_graph.specs.SuspendingCode.{Leaving, expr_suspends}
 use Rattle.flat_tree.specs.PlainFlat.{Point, PlainFlatStmt, FMark, FGive, FFail, FCode, FBreak, FContinue, flat_stmts_of}
 use Rattle.method_splitter.specs.Split.{always}
-use Rattle.flat_types.specs.DeadCode.{leads_on, HasNoDead, HaveNoDead, ArmsHaveNoDead}
+use Rattle.flat_types.specs.DeadCode.{leads_on, HasNoDead, HaveNoDead, ArmsHaveNoDead, ClausesHaveNoDead}
 use Rattle.hoisting.specs.Stages.{Stage, surely, where_shown, ty_at, item_ty, locals_behind, point_behind}
 use Rattle.hoisting.specs.HoistExpressions.{Hoisted, built, still, settled, lasts, taken, forms}
-use Rattle.hoisting.specs.HoistStatements.{Flattened, stays, code_if, followed, stored, read_of, target_ty, value_or_nil, start_or_zero, list_stage, head_locals, body_stage, list_loop, range_loop, optional, combination, range_start, range_end, for_code, opened, flat_all, flat_arms, other_stage, flat}
+use Rattle.hoisting.specs.HoistStatements.{Flattened, stays, code_if, followed, stored, read_of, target_ty, value_or_nil, start_or_zero, list_stage, head_locals, body_stage, list_loop, range_loop, optional, combination, range_start, range_end, for_code, opened, flat_all, flat_arms, other_stage, flat, flat_clauses}
 use Rattle.reached_code.specs.NoPartIsDead.{NoPartIsDead}
 use Rattle.reached_code.proofs.LeadingCode.{AllLead, both_lead, last_leads, live_both, live_one, live_last, live}
 use Rattle.reached_code.proofs.LeadingExpressions.{settled_leads, forms_lead}
@@ -164,6 +164,8 @@ module _ (leaves : Leaving) (c : Context) where
         ((λ is. point_there c (PWhile at test body) h.locals ∙ while_goes_on at test body head is), (forms_lead leaves c test).test head, all_live body (where_shown true test head.locals ((forms leaves c test).test head).next))
     opened_reached (PFor at name name_at over body) h =
         leading true _ (for_leads at name over body (surely (locals_behind c (PFor at name name_at over body) h.locals)) h (λ g. flat_all leaves c body g) (all_live body))
+    opened_reached (PTry at body clauses) h =
+        marked_one (goes_on (PTry at body clauses)) _ (point_there c (PTry at body clauses) h.locals) (all_live body h, clauses_live (at_head (assigned_in body) h.locals) clauses (flat_all leaves c body h).next)
 
     all_live : (xs : PlainStmts) (h : Stage) → HaveNoDead (flat_stmts_of (flat_all leaves c xs h).code)
     all_live PNoStmt h = tt
@@ -174,6 +176,10 @@ module _ (leaves : Leaving) (c : Context) where
     arms_live : (arms : PlainArms) (h : Stage) → ArmsHaveNoDead (flat_arms leaves c arms h).code
     arms_live PNoArm h = tt
     arms_live (PMoreArms (PArm test body) more) h = ((forms_lead leaves c test).test h, all_live body (where_shown true test h.locals ((forms leaves c test).test h).next), arms_live more _)
+
+    clauses_live : (locals : List PlainLocal) (clauses : PlainClauses) (next : ℕ) → ClausesHaveNoDead (flat_clauses leaves c locals clauses next).code
+    clauses_live locals PNoClause next = tt
+    clauses_live locals (PMoreClauses (PClause kinds body) more) next = (all_live body (record { locals = locals; next = next }), clauses_live locals more _)
 
   pub code_live : (xs : PlainStmts) (h : Stage) → HaveNoDead (flat_stmts_of (flat_all leaves c xs h).code)
   code_live xs h = all_live xs h

@@ -7,7 +7,7 @@ use Rattle.std.specs.Option.{option_map}
 use Rattle.std.specs.List.{cons_option, AllByRecursion, AllByRecursion-prop}
 use Rattle.py_tree.specs.PlainTypes.{PlainTy, PlainWritten, type_of}
 use Rattle.py_tree.specs.declared.stmt.Target.TheVariants.{Local, Field}
-use Rattle.py_tree.specs.PlainStatements.{PlainStmt, PPass, PBreak, PContinue, PDo, PReturn, PRaise, PAssert, PAssign, PAugment, PIf, PWhile, PFor, stmts_of}
+use Rattle.py_tree.specs.PlainStatements.{PlainStmt, PPass, PBreak, PContinue, PDo, PReturn, PRaise, PAssert, PAssign, PAugment, PIf, PWhile, PFor, stmts_of, PTry}
 use Rattle.py_tree.specs.PlainProgram.{PlainMethod, PlainClass, PlainProgram}
 use Rattle.py_tree.specs.Bounded.{nesting, EachStmt, EachOfStmts, DeclaresFlat, IsBoundedMethod}
 use Rattle.py_tree.specs.ClassRules.{PlainField, PlainTable, PlainSig, Declaration, body_of, declaration, field_declared, fields_of, sig_of, table_of, tables_of, init_of as init_among, methods_of as methods_among, written_or_none}
@@ -41,6 +41,7 @@ declared_one (PAugment at target op op_at value) h = tt
 declared_one (PIf at arms other) h = tt
 declared_one (PWhile at test body) h = tt
 declared_one (PFor at name name_at over body) h = tt
+declared_one (PTry at body clauses) h = tt
 
 declared_more : (o : Option Declaration) (rest : List PlainField) → IfSome o (λ d. type_nesting (type_of d.ty) ≤ 63) → AreFlat (over (λ f. f.ty) rest)
     → AreFlat (over (λ f. f.ty) (cons_option (option_map field_declared o) rest))

@@ -2,7 +2,7 @@
 use Rattle.std.proofs.Common.{◌≡◌, ℕ, zero, suc, Option, Some, None, List, [], ◌∷◌, refl}
 use Rattle.std.specs.Prelude.{slice_get}
 use Rattle.std.specs.FinMap as map
-use Rattle.py_tree.specs.PlainStatements.{PlainStmt, PAssign, PAssert, PPass, PBreak, PContinue, PDo, PReturn, PRaise, PAugment, PIf, PWhile, PFor}
+use Rattle.py_tree.specs.PlainStatements.{PlainStmt, PAssign, PAssert, PPass, PBreak, PContinue, PDo, PReturn, PRaise, PAugment, PIf, PWhile, PFor, PTry}
 use Rattle.py_tree.specs.ClassRules.{body_of, params_of}
 use Rattle.sf_value.specs.Keys.{Key}
 use Rattle.sf_value.specs.declared.value.Value.{Value}
@@ -54,6 +54,7 @@ declare_short src me (PAugment at x op op_at e) vars fields n short = stepped_sh
 declare_short src me (PIf at arms other) vars fields n short = stepped_short AreShortFields fields n _ short (λ n. got nil_light short)
 declare_short src me (PWhile at test body) vars fields n short = stepped_short AreShortFields fields n _ short (λ n. got nil_light short)
 declare_short src me (PFor at x x_at over body) vars fields n short = stepped_short AreShortFields fields n _ short (λ n. got nil_light short)
+declare_short src me (PTry at body clauses) vars fields n short = stepped_short AreShortFields fields n _ short (λ n. got nil_light short)
 
 declares_short : (src : Source) (me : Key) (xs : List PlainStmt) (vars : List Var) (fields : List Value) (n : ℕ) → AreShortFields fields → GivesShort AreShortFields IsLight (declare_all src me xs vars fields n)
 unfolding declare_all

@@ -6,7 +6,7 @@ use Rattle.sf_value.specs.declared.value.Value.{Value}
 use Rattle.byte_sizes.specs.Spelt.{IsShortText}
 use Rattle.program_meaning.specs.declared.vars.Var.{Var}
 use Rattle.program_meaning.specs.ClassTables.{fields_of}
-use Rattle.program_meaning.specs.World.{Calls, Gives, Got, Fell, ◌>>=◌, told, Ends, Goes, Returns, Breaks, Continues, Fails, step, step_limit, with_given, next, next_turn, result_of, with_field}
+use Rattle.program_meaning.specs.World.{Calls, Gives, Got, Fell, ◌>>=◌, told, Ends, Goes, Returns, Breaks, Continues, Fails, step, step_limit, with_given, next, next_turn, result_of, with_field, caught}
 use Rattle.program_meaning.specs.Evaluation.{Site}
 use Rattle.program_meaning.specs.Execution.{stepping}
 use Rattle.program_meaning.specs.LightValues.{IsLight, AreLight}
@@ -85,6 +85,13 @@ module _ {W : Type 0} (IsKept : W → Type 0) where
   turn_short (Breaks vars w n) f (breaks kept) rest = goes kept
   turn_short (Continues vars w n) f (continues kept) rest = rest vars w n kept
   turn_short (Fails c vars w n) f (fails short kept) rest = fails short kept
+
+  pub caught_short : (e : Ends W) (f : Failure → List Var → W → ℕ → Ends W) → EndsShort IsKept e → ((c : Failure) → IsShortText c.message → CodeKeeps (f c)) → EndsShort IsKept (caught f e)
+  caught_short (Goes vars w n) f (goes kept) rest = goes kept
+  caught_short (Returns v w n) f (returns light kept) rest = returns light kept
+  caught_short (Breaks vars w n) f (breaks kept) rest = breaks kept
+  caught_short (Continues vars w n) f (continues kept) rest = continues kept
+  caught_short (Fails c vars w n) f (fails short kept) rest = rest c short vars w n kept
 
   pub result_short : (e : Ends W) → EndsShort IsKept e → GivesShort IsKept IsLight (result_of e)
   result_short (Goes vars w n) (goes kept) = got nil_light kept

@@ -1,4 +1,8 @@
 -- Statements keep the world, return light values and fail with short messages.
+use Rattle.byte_sizes.specs.Spelt.{IsShortText}
+use Rattle.sf_value.specs.declared.Failure.{Failure}
+use Rattle.std.specs.Prelude.{nat_eq}
+use Rattle.std.specs.List.{list_any}
 use Rattle.std.proofs.Common.{ℕ, zero, suc, ℤ, pos, ◌+ℤ◌, Option, Some, None, List, [], ◌∷◌}
 use Rattle.std.specs.Ordering.{int_cmp, is_lt}
 use Rattle.py_tree.specs.declared.expr.BinOp.{BinOp}
@@ -6,7 +10,7 @@ use Rattle.py_tree.specs.declared.stmt.Target.{Target}
 use Rattle.py_tree.specs.declared.stmt.Target.TheVariants as target
 use Rattle.py_tree.specs.ClassRules.{body_of, params_of}
 use Rattle.py_tree.specs.PlainExpressions.{PlainExpr}
-use Rattle.py_tree.specs.PlainStatements.{PlainOver, PRange, PItems, PlainStmt, PPass, PBreak, PContinue, PDo, PReturn, PRaise, PAssert, PAssign, PAugment, PIf, PWhile, PFor, PlainStmts, PNoStmt, PStmt, PArm, PlainArms, PNoArm, PMoreArms, stmts_of}
+use Rattle.py_tree.specs.PlainStatements.{PlainOver, PRange, PItems, PlainStmt, PPass, PBreak, PContinue, PDo, PReturn, PRaise, PAssert, PAssign, PAugment, PIf, PWhile, PFor, PlainStmts, PNoStmt, PStmt, PArm, PlainArms, PNoArm, PMoreArms, stmts_of, PTry, PClause, PlainClauses, PNoClause, PMoreClauses}
 use Rattle.py_tree.specs.PlainProgram.{PlainMethod}
 use Rattle.sf_value.specs.declared.value.Value.{Value}
 use Rattle.sf_value.specs.declared.value.Value.TheVariants as value
@@ -14,13 +18,13 @@ use Rattle.program_meaning.specs.declared.vars.Var.{Var}
 use Rattle.program_meaning.specs.World.{Gives, Ends, Goes, Fails, assertion_error, told, assigned, with_given, next_turn}
 use Rattle.program_meaning.specs.Operations.{in_range, weighed, is_true}
 use Rattle.program_meaning.specs.Evaluation.{Site, eval}
-use Rattle.program_meaning.specs.Execution.{stepping, store, target_value, augmented, value_or_none, message, Turns, Items, Numbers, start_of, turns_of, turn, over_items, over_numbers, over_turns, counting, while_turns, checked, act, act_all, act_arms}
+use Rattle.program_meaning.specs.Execution.{stepping, store, target_value, augmented, value_or_none, message, Turns, Items, Numbers, start_of, turns_of, turn, over_items, over_numbers, over_turns, counting, while_turns, checked, act, act_all, act_arms, act_clauses}
 use Rattle.program_meaning.specs.Calls.{run_body, bound}
 use Rattle.program_meaning.specs.LightValues.{IsLight}
 use Rattle.program_meaning.proofs.LightOperations.{int_light, in_range_light}
 use Rattle.short_runs.proofs.ShortValues.{no_text_short}
 use Rattle.short_runs.proofs.ShortFailures.{in_range_fails}
-use Rattle.short_runs.proofs.ShortCode.{GivesShort, got, EndsShort, goes, returns, breaks, continues, fails, SiteKeeps, CodeKeeps, told_short, then_short, stepping_short, choice_short, uses_short, next_short, turn_short, result_short}
+use Rattle.short_runs.proofs.ShortCode.{GivesShort, got, EndsShort, goes, returns, breaks, continues, fails, SiteKeeps, CodeKeeps, told_short, then_short, stepping_short, choice_short, uses_short, next_short, turn_short, result_short, caught_short}
 use Rattle.short_runs.proofs.ShortExpressions.{weighed_short, combined_short, eval_short, value_short, message_short}
 
 -- nothing is asked of what is given
@@ -132,6 +136,8 @@ module _ {W : Type 0} (IsKept : W → Type 0) (s : Site W) (k : SiteKeeps IsKept
         stepping_short IsKept vars w n _ kept (λ n.
         uses_short IsKept vars (turns_of s over vars w n) _ (over_short over vars w n kept) (λ turns w n any kept.
         turns_short IsKept name (λ vars w n. act_all s body vars w n) (acts_short body) turns vars w n kept))
+    act_short (PTry at body clauses) vars w n kept =
+        stepping_short IsKept vars w n _ kept (λ n. caught_short IsKept (act_all s body vars w n) _ (acts_short body vars w n kept) (clauses_short clauses))
 
     acts_short : (xs : PlainStmts) → CodeKeeps IsKept (act_all s xs)
     acts_short PNoStmt vars w n kept = goes kept
@@ -142,6 +148,11 @@ module _ {W : Type 0} (IsKept : W → Type 0) (s : Site W) (k : SiteKeeps IsKept
     arms_short (PMoreArms (PArm test body) more) other rest vars w n kept =
         uses_short IsKept vars (eval s test vars w n) _ (eval_short IsKept s k test vars w n kept) (λ v w n l kept.
         choice_short IsKept (is_true v) (act_all s body vars w n) (act_arms s more other vars w n) (acts_short body vars w n kept) (arms_short more other rest vars w n kept))
+
+    clauses_short : (clauses : PlainClauses) (c : Failure) → IsShortText c.message → CodeKeeps IsKept (λ vars w n. act_clauses s clauses c vars w n)
+    clauses_short PNoClause c short vars w n kept = fails short kept
+    clauses_short (PMoreClauses (PClause kinds body) more) c short vars w n kept =
+        choice_short IsKept (list_any (nat_eq c.kind) kinds) (act_all s body vars w n) (act_clauses s more c vars w n) (acts_short body vars w n kept) (clauses_short more c short vars w n kept)
 
   pub body_short : (method : Option PlainMethod) (args : List Value) (w : W) (n : ℕ) → IsKept w → GivesShort IsKept IsLight (run_body s method args w n)
   unfolding run_body

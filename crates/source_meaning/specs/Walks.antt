@@ -10,14 +10,16 @@ use Rattle.py_tree.specs.declared.expr.Expr.{Expr}
 use Rattle.py_tree.specs.declared.expr.Link.{Link}
 use Rattle.py_tree.specs.declared.program.Method.{Method}
 use Rattle.py_tree.specs.declared.stmt.Arm.{Arm}
+use Rattle.py_tree.specs.declared.stmt.Clause.{Clause}
 use Rattle.py_tree.specs.declared.stmt.Stmt.{Stmt}
 use Rattle.py_tree.specs.declared.stmt.Target.{Target}
 use Rattle.py_tree.specs.PlainExpressions.{plain_expr, plain_exprs, exprs_of, plain_links, links_of}
-use Rattle.py_tree.specs.PlainStatements.{PlainOver, PRange, plain_option, plain_stmt, plain_stmts, stmts_of, plain_arms, arms_of}
+use Rattle.py_tree.specs.PlainStatements.{PlainOver, PRange, plain_option, plain_stmt, plain_stmts, stmts_of, plain_arms, arms_of, plain_clauses, clauses_of}
 use Rattle.py_tree.specs.PlainProgram.{plain_method}
 use Rattle.py_tree.specs.ClassRules.{body_of, params_of}
 use Rattle.sf_value.specs.Keys.{Key, key_of}
 use Rattle.sf_value.specs.declared.value.Ref.{Ref}
+use Rattle.sf_value.specs.declared.Failure.{Failure}
 use Rattle.sf_value.specs.declared.value.Value.{Value}
 use Rattle.sf_value.specs.declared.value.Value.TheVariants as value
 use Rattle.source_meaning.specs.declared.Stop.{Stop}
@@ -27,10 +29,10 @@ use Rattle.program_meaning.specs.declared.vars.Var.{Var}
 use Rattle.source_meaning.specs.declared.statements.Flow.{Flow}
 use Rattle.source_meaning.specs.declared.loops.Turn.{Turn}
 use Rattle.program_meaning.specs.ClassTables.{Source, init_of}
-use Rattle.program_meaning.specs.World.{World, Calls, Gives, Got, Fell, ◌>>=◌, told, Ends, Goes, Returns, Fails, with_given, assertion_error, record_at}
+use Rattle.program_meaning.specs.World.{World, Calls, Gives, Got, Fell, ◌>>=◌, told, Ends, Goes, Returns, Fails, with_given, assertion_error, record_at, caught}
 use Rattle.program_meaning.specs.Operations.{in_range, weighed, int_of, is_true, is_nil, items_of, element, holds}
 use Rattle.program_meaning.specs.Evaluation.{eval, eval_all, linked, each_is, key_in, method_of, own_field}
-use Rattle.program_meaning.specs.Execution.{act, act_arms, all_of, store, augmented, value_or_none, message, checked, turns_of, over_turns, over_items, over_numbers, while_turns}
+use Rattle.program_meaning.specs.Execution.{act, act_arms, all_of, store, augmented, value_or_none, message, checked, turns_of, over_turns, over_items, over_numbers, while_turns, act_clauses}
 use Rattle.program_meaning.specs.Calls.{own_at, calls_at, calls_within, making, enter, run_body, declare, declare_all, bound}
 use Rattle.source_meaning.specs.Agrees.{AgreesIn, EndsIn, MakesIn}
 use Rattle.source_meaning.specs.InPlace.{element_in, applied_to}
@@ -187,6 +189,13 @@ stored site target vars given w n = with_given vars (given w n) (λ v w n. store
 
 abbrev pub first_of_arms : Site → List Arm → List Stmt → List Var → World → ℕ → Ends World
 first_of_arms site arms other = act_arms (site_of site) (arms_of (plain_arms arms)) (runs site other)
+
+-- the first clause that names a failure
+abbrev pub taken_up : Site → List Clause → Failure → List Var → World → ℕ → Ends World
+taken_up site clauses failure = act_clauses (site_of site) (clauses_of (plain_clauses clauses)) failure
+
+abbrev pub tried : Site → List Stmt → List Clause → List Var → World → ℕ → Ends World
+tried site body clauses vars w n = caught (λ f vars w n. taken_up site clauses f vars w n) (runs site body vars w n)
 
 -- of so many turns at most as there are steps, and one
 abbrev pub turned_while : Site → Expr → List Stmt → List Var → World → ℕ → Ends World

@@ -185,7 +185,8 @@ fn declare(site: &Site<'_>, stmt: &Stmt, vars: &Vars, run: &mut Run) -> Result<(
         | StmtKind::Augment { .. }
         | StmtKind::If { .. }
         | StmtKind::While { .. }
-        | StmtKind::For { .. } => Ok(()),
+        | StmtKind::For { .. }
+        | StmtKind::Try { .. } => Ok(()),
     }
 }
 

@@ -1,7 +1,8 @@
 //! The direct interpreter: statements.
 
-ghost use Rattle.std.specs.Prelude.{◌+◌};
-ghost use Rattle.source_meaning.specs.Walks.{Agrees, EndsAs, value_of, does, runs, optional, message_of, combined_with, done, returned, raised, asserted, stored, first_of_arms};
+ghost use Rattle.std.specs.Prelude.{◌≡◌, ◌+◌, nat_eq};
+ghost use Rattle.std.specs.List.{list_any};
+ghost use Rattle.source_meaning.specs.Walks.{Agrees, EndsAs, value_of, does, runs, optional, message_of, combined_with, done, returned, raised, asserted, stored, first_of_arms, taken_up, tried};
 
 use crate::Stop;
 use crate::direct::{read_target, store, take_step};
@@ -12,7 +13,7 @@ use crate::operations::{take_both, take_text, take_truth};
 use crate::run::{NESTING_LIMIT, Run};
 use crate::site::Site;
 use program_meaning::Vars;
-use py_tree::{Arm, BinOp, Expr, Stmt, StmtKind, Target};
+use py_tree::{Arm, BinOp, Clause, Expr, Stmt, StmtKind, Target};
 use sf_value::{Failure, Text, Value};
 
 /// How a statement ends that doesn't fail.
@@ -100,6 +101,9 @@ fn execute_form(site: &Site<'_>, stmt: &Stmt, vars: &mut Vars, run: &mut Run) ->
                 body: body.as_slice(),
             };
             execute_for(site, &turn, over, vars, run)
+        }
+        StmtKind::Try { body, clauses } => {
+            execute_try(site, body.as_slice(), clauses.as_slice(), vars, run)
         }
     }
 }
@@ -264,4 +268,50 @@ fn execute_arms(
         }
     }
     execute_all(site, other, vars, run)
+}
+
+/// The body of a `try`, and where it fails the clause that names the failure, if there is one.
+#[cycle(walk)]
+#[inline(never)]
+fn execute_try(
+    site: &Site<'_>,
+    body: &[Stmt],
+    clauses: &[Clause],
+    vars: &mut Vars,
+    run: &mut Run,
+) -> Result<Flow, Stop>
+    ensures { EndsAs result vars.new site.now run.old run.new (tried site.now body.now clauses.now vars.old) }
+{
+    match execute_all(site, body, vars, run) {
+        Err(Stop::Failed(failure)) => take_up(site, clauses, failure, vars, run),
+        ended => ended,
+    }
+}
+
+/// The first clause that names a failure, or else the failure.
+#[cycle(walk)]
+#[inline(never)]
+fn take_up(
+    site: &Site<'_>,
+    clauses: &[Clause],
+    failure: Failure,
+    vars: &mut Vars,
+    run: &mut Run,
+) -> Result<Flow, Stop>
+    ensures { EndsAs result vars.new site.now run.old run.new (taken_up site.now clauses.now failure vars.old) }
+{
+    for clause in clauses {
+        if names_kind(clause.kinds.as_slice(), failure.kind) {
+            drop(failure);
+            return execute_all(site, clause.body.as_slice(), vars, run);
+        }
+    }
+    Err(Stop::Failed(failure))
+}
+
+/// Whether a kind is one of these.
+fn names_kind(kinds: &[u8], kind: u8) -> bool
+    ensures { result ≡ list_any (nat_eq kind) kinds.now }
+{
+    kinds.iter().any(|named| kind == *named)
 }

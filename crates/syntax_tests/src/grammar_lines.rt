@@ -75,6 +75,23 @@ class A:
    z
 ";
 
+const TRIES: &[u8] = b"@entity
+class A:
+ def f(self):
+  try: a
+  except: b
+  try:
+   a
+  except ZeroDivisionError: b
+  except IndexError:
+   try: c
+   except RuntimeError: d
+   except NoEntity: e
+   except:
+    f
+  except Exception: g
+";
+
 const TRUTHS: &[u8] = b"@entity
 class A:
  def f(self):
@@ -92,7 +109,7 @@ class A:
 
 #[test]
 fn each_line_of_the_grammar_has_a_tree(rt: HostRuntime) -> Result<(), Fail> {
-    let cases: [Case<'_, &[u8]>; 12] = [
+    let cases: [Case<'_, &[u8]>; 13] = [
         ("no line", b"", "tree"),
         ("a docstring", b"'a module'\n", "tree"),
         ("imports", IMPORTS, "tree"),
@@ -102,6 +119,7 @@ fn each_line_of_the_grammar_has_a_tree(rt: HostRuntime) -> Result<(), Fail> {
         ("assignments", ASSIGNMENTS, "tree"),
         ("branches", BRANCHES, "tree"),
         ("loops", LOOPS, "tree"),
+        ("tries", TRIES, "tree"),
         ("truths", TRUTHS, "tree"),
         ("terms and atoms", TERMS, "tree"),
         ("two classes", TWO_CLASSES, "tree"),

@@ -33,7 +33,7 @@ fn hold(alloc: Global, front: &str, table: &str, count: usize) -> Result<(), Fai
 }
 
 const IMPORTS: &str = "
-    a word that is left out    |   try↵                             | 1:3: LeftOut
+    a word that is left out    |   with↵                            | 1:3: LeftOut
     a string behind an import  | import stateflow↵'b'↵              | 2:1: Unexpected
     another name for a module  | import stateflow as s↵             | 1:18: Unexpected
     two modules                | import stateflow, typing↵          | 1:17: Unexpected
@@ -129,11 +129,19 @@ const SUITES: &str = "
     a range in a sum           | def f(self) -> None:↵        for x in range(1) + y: pass↵   | 8:27: Unexpected
     an attribute of a range    | def f(self) -> None:↵        for x in range(1).y: pass↵     | 8:26: Unexpected
     a range in a conditional   | def f(self) -> None:↵        for x in range(1) if True else y: pass↵ | 8:27: Unexpected
+    a try without a clause     | def f(self) -> None:↵        try: pass↵        pass↵ | 9:9: Unexpected
+    a clause without a try     | def f(self) -> None:↵        except: pass↵ | 8:9: Unexpected
+    a kind of no name          | def f(self) -> None:↵        try: pass↵        except KeyError: pass↵ | 9:16: Unexpected
+    a clause with a name       | def f(self) -> None:↵        try: pass↵        except ValueError as e: pass↵ | 9:27: Unexpected
+    a clause behind all kinds  | def f(self) -> None:↵        try: pass↵        except: pass↵        except: pass↵ | 10:9: Unexpected
+    else behind a clause       | def f(self) -> None:↵        try: pass↵        except: pass↵        else: pass↵ | 10:9: Unexpected
+    finally behind a clause    | def f(self) -> None:↵        try: pass↵        except: pass↵        finally: pass↵ | 10:9: LeftOut
+    finally behind a try       | def f(self) -> None:↵        try: pass↵        finally: pass↵ | 9:9: LeftOut
 ";
 
 #[test]
 fn a_token_refused_in_a_suite_is_told(rt: HostRuntime) -> Result<(), Fail> {
-    hold(rt.alloc(), MEMBER, SUITES, 15)
+    hold(rt.alloc(), MEMBER, SUITES, 23)
 }
 
 const OPERATORS: &str = "

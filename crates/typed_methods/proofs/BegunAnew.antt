@@ -9,15 +9,15 @@ use Rattle.py_tree.specs.declared.stmt.Target.TheVariants.{Local, Field}
 use Rattle.py_tree.specs.declared.expr.BinOp.{BinOp}
 use Rattle.py_tree.specs.PlainTypes.{PlainTy, PlainWritten}
 use Rattle.py_tree.specs.PlainExpressions.{PlainExpr}
-use Rattle.py_tree.specs.PlainStatements.{PlainOver, PRange, PItems, PlainStmt, PPass, PBreak, PContinue, PDo, PReturn, PRaise, PAssert, PAssign, PAugment, PIf, PWhile, PFor, PlainStmts, PNoStmt, PStmt, PArm, PlainArms, PNoArm, PMoreArms}
+use Rattle.py_tree.specs.PlainStatements.{PlainOver, PRange, PItems, PlainStmt, PPass, PBreak, PContinue, PDo, PReturn, PRaise, PAssert, PAssign, PAugment, PIf, PWhile, PFor, PlainStmts, PNoStmt, PStmt, PArm, PlainArms, PNoArm, PMoreArms, PTry, PClause, PlainClauses, PNoClause, PMoreClauses}
 use Rattle.py_tree.specs.FlowEnvironment.{PlainLocal, shown, narrowed}
 use Rattle.py_tree.specs.ExpressionTypes.{refuse_if, with_found, place_of, as_condition}
 use Rattle.py_tree.specs.Reachability.{goes_on, all_go_on, assigned_in}
-use Rattle.py_tree.specs.Flow.{Context, type_at, condition_at, result_at, within_loop, Known, known_at, settled, meet, way, behind_ways, with_local, at_head, value_as, number_at, item_of, needs_none, return_fault, message_fault, local_fault, stored, is_key_field, local_assigned, plainly_assigned, assigned_as, field_assigned, field_declared, assigned, combined_stored, augmentation, Way, on, begun, broken_off, after_while, after_for, for_head, named_at, flow, flow_all, flow_arms}
+use Rattle.py_tree.specs.Flow.{Context, type_at, condition_at, result_at, within_loop, Known, known_at, settled, meet, way, behind_ways, with_local, at_head, value_as, number_at, item_of, needs_none, return_fault, message_fault, local_fault, stored, is_key_field, local_assigned, plainly_assigned, assigned_as, field_assigned, field_declared, assigned, combined_stored, augmentation, Way, on, begun, broken_off, after_while, after_for, for_head, named_at, flow, flow_all, flow_arms, flow_clauses}
 use Rattle.program_meaning.proofs.TypedParts.{done, same_ok, found_ok, refuse_ok, not_false}
 use Rattle.program_meaning.proofs.FlowParts.{no_need}
-use Rattle.program_meaning.proofs.FlowGrows.{WhileParts, while_parts, ForParts, for_parts, all_parts, last_parts, ArmParts, arm_parts}
-use Rattle.flat_tree.specs.Flatness.{jumps, all_jump, arms_jump}
+use Rattle.program_meaning.proofs.FlowGrows.{WhileParts, while_parts, ForParts, for_parts, all_parts, last_parts, ArmParts, arm_parts, TryParts, try_parts, ClauseParts, clause_parts, behind_clauses}
+use Rattle.flat_tree.specs.Flatness.{jumps, all_jump, arms_jump, clauses_jump}
 use Rattle.typed_methods.proofs.KeptParts.{in_loop_if}
 use Rattle.typed_methods.proofs.FlowKept.{LoopsToo, or_left, or_right, both_of, is_condition, for_fault}
 
@@ -128,6 +128,14 @@ module _ (c : Context) where
         ∙ ap (λ q. needs_none q (then_named p.item)) (for_fault c 0 (in_loop_if c a) at name name_at over body w next h)
         ∙ ap (λ r. with_found r (then_body p.item)) p.names
         ∙ ap (λ r. with_found r (then_behind p.named)) p.turn) p.is
+    stmt_anew (PTry at body clauses) a b w next o loops h =
+        let p : TryParts (in_loop_if c a) w next body clauses = try_parts (in_loop_if c a) w next at body clauses h in
+        let start : List Known = known_at (at_head (assigned_in body) w.locals) in
+        let q : LeadsTo p.end (flow_all (in_loop_if c b) (way_at w.locals o) body) = all_anew body a b w p.end o (λ j. loops (or_left (all_jump body) (clauses_jump clauses) j)) p.inside in
+        let then_clauses : Way → Result Way RuleFault = λ e. flow_clauses (in_loop_if c b) e start (way (all_go_on body) e.locals) clauses in
+        let r : LeadsTo next (then_clauses (way_at p.end.locals q.0)) =
+        clauses_anew clauses a b p.end next q.0 (λ j. loops (or_right (all_jump body) (clauses_jump clauses) j)) start (way (all_go_on body) p.end.locals) p.rest in
+        (r.0, ap (λ s. with_found s then_clauses) q.1 ∙ r.1)
 
     pub all_anew : (xs : PlainStmts) (a b : Bool) (w next : Way) (o : Option (List Known)) → LoopsToo (all_jump xs) a b → flow_all (in_loop_if c a) w xs ≡ Ok next → LeadsTo next (flow_all (in_loop_if c b) (way_at w.locals o) xs)
     all_anew PNoStmt a b w next o loops h = leads_as w next o (Ok (way_at w.locals o)) refl (same_ok w next h)
@@ -142,6 +150,19 @@ module _ (c : Context) where
             → (go ≡ true → flow_all (in_loop_if c a) mid xs ≡ Ok next → LeadsTo next (flow_all (in_loop_if c b) (way_at mid.locals o2) xs)) → LeadsTo next (cond go (flow_all (in_loop_if c b) (way_at mid.locals o2) xs) (done (way_at mid.locals o2)))
         by true mid o2 h k = k refl h
         by false mid o2 h k = leads_as mid next o2 (Ok (way_at mid.locals o2)) refl (same_ok mid next h)
+
+    clauses_anew : (clauses : PlainClauses) (a b : Bool) (w next : Way) (o : Option (List Known)) → LoopsToo (clauses_jump clauses) a b → (start : List Known) (ended : Option (List Known))
+        → flow_clauses (in_loop_if c a) w start ended clauses ≡ Ok next → LeadsTo next (flow_clauses (in_loop_if c b) (way_at w.locals o) start ended clauses)
+    clauses_anew PNoClause a b w next o loops start ended h =
+        leads_as (on w (behind_ways w.locals ended)) next o (Ok (way_at (behind_ways w.locals ended) o)) refl (behind_clauses (in_loop_if c a) w next start ended h)
+    clauses_anew (PMoreClauses (PClause kinds body) more) a b w next o loops start ended h =
+        let p : ClauseParts (in_loop_if c a) w next start ended body more = clause_parts (in_loop_if c a) w next start ended kinds body more h in
+        let first : List PlainLocal = settled w.locals start in
+        let q : LeadsTo p.end (flow_all (in_loop_if c b) (way_at first o) body) = all_anew body a b (on w first) p.end o (λ j. loops (or_left (all_jump body) (clauses_jump more) j)) p.inside in
+        let then_rest : Way → Result Way RuleFault = λ k. flow_clauses (in_loop_if c b) k start (meet ended (way (all_go_on body) k.locals)) more in
+        let r : LeadsTo next (then_rest (way_at p.end.locals q.0)) =
+        clauses_anew more a b p.end next q.0 (λ j. loops (or_right (all_jump body) (clauses_jump more) j)) start (meet ended (way (all_go_on body) p.end.locals)) p.rest in
+        (r.0, ap (λ s. with_found s then_rest) q.1 ∙ r.1)
 
     arms_anew : (arms : PlainArms) (a b : Bool) (w next : Way) (o : Option (List Known)) → LoopsToo (arms_jump arms) a b → (ended : Option (List Known)) (go : Bool) (other : Bool → Way → Result Way RuleFault)
         → ((w last : Way) (o : Option (List Known)) → other a w ≡ Ok last → LeadsTo last (other b (way_at w.locals o))) → flow_arms (in_loop_if c a) w ended arms go (other a) ≡ Ok next

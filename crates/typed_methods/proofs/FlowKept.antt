@@ -5,20 +5,20 @@ use Rattle.std.specs.Prelude.{◌||◌, ◌&&◌, is_some}
 use Rattle.py_tree.specs.declared.names.Place.{Place}
 use Rattle.py_tree.specs.declared.rule.Rule.TheVariants.{LoopWord}
 use Rattle.py_tree.specs.declared.rule.RuleFault.{RuleFault}
-use Rattle.py_tree.specs.Bounded.{StmtNames, StmtsNames, ArmsNames}
+use Rattle.py_tree.specs.Bounded.{StmtNames, StmtsNames, ArmsNames, ClausesNames}
 use Rattle.py_tree.specs.PlainTypes.{PlainTy, TBool}
 use Rattle.py_tree.specs.PlainExpressions.{PlainExpr}
-use Rattle.py_tree.specs.PlainStatements.{PlainOver, PlainStmt, PPass, PBreak, PContinue, PDo, PReturn, PRaise, PAssert, PAssign, PAugment, PIf, PWhile, PFor, PlainStmts, PNoStmt, PStmt, PArm, PlainArms, PNoArm, PMoreArms}
+use Rattle.py_tree.specs.PlainStatements.{PlainOver, PlainStmt, PPass, PBreak, PContinue, PDo, PReturn, PRaise, PAssert, PAssign, PAugment, PIf, PWhile, PFor, PTry, PlainStmts, PNoStmt, PStmt, PArm, PlainArms, PNoArm, PMoreArms, PClause, PlainClauses, PNoClause, PMoreClauses}
 use Rattle.py_tree.specs.FlowEnvironment.{PlainLocal, shown, narrowed}
 use Rattle.py_tree.specs.ExpressionTypes.{refuse_if, with_found, place_of, as_condition}
 use Rattle.py_tree.specs.Reachability.{goes_on, all_go_on, is_true, assigned_in}
-use Rattle.py_tree.specs.Flow.{Context, type_at, condition_at, within_loop, Known, known_at, settled, meet, way, behind_ways, with_local, at_head, item_of, needs_none, return_fault, message_fault, local_fault, stored, assigned, augmentation, Way, on, begun, broken_off, after_while, after_for, for_head, named_at, flow, flow_all, flow_arms}
+use Rattle.py_tree.specs.Flow.{Context, type_at, condition_at, within_loop, Known, known_at, settled, meet, way, behind_ways, with_local, at_head, item_of, needs_none, return_fault, message_fault, local_fault, stored, assigned, augmentation, Way, on, begun, broken_off, after_while, after_for, for_head, named_at, flow, flow_all, flow_arms, flow_clauses}
 use Rattle.program_meaning.proofs.LocalShapes.{shapes, Grows, alike_grows, grows_on, grows_same, type_in, typed_behind, local_grows, shapes_narrowed, shapes_at_head, shapes_settled, shapes_behind}
 use Rattle.program_meaning.proofs.TypedParts.{done, same_ok, found_ok, refuse_ok, not_false}
 use Rattle.program_meaning.proofs.FlowParts.{no_need, stored_ok}
-use Rattle.program_meaning.proofs.FlowGrows.{follows_all, follows, WhileParts, while_parts, ForParts, for_parts, all_parts, last_parts, ArmParts, arm_parts, for_shapes}
+use Rattle.program_meaning.proofs.FlowGrows.{follows_all, follows_clauses, follows, WhileParts, while_parts, ForParts, for_parts, TryParts, try_parts, ClauseParts, clause_parts, behind_clauses, all_parts, last_parts, ArmParts, arm_parts, for_shapes}
 use Rattle.flat_types.proofs.FlowStays.{shapes_with}
-use Rattle.flat_tree.specs.Flatness.{jumps, all_jump, arms_jump}
+use Rattle.flat_tree.specs.Flatness.{jumps, all_jump, arms_jump, clauses_jump}
 use Rattle.typed_hoisting.specs.KnownLocals.{seen, Kept}
 use Rattle.typed_hoisting.proofs.LocalLaws.{kept_narrowed}
 use Rattle.typed_methods.proofs.KnownWays.{KnownThere, met_there, later_there, way_there, behind_there, known_before}
@@ -126,6 +126,12 @@ module _ (c : Context) (limit : ℕ) where
       let ms : List PlainLocal = narrowed names there in
       subst (λ o. Kept o (seen (settled last2 (known_at ms)) x)) (sym (known_before ls last x (grows_same here ls last last (sym (shapes_narrowed names here)) refl g)))
       (subst (Kept (seen ls x)) (sym (known_before ms last2 x (alike_grows ms last2 (e ∙ sym (shapes_narrowed names there))))) (kept_narrowed names here there x (kept x)))
+
+  -- what is known where a clause begins
+  clause_begins : (here there last last2 : List PlainLocal) → Grows here last → shapes last2 ≡ shapes there → AllKept here there → AllKept (settled last (known_at here)) (settled last2 (known_at there))
+  clause_begins here there last last2 g e kept x =
+      subst (λ o. Kept o (seen (settled last2 (known_at there)) x)) (sym (known_before here last x g))
+      (subst (Kept (seen here x)) (sym (known_before there last2 x (alike_grows there last2 e))) (kept x))
 
   -- Simple statements
 
@@ -334,6 +340,22 @@ module _ (c : Context) (limit : ℕ) where
         let p : ForParts (in_loop_if c a) w next name name_at over body = for_parts (in_loop_if c a) w next at name name_at over body h in
         for_kept at name name_at over body a b w v next named ahead typed h p
         (λ start2 kept typed2. all_kept body true true (begun (for_start name body w p.named p.item)) (begun start2) p.end named.2 (λ j t. t) (begun_ahead (for_start name body w p.named p.item) start2 kept) typed2 p.turn)
+    stmt_kept (PTry at body clauses) a b w v next named loops ahead typed h =
+        let p : TryParts (in_loop_if c a) w next body clauses = try_parts (in_loop_if c a) w next at body clauses h in
+        let names : List ℕ = assigned_in body in
+        let go : Bool = all_go_on body in
+        let to_end : Grows w.locals p.end.locals = (follows_all body (in_loop_if c a) w p.end p.inside).grows in
+        let to_next : Grows p.end.locals next.locals = (follows_clauses clauses (in_loop_if c a) p.end (known_at (at_head names w.locals)) (way go p.end.locals) next p.rest).grows in
+        let q : GoesSo p.end v (flow_all (in_loop_if c b) v body) =
+        all_kept body a b w v p.end named.0 (λ j. loops (or_left (all_jump body) (clauses_jump clauses) j)) ahead (typed_from p.end.locals next.locals v.locals to_next typed) p.inside in
+        let r : GoesSo next q.end (flow_clauses (in_loop_if c b) q.end (known_at (at_head names v.locals)) (way go q.end.locals) clauses) =
+        clauses_kept clauses a b (at_head names w.locals) (at_head names v.locals) p.end q.end next named.1 (λ j. loops (or_right (all_jump body) (clauses_jump clauses) j))
+        (head_kept names w.locals v.locals ahead.kept)
+        (grows_same w.locals (at_head names w.locals) p.end.locals p.end.locals (sym (shapes_at_head names w.locals)) refl to_end)
+        (q.same ∙ sym (shapes_at_head names v.locals))
+        (way go p.end.locals) (way go q.end.locals) (way_there go p.end.locals q.end.locals q.ahead.kept) q.ahead (typed_to next.locals v.locals q.end.locals q.same typed) p.rest in
+        let then_clauses : Way → Result Way RuleFault = λ e. flow_clauses (in_loop_if c b) e (known_at (at_head names v.locals)) (way go e.locals) clauses in
+        record { end = r.end; is = ap (λ o. with_found o then_clauses) q.is ∙ r.is; ahead = r.ahead; same = r.same ∙ q.same }
 
     pub all_kept : (xs : PlainStmts) (a b : Bool) (w v next : Way) → StmtsNames limit xs → LoopsToo (all_jump xs) a b → FlowsSo a b w v next (λ o u. flow_all (in_loop_if c o) u xs)
     all_kept PNoStmt a b w v next named loops ahead typed h = stays_so w v next ahead (same_ok w next h)
@@ -403,3 +425,42 @@ module _ (c : Context) (limit : ℕ) where
           ahead = r.ahead;
           same = r.same ∙ rest_same2 ∙ end_same;
         }
+
+    -- the clauses of a `try`, each of which begins with what is known of `here`, and of `there`
+    clauses_kept : (clauses : PlainClauses) (a b : Bool) (here there : List PlainLocal) (w v next : Way) → ClausesNames limit clauses → LoopsToo (clauses_jump clauses) a b → AllKept here there → Grows here w.locals → shapes v.locals ≡ shapes there
+        → (ended ended2 : Option (List Known)) → KnownThere (shapes w.locals) ended (shapes v.locals) ended2
+        → Ahead w v → TypedThere next.locals v.locals → flow_clauses (in_loop_if c a) w (known_at here) ended clauses ≡ Ok next → GoesSo next v (flow_clauses (in_loop_if c b) v (known_at there) ended2 clauses)
+    clauses_kept PNoClause a b here there w v next named loops kept grows same ended ended2 met ahead typed h =
+        let ls : List PlainLocal = behind_ways w.locals ended in
+        let ms : List PlainLocal = behind_ways v.locals ended2 in
+        let behind_same : shapes ms ≡ shapes v.locals = shapes_behind v.locals ended2 in
+        record {
+          end = on v ms;
+          is = refl;
+          ahead = subst (λ n. Ahead n (on v ms)) (behind_clauses (in_loop_if c a) w next (known_at here) ended h)
+              (on_ahead w v ls ms ahead (alike_grows w.locals ls (shapes_behind w.locals ended)) behind_same (behind_there w.locals v.locals ended ended2 ahead.kept met));
+          same = behind_same;
+        }
+    clauses_kept (PMoreClauses (PClause kinds body) more) a b here there w v next named loops kept grows same ended ended2 met ahead typed h =
+        let p : ClauseParts (in_loop_if c a) w next (known_at here) ended body more = clause_parts (in_loop_if c a) w next (known_at here) ended kinds body more h in
+        let go : Bool = all_go_on body in
+        let first : Way = on w (settled w.locals (known_at here)) in
+        let first2 : Way = on v (settled v.locals (known_at there)) in
+        let first_same : shapes first.locals ≡ shapes w.locals = shapes_settled w.locals (known_at here) in
+        let first_same2 : shapes first2.locals ≡ shapes v.locals = shapes_settled v.locals (known_at there) in
+        let to_end : Grows w.locals p.end.locals = grows_same first.locals w.locals p.end.locals p.end.locals first_same refl (follows_all body (in_loop_if c a) first p.end p.inside).grows in
+        let to_next : Grows p.end.locals next.locals = (follows_clauses more (in_loop_if c a) p.end (known_at here) (meet ended (way go p.end.locals)) next p.rest).grows in
+        let end_typed : TypedThere p.end.locals v.locals = typed_from p.end.locals next.locals v.locals to_next typed in
+        let ahead_first : Ahead first first2 =
+        on_ahead w v first.locals first2.locals ahead (alike_grows w.locals first.locals first_same) first_same2 (clause_begins here there w.locals v.locals grows same kept) in
+        let q : GoesSo p.end first2 (flow_all (in_loop_if c b) first2 body) =
+        all_kept body a b first first2 p.end named.0 (λ j. loops (or_left (all_jump body) (clauses_jump more) j)) ahead_first (typed_to p.end.locals v.locals first2.locals first_same2 end_typed) p.inside in
+        let end_same : shapes q.end.locals ≡ shapes v.locals = q.same ∙ first_same2 in
+        let met_end : KnownThere (shapes p.end.locals) (meet ended (way go p.end.locals)) (shapes q.end.locals) (meet ended2 (way go q.end.locals)) =
+        met_there (shapes p.end.locals) (shapes q.end.locals) ended (way go p.end.locals) ended2 (way go q.end.locals)
+        (grown_there p.end.locals q.end.locals w.locals ended ended2 w.locals v.locals to_end end_same met) (way_there go p.end.locals q.end.locals q.ahead.kept) in
+        let r : GoesSo next q.end (flow_clauses (in_loop_if c b) q.end (known_at there) (meet ended2 (way go q.end.locals)) more) =
+        clauses_kept more a b here there p.end q.end next named.1 (λ j. loops (or_right (all_jump body) (clauses_jump more) j)) kept (grows_on here w.locals p.end.locals grows to_end) (end_same ∙ same)
+        (meet ended (way go p.end.locals)) (meet ended2 (way go q.end.locals)) met_end q.ahead (typed_to next.locals v.locals q.end.locals end_same typed) p.rest in
+        let then_rest : Way → Result Way RuleFault = λ k. flow_clauses (in_loop_if c b) k (known_at there) (meet ended2 (way go k.locals)) more in
+        record { end = r.end; is = ap (λ o. with_found o then_rest) q.is ∙ r.is; ahead = r.ahead; same = r.same ∙ end_same }

@@ -10,15 +10,15 @@ use Rattle.py_tree.specs.declared.stmt.Target.{Target}
 use Rattle.py_tree.specs.declared.stmt.Target.TheVariants.{Local, Field}
 use Rattle.py_tree.specs.PlainTypes.{PlainTy, PlainWritten, type_of as type_written}
 use Rattle.py_tree.specs.PlainExpressions.{PlainExpr}
-use Rattle.py_tree.specs.PlainStatements.{PlainStmt, PPass, PBreak, PContinue, PDo, PReturn, PRaise, PAssert, PAssign, PAugment, PIf, PWhile, PFor, PlainStmts, PNoStmt, PStmt, PArm, PlainArms, PNoArm, PMoreArms}
+use Rattle.py_tree.specs.PlainStatements.{PlainStmt, PPass, PBreak, PContinue, PDo, PReturn, PRaise, PAssert, PAssign, PAugment, PIf, PWhile, PFor, PlainStmts, PNoStmt, PStmt, PArm, PlainArms, PNoArm, PMoreArms, PTry, PClause, PlainClauses, PNoClause, PMoreClauses}
 use Rattle.py_tree.specs.FlowEnvironment.{PlainLocal, local_of, has_name, shown, narrowed}
 use Rattle.py_tree.specs.ExpressionTypes.{refuse_if, with_found, field_of}
-use Rattle.py_tree.specs.Reachability.{goes_on, all_go_on, is_true, local_assigned, assigns, assigned_in, assigned_in_arms}
-use Rattle.py_tree.specs.Flow.{Context, type_at, condition_at, within_loop, Known, known_at, settled, meet, way, behind_ways, with_local, at_head, value_as, needs_none, return_fault, message_fault, is_key_field, field_assigned, field_declared, assigned, augmentation, combined_stored, Way, on, begun, broken_off, after_while, after_for, for_head, named_at, flow, flow_all, flow_arms}
-use Rattle.program_meaning.proofs.LocalShapes.{shapes, type_found, Grows, alike_grows, grows_on, grows_same, local_grows, shapes_narrowed, shapes_settled, shapes_behind}
+use Rattle.py_tree.specs.Reachability.{goes_on, all_go_on, is_true, local_assigned, assigns, assigned_in, assigned_in_arms, assigned_in_clauses}
+use Rattle.py_tree.specs.Flow.{Context, type_at, condition_at, within_loop, Known, known_at, settled, meet, way, behind_ways, with_local, at_head, value_as, needs_none, return_fault, message_fault, is_key_field, field_assigned, field_declared, assigned, augmentation, combined_stored, Way, on, begun, broken_off, after_while, after_for, for_head, named_at, flow, flow_all, flow_arms, flow_clauses}
+use Rattle.program_meaning.proofs.LocalShapes.{shapes, type_found, Grows, alike_grows, grows_on, grows_same, local_grows, shapes_narrowed, shapes_settled, shapes_behind, shapes_at_head}
 use Rattle.program_meaning.proofs.TypedParts.{done, same_ok, found_ok, refuse_ok, needs_ok}
 use Rattle.program_meaning.proofs.FlowParts.{no_need, stored_ok, local_ok, Augments, augments_ok, put_local_ok, put_field_ok}
-use Rattle.program_meaning.proofs.FlowGrows.{follows, follows_all, WhileParts, while_parts, ForParts, for_parts, all_parts, last_parts, ArmParts, arm_parts}
+use Rattle.program_meaning.proofs.FlowGrows.{follows, follows_all, WhileParts, while_parts, ForParts, for_parts, all_parts, last_parts, ArmParts, arm_parts, TryParts, try_parts, ClauseParts, clause_parts, behind_clauses}
 use Rattle.typed_hoisting.specs.KnownLocals.{Seen, is_optional, seen_of, seen, Under}
 use Rattle.typed_hoisting.proofs.LocalLaws.{narrowed_seen, under_narrowed, has_either}
 use Rattle.typed_methods.proofs.KnownWays.{MetAbove, above_both, above_grown, above_here, above_behind, known_before, under_then}
@@ -51,7 +51,7 @@ module _ (floor : List PlainLocal) where
   pub begun_above : (ls : List PlainLocal) → AllUnder floor ls → Above (begun ls)
   begun_above ls under = record { under = under; breaks = tt }
 
-  on_above : (w : Way) (ls : List PlainLocal) → Above w → Grows w.locals ls → AllUnder floor ls → Above (on w ls)
+  pub on_above : (w : Way) (ls : List PlainLocal) → Above w → Grows w.locals ls → AllUnder floor ls → Above (on w ls)
   on_above w ls a g under = record { under = under; breaks = above_grown floor w.locals ls w.breaks g a.breaks }
 
   -- Where a value is stored
@@ -94,7 +94,7 @@ module _ (floor : List PlainLocal) where
       by true f (Some k) e (Some t) u = (u.0, λ h. absurd (true≢false (sym h ∙ forgets x k f e)))
       by false f (Some k) e (Some t) u = u
 
-  before_above : (before after : List PlainLocal) → Grows before after → AllUnder floor before → AllUnder floor (settled after (known_at before))
+  pub before_above : (before after : List PlainLocal) → Grows before after → AllUnder floor before → AllUnder floor (settled after (known_at before))
   before_above before after g under x = subst (Under (seen floor x)) (sym (known_before before after x g)) (under x)
 
   -- Statements
@@ -133,7 +133,7 @@ module _ (floor : List PlainLocal) where
       above_behind floor end.locals (meet (way true head) end.breaks) a.under
       (above_both floor (shapes end.locals) (way true head) end.breaks (above_grown floor head end.locals (way true head) g (above_here floor true head under)) a.breaks)
 
-  head_of_for : (names : List ℕ) (ls named : List PlainLocal) → Forgets floor names → Grows ls named → AllUnder floor ls → AllUnder floor (for_head names ls named)
+  pub head_of_for : (names : List ℕ) (ls named : List PlainLocal) → Forgets floor names → Grows ls named → AllUnder floor ls → AllUnder floor (for_head names ls named)
   unfolding for_head
   head_of_for names ls named forgets g under = head_above names (settled named (known_at ls)) forgets (before_above ls named g under)
 
@@ -188,6 +188,14 @@ module _ (floor : List PlainLocal) where
         let to_end : Grows head p.end.locals = grows_on head start p.end.locals (local_grows name p.item p.item head) (follows_all body (within_loop d) (begun start) p.end p.turn).grows in
         same_above (on w (after_for head p.end)) next p.is
         (on_above w (after_for head p.end) a (subst (λ (n : Way). Grows w.locals n.locals) (sym p.is) (follows (PFor at name name_at over body) d w next h).grows) (behind_for head p.end under to_end end))
+    stmt_above (PTry at body clauses) d w next forgets a h =
+        let p : TryParts d w next body clauses = try_parts d w next at body clauses h in
+        let head : List PlainLocal = at_head (assigned_in body) w.locals in
+        let by_body : Forgets floor (assigned_in body) = forgets_first floor (assigned_in body) (assigned_in_clauses clauses) forgets in
+        let end : Above p.end = all_above body d w p.end by_body a p.inside in
+        let head_end : Grows head p.end.locals = grows_same w.locals head p.end.locals p.end.locals (sym (shapes_at_head (assigned_in body) w.locals)) refl (follows_all body d w p.end p.inside).grows in
+        clauses_above clauses d head p.end next (way (all_go_on body) p.end.locals) (forgets_rest floor (assigned_in body) (assigned_in_clauses clauses) forgets) (head_above (assigned_in body) w.locals by_body a.under) head_end
+        (above_here floor (all_go_on body) p.end.locals end.under) end p.rest
 
     pub all_above : (xs : PlainStmts) (d : Context) (w next : Way) → Forgets floor (assigned_in xs) → Above w → flow_all d w xs ≡ Ok next → Above next
     all_above PNoStmt d w next forgets a h = same_above w next (same_ok w next h) a
@@ -223,3 +231,19 @@ module _ (floor : List PlainLocal) where
         arms_above more d (on p.end rest) next (meet ended (way (all_go_on body) p.end.locals)) go other (forgets_rest floor (assigned_in body) (assigned_in_arms more) forgets) above grows
         (subst (λ ss. MetAbove floor ss (meet ended (way (all_go_on body) p.end.locals))) (sym rest_same) met_end)
         (on_above p.end rest end (alike_grows p.end.locals rest rest_same) (before_above left p.end.locals left_end (narrowed_above (shown false test) w.locals a.under))) p.rest
+
+    clauses_above : (clauses : PlainClauses) (d : Context) (head : List PlainLocal) (w next : Way) (ended : Option (List Known)) → Forgets floor (assigned_in_clauses clauses) → AllUnder floor head → Grows head w.locals
+        → MetAbove floor (shapes w.locals) ended → Above w → flow_clauses d w (known_at head) ended clauses ≡ Ok next → Above next
+    clauses_above PNoClause d head w next ended forgets under g met a h =
+        let behind : List PlainLocal = behind_ways w.locals ended in
+        same_above (on w behind) next (behind_clauses d w next (known_at head) ended h) (on_above w behind a (alike_grows w.locals behind (shapes_behind w.locals ended)) (above_behind floor w.locals ended a.under met))
+    clauses_above (PMoreClauses (PClause kinds body) more) d head w next ended forgets under g met a h =
+        let p : ClauseParts d w next (known_at head) ended body more = clause_parts d w next (known_at head) ended kinds body more h in
+        let start : List PlainLocal = settled w.locals (known_at head) in
+        let same_start : shapes start ≡ shapes w.locals = shapes_settled w.locals (known_at head) in
+        let b : Above (on w start) = on_above w start a (alike_grows w.locals start same_start) (before_above head w.locals g under) in
+        let end : Above p.end = all_above body d (on w start) p.end (forgets_first floor (assigned_in body) (assigned_in_clauses more) forgets) b p.inside in
+        let from_w : Grows w.locals p.end.locals = grows_same start w.locals p.end.locals p.end.locals same_start refl (follows_all body d (on w start) p.end p.inside).grows in
+        let here : Option (List Known) = way (all_go_on body) p.end.locals in
+        clauses_above more d head p.end next (meet ended here) (forgets_rest floor (assigned_in body) (assigned_in_clauses more) forgets) under (grows_on head w.locals p.end.locals g from_w)
+        (above_both floor (shapes p.end.locals) ended here (above_grown floor w.locals p.end.locals ended from_w met) (above_here floor (all_go_on body) p.end.locals end.under)) end p.rest

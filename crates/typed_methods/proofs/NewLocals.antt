@@ -5,17 +5,17 @@ use Rattle.std.proofs.lemmas.Bool.{eq-eqb}
 use Rattle.std.proofs.lemmas.Option.{none-some}
 use Rattle.py_tree.specs.declared.rule.RuleFault.{RuleFault}
 use Rattle.py_tree.specs.declared.stmt.Target.TheVariants.{Local, Field}
-use Rattle.py_tree.specs.Bounded.{StmtNames, StmtsNames, ArmsNames}
+use Rattle.py_tree.specs.Bounded.{StmtNames, StmtsNames, ArmsNames, ClausesNames}
 use Rattle.py_tree.specs.PlainTypes.{PlainTy}
 use Rattle.py_tree.specs.PlainExpressions.{PlainExpr}
-use Rattle.py_tree.specs.PlainStatements.{PlainStmt, PPass, PBreak, PContinue, PDo, PReturn, PRaise, PAssert, PAssign, PAugment, PIf, PWhile, PFor, PlainStmts, PNoStmt, PStmt, PArm, PlainArms, PNoArm, PMoreArms}
+use Rattle.py_tree.specs.PlainStatements.{PlainStmt, PPass, PBreak, PContinue, PDo, PReturn, PRaise, PAssert, PAssign, PAugment, PIf, PWhile, PFor, PlainStmts, PNoStmt, PStmt, PArm, PlainArms, PNoArm, PMoreArms, PTry, PClause, PlainClauses, PNoClause, PMoreClauses}
 use Rattle.py_tree.specs.FlowEnvironment.{PlainLocal, local_of, shown, narrowed}
-use Rattle.py_tree.specs.Reachability.{goes_on, all_go_on, assigns, assigned_in, assigned_in_arms}
-use Rattle.py_tree.specs.Flow.{Context, within_loop, Known, known_at, settled, meet, way, behind_ways, with_local, at_head, assigned, augmentation, Way, on, begun, after_while, after_for, for_head, named_at, flow, flow_all, flow_arms}
+use Rattle.py_tree.specs.Reachability.{goes_on, all_go_on, assigns, assigned_in, assigned_in_arms, assigned_in_clauses}
+use Rattle.py_tree.specs.Flow.{Context, within_loop, Known, known_at, settled, meet, way, behind_ways, with_local, at_head, assigned, augmentation, Way, on, begun, after_while, after_for, for_head, named_at, flow, flow_all, flow_arms, flow_clauses}
 use Rattle.program_meaning.proofs.LocalShapes.{Shape, shapes, type_in, Grows, typed_behind, is_typed, given_if, new_local, shapes_narrowed, shapes_at_head, shapes_settled, shapes_behind}
 use Rattle.program_meaning.proofs.TypedParts.{done, same_ok, found_ok}
 use Rattle.program_meaning.proofs.FlowParts.{stored_ok, local_ok, Augments, augments_ok, put_local_ok}
-use Rattle.program_meaning.proofs.FlowGrows.{follows_all, WhileParts, while_parts, ForParts, for_parts, all_parts, last_parts, ArmParts, arm_parts, for_shapes}
+use Rattle.program_meaning.proofs.FlowGrows.{follows_all, WhileParts, while_parts, ForParts, for_parts, all_parts, last_parts, ArmParts, arm_parts, for_shapes, TryParts, try_parts, ClauseParts, clause_parts, behind_clauses, follows_clauses}
 use Rattle.flat_types.proofs.FlowStays.{EachTyped, stmt_stays, both_typed, shapes_with}
 use Rattle.typed_hoisting.specs.KnownLocals.{Once, Free}
 use Rattle.typed_hoisting.proofs.LocalLaws.{or_else, one_more, apart}
@@ -100,6 +100,10 @@ module _ (n : ℕ) where
   around_body : (names : List ℕ) (w next : Way) (start : List PlainLocal) (end : Way) → (Free n w.locals → Free n start) → shapes next.locals ≡ shapes end.locals → Settles names (begun start) end → Settles names w next
   around_body names w next start end before after s = record { typed = each_as end.locals next.locals names after s.typed; free = λ free. free_same n end.locals next.locals after (s.free (before free)) }
 
+  -- one after the other
+  settles_on : (first more : List ℕ) (w mid next : Way) → Grows mid.locals next.locals → Settles first w mid → Settles more mid next → Settles (first ++ more) w next
+  settles_on first more w mid next g s r = record { typed = both_typed (shapes next.locals) first more (each_grown mid.locals next.locals first g s.typed) r.typed; free = λ free. r.free (s.free free) }
+
   mutual
     unfolding flow assigns StmtNames
 
@@ -143,6 +147,11 @@ module _ (n : ℕ) where
         let first : EachTyped (shapes next.locals) (name ∷ []) =
         each_as p.end.locals next.locals (name ∷ []) after (each_grown start p.end.locals (name ∷ []) (follows_all body (within_loop d) (begun start) p.end p.turn).grows (ap is_some (stored_type name p.item p.item head), tt)) in
         record { typed = (first.0, s.typed); free = s.free }
+    stmt_settles (PTry at body clauses) d w next named h =
+        let p : TryParts d w next body clauses = try_parts d w next at body clauses h in
+        let start : List Known = known_at (at_head (assigned_in body) w.locals) in
+        let ended : Option (List Known) = way (all_go_on body) p.end.locals in
+        settles_on (assigned_in body) (assigned_in_clauses clauses) w p.end next (follows_clauses clauses d p.end start ended next p.rest).grows (all_settle body d w p.end named.0 p.inside) (clauses_settle clauses d p.end next named.1 start ended p.rest)
 
     pub all_settle : (xs : PlainStmts) (d : Context) (w next : Way) → StmtsNames n xs → flow_all d w xs ≡ Ok next → Settles (assigned_in xs) w next
     all_settle PNoStmt d w next named h = record { typed = tt; free = λ free. subst (λ (v : Way). Free n v.locals) (same_ok w next h) free }
@@ -180,3 +189,15 @@ module _ (n : ℕ) where
         more_typed : (ss : List Shape) (a b ns : List ℕ) → EachTyped ss a → EachTyped ss (b ++ ns) → EachTyped ss ((a ++ b) ++ ns)
         more_typed ss [] b ns h g = g
         more_typed ss (x ∷ a) b ns h g = (h.0, more_typed ss a b ns h.1 g)
+
+    clauses_settle : (clauses : PlainClauses) (d : Context) (w next : Way) → ClausesNames n clauses → (start : List Known) (ended : Option (List Known)) → flow_clauses d w start ended clauses ≡ Ok next → Settles (assigned_in_clauses clauses) w next
+    clauses_settle PNoClause d w next named start ended h =
+        let same : shapes next.locals ≡ shapes w.locals = ap (λ (v : Way). shapes v.locals) (sym (behind_clauses d w next start ended h)) ∙ shapes_behind w.locals ended in
+        record { typed = tt; free = λ free. free_same n w.locals next.locals same free }
+    clauses_settle (PMoreClauses (PClause kinds body) more) d w next named start ended h =
+        let p : ClauseParts d w next start ended body more = clause_parts d w next start ended kinds body more h in
+        let first : List PlainLocal = settled w.locals start in
+        let met : Option (List Known) = meet ended (way (all_go_on body) p.end.locals) in
+        let s : Settles (assigned_in body) (on w first) p.end = all_settle body d (on w first) p.end named.0 p.inside in
+        let from_w : Settles (assigned_in body) w p.end = record { typed = s.typed; free = λ free. s.free (free_same n w.locals first (shapes_settled w.locals start) free) } in
+        settles_on (assigned_in body) (assigned_in_clauses more) w p.end next (follows_clauses more d p.end start met next p.rest).grows from_w (clauses_settle more d p.end next named.1 start met p.rest)

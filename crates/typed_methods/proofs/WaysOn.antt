@@ -1,18 +1,18 @@
 -- Where as much is known as on a way that has been left by a `break`, as much is known as on the ways that have been left so later on; and
 -- where as much is known as behind an arm, as much is known as behind all arms.
-use Rattle.std.proofs.Common.{◌≡◌, Bool, true, false, not, cond, Option, None, Result, Ok, List, ◌∷◌, sym, ap, ◌∙◌, subst}
+use Rattle.std.proofs.Common.{◌≡◌, Bool, true, false, not, cond, Option, None, Result, Ok, List, ◌∷◌, sym, ap, ◌∙◌, subst, refl}
 use Rattle.py_tree.specs.declared.rule.Rule.TheVariants.{LoopWord}
 use Rattle.py_tree.specs.declared.rule.RuleFault.{RuleFault}
 use Rattle.py_tree.specs.PlainTypes.{PlainTy}
 use Rattle.py_tree.specs.PlainExpressions.{PlainExpr}
-use Rattle.py_tree.specs.PlainStatements.{PlainStmt, PPass, PBreak, PContinue, PDo, PReturn, PRaise, PAssert, PAssign, PAugment, PIf, PWhile, PFor, PlainStmts, PNoStmt, PStmt, PArm, PlainArms, PNoArm, PMoreArms}
+use Rattle.py_tree.specs.PlainStatements.{PlainStmt, PPass, PBreak, PContinue, PDo, PReturn, PRaise, PAssert, PAssign, PAugment, PIf, PWhile, PFor, PlainStmts, PNoStmt, PStmt, PArm, PlainArms, PNoArm, PMoreArms, PTry, PClause, PlainClauses, PNoClause, PMoreClauses}
 use Rattle.py_tree.specs.FlowEnvironment.{PlainLocal, shown, narrowed}
 use Rattle.py_tree.specs.Reachability.{goes_on, all_go_on, assigned_in}
-use Rattle.py_tree.specs.Flow.{Context, type_at, condition_at, Known, known_at, settled, meet, way, behind_ways, at_head, needs_none, return_fault, message_fault, assigned, augmentation, Way, on, broken_off, after_while, after_for, for_head, flow, flow_all, flow_arms}
+use Rattle.py_tree.specs.Flow.{Context, type_at, condition_at, Known, known_at, settled, meet, way, behind_ways, at_head, needs_none, return_fault, message_fault, assigned, augmentation, Way, on, broken_off, after_while, after_for, for_head, flow, flow_all, flow_arms, flow_clauses}
 use Rattle.program_meaning.proofs.LocalShapes.{shapes, Grows, alike_grows, grows_same, shapes_narrowed, shapes_settled, shapes_behind}
 use Rattle.program_meaning.proofs.TypedParts.{done, same_ok, found_ok, refuse_ok}
 use Rattle.program_meaning.proofs.FlowParts.{no_need}
-use Rattle.program_meaning.proofs.FlowGrows.{follows, follows_all, WhileParts, while_parts, ForParts, for_parts, all_parts, last_parts, ArmParts, arm_parts}
+use Rattle.program_meaning.proofs.FlowGrows.{follows, follows_all, WhileParts, while_parts, ForParts, for_parts, all_parts, last_parts, ArmParts, arm_parts, TryParts, try_parts, ClauseParts, clause_parts, behind_clauses}
 use Rattle.typed_methods.proofs.KnownWays.{MetUnder, met_left, met_grown, met_behind}
 use Rattle.typed_methods.proofs.StoredKnown.{AllUnder}
 
@@ -56,6 +56,9 @@ module _ (env : List PlainLocal) where
     left_on (PFor at name name_at over body) d w next h m =
         let p : ForParts d w next name name_at over body = for_parts d w next at name name_at over body h in
         on_left w (after_for (for_head (name ∷ assigned_in body) w.locals p.named) p.end) next p.is (follows (PFor at name name_at over body) d w next h).grows m
+    left_on (PTry at body clauses) d w next h m =
+        let p : TryParts d w next body clauses = try_parts d w next at body clauses h in
+        clauses_left_on clauses d p.end next (known_at (at_head (assigned_in body) w.locals)) (way (all_go_on body) p.end.locals) p.rest (all_left_on body d w p.end p.inside m)
 
     pub all_left_on : (xs : PlainStmts) (d : Context) (w next : Way) → flow_all d w xs ≡ Ok next → LeftUnder w → LeftUnder next
     all_left_on PNoStmt d w next h m = same_left w next (same_ok w next h) m
@@ -81,6 +84,16 @@ module _ (env : List PlainLocal) where
         arms_left_on more d (on p.end rest) next (meet ended (way (all_go_on body) p.end.locals)) go other left p.rest
         (subst (λ ss. MetUnder ss p.end.breaks env) (sym (shapes_settled p.end.locals (known_at (narrowed (shown false test) w.locals)))) m_end)
 
+    pub clauses_left_on : (clauses : PlainClauses) (d : Context) (w next : Way) (start : List Known) (ended : Option (List Known)) → flow_clauses d w start ended clauses ≡ Ok next → LeftUnder w → LeftUnder next
+    clauses_left_on PNoClause d w next start ended h m =
+        let is : on w (behind_ways w.locals ended) ≡ next = behind_clauses d w next start ended h in
+        on_left w (behind_ways w.locals ended) next is (alike_grows w.locals next.locals (ap (λ (n : Way). shapes n.locals) (sym is) ∙ shapes_behind w.locals ended)) m
+    clauses_left_on (PMoreClauses (PClause kinds body) more) d w next start ended h m =
+        let p : ClauseParts d w next start ended body more = clause_parts d w next start ended kinds body more h in
+        let first : List PlainLocal = settled w.locals start in
+        clauses_left_on more d p.end next start (meet ended (way (all_go_on body) p.end.locals)) p.rest
+        (all_left_on body d (on w first) p.end p.inside (subst (λ ss. MetUnder ss w.breaks env) (sym (shapes_settled w.locals start)) m))
+
   -- behind arms of which some have ended, or behind what follows them
   pub ended_on : (arms : PlainArms) (d : Context) (w next : Way) (ended : Option (List Known)) (go : Bool) (other : Way → Result Way RuleFault) → ((w last : Way) → other w ≡ Ok last → Grows w.locals last.locals) → flow_arms d w ended arms go other ≡ Ok next → MetUnder (shapes w.locals) ended env → AllUnder next.locals env
   ended_on PNoArm d w next ended go other grows h m =
@@ -98,3 +111,12 @@ module _ (env : List PlainLocal) where
       arm_grows d test body w end h =
           grows_same (narrowed (shown true test) w.locals) w.locals end.locals (settled end.locals (known_at (narrowed (shown false test) w.locals))) (shapes_narrowed (shown true test) w.locals)
           (sym (shapes_settled end.locals (known_at (narrowed (shown false test) w.locals)))) (follows_all body d (on w (narrowed (shown true test) w.locals)) end h).grows
+
+  -- behind a body and clauses of which some have ended
+  pub clauses_ended_on : (clauses : PlainClauses) (d : Context) (w next : Way) (start : List Known) (ended : Option (List Known)) → flow_clauses d w start ended clauses ≡ Ok next → MetUnder (shapes w.locals) ended env → AllUnder next.locals env
+  clauses_ended_on PNoClause d w next start ended h m = subst (λ (n : Way). AllUnder n.locals env) (behind_clauses d w next start ended h) (met_behind w.locals ended env m)
+  clauses_ended_on (PMoreClauses (PClause kinds body) more) d w next start ended h m =
+      let p : ClauseParts d w next start ended body more = clause_parts d w next start ended kinds body more h in
+      let first : List PlainLocal = settled w.locals start in
+      let from_w : Grows w.locals p.end.locals = grows_same first w.locals p.end.locals p.end.locals (shapes_settled w.locals start) refl (follows_all body d (on w first) p.end p.inside).grows in
+      clauses_ended_on more d p.end next start (meet ended (way (all_go_on body) p.end.locals)) p.rest (met_left (shapes p.end.locals) env ended (way (all_go_on body) p.end.locals) (met_grown w.locals p.end.locals env ended from_w m))

@@ -1,18 +1,18 @@
 use Rattle.std.proofs.Common.{◌≡◌, ◌+◌, ◌-◌, ◌≤◌, suc, [], drop, map, option_map, vec_len}
 use Rattle.py_tree.specs.PlainExpressions.{plain_expr, plain_exprs, exprs_of, plain_links, links_of}
-use Rattle.py_tree.specs.PlainStatements.{plain_option, plain_over, plain_stmt, plain_stmts, stmts_of, plain_arms, arms_of}
+use Rattle.py_tree.specs.PlainStatements.{plain_option, plain_over, plain_stmt, plain_stmts, stmts_of, plain_arms, arms_of, plain_clauses, clauses_of}
 use Rattle.py_tree.specs.PlainProgram.{plain_method}
 use Rattle.py_tree.specs.ClassRules.{body_of}
-use Rattle.py_tree.specs.Bounded.{of_option, expr_size, exprs_size, links_size, stmt_size, stmts_size, arms_size, over_size}
+use Rattle.py_tree.specs.Bounded.{of_option, expr_size, exprs_size, links_size, stmt_size, stmts_size, arms_size, over_size, clauses_size}
 use Rattle.sf_value.specs.Keys.{key_of}
 use Rattle.program_meaning.specs.World.{Got}
 use Rattle.program_meaning.specs.Evaluation.{each_is}
-use Rattle.program_meaning.specs.Execution.{act_arms, while_turns, over_items, over_numbers}
+use Rattle.program_meaning.specs.Execution.{act_arms, while_turns, over_items, over_numbers, act_clauses}
 use Rattle.program_meaning.specs.Calls.{declare_all}
 use Rattle.source_meaning.specs.Sites.{site_of}
 use Rattle.program_meaning.specs.Trailers.{trailer_size, all_followed}
 use Rattle.source_meaning.specs.TrailerViews.{plain_trailer}
-use Rattle.source_meaning.specs.Walks.{seen, record_seen, program_of, value_of, values_of, linked_by, runs}
+use Rattle.source_meaning.specs.Walks.{seen, record_seen, program_of, value_of, values_of, linked_by, runs, taken_up}
 use Rattle.source_meaning.proofs.Measures.{rank, left}
 use Rattle.program_meaning.proofs.TrailerLaws.{all_sizes}
 use Rattle.source_meaning.proofs.+walk.Given as goal
@@ -164,6 +164,12 @@ decreases-statements::execute_all l = left (rank l.site.now.room) (stmts_size (s
 abbrev pub decreases-statements::execute_arms : goal.decreases-statements::execute_arms
 decreases-statements::execute_arms l = left (rank l.site.now.room) (arms_size (arms_of (plain_arms l.arms.now)) + stmts_size (stmts_of (plain_stmts l.other.now))) 12
 
+abbrev pub decreases-statements::execute_try : goal.decreases-statements::execute_try
+decreases-statements::execute_try l = left (rank l.site.now.room) (stmts_size (stmts_of (plain_stmts l.body.now)) + clauses_size (clauses_of (plain_clauses l.clauses.now))) 13
+
+abbrev pub decreases-statements::take_up : goal.decreases-statements::take_up
+decreases-statements::take_up l = left (rank l.site.now.room) (clauses_size (clauses_of (plain_clauses l.clauses.now))) 12
+
 abbrev pub decreases-loops::while_turns : goal.decreases-loops::while_turns
 decreases-loops::while_turns l = left (rank l.site.now.room) (expr_size (plain_expr l.test.now) + stmts_size (stmts_of (plain_stmts l.body.now))) 12
 
@@ -205,6 +211,9 @@ invariant-statements::execute_all-loop-stmt l = runs l.site (drop l.stmt-index l
 
 abbrev pub invariant-statements::execute_arms-loop-arm : goal.invariant-statements::execute_arms-loop-arm
 invariant-statements::execute_arms-loop-arm l = act_arms (site_of l.site) (arms_of (plain_arms (drop l.arm-index l.arms))) (runs l.site l.other) l.vars (seen l.site l.run) l.run.steps ≡ act_arms (site_of l.site) (arms_of (plain_arms l.arms)) (runs l.site l.other) l.fn.vars (seen l.site l.fn.run) l.fn.run.steps
+
+abbrev pub invariant-statements::take_up-loop-clause : goal.invariant-statements::take_up-loop-clause
+invariant-statements::take_up-loop-clause l = taken_up l.site (drop l.clause-index l.clauses) l.failure l.vars (seen l.site l.run) l.run.steps ≡ taken_up l.site l.clauses l.fn.failure l.fn.vars (seen l.site l.fn.run) l.fn.run.steps
 
 abbrev pub invariant-loops::while_turns-loop-turn : goal.invariant-loops::while_turns-loop-turn
 invariant-loops::while_turns-loop-turn l = while_turns (l.limit - l._turn) (value_of l.site l.test) (runs l.site l.body) l.vars (seen l.site l.run) l.run.steps ≡ while_turns (suc l.fn.run.steps) (value_of l.site l.test) (runs l.site l.body) l.fn.vars (seen l.site l.fn.run) l.fn.run.steps

@@ -4,17 +4,17 @@ use Rattle.std.proofs.Math.Bool.{or-false}
 use Rattle.py_tree.specs.declared.stmt.StmtKind as s
 use Rattle.py_tree.specs.PlainExpressions.{plain_expr}
 use Rattle.py_tree.specs.PlainTypes.{plain_written}
-use Rattle.py_tree.specs.PlainStatements.{PBreak, PContinue, PDo, PReturn, PRaise, PAssert, PAssign, PAugment, plain_option, plain_stmt, plain_arm, plain_arms, arms_of}
-use Rattle.py_tree.specs.Reachability.{goes_on, an_arm_goes_on}
+use Rattle.py_tree.specs.PlainStatements.{PBreak, PContinue, PDo, PReturn, PRaise, PAssert, PAssign, PAugment, plain_option, plain_stmt, plain_arm, plain_arms, arms_of, plain_clause, plain_clauses, clauses_of}
+use Rattle.py_tree.specs.Reachability.{goes_on, an_arm_goes_on, a_clause_goes_on}
 use Rattle.py_tree.specs.Flow.{flow}
 use Rattle.py_tree.proofs.Views.{stmt-Break, stmt-Continue, stmt-Expr, stmt-Return, stmt-Raise, stmt-Assert, stmt-Assign, stmt-Augment}
-use Rattle.py_tree.proofs.ReachRules.{goes-Break, goes-Continue, goes-Expr, goes-Return, goes-Raise, goes-Assert, goes-Assign, goes-Augment, all_passes, all_stops, all_ends, arm_ends}
+use Rattle.py_tree.proofs.ReachRules.{goes-Break, goes-Continue, goes-Expr, goes-Return, goes-Raise, goes-Assert, goes-Assign, goes-Augment, all_passes, all_stops, all_ends, arm_ends, clause_ends}
 use Rattle.entity_tables.specs.Views.{plain_tables}
-use Rattle.flow_types.specs.Views.{context_of, way_of, plain_breaks}
-use Rattle.flow_types.proofs.FlowLaws.{as_statement, same_place, list_passes, list_stops, list_ends, arms_pass, arms_done, one_goes}
-use Rattle.flow_types.specs.Parts.{Fork, behind_arm}
+use Rattle.flow_types.specs.Views.{context_of, way_of, plain_breaks, plain_standings}
+use Rattle.flow_types.proofs.FlowLaws.{as_statement, same_place, list_passes, list_stops, list_ends, arms_pass, arms_done, one_goes, clauses_pass, clauses_done, clause_goes}
+use Rattle.flow_types.specs.Parts.{Fork, behind_arm, behind_clause}
 use Rattle.flow_types.proofs.walk.+walk.Goals as goal
-use Rattle.flow_types.proofs.walk.+walk.Goals.{through_arms-then-one_goes_on, through_arms-else-one_goes_on}
+use Rattle.flow_types.proofs.walk.+walk.Goals.{through_arms-then-one_goes_on, through_arms-else-one_goes_on, through_clauses-then-one_goes_on, through_clauses-else-one_goes_on}
 
 pub statement-returns-in-Break : goal.statement-returns-in-Break
 statement-returns-in-Break t c =
@@ -146,3 +146,38 @@ through_arms-returns t c =
     let inv = c.loop-arm.invariant in
     let fork : Fork = record { next = way_of c.loop-arm.env c.loop-arm.breaks; ended = plain_breaks c.loop-arm.ended } in
     (inv.forks ∙ arms_done (context_of tables c.args.env.now c.args.context.now.in_loop) fork arms c.loop-arm.arm-index c.loop-arm-test.false, sym (inv.goes ∙ ap (λ b. c.loop-arm.one_goes_on || b) (arm_ends arms c.loop-arm.arm-index c.loop-arm-test.false) ∙ or-false c.loop-arm.one_goes_on), inv.class, inv.method)
+
+pub through_clauses-loop-clause-preserved : goal.through_clauses-loop-clause-preserved
+through_clauses-loop-clause-preserved t c =
+    let tables = plain_tables c.args.context.now.tables.now in
+    let in_loop = c.args.context.now.in_loop in
+    let clauses = c.args.clauses.now in
+    let env = c.loop-clause.env in
+    let i = c.loop-clause.clause-index in
+    let clause = c.clause-item.result in
+    let fork : Fork = record { next = way_of env c.loop-clause.breaks; ended = plain_breaks c.loop-clause.ended } in
+    let told = c.in_ok-goes_on.ensures in
+    let inv = c.loop-clause.invariant in
+    let here = same_place tables env c.args.env.now in_loop inv.class inv.method in
+    let found = ap (λ z. behind_clause z (plain_standings c.args.start.now) fork (plain_clause clause)) (sym here) ∙ told.0 in
+    let behind = a_clause_goes_on (clauses_of (plain_clauses (drop i clauses))) in
+    let beyond = a_clause_goes_on (clauses_of (plain_clauses (drop (i + 1) clauses))) in
+    record {
+      forks = inv.forks ∙ clauses_pass (context_of tables c.args.env.now in_loop) (plain_standings c.args.start.now) fork clauses i clause _ c.loop-clause-test.true c.clause-item.is found;
+      goes =
+          elim c.if-one_goes_on.branch [
+            | through_clauses-then-one_goes_on w ↦ inv.goes ∙ ap (λ b. b || behind) w.if-one_goes_on.true ∙ ap (λ b. b || beyond) (sym w.if-one_goes_on.true ∙ sym w.one_goes_on-is)
+            | through_clauses-else-one_goes_on w ↦
+                inv.goes ∙ ap (λ b. b || behind) w.if-one_goes_on.false ∙ clause_goes clauses i clause c.loop-clause-test.true c.clause-item.is ∙ ap (λ b. b || beyond) (sym told.1 ∙ sym w.one_goes_on-is)
+          ];
+      class = told.2 ∙ inv.class;
+      method = told.3 ∙ inv.method;
+    }
+
+pub through_clauses-returns : goal.through_clauses-returns
+through_clauses-returns t c =
+    let tables = plain_tables c.args.context.now.tables.now in
+    let clauses = c.args.clauses.now in
+    let inv = c.loop-clause.invariant in
+    let fork : Fork = record { next = way_of c.loop-clause.env c.loop-clause.breaks; ended = plain_breaks c.loop-clause.ended } in
+    (inv.forks ∙ clauses_done (context_of tables c.args.env.now c.args.context.now.in_loop) (plain_standings c.args.start.now) fork clauses c.loop-clause.clause-index c.loop-clause-test.false, sym (inv.goes ∙ ap (λ b. c.loop-clause.one_goes_on || b) (clause_ends clauses c.loop-clause.clause-index c.loop-clause-test.false) ∙ or-false c.loop-clause.one_goes_on), inv.class, inv.method)

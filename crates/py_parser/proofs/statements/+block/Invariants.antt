@@ -1,7 +1,7 @@
 use Rattle.std.proofs.Common.{◌≤◌, ◌+◌, ◌*◌}
-use Rattle.py_tree.specs.PlainStatements.{plain_stmts, plain_arms}
+use Rattle.py_tree.specs.PlainStatements.{plain_stmts, plain_arms, plain_clauses}
 use Rattle.py_tree.specs.Reading.{lines_left}
-use Rattle.py_tree.specs.StatementGrammar.{IsStmts, IsArms}
+use Rattle.py_tree.specs.StatementGrammar.{IsStmts, IsArms, IsClauses}
 use Rattle.py_parser.proofs.Loops.{GoesOn}
 use Rattle.py_parser.proofs.statements.+block.Given as goal
 
@@ -19,6 +19,15 @@ decreases-while_stmt l = 8 * l.levels + 1
 
 abbrev pub decreases-for_stmt : goal.decreases-for_stmt
 decreases-for_stmt l = 8 * l.levels + 1
+
+abbrev pub decreases-clause : goal.decreases-clause
+decreases-clause l = 8 * l.levels + 1
+
+abbrev pub decreases-clauses : goal.decreases-clauses
+decreases-clauses l = 8 * l.levels + 2
+
+abbrev pub decreases-try_stmt : goal.decreases-try_stmt
+decreases-try_stmt l = 8 * l.levels + 3
 
 abbrev pub decreases-arms : goal.decreases-arms
 decreases-arms l = 8 * l.levels + 2
@@ -55,3 +64,12 @@ invariant-arms-arms l = record {
 
 abbrev pub decreases-arms-arms : goal.decreases-arms-arms
 decreases-arms-arms l = lines_left l.reader
+
+abbrev pub invariant-clauses-clauses : goal.invariant-clauses-clauses
+invariant-clauses-clauses l = record {
+  so_far : GoesOn (IsClauses l.levels l.column) l.fn.reader l.reader (plain_clauses l.items);
+  no_more : lines_left l.reader ≤ lines_left l.fn.reader;
+}
+
+abbrev pub decreases-clauses-clauses : goal.decreases-clauses-clauses
+decreases-clauses-clauses l = lines_left l.reader
