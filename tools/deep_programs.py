@@ -52,6 +52,13 @@ def blocks(depth, head):
     return method("\n".join(lines) + "\n        return 0\n")
 
 
+def tries(depth):
+    """Statements that catch, one within the other, around the call."""
+    heads = [" " * level + "try:" for level in range(depth)]
+    clauses = [" " * level + "except IndexError: return 1" for level in reversed(range(depth))]
+    return method("".join(f"        {line}\n" for line in [*heads, " " * depth + "return self.f(n - 1)", *clauses]))
+
+
 def receivers():
     """A chain of receivers behind brackets: the deepest that a text of 8 KB may hold."""
     chain = "(" * 61 + "self.g(n - 1)" + "".join(")" + ".same()" * count for count in range(2, 63))
@@ -71,6 +78,7 @@ CASES = [
     ("20 brackets with a conditional, a sum and a product", returned(nested(20, "(1 if n == 0 else 0 + 1 * ", CALL, ")")), 0),
     ("58 ifs", blocks(58, "if n > 0:"), 0),
     ("58 fors", blocks(58, "for i{level} in range(1):"), 0),
+    ("58 tries", tries(58), 0),
     ("60 brackets with a sum and a product", returned(nested(60, "(0 + 1 * ", CALL, ")")), 8),
 ]
 

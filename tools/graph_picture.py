@@ -5,7 +5,7 @@
     ./stateflow compile shop.py | tools/graph_picture.py User.buy_item first_dear
 
 Without words it draws each method; with words only those that they name, as CLASS.METHOD or METHOD. An arrow leads from block to
-block; where a block ends with a call or a creation, what is called or made stands at the arrow.
+block; where a block ends with a call or a creation, what is called or made stands at the arrow. A dotted one leads to where a failure goes on.
 """
 
 import re
@@ -13,7 +13,8 @@ import sys
 
 CLASS = re.compile(r"class (\w+): key (\w+); (\d+) fields; (\d+) methods")
 METHOD = re.compile(r"method (\w+)\.(\w+): (\d+) blocks")
-BLOCK = re.compile(r"  block (\d+): (\d+) vars, (.*)")
+BLOCK = re.compile(r"  block (\d+): (\d+) vars, (.*?)((?:, catch \d+)*)")
+FAILS = "fails"
 ENDS = (
     (re.compile(r"leave"), lambda: []),
     (re.compile(r"jump (\d+)"), lambda to: [("", to)]),
@@ -44,7 +45,8 @@ def read_graph(lines):
         if method:
             methods.append((method[1], method[2], []))
         elif block and methods:
-            methods[-1][2].append((block[1], block[2], next_blocks(block[3], number, line)))
+            catches = [(FAILS, to) for to in re.findall(r"\d+", block[4])]
+            methods[-1][2].append((block[1], block[2], [*next_blocks(block[3], number, line), *catches]))
         elif not CLASS.fullmatch(line):
             refuse(number, line)
     return methods
@@ -61,7 +63,7 @@ def draw(methods):
             yield f'        {box}_{block}["{block}: {variables} {word}"]'
         for block, _, arrows in blocks:
             for label, to in arrows:
-                arrow = f'-->|"{label}"|' if label else "-->"
+                arrow = f'{"-.->" if label == FAILS else "-->"}|"{label}"|' if label else "-->"
                 yield f"        {box}_{block} {arrow} {box}_{to}"
         yield "    end"
 

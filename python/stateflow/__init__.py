@@ -1,4 +1,5 @@
-"""The two marks of a StateFlow program, which change nothing: with them the same file runs under plain Python.
+"""The two marks of a StateFlow program, which change nothing: with them the same file runs under plain Python. Beside them stand the failures that a
+clause of a `try` may name and Python hasn't.
 
 Where `stateflow.testing` is imported the marked classes act as the service does."""
 
@@ -6,7 +7,9 @@ from collections.abc import Callable
 from typing import TypeVar
 from weakref import WeakSet
 
-__all__ = ["entity", "transactional"]
+from stateflow.failures import AlreadyExists, NoEntity, SizeLimit
+
+__all__ = ["AlreadyExists", "NoEntity", "SizeLimit", "entity", "transactional"]
 
 _Class = TypeVar("_Class", bound=type)
 _Method = TypeVar("_Method", bound=Callable[..., object])

@@ -31,8 +31,9 @@ from typing import TypeVar
 
 import stateflow
 from stateflow.acting.classes import Unusable, act
-from stateflow.acting.world import AlreadyExists, NoEntity, SizeLimit, StepLimit, world
+from stateflow.acting.world import world
 from stateflow.check import report_lines
+from stateflow.failures import AlreadyExists, NoEntity, SizeLimit, StepLimit
 from stateflow.language.program import read
 
 __all__ = [

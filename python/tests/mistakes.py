@@ -27,11 +27,60 @@ MISTAKES = [
         "set a local in the loop, and test it behind",
     ),
     (
-        "try:\n    x = 1\nexcept ValueError:\n    x = 2",
-        "1:1: LeftOut",
-        "`try` isn't in the language: nothing catches a failure",
-        "ask first by a method whether it can be done",
+        "try:\n    x = 1\nexcept KeyError:\n    x = 2",
+        "3:8: Unexpected",
+        "`except` names a failure of the language",
+        "write one, such as `ValueError`, `IndexError` or `NoEntity`, or `except:` for all",
     ),
+    (
+        "try:\n    x = 1\nexcept ValueError as e:\n    x = 2",
+        "3:19: Unexpected",
+        "a failure has no name where it is caught",
+        "leave `as` out: a clause knows the kind that it names",
+    ),
+    (
+        "try:\n    x = 1\nexcept (ValueError, IndexError):\n    x = 2",
+        "3:8: Unexpected",
+        "an `except` names one kind",
+        "write one for each kind, or `except:` for all",
+    ),
+    (
+        "try:\n    x = 1\nexcept ValueError, IndexError:\n    x = 2",
+        "3:18: Unexpected",
+        "an `except` names one kind",
+        "write one for each kind, or `except:` for all",
+    ),
+    (
+        "try:\n    x = 1\nexcept StepLimit:\n    x = 2",
+        "3:8: Unexpected",
+        "nothing catches `StepLimit`: there is no step left for it",
+        "leave this clause out",
+    ),
+    (
+        "try:\n    x = 1\nexcept:\n    x = 2\nexcept ValueError:\n    x = 3",
+        "5:1: Unexpected",
+        "an `except` without a kind is the last one",
+        "write it behind the others",
+    ),
+    (
+        "try:\n    x = 1\nexcept ValueError:\n    x = 2\nelse:\n    x = 3",
+        "5:1: Unexpected",
+        "a `try` has no `else`",
+        "set a local at the end of its body, and test it behind the clauses",
+    ),
+    (
+        "try:\n    x = 1\nfinally:\n    x = 2",
+        "3:1: LeftOut",
+        "`finally` isn't in the language: a request that fails changes nothing",
+        "write what is to be done behind the clauses",
+    ),
+    (
+        "try:\n    x = 1",
+        "3:1: Unexpected",
+        "behind the body of a `try` comes `except`",
+        "write `except ValueError:`, or of another kind, at the column of the `try`",
+    ),
+    ("except:\n    x = 2", "1:1: Unexpected", "this `except` belongs to no `try`", "write it at the column of its `try`"),
     ('with open("f") as f:\n    x = 1', "1:1: LeftOut", "`with` isn't in the language", "leave it out: there are no files and no locks"),
     ("f = lambda y: y", "1:5: LeftOut", "`lambda` isn't in the language", "write a method"),
     (
@@ -511,6 +560,13 @@ PROGRAMS = [
         "5:9: InitForm",
         "`__init__` calls no method, as here `m`",
         "let a method do it, or let the request give the value",
+    ),
+    (
+        "@entity\nclass A:\n    def __init__(self, k: str):\n        self.k: str = k\n        try: assert k > k\n        except: pass\n"
+        "    def __key__(self) -> str:\n        return self.k\n",
+        "5:9: InitForm",
+        "`__init__` declares fields and asserts, and catches nothing",
+        "let the method that makes the entity catch what fails",
     ),
     (
         "@entity\nclass A:\n    def __init__(self, k: str):\n        self.k: str = k\n        if len(k) > 1:\n            self.n: int = 1\n    def __key__(self) -> str:\n        return self.k\n",

@@ -62,7 +62,7 @@ class Shop(Base):
         z = {y}
         try:
             return q
-        except ValueError:
+        finally:
             y = 1
         return w
 
@@ -85,7 +85,7 @@ ALL_OF_MANY = [
     "18:9: MissingAnnotation",
     "19:17: Unexpected",
     "21:13: BadCharacter",
-    "22:9: LeftOut",
+    "24:9: LeftOut",
     "28:1: Unexpected",
 ]
 
@@ -121,6 +121,11 @@ class Words(unittest.TestCase):
 
     def test_all_faults_of_a_file_are_told_at_once(self) -> None:
         self.assertEqual([str(fault) for fault in read(MANY.encode()).in_text_order()], ALL_OF_MANY)
+
+    def test_the_body_of_a_try_whose_clause_is_refused_is_looked_at(self) -> None:
+        lines = ["try:", "    y = True + 1", "except KeyError as e:", "    s = str(e)", "x = y"]
+        reading = read(FRAME.replace("LINE", "\n        ".join(lines)).encode())
+        self.assertEqual([str(fault) for fault in reading.in_text_order()], ["17:22: Operand", "18:16: Unexpected"])
 
     def test_a_name_in_a_broken_statement_is_not_told_again(self) -> None:
         reading = read(FRAME.replace("LINE", "total = sum([y for y in xs])\n        x = total").encode())

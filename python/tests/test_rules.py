@@ -72,8 +72,8 @@ class Table(unittest.TestCase):
                 "no base in brackets": (HEAD.replace("A:", "A():"), "ok: 1 classes, 0 methods"),
                 "a text in a class": (HEAD.replace("A:\n", "A:\n    'a'\n"), "ok: 1 classes, 0 methods"),
                 "two texts in a class": (HEAD.replace("A:\n", "A:\n    'a'\n    'b'\n"), "4:5: Unexpected"),
-                "a word that is left out": (HEAD + "    def m(self) -> int:\n        try: pass", "7:9: LeftOut"),
-                "such a word at a wrong column": (HEAD + "    def m(self) -> int:\n        pass\n          try: pass", "8:11: LeftOut"),
+                "a word that is left out": (HEAD + "    def m(self) -> int:\n        with self: pass", "7:9: LeftOut"),
+                "such a word at a wrong column": (HEAD + "    def m(self) -> int:\n        pass\n          with self: pass", "8:11: LeftOut"),
                 "a word at the end of a line": (deep + "1 +", "7:19: Unexpected"),
                 "a line that ends early": (deep[:-1] + "\n        x: int", "8:15: Unexpected"),
                 "a semicolon at the end": (deep + "1;", "ok: 1 classes, 1 methods"),
@@ -85,6 +85,49 @@ class Table(unittest.TestCase):
                 "sixty-four signs behind a colon": (deep + "-" * 64 + "1", "7:79: TooDeep"),
                 "sixty-four dots behind a colon": (deep + "self" + ".a" * 64, "7:146: TooDeep"),
                 "levels that have ended": (deep + "(" * 63 + "1" + ")" * 63 + " + (1)", "ok: 1 classes, 1 methods"),
+            }
+        )
+
+    def test_the_grammar_of_try(self) -> None:
+        def method(*lines: str) -> str:
+            return HEAD + "    def m(self) -> int:\n" + "\n".join(f"        {line}" for line in lines)
+
+        def nested(depth: int) -> str:
+            tries = [f"{' ' * level}try:" for level in range(depth)]
+            return method(*tries, f"{' ' * depth}return 1", *[f"{' ' * level}except: return 1" for level in reversed(range(depth))])
+
+        kinds = "ZeroDivisionError IndexError AssertionError RecursionError OverflowError ValueError RuntimeError NoEntity AlreadyExists SizeLimit Exception"
+        self.hold(
+            {
+                "a clause without a kind": (method("try: return 1", "except: return 2"), "ok: 1 classes, 1 methods"),
+                "clauses of each kind": (
+                    method("try: return 1", *[f"except {kind}: pass" for kind in kinds.split()], "except: pass", "return 2"),
+                    "ok: 1 classes, 1 methods",
+                ),
+                "a kind twice": (method("try: return 1", "except ValueError: return 2", "except ValueError: return 3"), "ok: 1 classes, 1 methods"),
+                "no clause": (method("try: pass", "return 1"), "8:9: Unexpected"),
+                "no clause at the text's end": (method("try: pass"), "7:18: Unexpected"),
+                "no clause at the method's end": (method("try: pass", "") + "\n    def n(self) -> int: return 1", "9:5: Unexpected"),
+                "no body": (method("try:", "except: pass"), "8:9: Unexpected"),
+                "no colon": (method("try", "    pass"), "7:12: Unexpected"),
+                "a clause at another column": (method("try: pass", "  except: pass"), "8:11: Unexpected"),
+                "a clause in a body": (method("try:", "    pass", "    except: pass"), "9:13: Unexpected"),
+                "a clause behind one without a kind": (method("try: pass", "except: pass", "except ValueError: pass"), "9:9: Unexpected"),
+                "a clause alone": (method("except: pass"), "7:9: Unexpected"),
+                "a kind that isn't there": (method("try: pass", "except KeyError: pass"), "8:16: Unexpected"),
+                "a kind of kinds": (method("try: pass", "except ArithmeticError: pass"), "8:16: Unexpected"),
+                "a kind that nothing catches": (method("try: pass", "except StepLimit: pass"), "8:16: Unexpected"),
+                "a kind in brackets": (method("try: pass", "except (ValueError): pass"), "8:16: Unexpected"),
+                "two kinds": (method("try: pass", "except ValueError, IndexError: pass"), "8:26: Unexpected"),
+                "a name of the failure": (method("try: pass", "except ValueError as e: pass"), "8:27: Unexpected"),
+                "an `else`": (method("try: pass", "except: pass", "else: pass"), "9:9: Unexpected"),
+                "a `finally`": (method("try: pass", "finally: pass"), "8:9: LeftOut"),
+                "a `finally` behind clauses": (method("try: pass", "except: pass", "finally: pass"), "9:9: LeftOut"),
+                "a `finally` in a clause's head": (method("try: pass", "except finally: pass"), "8:16: LeftOut"),
+                "a `try` on the line of a branch": (method("if True: try: pass"), "7:18: Unexpected"),
+                "sixty-three within one another, behind a colon": (nested(63), "ok: 1 classes, 1 methods"),
+                "sixty-four": (nested(64), "70:75: TooDeep"),
+                "a bracket in the innermost clause": (nested(63).replace("except: return 1", "except: return (1)", 1), "71:86: TooDeep"),
             }
         )
 
@@ -110,6 +153,7 @@ class Table(unittest.TestCase):
                 "a result of a creation": (creation.replace("str):", "str) -> int:"), "4:9: InitForm"),
                 "a field without a type": (creation + "        self.n = 1", "6:9: InitForm"),
                 "a call in a creation": (creation + "        self.n: int = self.m()", "6:9: InitForm"),
+                "a `try` in a creation": (creation + "        try: assert k == ''\n        except: pass", "6:9: InitForm"),
                 "a later field": (creation + "        self.n: int = self.n", "6:9: InitForm"),
                 "a field twice": (creation + "        self.k: int = 1", "6:14: DuplicateMember"),
                 "a field that is a method": (creation + "        self.__key__: int = 1", "6:14: DuplicateMember"),
@@ -163,6 +207,68 @@ class Table(unittest.TestCase):
                 "nothing returned": (method("return"), "7:9: Mismatch"),
                 "an index that may be None": (method("return xs[q]"), "7:19: Operand"),
                 "two hundred and fifty-seven names": (method(*[f"x{number} = 1" for number in range(254)], "return n"), "260:9: TooMany"),
+            }
+        )
+
+    def test_ways_through_try(self) -> None:
+        def method(*lines: str) -> str:
+            head = "    def m(self, n: int, q: Optional[int], xs: List[int]) -> int:\n"
+            return HEAD + head + "".join(f"        {line}\n" for line in lines)
+
+        known, accepted = "assert q is not None", "ok: 1 classes, 1 methods"
+        self.hold(
+            {
+                "a name of the body in a clause": (method("try: x = 1", "except: return x", "return n"), "8:24: Unassigned"),
+                "a name of the body behind a clause": (method("try: x = 1", "except: pass", "return x"), "9:16: Unassigned"),
+                "a name of both": (method("try: x = 1", "except: x = 2", "return x"), accepted),
+                "a name of the body, and a clause that leaves": (method("try: x = 1", "except: return 0", "return x"), accepted),
+                "a name of a body that leaves": (method("try:", "    x = 1", "    return x", "except: pass", "return x"), "11:16: Unassigned"),
+                "a name of one of two clauses": (
+                    method("try: x = 1", "except IndexError: x = 2", "except: pass", "return x"),
+                    "10:16: Unassigned",
+                ),
+                "a name from before": (method("x = 0", "try: x = n // 0", "except: return x", "return x"), accepted),
+                "a name of the first clause in the second": (
+                    method("try: return 1", "except IndexError: x = 2", "except: return x", "return n"),
+                    "9:24: Unassigned",
+                ),
+                "another type in a clause": (method("try: x = 1", "except: x = 'a'", "return n"), "8:17: LocalRetyped"),
+                "a fault in the body and one in a clause": (method("try: x = y", "except: return z"), "7:18: UnknownName"),
+                "a way out of a clause": (method("try: return 1", "except: pass"), "6:9: MissingReturn"),
+                "a way out of the body": (method("try: pass", "except: return 1"), "6:9: MissingReturn"),
+                "no way out": (method("try: return 1", "except ValueError: return 2", "except: raise ValueError"), accepted),
+                "what stands behind no way": (method("try: return 1", "except: return 2", "x = y"), accepted),
+                "an optional one, in body and clause": (method(known, "try: n = q", "except: n = q", "return q"), accepted),
+                "an optional one that the body assigns, in a clause": (method(known, "try: q = 1", "except: return q", "return q"), "9:24: Mismatch"),
+                "an optional one that the body assigns, behind": (method(known, "try: q = 1", "except: return 0", "return q"), accepted),
+                "an optional one that a clause assigns, behind": (method(known, "try: pass", "except: q = None", "return q"), "10:16: Mismatch"),
+                "an optional one that a clause assigns, in the next": (
+                    method(known, "try: pass", "except IndexError: q = None", "except: return q", "return n"),
+                    accepted,
+                ),
+                "an optional one that the body tests": (method("try: assert q is not None", "except: return q", "return q"), "8:24: Mismatch"),
+                "an optional one that an inner clause assigns": (
+                    method(known, "try:", "    try: n = 1 // n", "    except IndexError: q = None", "except: return q", "return n"),
+                    "11:24: Mismatch",
+                ),
+                "an optional one that is assigned where nothing leads": (
+                    method(known, "try:", "    return n", "    q = None", "except: return q"),
+                    accepted,
+                ),
+                "an optional one that a clause in a loop assigns": (
+                    method(known, "for x in xs:", "    n = q", "    try: n = xs[n]", "    except: q = None", "return n"),
+                    "9:13: LocalRetyped",
+                ),
+                "a `break` in a body": (method("while True:", "    try: break", "    except: continue"), "6:9: MissingReturn"),
+                "a `break` in a clause": (method("while True:", "    try: n = xs[n]", "    except: break", "return n"), accepted),
+                "no `break` in either": (method("while True:", "    try: n = xs[n]", "    except: continue"), accepted),
+                "a name before a `break`": (method("while True:", "    try:", "        y = xs[n]", "        break", "    except: n = 0", "return y"), accepted),
+                "a name before a `break` in a clause": (
+                    method("while True:", "    try: y = xs[n]", "    except: break", "return y"),
+                    "10:16: Unassigned",
+                ),
+                "a word of a loop": (method("try: break", "except: pass", "return n"), "7:14: LoopWord"),
+                "a word of a loop, in a clause": (method("try: pass", "except: continue", "return n"), "8:17: LoopWord"),
             }
         )
 

@@ -5,8 +5,10 @@ import sys
 import unittest
 from collections.abc import Callable
 from pathlib import Path
+from typing import Any
 
-from tests import calc_program, calendar_program
+from tests import attempts_program, calc_program, calendar_program
+from tests.attempts_program import Attempt, Tally
 from tests.calc_program import Calc, Maybe
 from tests.calendar_program import Account, Product, Room, Work
 
@@ -171,10 +173,89 @@ class Values(TestCase):
         self.assertEqual(self.failure(lambda: Maybe(None)), ("AlreadyExists", ""))
 
 
+KINDS = (
+    "ZeroDivisionError IndexError AssertionError RecursionError OverflowError Exception ValueError RuntimeError NoEntity AlreadyExists SizeLimit".split()
+)
+
+
+class Attempts(TestCase):
+    def setUp(self) -> None:
+        self.attempt, self.tally = Attempt("a"), Tally("t", 0)
+
+    def test_what_stood_before_a_failure_stays(self) -> None:
+        self.assertEqual((self.attempt.safe(self.tally), self.tally.get()), (2, 5))
+        self.assertEqual(self.attempt.keeps(self.tally), 710)
+        with self.assertRaises(NoEntity):
+            self.attempt.safe(named(Tally, "none"))
+
+    def test_each_kind_has_its_clause(self) -> None:
+        for which, kind in enumerate(KINDS):
+            with self.subTest(kind):
+                other = named(Tally, "none") if kind == "NoEntity" else self.tally
+                self.assertEqual(self.attempt.kind(which, other, [4]), kind)
+        self.assertEqual(self.attempt.kind(11, self.tally, []), "none")
+        self.assertEqual(self.attempt.wide(self.tally), "RuntimeError")
+
+    def test_nothing_catches_the_limit_of_steps(self) -> None:
+        for call in (self.attempt.spins, lambda: self.attempt.spins_there(self.tally)):
+            with self.assertRaises(StepLimit):
+                call()
+
+    def test_a_request_whose_own_values_are_too_heavy_does_not_begin(self) -> None:
+        with self.assertRaises(SizeLimit):
+            self.attempt.gone("x" * 65_536, self.tally)
+
+    def test_a_creation_that_fails_makes_nothing(self) -> None:
+        self.assertEqual(self.attempt.gone("b", named(Tally, "b")), "no entity")
+        self.assertFalse(exists(named(Tally, "b")))
+        self.assertEqual(vars(named(Tally, "b")), {})
+        self.assertEqual(self.attempt.again("b"), 20)
+        self.assertEqual(named(Tally, "b").get(), 0)
+
+    def test_the_depth_is_that_of_the_method_again(self) -> None:
+        self.assertEqual(self.attempt.deep(self.tally), 189)
+        self.assertEqual(self.tally.get(), 3 * 63 + 3 * 63)
+
+    def test_a_failure_behind_a_caught_one_takes_back_all(self) -> None:
+        with self.assertRaisesRegex(ValueError, "^at last$"):
+            self.attempt.fails_at_last(self.tally)
+        self.assertEqual((self.attempt.n, self.tally.get()), (0, 0))
+
+    def test_a_try_takes_a_step_and_none_is_given_back(self) -> None:
+        self.assertEqual(self.attempt.turns(24_999), 24_998)
+        with self.assertRaises(StepLimit):
+            self.attempt.turns(25_000)
+        self.assertEqual(self.attempt.turns_there(14_285, self.tally), 14_284)
+        with self.assertRaises(StepLimit):
+            self.attempt.turns_there(14_286, self.tally)
+
+    def test_plain_python_does_the_same(self) -> None:
+        """Where no entity is missing or made twice, and no limit is met, the classes without their marks do what they do as entities."""
+        source = Path(attempts_program.__file__).read_text(encoding="utf-8")
+        plain: dict[str, Any] = {}
+        exec(source.replace("@entity\n", ""), plain)
+        self.assertEqual(said_by(plain["Attempt"]("a"), plain["Tally"]("t", 0)), said_by(self.attempt, self.tally))
+
+
+def said_by(attempt: Any, tally: Any) -> list[object]:
+    """What calls of the two give, and then what the entities hold."""
+    calls: list[Callable[[], object]] = [
+        lambda: attempt.safe(tally),
+        *[lambda which=which: attempt.kind(which, tally, [4]) for which in (0, 1, 2, 5, 6, 7, 11)],
+        lambda: attempt.nested(0),
+        lambda: attempt.nested(2),
+        *[lambda xs=xs: attempt.first(xs) for xs in ([], [3], [50, 1], [7, -1, 0, 200, 1], [0, 0, 9])],
+        lambda: attempt.keeps(tally),
+        lambda: attempt.again("b"),
+    ]
+    return [*[call() for call in calls], attempt.n, tally.n]
+
+
 class Marks(unittest.TestCase):
     def test_the_program_is_accepted(self) -> None:
         assert_accepted(calendar_program)
         assert_accepted(calc_program)
+        assert_accepted(attempts_program)
         with self.assertRaisesRegex(AssertionError, "imports names from"):
             assert_accepted(sys.modules[__name__])
 
@@ -186,7 +267,7 @@ class Marks(unittest.TestCase):
                 pass
 
     def test_what_is_no_part_of_the_language_is_told(self) -> None:
-        with self.assertRaisesRegex(Unusable, "`try:` is no part of the language"):
+        with self.assertRaisesRegex(Unusable, "`finally:` is no part of the language"):
 
             @entity
             class Trying:

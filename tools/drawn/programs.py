@@ -6,6 +6,8 @@ import random
 NUMBERS = "0 1 2 3 7 10 64 -1 -3 9223372036854775807 170141183460469231731687303715884105727".split()
 TEXTS = ['"a"', '"b"', '"c"', "''", '"é€"', r"'x\ny'", r'"q\"u"']
 CLASSES = ["First", "Second", "Third"]
+CAUGHT = [f" {kind}" for kind in "ZeroDivisionError IndexError AssertionError OverflowError ValueError NoEntity AlreadyExists SizeLimit".split()]
+WIDE = [" RecursionError", " RuntimeError", " Exception", ""]  # these catch what ends a recursion, which then takes all steps
 ODD = (
     "[] None self zz self.zz self.key.zz len(1,2) str(True) abs('a') -True self.m9() self.m0(1,2,3,4) First() range(3) self.f1.f0 "
     "[None] [[]] ([]==[]) min(1) (1<True) ('a'<1) [1,'a'] [1,None]"
@@ -249,7 +251,7 @@ class Drawer:
         if self.chance(3 * self.noise):
             return self.odd_statement(depth, in_loop)
         plain = [self.store_field, self.store_local, self.combine, self.expression, self.check]
-        nested = [self.branch, self.count_loop, self.list_loop, self.test_loop, self.optional_branch]
+        nested = [self.branch, self.count_loop, self.list_loop, self.test_loop, self.optional_branch, self.attempt, self.attempt]
         if in_loop:
             plain.append(self.leave_turn)
         return self.one_of(nested)(depth, in_loop) if depth > 0 and self.chance(0.4) else self.one_of(plain)()
@@ -284,9 +286,11 @@ class Drawer:
 
     def check(self):
         test = self.value("bool", 2)
+        return self.one_of([["pass"], [f"assert {test}, {self.value('str', 1)}"], [f"if {test}:", f"    {self.leave(False)}"]])
+
+    def leave(self, in_loop):
         fails = self.one_of(["ValueError", "RuntimeError", f"Exception({self.value('str', 1)})"])
-        leaves = self.one_of([f"raise {fails}", f"return {self.value(self.result, 1)}"])
-        return self.one_of([["pass"], [f"assert {test}, {self.value('str', 1)}"], [f"if {test}:", f"    {leaves}"]])
+        return self.one_of([f"raise {fails}", f"return {self.value(self.result, 1)}", *["break", "continue"] * in_loop])
 
     def leave_turn(self):
         return [f"if {self.value('bool', 1)}:", f"    {self.one_of(['break', 'continue'])}"]
@@ -322,6 +326,52 @@ class Drawer:
         name = self.one_of(names)
         return [f"if {name} is not None:", *self.suite(depth, in_loop, sure={name: item_of(self.scope.names[name])})]
 
+    def attempt(self, depth, in_loop):
+        """A `try`. Its body and each of its clauses may begin with the same name, which is known behind it then, and the body may end in what fails."""
+        new = {self.fresh(): self.kind()}
+        name, kind = self.one_of([(None, None), *[(name, self.scope.names[name]) for name in self.free_locals()], *new.items()])
+        known = new if name in new else {}
+        lines = ["try:", *self.begun(name, kind), *self.suite(depth, in_loop, known), *indented(self.risk(in_loop))]
+        kinds = self.random.sample(CAUGHT, self.random.randint(1, 3)) + [self.one_of(WIDE)] * self.chance(0.3)
+        for caught in kinds:
+            lines += [f"except{caught}:", *self.begun(name, kind), *self.suite(depth, in_loop, known), *["    " + self.leave(in_loop)] * self.chance(0.2)]
+        if name is not None:
+            self.scope.names[name] = kind
+            self.scope.sure.pop(name, None)
+        return lines
+
+    def begun(self, name, kind):
+        """How a part of a `try` begins."""
+        return [] if name is None else [f"    {name}: {kind} = {self.value(kind, 2)}"]
+
+    def call_of_another(self):
+        """A call of an entity that may not be there."""
+        found = [(name, owner) for owner in self.classes for name in self.names_of(owner) if name != "self"]
+        if not found:
+            return self.call_of(self.kind(), 1)
+        name, owner = self.one_of(found)
+        method = self.one_of([*self.methods[owner]])
+        return self.called(f"{name}.{method}", self.methods[owner][method][0], 1)
+
+    def risk(self, in_loop):
+        """Lines that fail or leave, or may."""
+        text, turn = self.fresh(), self.fresh()
+        forms = [
+            [],
+            [self.leave(in_loop)],
+            [f"{self.value('int', 1)} {self.one_of(['//', '%'])} {self.one_of(['0', self.value('int', 1)])}"],
+            [f"{self.least('List[int]')}[{self.value('int', 1)}]"],
+            [f"assert {self.value('bool', 1)}"],
+            [f"if {self.value('bool', 1)}:", f"    {self.leave(in_loop)}"],
+            [f"{NUMBERS[-1]} + {self.value('int', 1)}"],
+            [f'{text} = "ab"', f"for {turn} in range(16):", f"    {text} = {text} + {text}"],
+            [self.created(self.one_of(self.classes))],
+            [self.call_of(self.kind(), 1)],
+            [self.call_of_another()],
+            [self.call_of_another()],
+        ]
+        return self.one_of(forms)
+
     def odd_statement(self, depth, in_loop):
         """A statement that a rule may refuse, here or further down."""
         name = self.one_of([*self.scope.names, "zz", "v0", "len", CLASSES[0]])
@@ -340,12 +390,15 @@ class Drawer:
             [f"{place} {self.one_of(['+=', '-=', '//='])} {value}"],
             [f"assert {value}, {self.value('str', 1)}", value],
             [f"if {self.value('bool', 1)}:", f"    {name} = {value}"],
+            ["try:", f"    {place} = {value}", f"except{self.one_of(CAUGHT + WIDE)}:", f"    {name} = {self.value(self.kind(), 1)}"],
         ]
         return self.one_of(forms)
 
     def odd_suite(self, name, value, depth, in_loop):
         """A loop that may have no end or go over what is no list, or a branch that returns."""
-        head = self.one_of(["while True:", f"for {name} in range({value}):", f"for {name} in {value}:", f"if {self.value('bool', 0)}:"])
+        head = self.one_of(["while True:", f"for {name} in range({value}):", f"for {name} in {value}:", f"if {self.value('bool', 0)}:", "try:"])
+        if head == "try:":
+            return [head, *self.suite(depth, in_loop), f"    {name} = {value}", "except:", *self.suite(depth, in_loop)]
         if not head.startswith("if"):
             return [head, *self.suite(depth, True)]
         return [head, *self.suite(depth, in_loop), f"    return {value}", "else:", *self.suite(depth, in_loop)]

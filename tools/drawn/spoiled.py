@@ -8,8 +8,9 @@ PARTS = re.compile(r"[A-Za-z_]\w*|\d+|[ \t]+|\n|//=|->|[=!<>+\-*%]=|//|'[^'\n]*'
 WORDS = (
     "False None True and as assert async await break class continue def del elif else except finally for from global if import in is lambda nonlocal not or"
     " pass raise return try while with yield int bool str List list Optional self len abs min max range entity stateflow transactional Exception ValueError"
-    " RuntimeError x key First Second Third m0 f0 a0 v0 __init__ __key__ __str__ 0 1 007 1_0 1__0 1. 0x1 170141183460469231731687303715884105727"
-    " 170141183460469231731687303715884105728 ( ) [ ] : , ; . = == != < <= > >= += -= *= //= %= // + - * % @ -> ** := | / { } ! ... # \\"
+    " RuntimeError NoEntity IndexError StepLimit x key First Second Third m0 f0 a0 v0 __init__ __key__ __str__ 0 1 007 1_0 1__0 1. 0x1"
+    " 170141183460469231731687303715884105727 170141183460469231731687303715884105728 ( ) [ ] : , ; . = == != < <= > >= += -= *= //= %="
+    " // + - * % @ -> ** := | / { } ! ... # \\"
 ).split() + ["'a'", "'First'", '"', "'", '"""', "f'a'", "'\\q'", "'\\u00e9'", "\n", "\n    ", "\n  ", "\t", "\r", "\r\n", " ", "\\\n", "é", "\0"]
 BYTES = b"\x00\xff\xc3\xe2\x82\xed\xf4\r\n\t\f\\'\"#"
 CHANGES = [1, 1, 1, 2, 3]

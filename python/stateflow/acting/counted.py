@@ -8,6 +8,7 @@ import types
 from collections.abc import Callable, Iterator, Sequence
 
 from stateflow.acting.world import Value, in_range, world
+from stateflow.failures import CAUGHT, StepLimit
 from stateflow.limits import HEAVIEST
 
 COUNTER = "stateflow counter"
@@ -17,8 +18,8 @@ COUNTER = "stateflow counter"
 class NotInTheLanguage(Exception):
     """What stands in a method and has no meaning in the language."""
 
-    def __init__(self, node: ast.AST) -> None:
-        super().__init__(f"line {getattr(node, 'lineno', '?')}: `{ast.unparse(node).splitlines()[0]}` is no part of the language")
+    def __init__(self, node: ast.AST, written: str = "") -> None:
+        super().__init__(f"line {getattr(node, 'lineno', '?')}: `{written or ast.unparse(node).splitlines()[0]}` is no part of the language")
 
 
 class Counter:
@@ -60,6 +61,14 @@ class Counter:
         if not -len(items) <= place < len(items):
             raise IndexError
         return items[place]
+
+    def caught(self, name: str) -> type[Exception]:
+        """What a clause of this name catches."""
+        return CAUGHT[name]
+
+    def limit(self) -> type[Exception]:
+        """What no clause catches."""
+        return StepLimit
 
 
 OPERATORS: dict[type[ast.operator], str] = {
@@ -238,6 +247,24 @@ class Counting:
         if not isinstance(node.target, ast.Name):
             raise NotInTheLanguage(node)
         return ast.For(node.target, self.value(node.iter), self.turn(node), [])
+
+    def counted_Try(self, node: ast.Try) -> ast.stmt:
+        for word, behind in (("else", node.orelse), ("finally", node.finalbody)):
+            if behind:
+                raise NotInTheLanguage(behind[0], f"{word}:")
+        return ast.Try(self.statements(node.body), [handler for clause in node.handlers for handler in self.clause(clause)], [], [])
+
+    def clause(self, node: ast.ExceptHandler) -> list[ast.ExceptHandler]:
+        """A clause. Before one that catches all kinds stands one that lets `StepLimit` pass."""
+        name = "Exception" if node.type is None else ast.unparse(node.type)
+        if name not in CAUGHT or node.name is not None:
+            raise NotInTheLanguage(node)
+        kind = self.called("caught", [ast.copy_location(ast.Constant(name), node)], node)
+        handler = ast.copy_location(ast.ExceptHandler(kind, None, self.statements(node.body)), node)
+        if name != "Exception":
+            return [handler]
+        passing = ast.copy_location(ast.Raise(None, None), node)
+        return [ast.copy_location(ast.ExceptHandler(self.called("limit", [], node), None, [passing]), node), handler]
 
     def method(self, node: ast.FunctionDef) -> ast.FunctionDef:
         parameters = [ast.copy_location(ast.arg(parameter.arg), parameter) for parameter in node.args.args]

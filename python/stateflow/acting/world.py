@@ -4,27 +4,12 @@ from collections.abc import Callable, Sequence
 from typing import TypeVar
 from weakref import WeakKeyDictionary
 
+from stateflow.failures import AlreadyExists, NoEntity, SizeLimit, StepLimit
 from stateflow.limits import DEEPEST_CALL, GREATEST_INT, HEAVIEST, LEAST_INT, STEPS
 
 Entity = TypeVar("Entity")
 Value = TypeVar("Value")
 Fields = dict[str, object]
-
-
-class NoEntity(Exception):
-    """A call's entity isn't there."""
-
-
-class AlreadyExists(Exception):
-    """A creation's entity is there already."""
-
-
-class SizeLimit(Exception):
-    """A value weighs more than a value may."""
-
-
-class StepLimit(Exception):
-    """A request wants more steps than it has."""
 
 
 class Request:
@@ -122,23 +107,34 @@ class World:
         """A call of a method within a request."""
         request = self.running()
         request.enter()
-        if entity not in self.made:
-            raise NoEntity
-        self.keep(entity)
-        value = body(entity, *arguments)
-        request.depth -= 1
-        return value
+        try:
+            if entity not in self.made:
+                raise NoEntity
+            self.keep(entity)
+            return body(entity, *arguments)
+        finally:
+            request.depth -= 1
 
     def create(self, entity: object, body: Callable[..., object], arguments: Sequence[object]) -> None:
         """A creation within a request."""
         request = self.running()
         request.enter()
+        try:
+            self.make(entity, body, arguments)
+        finally:
+            request.depth -= 1
+
+    def make(self, entity: object, body: Callable[..., object], arguments: Sequence[object]) -> None:
+        """Makes an entity: it is there when its `__init__` has ended, and where that fails nothing of it stays."""
         if entity in self.made:
             raise AlreadyExists
         self.keep(entity)
-        body(entity, *arguments)
+        try:
+            body(entity, *arguments)
+        except BaseException:
+            vars(entity).clear()
+            raise
         self.made.add(entity)
-        request.depth -= 1
 
 
 def in_range(number: int) -> int:

@@ -101,6 +101,8 @@ def init_statement(statement: tree.Statement) -> Advice:
         case tree.If() | tree.While() | tree.For():
             mend = "write a choice as `a if test else b`, or let a method do the rest"
             return Advice("`__init__` declares fields and asserts, and has no branches and loops", mend)
+        case tree.Try():
+            return Advice("`__init__` declares fields and asserts, and catches nothing", "let the method that makes the entity catch what fails")
         case tree.Raise():
             return Advice("`__init__` declares fields and asserts", "write `assert test, message`")
     return Advice("in `__init__` stand `self.f: T = e` and `assert` alone", "let a method do it")

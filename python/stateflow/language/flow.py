@@ -48,9 +48,11 @@ def is_endless(loop: tree.Statement) -> bool:
     return isinstance(loop, tree.While) and isinstance(loop.test, tree.Literal) and loop.test.value is True
 
 
-def bodies(statement: tree.Statement) -> list[tree.Statements]:
-    """The branches of an `if`, with what stands behind `else`."""
-    return [*[arm.body for arm in statement.arms], statement.other] if isinstance(statement, tree.If) else []
+def bodies(statement: tree.If | tree.Try) -> list[tree.Statements]:
+    """The branches of an `if`, with what stands behind `else`; the body and the clauses of a `try`."""
+    if isinstance(statement, tree.If):
+        return [*[arm.body for arm in statement.arms], statement.other]
+    return [statement.body, *[clause.body for clause in statement.clauses]]
 
 
 @dataclass(frozen=True, slots=True)
@@ -63,7 +65,7 @@ class Ways:
 
 def ways_of(statement: tree.Statement) -> Ways:
     match statement:
-        case tree.If():
+        case tree.If() | tree.Try():
             ways = [ways_through(body) for body in bodies(statement)]
             return Ways(any(way.go_on for way in ways), any(way.break_out for way in ways))
         case tree.While(body=body) if is_endless(statement):
@@ -97,7 +99,7 @@ def assigned(statements: tree.Statements) -> Names:
     names: set[str] = set()
     for statement in reached(statements):
         match statement:
-            case tree.If():
+            case tree.If() | tree.Try():
                 names.update(*map(assigned, bodies(statement)))
             case tree.While(body=body):
                 names |= assigned(body)

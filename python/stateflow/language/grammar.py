@@ -12,9 +12,12 @@ from stateflow.language.grammar_words import Refusal, advice_on, too_deep
 from stateflow.language.tokens import KEYWORDS, WORD, Kind, Token
 from stateflow.limits import DEEPEST_LEVEL
 
-LEFT_OUT = frozenset("async await del except finally global in lambda nonlocal try with yield".split())
+LEFT_OUT = frozenset("async await del finally global in lambda nonlocal with yield".split())
 MODULES = frozenset(["stateflow", "typing", "__future__"])
 RAISED = frozenset(["Exception", "ValueError", "RuntimeError"])
+CAUGHT = RAISED | frozenset(
+    "ZeroDivisionError IndexError AssertionError RecursionError OverflowError NoEntity AlreadyExists SizeLimit".split()
+)
 COMPARISONS = frozenset(["==", "!=", "<", "<=", ">", ">="])
 AUGMENTS = frozenset(["+=", "-=", "*=", "//=", "%="])
 CONSTANTS: dict[str, bool | None] = {"True": True, "False": False, "None": None}
@@ -352,6 +355,8 @@ class Parser:
         if self.looks_at("while"):
             place = self.take().place
             return [tree.While(place, self.expression(), self.suite(column))]
+        if self.looks_at("try"):
+            return [self.try_(column)]
         return [self.for_(column)] if self.looks_at("for") else self.simples()
 
     def if_(self, column: int) -> tree.If:
@@ -388,6 +393,36 @@ class Parser:
             ends.append(self.expression())
         self.close(")", "range")
         return ends
+
+    def try_(self, column: int) -> tree.Try | tree.Broken:
+        """A `try`. Where a token of its clauses is refused, what was read of it is still looked at."""
+        start, level = self.at, self.level
+        found = tree.Try(self.take().place, self.suite(column), [])
+        try:
+            self.clauses(found, column)
+        except Refused:
+            self.level = level
+            rest = self.broken(start, column)
+            rest.body = [*found.body, *[part for clause in found.clauses for part in clause.body], *rest.body]
+            return rest
+        return found
+
+    def clauses(self, owner: tree.Try, column: int) -> None:
+        """The clauses of a `try`, at least one. Behind one without a kind comes no other."""
+        if not self.looks_at("except") or self.peek().indent != column:
+            self.refuse("try")
+        while self.looks_at("except") and self.peek().indent == column:
+            self.take()
+            kind = None if self.looks_at(":") else self.caught()
+            owner.clauses.append(tree.Clause(kind, self.suite(column)))
+            if kind is None:
+                return
+
+    def caught(self) -> str:
+        """The kind that a clause names."""
+        if self.peek().text not in CAUGHT:
+            self.refuse("clause")
+        return self.take().text
 
     def simples(self) -> tree.Statements:
         """The simple statements of a line, with `;` between them."""

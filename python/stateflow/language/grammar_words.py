@@ -47,13 +47,11 @@ LEFT_OUT = {
     "async": Advice("`async` isn't in the language: each request runs alone", "leave it out"),
     "await": Advice("`await` isn't in the language: a call gives its value at once", "leave it out"),
     "del": Advice("`del` isn't in the language", "assign another value; entities aren't deleted"),
-    "except": Advice("`except` isn't in the language: nothing catches a failure", "ask first by a method whether it can be done"),
-    "finally": Advice("`finally` isn't in the language: a request that fails changes nothing", "leave it out"),
+    "finally": Advice("`finally` isn't in the language: a request that fails changes nothing", "write what is to be done behind the clauses"),
     "global": Advice("`global` isn't in the language: there are no values of the module", "keep the value in a field of an entity"),
     "in": Advice("`in` as an operator isn't in the language", "write a method with a `for` that returns True where an element is equal"),
     "lambda": Advice("`lambda` isn't in the language", "write a method"),
     "nonlocal": Advice("`nonlocal` isn't in the language: there are no functions within functions", "keep the value in a field or a local"),
-    "try": Advice("`try` isn't in the language: nothing catches a failure", "ask first by a method whether it can be done"),
     "with": Advice("`with` isn't in the language", "leave it out: there are no files and no locks"),
     "yield": Advice("`yield` isn't in the language", "return a list"),
 }
@@ -110,6 +108,16 @@ def is_comparison(refusal: Refusal) -> bool:
 
 def of_statement(*words: str) -> Callable[[Refusal], bool]:
     return lambda refusal: refusal.first() in words
+
+
+def is_behind(word: str) -> Callable[[Refusal], bool]:
+    """Whether the last line before the refused token's, at the same column, begins with a word."""
+
+    def holds(refusal: Refusal) -> bool:
+        column = refusal.token().indent
+        return next((token.text for token in reversed(refusal.tokens[: refusal.at]) if token.indent == column), "") == word
+
+    return holds
 
 
 def follows_field(refusal: Refusal) -> bool:
@@ -197,6 +205,10 @@ BLOCKS: list[Rule] = [
     (is_part("indent"), Advice("the line stands at another column than the block in which it is", "indent it as the lines before it")),
     (is_part("block"), Advice("the line before ends in `:`, and no deeper line follows", "indent what belongs to it, or write `pass`")),
     (
+        both(is_part("statement"), is_text("else"), begins_line, is_behind("except")),
+        Advice("a `try` has no `else`", "set a local at the end of its body, and test it behind the clauses"),
+    ),
+    (
         both(is_part("statement"), is_text("else"), begins_line),
         Advice("this `else` belongs to no `if`: loops have no `else`", "set a local in the loop, and test it behind"),
     ),
@@ -210,6 +222,28 @@ BLOCKS: list[Rule] = [
     (
         both(is_part("statement"), is_text("if", "while", "for")),
         Advice("this can't stand on the line of another statement", "begin a new line, deeper than the one before"),
+    ),
+    (
+        both(is_part("statement"), is_text("except"), begins_line, is_behind("except")),
+        Advice("an `except` without a kind is the last one", "write it behind the others"),
+    ),
+    (both(is_part("statement"), is_text("except"), begins_line), Advice("this `except` belongs to no `try`", "write it at the column of its `try`")),
+    (is_part("try"), Advice("behind the body of a `try` comes `except`", "write `except ValueError:`, or of another kind, at the column of the `try`")),
+    (
+        both(is_part("colon"), is_text("as"), of_statement("except")),
+        Advice("a failure has no name where it is caught", "leave `as` out: a clause knows the kind that it names"),
+    ),
+    (
+        both(is_part("clause", "colon"), is_text("(", ","), of_statement("except")),
+        Advice("an `except` names one kind", "write one for each kind, or `except:` for all"),
+    ),
+    (
+        both(is_part("clause"), is_text("StepLimit")),
+        Advice("nothing catches `StepLimit`: there is no step left for it", "leave this clause out"),
+    ),
+    (
+        is_part("clause"),
+        Advice("`except` names a failure of the language", "write one, such as `ValueError`, `IndexError` or `NoEntity`, or `except:` for all"),
     ),
     (both(is_part("colon"), is_text("if"), behind("else")), Advice("`else if` isn't Python", "write `elif`")),
     (both(is_part("colon", "expression"), is_text("="), of_statement("if", "elif", "while")), Advice("a test compares with `==`", "write `==`")),

@@ -277,8 +277,23 @@ class For:
 
 
 @dataclass(slots=True)
+class Clause:
+    """`except kind:` with its body; without a kind it catches what can be caught."""
+
+    kind: str | None
+    body: "Statements"
+
+
+@dataclass(slots=True)
+class Try:
+    place: Place
+    body: "Statements"
+    clauses: list[Clause]
+
+
+@dataclass(slots=True)
 class Broken:
-    """Lines that couldn't be read as a statement: the names on the first one, and the statements that stand deeper."""
+    """Lines that couldn't be read as a statement: the names on the first one, and the statements that stand in it."""
 
     place: Place
     names: frozenset[str]
@@ -286,7 +301,7 @@ class Broken:
     body: "Statements"
 
 
-Statement = Word | Return | Raise | Assert | Assign | Augment | Evaluate | If | While | For | Broken
+Statement = Word | Return | Raise | Assert | Assign | Augment | Evaluate | If | While | For | Try | Broken
 Statements = list[Statement]
 
 # Classes

@@ -305,6 +305,8 @@ class MethodRules:
                 self.look_at_while(node)
             case tree.For():
                 self.look_at_for(node)
+            case tree.Try():
+                self.look_at_try(node)
             case tree.Broken():
                 self.look_at_broken(node)
 
@@ -464,6 +466,17 @@ class MethodRules:
         head = self.state = self.here().forgetting(assigned(node.body) | {node.name})
         self.know(node.name, item)
         self.state = meeting([head, *self.turns(node.body)])
+
+    def look_at_try(self, node: tree.Try) -> None:
+        """Each clause begins with what was known before the body, which may have failed at any point."""
+        caught = self.here().forgetting(assigned(node.body))
+        self.walk(node.body)
+        ends: list[State | None] = [self.state]
+        for clause in node.clauses:
+            self.state = caught
+            self.walk(clause.body)
+            ends.append(self.state)
+        self.state = meeting(ends)
 
     def look(self) -> None:
         self.walk(tree.without_text(self.method.body))
