@@ -9,10 +9,10 @@ use Rattle.py_tree.specs.PlainStatements.{PlainOver, PRange, PItems, PlainStmt, 
 use Rattle.py_tree.specs.Flow.{Context, at_head}
 use Rattle.py_tree.specs.Reachability.{assigned_in}
 use Rattle.call_graph.specs.SuspendingCode.{Leaving}
-use Rattle.flat_tree.specs.PlainFlat.{Point, PlainFlatTest, PlainFlatStmt, FMark, FCode, FBreak, FContinue, FWhile, flat_stmts_of}
+use Rattle.flat_tree.specs.PlainFlat.{Point, PlainFlatTest, PlainFlatStmt, FMark, FCode, FBreak, FContinue, FWhile, FTry, PlainFlatClauses, flat_stmts_of}
 use Rattle.hoisting.specs.Stages.{Stage, surely, ty_at, item_ty, point_behind}
 use Rattle.hoisting.specs.HoistExpressions.{Tested, settled, forms}
-use Rattle.hoisting.specs.HoistStatements.{Flattened, stays, code_if, asserted, list_stage, body_stage, list_test, list_turn, list_loop, range_test, range_turn, opened, flat_all, flat}
+use Rattle.hoisting.specs.HoistStatements.{Flattened, stays, code_if, asserted, list_stage, body_stage, list_test, list_turn, list_loop, range_test, range_turn, opened, flat_all, flat_clauses, flat}
 use Rattle.method_hoister.specs.SmallCode.{PlainBody, head_point, list_start, list_before, range_before, range_stage, start_number, end_number, body_where, evaluated, returned, raised, assigned, augmented, choice_code, while_code, for_loop, try_code}
 
 module _ (leaves : Leaving) (c : Context) (h : Stage) (at : Place) where
@@ -91,6 +91,12 @@ module _ (leaves : Leaving) (c : Context) (h : Stage) where
       let assigned : point ≡ surely there.locals = point_is ∙ ap (λ (g : Stage). surely g.locals) at in
       let inside : f ≡ body_where leaves c e there.locals ((forms leaves c e).test there).next body = body_is ∙ (λ j. body_where leaves c e (at j).locals (tested j).next body) in
       λ j. record { code = FMark ∷ FWhile (assigned j) (tested j).test (inside j).start (flat_stmts_of (inside j).code) after ∷ []; next = (inside j).next }
+
+  pub try_is : (body : PlainStmts) (clauses : PlainClauses) (after : Option Point) (start : Point) (f : Flattened (List PlainFlatStmt)) (g : Flattened PlainFlatClauses) → start ≡ surely h.locals → f ≡ flat_all leaves c body h → g ≡ flat_clauses leaves c (at_head (assigned_in body) h.locals) clauses f.next
+      → record { code = FMark ∷ FTry start (flat_stmts_of f.code) g.code after ∷ []; next = g.next } ≡ try_code leaves c body clauses after h
+  try_is body clauses after start f g start_is body_is clauses_are =
+      let rest : g ≡ flat_clauses leaves c (at_head (assigned_in body) h.locals) clauses (flat_all leaves c body h).next = clauses_are ∙ ap (λ (k : Flattened (List PlainFlatStmt)). flat_clauses leaves c (at_head (assigned_in body) h.locals) clauses k.next) body_is in
+      λ j. record { code = FMark ∷ FTry (start_is j) (flat_stmts_of (body_is j).code) (rest j).code after ∷ []; next = (rest j).next }
 
   module _ (at : Place) (name : ℕ) (body : PlainStmts) (after : Option Point) (head start : Point) (test : PlainFlatTest) (before turn : List PlainFlatStmt) (f : Flattened (List PlainFlatStmt)) where
     pub list_is : (e : PlainExpr) → before ≡ list_before leaves c at (ty_at c None h.locals e) e h → head ≡ head_point name body (list_stage (ty_at c None h.locals e) ((forms leaves c e).value None h).stage) → start ≡ head_point name body (list_stage (ty_at c None h.locals e) ((forms leaves c e).value None h).stage)

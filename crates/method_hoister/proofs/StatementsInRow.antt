@@ -1,15 +1,15 @@
 -- Statements and arms one after another, from one of them on.
 use Rattle.std.proofs.Common.{◌≡◌, ℕ, Bool, Option, true, false, List, [], ◌∷◌, ◌++◌, append_assoc, refl, sym, ap, ◌∙◌}
 use Rattle.std.proofs.lemmas.List.{append-nil}
-use Rattle.py_tree.specs.PlainStatements.{PlainStmt, PlainStmts, PNoStmt, PStmt, PArm, PlainArm, PlainArms, PNoArm, PMoreArms}
+use Rattle.py_tree.specs.PlainStatements.{PlainStmt, PlainStmts, PNoStmt, PStmt, PArm, PlainArm, PlainArms, PNoArm, PMoreArms, PClause, PlainClauses, PNoClause, PMoreClauses}
 use Rattle.py_tree.specs.FlowEnvironment.{PlainLocal}
 use Rattle.py_tree.specs.Reachability.{goes_on}
 use Rattle.py_tree.specs.Flow.{Context}
 use Rattle.call_graph.specs.SuspendingCode.{Leaving}
-use Rattle.flat_tree.specs.PlainFlat.{Point, PlainFlatStmt, FMark, FIf, PlainFlatArm, PlainFlatArms, FNoArm, FMoreArms, flat_stmts_of, flat_arms_of}
+use Rattle.flat_tree.specs.PlainFlat.{Point, PlainFlatStmt, FMark, FIf, PlainFlatArm, PlainFlatArms, FNoArm, FMoreArms, FClause, PlainFlatClause, PlainFlatClauses, FNoClause, FMoreClauses, flat_stmts_of, flat_arms_of, flat_clauses_of}
 use Rattle.hoisting.specs.Stages.{Stage, locals_behind, where_shown}
-use Rattle.hoisting.specs.HoistStatements.{Flattened, followed, opened, flat, flat_all, flat_arms, other_stage}
-use Rattle.method_hoister.specs.SmallCode.{arm_code, behind_arm, choice_code}
+use Rattle.hoisting.specs.HoistStatements.{Flattened, followed, opened, flat, flat_all, flat_arms, flat_clauses, other_stage}
+use Rattle.method_hoister.specs.SmallCode.{PlainBody, arm_code, behind_arm, choice_code, clause_body}
 
 -- behind the code so far
 abbrev pub after_code : List PlainFlatStmt → Flattened (List PlainFlatStmt) → Flattened (List PlainFlatStmt)
@@ -29,6 +29,21 @@ arms_on (x ∷ arms) a more = ap (FMoreArms x) (arms_on arms a more)
 arms_all : (arms : List PlainFlatArm) → arms_before arms FNoArm ≡ flat_arms_of arms
 arms_all [] = refl
 arms_all (a ∷ arms) = ap (FMoreArms a) (arms_all arms)
+
+abbrev pub clauses_before : List PlainFlatClause → PlainFlatClauses → PlainFlatClauses
+clauses_before [] more = more
+clauses_before (k ∷ ks) more = FMoreClauses k (clauses_before ks more)
+
+abbrev pub after_clauses : List PlainFlatClause → Flattened PlainFlatClauses → Flattened PlainFlatClauses
+after_clauses ks f = record { code = clauses_before ks f.code; next = f.next }
+
+clauses_on : (ks : List PlainFlatClause) (k : PlainFlatClause) (more : PlainFlatClauses) → clauses_before (ks ++ k ∷ []) more ≡ clauses_before ks (FMoreClauses k more)
+clauses_on [] k more = refl
+clauses_on (x ∷ ks) k more = ap (FMoreClauses x) (clauses_on ks k more)
+
+clauses_all : (ks : List PlainFlatClause) → clauses_before ks FNoClause ≡ flat_clauses_of ks
+clauses_all [] = refl
+clauses_all (k ∷ ks) = ap (FMoreClauses k) (clauses_all ks)
 
 module _ (leaves : Leaving) (c : Context) where
   first_of_all : (x : PlainStmt) (xs : PlainStmts) (h : Stage) → flat_all leaves c (PStmt x xs) h ≡ followed (goes_on x) (flat leaves c x h) (λ next. flat_all leaves c xs (record { locals = locals_behind c x h.locals; next = next }))
@@ -76,6 +91,30 @@ module _ (leaves : Leaving) (c : Context) where
     pub arms_done : (from : PlainArms) → from ≡ PNoArm → after_arms arms (flat_arms leaves c from h) ≡ all → record { code = flat_arms_of arms; next = h.next } ≡ all
     unfolding opened
     arms_done from none so_far = (λ j. record { code = sym (arms_all arms) j; next = h.next }) ∙ sym (ap (λ y. after_arms arms (flat_arms leaves c y h)) none) ∙ so_far
+
+  -- Clauses
+
+  -- a clause with this body
+  abbrev of_body : List ℕ → PlainBody → PlainFlatClause
+  of_body kinds b = FClause kinds b.start (flat_stmts_of b.code)
+
+  first_clause : (kinds : List ℕ) (body : PlainStmts) (more : PlainClauses) (locals : List PlainLocal) (next : ℕ)
+      → flat_clauses leaves c locals (PMoreClauses (PClause kinds body) more) next ≡ after_clauses (of_body kinds (clause_body leaves c locals body next) ∷ []) (flat_clauses leaves c locals more (clause_body leaves c locals body next).next)
+  unfolding opened
+  first_clause kinds body more locals next = refl
+
+  module _ (all : Flattened PlainFlatClauses) (ks : List PlainFlatClause) (locals : List PlainLocal) (next : ℕ) where
+    pub clauses_more : (kinds : List ℕ) (body : PlainStmts) (more from : PlainClauses) (b : PlainBody) (made : PlainFlatClause) → from ≡ PMoreClauses (PClause kinds body) more → b ≡ clause_body leaves c locals body next → made ≡ FClause kinds b.start (flat_stmts_of b.code)
+        → after_clauses ks (flat_clauses leaves c locals from next) ≡ all → after_clauses (ks ++ made ∷ []) (flat_clauses leaves c locals more b.next) ≡ all
+    clauses_more kinds body more from b made is known made_is so_far =
+        let there : PlainBody = clause_body leaves c locals body next in
+        (λ j. after_clauses (ks ++ (made_is ∙ ap (of_body kinds) known) j ∷ []) (flat_clauses leaves c locals more (known j).next))
+        ∙ (λ j. record { code = clauses_on ks (of_body kinds there) (flat_clauses leaves c locals more there.next).code j; next = (flat_clauses leaves c locals more there.next).next })
+        ∙ sym (ap (after_clauses ks) (ap (λ y. flat_clauses leaves c locals y next) is ∙ first_clause kinds body more locals next)) ∙ so_far
+
+    pub clauses_done : (from : PlainClauses) → from ≡ PNoClause → after_clauses ks (flat_clauses leaves c locals from next) ≡ all → record { code = flat_clauses_of ks; next = next } ≡ all
+    unfolding opened
+    clauses_done from none so_far = (λ j. record { code = sym (clauses_all ks) j; next = next }) ∙ sym (ap (λ y. after_clauses ks (flat_clauses leaves c locals y next)) none) ∙ so_far
 
   -- where all tests were False: the locals there don't depend on the number of the next temporary
   other_same : (arms : PlainArms) (locals : List PlainLocal) (i j : ℕ) → (other_stage leaves c arms (record { locals = locals; next = i })).locals ≡ (other_stage leaves c arms (record { locals = locals; next = j })).locals

@@ -114,6 +114,12 @@ module _ (leaves : Leaving) (c : Context) where
       let f = body_where test head.locals t.next body in
       record { code = FMark ∷ FWhile (surely head.locals) t.test f.start (flat_stmts_of f.code) after ∷ []; next = f.next }
 
+  -- the body of a clause, which begins with these locals
+  abbrev pub clause_body : List PlainLocal → PlainStmts → ℕ → PlainBody
+  clause_body locals body next =
+      let f = flat_all leaves c body (record { locals = locals; next = next }) in
+      record { start = surely locals; code = f.code; next = f.next }
+
   abbrev pub try_code : PlainStmts → PlainClauses → Option Point → Stage → Flattened (List PlainFlatStmt)
   try_code body clauses after h =
       let f = flat_all leaves c body h in

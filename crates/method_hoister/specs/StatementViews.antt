@@ -24,7 +24,7 @@ use Rattle.entity_types.specs.declared.env.Local.{Local}
 use Rattle.entity_types.specs.Views.{plain_locals, plain_wanted}
 use Rattle.block_code.specs.declared.vars.VarType.{VarType}
 use Rattle.block_code.specs.PlainVars.{plain_vars}
-use Rattle.flat_tree.specs.PlainFlat.{Point, PlainFlat, PlainFlatStmt, PlainFlatArm, PlainFlatArms, flat_arms_of, plain_flat_stmts, plain_flat_arms, PlainFlatClauses}
+use Rattle.flat_tree.specs.PlainFlat.{Point, PlainFlat, PlainFlatStmt, PlainFlatArm, PlainFlatArms, PlainFlatClauses, flat_arms_of, flat_clauses_of, plain_flat_stmts, plain_flat_arms, plain_flat_clauses}
 use Rattle.hoisting.specs.declared.parts.Hoisted.{Hoisted}
 use Rattle.hoisting.specs.declared.stages.Stage.{Stage}
 use Rattle.hoisting.specs.declared.setting.Setting.{Setting}
@@ -37,7 +37,8 @@ use Rattle.method_hoister.specs.declared.code.HoistedMaybe.{HoistedMaybe}
 use Rattle.method_hoister.specs.declared.code.Flattened.{Flattened}
 use Rattle.method_hoister.specs.declared.stmts.Body.{Body}
 use Rattle.method_hoister.specs.declared.stmts.ArmsCode.{ArmsCode}
-use Rattle.method_hoister.specs.SmallCode.{PlainBody, head_point, evaluated, returned, raised, assigned, augmented, list_before, start_number, end_number, range_before, range_stage, body_where, arm_code, behind_arm, choice_code, while_code, for_loop, try_code}
+use Rattle.method_hoister.specs.declared.stmts.ClausesCode.{ClausesCode}
+use Rattle.method_hoister.specs.SmallCode.{PlainBody, head_point, evaluated, returned, raised, assigned, augmented, list_before, start_number, end_number, range_before, range_stage, body_where, arm_code, behind_arm, choice_code, while_code, clause_body, try_code, for_loop}
 
 abbrev pub maybe_at : HoistedMaybe → Stage → PlainHoisted (Option PlainExpr)
 maybe_at a h = record { before = plain_flat_stmts a.before; rest = plain_option plain_expr a.rest; stage = plain_stage h }
@@ -153,10 +154,7 @@ module _ (s : Setting) where
       try_code (leaves_of s) (context_of s) (stmts_of (plain_stmts body)) (clauses_of (plain_clauses clauses)) (plain_option plain_vars after) (plain_stage h)
 
   abbrev pub clause_body_in : List Local → List Stmt → ℕ → PlainBody
-  clause_body_in locals body next =
-      let h : stages.Stage = record { locals = plain_locals locals; next = next } in
-      let f = flat_all (leaves_of s) (context_of s) (stmts_of (plain_stmts body)) h in
-      record { start = surely h.locals; code = f.code; next = f.next }
+  clause_body_in locals body next = clause_body (leaves_of s) (context_of s) (plain_locals locals) (stmts_of (plain_stmts body)) next
 
   abbrev pub clauses_in : List Local → List Clause → ℕ → PlainFlattened PlainFlatClauses
   clauses_in locals clauses next = flat_clauses (leaves_of s) (context_of s) (plain_locals locals) (clauses_of (plain_clauses clauses)) next

@@ -21,14 +21,14 @@ use block_code::VarTypes;
 use expression_hoister::test;
 use flat_tree::{FlatArm, FlatArms, FlatClause, FlatClauses, FlatStmt, FlatStmts};
 use flow_types::Locals;
-use hoisting::{Setting, Stage, surely, where_shown};
+use hoisting::{Setting, Stage, copy_locals, surely, where_shown};
 use py_tree::{
     Arm, Arms, Clause, Clauses, Expr, Name, Over, Place, Stmt, StmtKind, Stmts, Ty, goes_on,
 };
 use sf_list::Sequence;
 use std::alloc::{AllocError, Global};
 
-/// The body of an arm or of a `while`.
+/// The body of an arm, of a `while` or of a clause.
 #[derive(Drop)]
 pub struct Body {
     /// What is assigned where it begins.
@@ -324,7 +324,7 @@ fn clauses_code(
     let mut made = Sequence::new(alloc);
     let mut behind = next;
     for clause in clauses {
-        let code = clause_body(alloc, setting, locals, clause.body.as_slice(), behind)?;
+        let code = clause_body(alloc, setting, locals, &clause.body, behind)?;
         behind = code.next;
         made.push(alloc, flat_clause(alloc, clause, code)?)?;
     }
@@ -340,7 +340,7 @@ fn clause_body(
     alloc: Global,
     setting: &Setting<'_>,
     locals: &Locals,
-    body: &[Stmt],
+    body: &Stmts,
     next: u32,
 ) -> Result<Body, AllocError>
     ensures { IfOk result (λ made. plain_body made ≡ gives.clause_body_in setting.now locals.now body.now next) }
@@ -350,7 +350,7 @@ fn clause_body(
         locals: copy_locals(alloc, locals)?,
         next,
     };
-    let made = flat_all(alloc, setting, inside, body)?;
+    let made = flat_all(alloc, setting, inside, body.as_slice())?;
     Ok(Body {
         start,
         code: made.code,

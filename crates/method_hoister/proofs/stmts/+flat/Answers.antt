@@ -1,28 +1,30 @@
 use Rattle.std.proofs.Common.{◌≡◌, ℕ, ◌+◌, ◌<◌, ◌≤◌, ◌++◌, ◌∷◌, [], arith, Bool, true, false, Option, None, drop, refl, sym, ap, ◌∙◌}
 use Rattle.std.proofs.lemmas.List.{map-append}
 use Rattle.py_tree.specs.declared.stmt.Arm.{out-Arm}
+use Rattle.py_tree.specs.declared.stmt.Clause.{out-Clause}
 use Rattle.py_tree.specs.PlainExpressions.{plain_expr}
 use Rattle.py_tree.specs.PlainTypes.{plain_ty, plain_written}
 use Rattle.py_tree.proofs.Views.{ty-Int}
 use Rattle.block_code.specs.PlainVars.{plain_vars}
-use Rattle.py_tree.specs.PlainStatements.{plain_option, plain_over, plain_stmt, plain_stmts, stmts_of, plain_arm, plain_arms, arms_of}
+use Rattle.py_tree.specs.PlainStatements.{plain_option, plain_over, plain_stmt, plain_stmts, stmts_of, plain_arm, plain_arms, arms_of, plain_clauses, clauses_of}
 use Rattle.py_tree.specs.Reachability.{goes_on}
-use Rattle.py_tree.proofs.ListWalks.{stmts_from, stmts_end, arms_from, arms_end}
+use Rattle.py_tree.proofs.ListWalks.{stmts_from, stmts_end, arms_from, arms_end, clauses_from, clauses_end}
+use Rattle.py_tree.proofs.Sizes.{clause_part}
 use Rattle.entity_types.specs.Views.{plain_locals}
-use Rattle.flat_tree.specs.PlainFlat.{FMark, plain_flat_stmt, plain_flat_stmts, plain_flat_arm, plain_flat_arms, plain_flat_test}
-use Rattle.flat_tree.proofs.FlatViews.{flat-Break, flat-Continue, flat-If, flat-While}
-use Rattle.hoisting.specs.HoistStatements.{list_stage, body_stage, list_test, list_turn, range_test, range_turn, flat_all, flat_arms, other_stage}
+use Rattle.flat_tree.specs.PlainFlat.{FMark, plain_flat_stmt, plain_flat_stmts, plain_flat_arm, plain_flat_arms, plain_flat_clause, plain_flat_clauses, plain_flat_test}
+use Rattle.flat_tree.proofs.FlatViews.{flat-Break, flat-Continue, flat-If, flat-While, flat-Try}
+use Rattle.hoisting.specs.HoistStatements.{list_stage, body_stage, list_test, list_turn, range_test, range_turn, flat_all, flat_arms, flat_clauses, other_stage}
 use Rattle.hoisting.specs.HoistExpressions.{forms}
 use Rattle.expression_hoister.specs.ExpressionViews.{plain_tested}
 use Rattle.hoisting.specs.Stages.{Stage, item_ty}
 use Rattle.hoisting.specs.Views.{plain_stage, context_of, leaves_of, ty_in}
 use Rattle.expression_hoister.proofs.AnswerLaws.{ok_as}
-use Rattle.method_hoister.specs.SmallCode.{head_point, list_before, choice_code, while_code, for_loop}
-use Rattle.method_hoister.specs.StatementViews.{plain_flattened, plain_body, plain_arms_code}
-use Rattle.method_hoister.proofs.StatementsInRow.{after_code, after_arms, stmts_more, stmts_stop, stmts_done, arms_more, arms_done, other_more, other_done, choice_is}
+use Rattle.method_hoister.specs.SmallCode.{head_point, list_before, choice_code, while_code, try_code, for_loop}
+use Rattle.method_hoister.specs.StatementViews.{plain_flattened, plain_body, plain_arms_code, plain_clauses_code}
+use Rattle.method_hoister.proofs.StatementsInRow.{after_code, after_arms, after_clauses, stmts_more, stmts_stop, stmts_done, arms_more, arms_done, other_more, other_done, choice_is, clauses_more, clauses_done}
 use Rattle.method_hoister.proofs.StatementSizes.{stmt_within, body_within}
-use Rattle.method_hoister.proofs.OpenedKinds.{while_is, list_is, range_is, open-Pass, open-Break, open-Continue, open-Do, open-Return, open-Raise, open-Assert, open-Assign, open-Augment, open-If, open-While, open-For}
-use Rattle.method_hoister.proofs.StatementKinds.{is-Pass, is-Break, is-Continue, is-Expr, is-Return, is-Raise, is-Assert, is-Assign, is-Augment, is-If, is-While, is-For}
+use Rattle.method_hoister.proofs.OpenedKinds.{while_is, try_is, list_is, range_is, open-Pass, open-Break, open-Continue, open-Do, open-Return, open-Raise, open-Assert, open-Assign, open-Augment, open-If, open-While, open-For, open-Try}
+use Rattle.method_hoister.proofs.StatementKinds.{is-Pass, is-Break, is-Continue, is-Expr, is-Return, is-Raise, is-Assert, is-Assign, is-Augment, is-If, is-While, is-For, is-Try}
 use Rattle.method_hoister.proofs.stmts.+flat.Goals as goal
 
 pub flat_all-statement-requires : goal.flat_all-statement-requires
@@ -184,6 +186,51 @@ opened-returns-in_ok-after-in-For t c =
     let x = c.args.stmt.now in
     let start = plain_stage c.args.stage.now in
     ok_as c.for_loop.result plain_flattened _ _ (ap (λ p. for_loop leaves here x.place c.in-For.name.name.0 (plain_over c.in-For.over) (stmts_of (plain_stmts c.in-For.body)) p start) c.in_ok-after-in-For.ensures ∙ open-For leaves here start x.place c.in-For.name.name.0 c.in-For.name.place (plain_over c.in-For.over) (stmts_of (plain_stmts c.in-For.body)) (plain_stmt x) (is-For x c.in-For.name c.in-For.over c.in-For.body c.in-For.is)) c.for_loop.ensures
+
+pub opened-returns-in_ok-after-in-Try : goal.opened-returns-in_ok-after-in-Try
+opened-returns-in_ok-after-in-Try t c =
+    let leaves = leaves_of c.args.setting.now in
+    let here = context_of c.args.setting.now in
+    let x = c.args.stmt.now in
+    let start = plain_stage c.args.stage.now in
+    ok_as c.try_code.result plain_flattened _ _ (ap (λ p. try_code leaves here (stmts_of (plain_stmts c.in-Try.body)) (clauses_of (plain_clauses c.in-Try.clauses)) p start) c.in_ok-after-in-Try.ensures ∙ open-Try leaves here start x.place (stmts_of (plain_stmts c.in-Try.body)) (clauses_of (plain_clauses c.in-Try.clauses)) (plain_stmt x) (is-Try x c.in-Try.body c.in-Try.clauses c.in-Try.is)) c.try_code.ensures
+
+pub clauses_code-clause_body-requires : goal.clauses_code-clause_body-requires
+clauses_code-clause_body-requires t c = let h = clause_part c.args.clauses.now c.loop-clause.clause-index c.clause-item.result c.loop-clause-test.true c.clause-item.is in omega (arith, h)
+
+pub clauses_code-loop-clause-preserved : goal.clauses_code-loop-clause-preserved
+clauses_code-loop-clause-preserved t c =
+    let leaves = leaves_of c.args.setting.now in
+    let here = context_of c.args.setting.now in
+    let i = c.loop-clause.clause-index in
+    let clauses = c.args.clauses.now in
+    let x = c.clause-item.result in
+    let locals = plain_locals c.args.locals.now in
+    let more = clauses_of (plain_clauses (drop (i + 1) clauses)) in
+    let made = plain_flat_clause c.in_ok-flat_clause.field-0 in
+    let pushed : plain_flat_clauses c.push.new.self ≡ plain_flat_clauses c.loop-clause.made ++ made ∷ [] = ap plain_flat_clauses c.in_ok-push.ensures.ok ∙ map-append plain_flat_clause c.loop-clause.made (c.in_ok-flat_clause.field-0 ∷ []) in
+    (λ j. after_clauses (pushed j) (flat_clauses leaves here locals more c.in_ok-code.code.next))
+    ∙ clauses_more leaves here _ (plain_flat_clauses c.loop-clause.made) locals c.loop-clause.behind (out-Clause x).kinds (stmts_of (plain_stmts (out-Clause x).body)) more (clauses_of (plain_clauses (drop i clauses))) (plain_body c.in_ok-code.code) made (clauses_from clauses i x c.loop-clause-test.true c.clause-item.is) c.in_ok-code.ensures c.in_ok-flat_clause.ensures c.loop-clause.invariant
+
+pub clauses_code-returns : goal.clauses_code-returns
+clauses_code-returns t c =
+    clauses_done (leaves_of c.args.setting.now) (context_of c.args.setting.now) _ (plain_flat_clauses c.loop-clause.made) (plain_locals c.args.locals.now) c.loop-clause.behind (clauses_of (plain_clauses (drop c.loop-clause.clause-index c.args.clauses.now))) (clauses_end c.args.clauses.now c.loop-clause.clause-index c.loop-clause-test.false) c.loop-clause.invariant
+
+pub try_code-returns : goal.try_code-returns
+try_code-returns t c =
+    let leaves = leaves_of c.args.setting.now in
+    let here = context_of c.args.setting.now in
+    let start = plain_stage c.args.stage.now in
+    let body = stmts_of (plain_stmts c.args.body.now) in
+    let clauses = clauses_of (plain_clauses c.args.clauses.now) in
+    let made = c.in_ok-made.made in
+    let others = c.in_ok-others.others in
+    let first : plain_flattened made ≡ flat_all leaves here body start = c.in_ok-made.ensures ∙ (λ j. flat_all leaves here (stmts_of (plain_stmts (c.as_slice.ensures j))) (c.in_ok-inside.ensures j)) in
+    let rest : plain_clauses_code others ≡ _ = c.in_ok-others.ensures ∙ (λ j. flat_clauses leaves here (c.in_ok-locals.ensures j) (clauses_of (plain_clauses (c.as_slice-2.ensures j))) made.next) in
+    ok_as c.marked.result plain_flattened _ _
+    ((λ j. record { code = FMark ∷ plain_flat_stmts (c.new.ensures j) ++ flat-Try c.in_ok-start.start made.code others.clauses c.args.after j ∷ []; next = others.next })
+    ∙ try_is leaves here start body clauses (plain_option plain_vars c.args.after) (plain_vars c.in_ok-start.start) (plain_flattened made) (plain_clauses_code others) c.in_ok-start.ensures first rest)
+    c.marked.ensures
 
 pub choice-returns : goal.choice-returns
 choice-returns t c =

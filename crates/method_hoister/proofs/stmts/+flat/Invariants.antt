@@ -1,12 +1,12 @@
 use Rattle.std.proofs.Common.{◌≡◌, ◌+◌, ◌*◌, drop}
 use Rattle.py_tree.specs.declared.stmt.Arm.{out-Arm}
-use Rattle.py_tree.specs.Bounded.{stmt_size, stmts_size, arms_size}
-use Rattle.py_tree.specs.PlainStatements.{plain_stmt, plain_stmts, stmts_of, plain_arms, arms_of}
+use Rattle.py_tree.specs.Bounded.{stmt_size, stmts_size, arms_size, clauses_size}
+use Rattle.py_tree.specs.PlainStatements.{plain_stmt, plain_stmts, stmts_of, plain_arms, arms_of, plain_clauses, clauses_of}
 use Rattle.entity_types.specs.Views.{plain_locals}
-use Rattle.flat_tree.specs.PlainFlat.{plain_flat_stmts, plain_flat_arms}
-use Rattle.hoisting.specs.HoistStatements.{flat_all, flat_arms, other_stage}
+use Rattle.flat_tree.specs.PlainFlat.{plain_flat_stmts, plain_flat_arms, plain_flat_clauses}
+use Rattle.hoisting.specs.HoistStatements.{flat_all, flat_arms, flat_clauses, other_stage}
 use Rattle.hoisting.specs.Views.{plain_stage, context_of, leaves_of}
-use Rattle.method_hoister.proofs.StatementsInRow.{after_code, after_arms}
+use Rattle.method_hoister.proofs.StatementsInRow.{after_code, after_arms, after_clauses}
 use Rattle.method_hoister.proofs.stmts.+flat.Given as goal
 
 abbrev pub invariant-flat_all-loop-stmt : goal.invariant-flat_all-loop-stmt
@@ -23,6 +23,11 @@ invariant-arms_code-loop-arm l = record {
       (other_stage (leaves_of l.setting) (context_of l.setting) (arms_of (plain_arms (drop l.arm-index l.arms))) (plain_stage l.behind)).locals
       ≡ (other_stage (leaves_of l.setting) (context_of l.setting) (arms_of (plain_arms l.arms)) (plain_stage l.stage)).locals;
 }
+
+abbrev pub invariant-clauses_code-loop-clause : goal.invariant-clauses_code-loop-clause
+invariant-clauses_code-loop-clause l =
+    after_clauses (plain_flat_clauses l.made) (flat_clauses (leaves_of l.setting) (context_of l.setting) (plain_locals l.locals) (clauses_of (plain_clauses (drop l.clause-index l.clauses))) l.behind)
+    ≡ flat_clauses (leaves_of l.setting) (context_of l.setting) (plain_locals l.locals) (clauses_of (plain_clauses l.clauses)) l.initial.behind
 
 abbrev pub decreases-statement : goal.decreases-statement
 decreases-statement l = 8 * (stmt_size (plain_stmt l.stmt.now)) + 2
@@ -56,3 +61,12 @@ decreases-range_loop l = 8 * (stmts_size (stmts_of (plain_stmts l.body.now))) + 
 
 abbrev pub decreases-for_loop : goal.decreases-for_loop
 decreases-for_loop l = 8 * (stmts_size (stmts_of (plain_stmts l.body.now))) + 5
+
+abbrev pub decreases-try_code : goal.decreases-try_code
+decreases-try_code l = 8 * (stmts_size (stmts_of (plain_stmts l.body.now)) + clauses_size (clauses_of (plain_clauses l.clauses.now))) + 7
+
+abbrev pub decreases-clauses_code : goal.decreases-clauses_code
+decreases-clauses_code l = 8 * (clauses_size (clauses_of (plain_clauses l.clauses.now))) + 6
+
+abbrev pub decreases-clause_body : goal.decreases-clause_body
+decreases-clause_body l = 8 * (stmts_size (stmts_of (plain_stmts l.body.now))) + 4
