@@ -28,7 +28,7 @@ use Rattle.entity_types.specs.declared.env.FlowEnv.{FlowEnv}
 use Rattle.flow_types.specs.declared.known.Standing.{Standing}
 use Rattle.flow_types.specs.Answers.{Flows, Steps}
 use Rattle.flow_types.specs.Views.{context_of, way_of}
-use Rattle.flow_types.specs.Parts.{Fork, Entry, behind_arm, behind_arms, behind_other, behind_while, for_entry, behind_for, behind_clause, behind_clauses, behind_try}
+use Rattle.flow_types.specs.Parts.{Fork, Entry, behind_arm, behind_arms, behind_other, behind_while, for_entry, behind_for, Attempt, behind_body, behind_clause, behind_clauses, behind_attempt}
 
 -- steps that go on one after the other
 found_then : {X A B : Type 0} (r : Result X RuleFault) (f : X → Result A RuleFault) (g : A → Result B RuleFault) → with_found (with_found r f) g ≡ with_found r (λ x. with_found (f x) g)
@@ -94,11 +94,13 @@ clauses_are c start f (PMoreClauses (PClause kinds body) more) =
     ∙ sym (found_then (with_found walked (λ clause. Ok (next clause))) (λ g. behind_clauses c start g more) end
     ∙ found_then walked (λ clause. Ok (next clause)) (λ g. with_found (behind_clauses c start g more) end))
 
-try_is : (c : Context) (w : Way) (at : Place) (body : PlainStmts) (clauses : PlainClauses) → flow c w (PTry at body clauses) ≡ behind_try c w body clauses
-unfolding flow behind_try
+try_is : (c : Context) (w : Way) (at : Place) (body : PlainStmts) (clauses : PlainClauses) → flow c w (PTry at body clauses) ≡ with_found (behind_body c w body) (λ a. behind_attempt c a clauses)
+unfolding flow behind_body behind_attempt
 try_is c w at body clauses =
     let start = known_at (at_head (assigned_in body) w.locals) in
-    λ i. with_found (flow_all c w body) (λ b. clauses_are c start (record { next = b; ended = way (all_go_on body) b.locals }) clauses i)
+    let behind : Way → Attempt = λ b. record { start = start; fork = record { next = b; ended = way (all_go_on body) b.locals } } in
+    (λ i. with_found (flow_all c w body) (λ b. clauses_are c start (behind b).fork clauses i))
+    ∙ sym (found_then (flow_all c w body) (λ b. Ok (behind b)) (λ a. behind_attempt c a clauses))
 
 -- a kind of statement, as the tree of it is seen
 module _ (c : Context) (w : Way) (at : Place) where
@@ -115,7 +117,7 @@ module _ (c : Context) (w : Way) (at : Place) where
   pub flow-For : (name : PlacedName) (over : Over) (body : List Stmt) → flow c w (plain_stmt_kind (s.For name over body) at) ≡ with_found (behind_for c w.locals name (plain_over over) (stmts_of (plain_stmts body))) (λ ls. Ok (on w ls))
   flow-For name over body = ap (flow c w) (stmt-For at name over body) ∙ for_is c w at name (plain_over over) (stmts_of (plain_stmts body))
 
-  pub flow-Try : (body : List Stmt) (clauses : List Clause) → flow c w (plain_stmt_kind (s.Try body clauses) at) ≡ behind_try c w (stmts_of (plain_stmts body)) (clauses_of (plain_clauses clauses))
+  pub flow-Try : (body : List Stmt) (clauses : List Clause) → flow c w (plain_stmt_kind (s.Try body clauses) at) ≡ with_found (behind_body c w (stmts_of (plain_stmts body))) (λ a. behind_attempt c a (clauses_of (plain_clauses clauses)))
   flow-Try body clauses = ap (flow c w) (stmt-Try at body clauses) ∙ try_is c w at (stmts_of (plain_stmts body)) (clauses_of (plain_clauses clauses))
 
 -- what is answered of a part is answered of the statement

@@ -11,7 +11,8 @@ use Rattle.entity_tables.specs.declared.fault.RuleError.TheVariants.{Fault, NoMe
 use Rattle.entity_types.specs.declared.env.FlowEnv.{FlowEnv}
 use Rattle.entity_types.specs.Views.{plain_locals}
 use Rattle.flow_types.specs.declared.known.Standing.{Standing}
-use Rattle.flow_types.specs.Parts.{Fork, Entry}
+use Rattle.flow_types.specs.declared.walk.Tried.{Tried}
+use Rattle.flow_types.specs.Parts.{Fork, Entry, Attempt}
 use Rattle.flow_types.specs.Views.{way_of, plain_standings, plain_breaks}
 
 -- the locals become those that were found, or the fault is told; want of memory is free
@@ -38,6 +39,13 @@ abbrev pub Forks : Result Fork RuleFault → Bool → FlowEnv → FlowEnv → Op
 Forks found on old new breaks ended (Ok goes_on) = (found ≡ Ok (record { next = way_of new breaks; ended = plain_breaks ended })) × (goes_on ≡ on) × (new.class ≡ old.class) × (new.method ≡ old.method)
 Forks found on old new breaks ended (Err NoMemory) = Unit {0}
 Forks found on old new breaks ended (Err (Fault fault)) = found ≡ Err fault
+
+-- the way becomes the one behind the body of a `try`, of which is answered what its clauses need, and whether it goes on; or the fault is told
+abbrev pub Tries : Result Attempt RuleFault → Bool → FlowEnv → FlowEnv → Option (List Standing) → Result Tried RuleError → Type 0
+Tries found on old new breaks (Ok tried) =
+    (found ≡ Ok (record { start = plain_standings tried.start; fork = record { next = way_of new breaks; ended = plain_breaks tried.ended } })) × (tried.goes_on ≡ on) × (new.class ≡ old.class) × (new.method ≡ old.method)
+Tries found on old new breaks (Err NoMemory) = Unit {0}
+Tries found on old new breaks (Err (Fault fault)) = found ≡ Err fault
 
 -- the locals become those where the body of a `for` begins, and what is known at its head is answered; or the fault is told
 abbrev pub Enters : Result Entry RuleFault → FlowEnv → FlowEnv → Result (List Standing) RuleError → Type 0

@@ -64,6 +64,11 @@ behind_for c locals name over body =
     with_found (flow_all (within_loop c) (begun entry.inside) body) (λ b.
     Ok (behind_ways b.locals (meet (Some entry.head) b.breaks))))
 
+-- behind the body of a `try`: what is known where each clause begins, and the ways so far
+pub record Attempt : Type 0 where
+  pub start : List Known
+  pub fork : Fork
+
 -- behind a clause of a `try`, each of which begins with what is known at `start`
 unfoldable pub behind_clause : Context → List Known → Fork → PlainClause → Result Fork RuleFault
 behind_clause c start f (PClause kinds body) =
@@ -74,9 +79,14 @@ unfoldable pub behind_clauses : Context → List Known → Fork → PlainClauses
 behind_clauses c start f PNoClause = Ok f
 behind_clauses c start f (PMoreClauses k more) = with_found (behind_clause c start f k) (λ next. behind_clauses c start next more)
 
--- behind a `try`
-unfoldable pub behind_try : Context → Way → PlainStmts → PlainClauses → Result Way RuleFault
-behind_try c w body clauses =
+-- behind the body of a `try`
+unfoldable pub behind_body : Context → Way → PlainStmts → Result Attempt RuleFault
+behind_body c w body =
     with_found (flow_all c w body) (λ b.
-    with_found (behind_clauses c (known_at (at_head (assigned_in body) w.locals)) (record { next = b; ended = way (all_go_on body) b.locals }) clauses) (λ f.
-    Ok (on f.next (behind_ways f.next.locals f.ended))))
+    Ok (record { start = known_at (at_head (assigned_in body) w.locals); fork = record { next = b; ended = way (all_go_on body) b.locals } }))
+
+-- behind its clauses
+unfoldable pub behind_attempt : Context → Attempt → PlainClauses → Result Way RuleFault
+behind_attempt c a clauses =
+    with_found (behind_clauses c a.start a.fork clauses) (λ f.
+    Ok (on f.next (behind_ways f.next.locals f.ended)))

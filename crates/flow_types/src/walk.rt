@@ -9,8 +9,8 @@ ghost use Rattle.py_tree.specs.Reachability as reach;
 ghost use Rattle.py_tree.specs.Flow as spec;
 ghost use Rattle.entity_types.specs.Views.{plain_locals};
 ghost use Rattle.flow_types.specs.Views.{way_of, plain_breaks, plain_standings, seen_at};
-ghost use Rattle.flow_types.specs.Parts.{behind_arm, behind_arms, behind_other, behind_while, behind_for, behind_clause, behind_clauses, behind_try};
-ghost use Rattle.flow_types.specs.Answers.{Locates, Flows, Forks};
+ghost use Rattle.flow_types.specs.Parts.{behind_arm, behind_arms, behind_other, behind_while, behind_for, behind_body, behind_clause, behind_clauses, behind_attempt};
+ghost use Rattle.flow_types.specs.Answers.{Locates, Flows, Forks, Tries};
 
 use crate::branch::{go_where_true, leave_arm, leave_if, leave_while};
 use crate::context::Context;
@@ -24,6 +24,16 @@ use crate::simple::{
 use entity_types::{FlowEnv, RuleError};
 use py_tree::{Arm, Clause, Expr, Over, PlacedName, Stmt, StmtKind, goes_on};
 use std::alloc::Global;
+
+/// What is known behind the body of a `try`.
+#[derive(Drop)]
+pub struct Tried {
+    /// Where each clause begins.
+    pub start: Standings,
+    /// Where the ways so far meet.
+    pub ended: Option<Standings>,
+    pub goes_on: bool,
+}
 
 /// The way through a statement, and whether it goes on behind it.
 #[cycle(walk)]
@@ -73,14 +83,10 @@ pub fn statement(
             Ok(true)
         }
         StmtKind::Try { body, clauses } => {
-            through_try(
-                alloc,
-                context,
-                env,
-                breaks,
-                body.as_slice(),
-                clauses.as_slice(),
-            )
+            let body = body.as_slice();
+            let clauses = clauses.as_slice();
+            let tried = through_body(alloc, context, env, breaks, body)?;
+            through_rest(alloc, context, env, breaks, tried, clauses)
         }
     }
 }
@@ -210,28 +216,50 @@ fn for_loop(
     Ok(())
 }
 
-/// The ways through a `try`, and where they meet behind it.
+/// The way through the body of a `try`.
 #[cycle(walk)]
-#[tactic(auto, unfolding(crate::specs::Parts::behind_try))]
-fn through_try(
+#[tactic(auto, unfolding(crate::specs::Parts::behind_body))]
+fn through_body(
     alloc: Global,
     context: &Context<'_>,
     env: &mut FlowEnv,
     breaks: &mut Option<Standings>,
     body: &[Stmt],
-    clauses: &[Clause],
-) -> Result<bool, RuleError>
-    ensures { Flows (behind_try (seen_at context.now env.old) (way_of env.old breaks.old) (stmts_of (plain_stmts body.now)) (clauses_of (plain_clauses clauses.now)))
-        (reach.all_go_on (stmts_of (plain_stmts body.now)) || reach.a_clause_goes_on (clauses_of (plain_clauses clauses.now)))
-        env.old env.new breaks.new result }
+) -> Result<Tried, RuleError>
+    ensures { Tries (behind_body (seen_at context.now env.old) (way_of env.old breaks.old) (stmts_of (plain_stmts body.now)))
+        (reach.all_go_on (stmts_of (plain_stmts body.now))) env.old env.new breaks.new result }
 {
     let start = known_in_clauses(alloc, &mut env.locals, body)?;
-    let body_goes_on = statements(alloc, context, env, breaks, body)?;
-    let mut ended = way(alloc, body_goes_on, env.locals.as_slice())?;
-    let start = start.as_slice();
+    let goes_on = statements(alloc, context, env, breaks, body)?;
+    let ended = way(alloc, goes_on, env.locals.as_slice())?;
+    Ok(Tried {
+        start,
+        ended,
+        goes_on,
+    })
+}
+
+/// The ways through the clauses of a `try`, and where all its ways meet.
+#[cycle(walk)]
+#[tactic(auto, unfolding(crate::specs::Parts::behind_attempt))]
+fn through_rest(
+    alloc: Global,
+    context: &Context<'_>,
+    env: &mut FlowEnv,
+    breaks: &mut Option<Standings>,
+    tried: Tried,
+    clauses: &[Clause],
+) -> Result<bool, RuleError>
+    ensures { Flows (behind_attempt (seen_at context.now env.old)
+        (record { start = plain_standings tried.start; fork = record { next = way_of env.old breaks.old; ended = plain_breaks tried.ended } })
+        (clauses_of (plain_clauses clauses.now)))
+        (tried.goes_on || reach.a_clause_goes_on (clauses_of (plain_clauses clauses.now))) env.old env.new breaks.new result }
+{
+    let mut ended = tried.ended;
+    let start = tried.start.as_slice();
     let one_goes_on = through_clauses(alloc, context, env, breaks, &mut ended, start, clauses)?;
     stand_behind(&mut env.locals, ended);
-    Ok(body_goes_on || one_goes_on)
+    Ok(tried.goes_on || one_goes_on)
 }
 
 /// The ways through the clauses of a `try`, each from what is known at `start`.

@@ -1,20 +1,20 @@
 -- Small statements with a suspending call in many places, as flat code. No types are known, so each temporary counts as one of None.
-use Rattle.std.proofs.Common.{◌≡◌, ℕ, pos, false, Some, None, List, [], ◌∷◌, refl}
+use Rattle.std.proofs.Common.{◌≡◌, ℕ, pos, true, false, Some, None, List, [], ◌∷◌, refl}
 use Rattle.std.specs.Prelude.{not, nat_eq, ◌&&◌}
 use Rattle.py_tree.specs.declared.names.Place.{Place}
 use Rattle.py_tree.specs.declared.expr.BinOp.TheVariants as op
 use Rattle.py_tree.specs.declared.expr.Cmp.TheVariants as cmp
 use Rattle.py_tree.specs.declared.stmt.Target.TheVariants as target
-use Rattle.py_tree.specs.PlainTypes.{TInt, TNil}
+use Rattle.py_tree.specs.PlainTypes.{TInt, TNil, TOptional}
 use Rattle.py_tree.specs.ClassRules.{is_self}
-use Rattle.py_tree.specs.FlowEnvironment.{local_of, has_name, shown, narrowed}
+use Rattle.py_tree.specs.FlowEnvironment.{PlainLocal, local_of, has_name, shown, narrowed}
 use Rattle.py_tree.specs.ExpressionTypes.{function_of, type_of, type_of_name, table_named, method_of, as_condition, applied}
-use Rattle.py_tree.specs.Flow.{Context, flow, earlier, at_head, item_of, number_at, with_local}
+use Rattle.py_tree.specs.Flow.{Context, flow, earlier, at_head, assigned, local_assigned, local_fault, plainly_assigned, item_of, number_at, with_local}
 use Rattle.py_tree.specs.Reachability.{goes_on, assigned_in}
 use Rattle.py_tree.specs.PlainExpressions.{PlainExpr, PInt, PStr, PVar, PSelf, PCall, PApply, PIndex, PList, PPos, PChain, PCompare, PIsNone, PCond, PNoExpr, PExpr, PLink, PNoLink, PMoreLinks}
-use Rattle.py_tree.specs.PlainStatements.{PRange, PlainStmt, PPass, PBreak, PDo, PReturn, PAssert, PAssign, PWhile, PFor, PNoStmt, PStmt}
+use Rattle.py_tree.specs.PlainStatements.{PRange, PlainStmt, PPass, PBreak, PDo, PReturn, PAssert, PAssign, PWhile, PFor, PTry, PNoStmt, PStmt, PClause, PNoClause, PMoreClauses}
 use Rattle.call_graph.specs.SuspendingCode.{Leaving, expr_suspends, stmt_suspends}
-use Rattle.flat_tree.specs.PlainFlat.{PlainFlatStmt, FMark, FSet, FGive, FFail, FCode, FBreak, FCall, FMake, FIf, FWhile, FNoStmt, FStmt, FArm, FNoArm, FMoreArms, FLeaf, flat_stmts_of}
+use Rattle.flat_tree.specs.PlainFlat.{PlainFlatStmt, FMark, FSet, FGive, FFail, FCode, FBreak, FCall, FMake, FIf, FWhile, FNoStmt, FStmt, FArm, FNoArm, FMoreArms, FTry, FClause, FNoClause, FMoreClauses, FLeaf, flat_stmts_of}
 use Rattle.flat_tree.specs.Flatness.{jumps}
 use Rattle.flat_tree.specs.declared.tree.Callee.{Callee}
 use Rattle.flat_tree.specs.declared.tree.Created.{Created}
@@ -33,6 +33,9 @@ held t = record { name = t; ty = TNil }
 
 abbrev whole : ℕ → PlainVar
 whole t = record { name = t; ty = TInt }
+
+abbrev optional : ℕ → PlainVar
+optional t = record { name = t; ty = TOptional TInt }
 
 abbrev callee : ℕ → Callee
 callee name = record { name = record { 0 = name }; class = 0; method = 0 }
@@ -109,3 +112,17 @@ counting : flattened (PFor at 34 at (PRange None (calling 21 (PVar at 27))) (PSt
     ∷ []
 unfolding opened taken expr_suspends stmt_suspends jumps type_of type_of_name local_of goes_on flow item_of number_at at_head assigned_in with_local has_name table_named
 counting = refl
+
+-- x, which may be None, and isn't
+abbrev x_known : PlainLocal
+x_known = record { name = 25; ty = TOptional TInt; assigned = true; not_none = true }
+
+-- try: x = b.f(y), except ZeroDivisionError: return c.f(z), except RuntimeError: pass. Where a clause begins x may be None, and its temporaries are numbered behind those of the body
+attempted : (flat leaves nowhere (PTry at (PStmt (x_is (calling 21 (PVar at 27))) PNoStmt) (PMoreClauses (PClause (1 ∷ []) (PStmt (PReturn at (Some (calling 22 (PVar at 28)))) PNoStmt)) (PMoreClauses (PClause (4 ∷ 8 ∷ []) (PStmt (PPass at) PNoStmt)) PNoClause))) (record { locals = x_known ∷ []; next = 50 })).code
+    ≡ FMark
+    ∷ FTry (whole 25 ∷ []) (flat_stmts_of (FMark ∷ call_into 21 (PVar at 27) 50 (whole 25 ∷ held 50 ∷ []) ∷ FSet 25 (PVar at 50) ∷ []))
+    (FMoreClauses (FClause (1 ∷ []) (optional 25 ∷ []) (flat_stmts_of (FMark ∷ call_into 22 (PVar at 28) 51 (optional 25 ∷ held 51 ∷ []) ∷ FGive (PVar at 51) ∷ [])))
+    (FMoreClauses (FClause (4 ∷ 8 ∷ []) (optional 25 ∷ []) (FStmt (FCode (PPass at)) FNoStmt)) FNoClause)) (Some (whole 25 ∷ []))
+    ∷ []
+unfolding opened taken expr_suspends stmt_suspends jumps type_of type_of_name local_of goes_on flow at_head assigned_in assigned local_assigned local_fault plainly_assigned has_name table_named method_of
+attempted = refl
