@@ -5,7 +5,7 @@ use Rattle.std.specs.Prelude.{IfSome, nat_eq}
 use Rattle.std.specs.Ordering.{int_cmp, is_lt}
 use Rattle.py_tree.specs.declared.stmt.Target.{Target}
 use Rattle.py_tree.specs.declared.stmt.Target.TheVariants as target
-use Rattle.py_tree.specs.Bounded.{ExprNames, StmtNames, StmtsNames, ArmsNames, target_name, ClauseNames, ClausesNames}
+use Rattle.py_tree.specs.Bounded.{ExprNames, StmtNames, StmtsNames, ArmsNames, target_name, ClausesNames}
 use Rattle.py_tree.specs.PlainExpressions.{PlainExpr}
 use Rattle.py_tree.specs.PlainStatements.{PlainStmt, PPass, PBreak, PContinue, PDo, PReturn, PRaise, PAssert, PAssign, PAugment, PIf, PWhile, PFor, PlainStmts, PNoStmt, PStmt, PArm, PlainArms, PNoArm, PMoreArms, PTry, PClause, PlainClauses, PNoClause, PMoreClauses}
 use Rattle.sf_value.specs.declared.Failure.{Failure}

@@ -8,7 +8,7 @@ use Rattle.py_tree.specs.declared.expr.BinOp.{BinOp}
 use Rattle.py_tree.specs.declared.stmt.Target.{Target}
 use Rattle.py_tree.specs.declared.stmt.Target.TheVariants as target
 use Rattle.py_tree.specs.PlainTypes.{PlainTy, TInt}
-use Rattle.py_tree.specs.Bounded.{ExprNames, StmtNames, StmtsNames, ArmsNames, OverNames, target_name, ClausesNames, ClauseNames}
+use Rattle.py_tree.specs.Bounded.{ExprNames, StmtNames, StmtsNames, ArmsNames, OverNames, target_name, ClausesNames}
 use Rattle.py_tree.specs.ExpressionTypes.{right_wanted}
 use Rattle.py_tree.specs.Reachability.{goes_on, breaks, assigned_in}
 use Rattle.py_tree.specs.Flow.{Context, at_head, target_read, result_at}
@@ -40,7 +40,7 @@ use Rattle.hoisting.specs.Stages.{Stage, surely, where_shown, ty_at, item_ty, lo
 use Rattle.hoisting.specs.HoistExpressions.{Hoisted, Tested, still, built, settled, settled_unless, lasts, forms}
 use Rattle.hoisting.specs.HoistStatements.{Flattened, stays, code_if, followed, stored, read_of, target_ty, value_or_nil, start_or_zero, list_stage, head_locals, body_stage, list_loop, range_loop, optional, combination, failure_of, range_start, range_end, for_code, opened, flat_all, flat_arms, other_stage, flat, flat_clauses}
 use Rattle.hoisting.proofs.Temporaries.{le_itself, le_on, settled_rises, forms_rise}
-use Rattle.hoisting.proofs.StatementTemporaries.{flat_rises, all_rise, arms_rise, clauses_rise}
+use Rattle.hoisting.proofs.StatementTemporaries.{flat_rises, all_rise, arms_rise}
 use Rattle.hoisting.proofs.PartsMean.{means_there, means_at_once, settled_means}
 use Rattle.hoisting.proofs.Expressions.{expression_means}
 use Rattle.hoisting.proofs.Loops.{local_read}
