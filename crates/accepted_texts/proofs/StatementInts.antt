@@ -5,10 +5,10 @@ use Rattle.std.specs.declared.option.Option.{Option}
 use Rattle.py_tree.specs.declared.names.Place.{Place}
 use Rattle.py_tree.specs.declared.stmt.Target.{Target}
 use Rattle.py_tree.specs.PlainExpressions.{PlainExpr}
-use Rattle.py_tree.specs.PlainStatements.{PlainOver, PlainStmt, PlainArm, PArm, stmts_of, arms_of}
+use Rattle.py_tree.specs.PlainStatements.{PlainOver, PlainStmt, PlainArm, PArm, PlainClause, PClause, stmts_of, arms_of, clauses_of}
 use Rattle.py_tree.specs.Reading.{Input, found, next, named, next_line}
-use Rattle.py_tree.specs.StatementGrammar.{IsValue, IsDetail, IsAssigned, IsMessage, IsRaise, IsField, IsSimple, IsMoreSimples, IsSimples, IsLine, IsOver, IsBody, IsSuite, IsBlock, IsStmts, IsStmt, IsIf, IsWhile, IsFor, IsArm, IsArms, IsOther, value_none, value_is, detail_none, detail_is, assigned_typed, assigned_plain, assigned_augmented, message_none, message_is, raise_is, field_is, simple_pass, simple_break, simple_continue, simple_return, simple_raise, simple_assert, simple_local, simple_field, simple_expr, more_simples_end, more_simples_last, more_simples_more, simples_is, line_is, over_items, over_end, over_ends, body_is, suite_line, suite_block, block_is, stmts_end, stmts_more, stmt_if, stmt_while, stmt_for, stmt_simple, if_is, while_is, for_is, arm_is, arms_end, arms_more, other_none, other_is}
-use Rattle.program_meaning.specs.WrittenInts.{ExprInts, OverInts, StmtInts, StmtsInts, ArmsInts}
+use Rattle.py_tree.specs.StatementGrammar.{IsValue, IsDetail, IsAssigned, IsMessage, IsRaise, IsField, IsSimple, IsMoreSimples, IsSimples, IsLine, IsOver, IsBody, IsSuite, IsBlock, IsStmts, IsStmt, IsIf, IsWhile, IsFor, IsArm, IsArms, IsOther, IsTry, IsClause, IsClauses, value_none, value_is, detail_none, detail_is, assigned_typed, assigned_plain, assigned_augmented, message_none, message_is, raise_is, field_is, simple_pass, simple_break, simple_continue, simple_return, simple_raise, simple_assert, simple_local, simple_field, simple_expr, more_simples_end, more_simples_last, more_simples_more, simples_is, line_is, over_items, over_end, over_ends, body_is, suite_line, suite_block, block_is, stmts_end, stmts_more, stmt_if, stmt_while, stmt_for, stmt_try, stmt_simple, if_is, while_is, for_is, arm_is, arms_end, arms_more, other_none, other_is, try_is, clause_all, clause_is, clauses_end, clauses_last, clauses_more}
+use Rattle.program_meaning.specs.WrittenInts.{ExprInts, OverInts, StmtInts, StmtsInts, ArmsInts, ClausesInts}
 use Rattle.accepted_texts.proofs.LeftInts.{LeftInts, passed, passed_name, begun}
 use Rattle.accepted_texts.proofs.TypesRead.{type_leaves}
 use Rattle.accepted_texts.proofs.ExpressionInts.{whole_ints}
@@ -21,6 +21,10 @@ stmts_joined P (x ∷ xs) ys first others = (first.0, stmts_joined P xs ys first
 arms_joined : (P : ℤ → Type 0) (a : PlainArm) (bs : List PlainArm) → ArmsInts P (arms_of (a ∷ [])) → ArmsInts P (arms_of bs) → ArmsInts P (arms_of (a ∷ bs))
 unfolding ArmsInts
 arms_joined P (PArm test body) bs first others = (first.0, first.1, others)
+
+clauses_joined : (P : ℤ → Type 0) (k : PlainClause) (ks : List PlainClause) → ClausesInts P (clauses_of (k ∷ [])) → ClausesInts P (clauses_of ks) → ClausesInts P (clauses_of (k ∷ ks))
+unfolding ClausesInts
+clauses_joined P (PClause kinds body) ks first others = (first.0, others)
 
 -- ---- statements of one line
 
@@ -120,7 +124,8 @@ module _ (P : ℤ → Type 0) (nought : P (pos 0)) where
     stmt_ints (stmt_if _ h1) s = let x = if_ints h1 s in ((x.0, tt), x.1)
     stmt_ints (stmt_while _ _ h2) s = let x = while_ints h2 s in ((x.0, tt), x.1)
     stmt_ints (stmt_for _ _ _ h3) s = let x = for_ints h3 s in ((x.0, tt), x.1)
-    stmt_ints (stmt_simple _ _ _ h3) s = line_ints h3 s
+    stmt_ints (stmt_try _ _ _ _ h4) s = let x = try_ints h4 s in ((x.0, tt), x.1)
+    stmt_ints (stmt_simple _ _ _ _ h4) s = line_ints h4 s
 
     if_ints : {n c : ℕ} {i : Input} {x : PlainStmt} {m : Input} → IsIf n c i (found x m) → LeftInts P i → StmtInts P x × LeftInts P m
     if_ints (if_is {i = i} {a = a} {bs = bs} h0 h1 h2) s =
@@ -157,3 +162,21 @@ module _ (P : ℤ → Type 0) (nought : P (pos 0)) where
     other_ints : {n c : ℕ} {i : Input} {ys : List PlainStmt} {m : Input} → IsOther n c i (found ys m) → LeftInts P i → StmtsInts P (stmts_of ys) × LeftInts P m
     other_ints (other_none _) s = (tt, s)
     other_ints (other_is {i = i} _ h1) s = body_ints h1 (passed P (next_line i) (begun P i s))
+
+    try_ints : {n c : ℕ} {i : Input} {x : PlainStmt} {m : Input} → IsTry n c i (found x m) → LeftInts P i → StmtInts P x × LeftInts P m
+    try_ints (try_is {i = i} h0 _ h2) s =
+        let body = body_ints h0 (passed P i s) in
+        let clauses = clauses_ints h2 body.1 in
+        ((body.0, clauses.0), clauses.1)
+
+    clause_ints : {n c : ℕ} {i : Input} {k : PlainClause} {m : Input} → IsClause n c i (found k m) → LeftInts P i → ClausesInts P (clauses_of (k ∷ [])) × LeftInts P m
+    clause_ints (clause_all _ h1) s = let body = body_ints h1 s in ((body.0, tt), body.1)
+    clause_ints (clause_is {i = i} _ _ h2) s = let body = body_ints h2 (passed P i s) in ((body.0, tt), body.1)
+
+    clauses_ints : {n c : ℕ} {i : Input} {ks : List PlainClause} {m : Input} → IsClauses n c i (found ks m) → LeftInts P i → ClausesInts P (clauses_of ks) × LeftInts P m
+    clauses_ints (clauses_end _) s = (tt, s)
+    clauses_ints (clauses_last {i = i} _ _ h2) s = clause_ints h2 (passed P (next_line i) (begun P i s))
+    clauses_ints (clauses_more {i = i} {x = x} {ks = ks} _ _ h2 h3) s =
+        let first = clause_ints h2 (passed P (next_line i) (begun P i s)) in
+        let others = clauses_ints h3 first.1 in
+        (clauses_joined P x ks first.0 others.0, others.1)
