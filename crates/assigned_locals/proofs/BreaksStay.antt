@@ -1,6 +1,6 @@
 -- Names on which locals agree where a loop is left, and behind an `if`: what agrees where some ways have met does so where more
 -- of them have.
-use Rattle.std.proofs.Common.{◌≡◌, Bool, true, false, cond, not, Option, None, Ok, List, sym, ap, subst, refl, ℕ}
+use Rattle.std.proofs.Common.{◌≡◌, Bool, true, false, cond, not, Option, None, Ok, List, sym, ap, subst, refl}
 use Rattle.std.specs.declared.result.Result.{Result}
 use Rattle.py_tree.specs.declared.rule.Rule.TheVariants.{LoopWord}
 use Rattle.py_tree.specs.declared.rule.RuleFault.{RuleFault}
@@ -61,9 +61,9 @@ module _ (us vs : List Var) where
     breaks_stay (PFor at name name_at over body) c w after h =
         let a : ForParts c w after name name_at over body = for_parts c w after at name name_at over body h in
         same_breaks w after (follows (PFor at name name_at over body) c w after h).grows (sym (ap breaks_of a.is))
-    breaks_stay (PTry at body clauses) c w after h m =
+    breaks_stay (PTry at body clauses) c w after h =
         let a : TryParts c w after body clauses = try_parts c w after at body clauses h in
-        breaks_stay_clauses clauses c a.end (known_at (at_head (assigned_in body) w.locals)) (way (all_go_on body) a.end.locals) after a.rest (breaks_stay_all body c w a.end a.inside m)
+        λ m. breaks_stay_clauses clauses c a.end (known_at (at_head (assigned_in body) w.locals)) (way (all_go_on body) a.end.locals) after a.rest (breaks_stay_all body c w a.end a.inside m)
 
     pub breaks_stay_all : (xs : PlainStmts) (c : Context) (w after : Way) → flow_all c w xs ≡ Ok after → BreaksStay w after
     breaks_stay_all PNoStmt c w after h m = subst (λ (v : Way). MetAgree us vs (shapes v.locals) v.breaks) (same_ok w after h) m

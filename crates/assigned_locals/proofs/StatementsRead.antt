@@ -31,7 +31,7 @@ use Rattle.program_meaning.specs.Evaluation.{Site, eval}
 use Rattle.program_meaning.specs.Execution.{message, stepping, store, target_value, augmented, value_or_none, start_of, turns_of, Turns, Items, Numbers, turn, over_items, over_numbers, over_turns, counting, while_turns, checked, act, act_all, act_arms, act_clauses}
 use Rattle.program_meaning.specs.Reached.{IsReached}
 use Rattle.program_meaning.proofs.TypedParts.{done, same_ok, found_ok, refuse_ok, needs_ok, condition_ok, Joins}
-use Rattle.program_meaning.proofs.LocalShapes.{shapes, Grows, alike_grows, grows_on, grows_same, shapes_narrowed, shapes_settled, shapes_behind, local_grows}
+use Rattle.program_meaning.proofs.LocalShapes.{shapes, Grows, alike_grows, grows_on, grows_same, shapes_narrowed, shapes_at_head, shapes_settled, shapes_behind, local_grows}
 use Rattle.program_meaning.proofs.FlowParts.{no_need, value_ok, items_ok, short_range_ok, range_ok, return_ok, message_ok, LocalTaken, local_ok, Augments, augments_ok, stored_ok, put_local_ok, put_field_ok}
 use Rattle.program_meaning.proofs.FlowGrows.{WhileParts, while_parts, ForParts, for_parts, all_parts, last_parts, ArmParts, arm_parts, follows_all, TryParts, try_parts, ClauseParts, clause_parts}
 use Rattle.program_meaning.proofs.NotReached.{act_reached, acts_reached}

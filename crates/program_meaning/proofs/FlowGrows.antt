@@ -13,7 +13,7 @@ use Rattle.py_tree.specs.PlainStatements.{PlainOver, PlainStmt, PPass, PBreak, P
 use Rattle.py_tree.specs.ClassRules.{PlainTable}
 use Rattle.py_tree.specs.FlowEnvironment.{PlainLocal, shown, narrowed}
 use Rattle.py_tree.specs.ExpressionTypes.{refuse_if, with_found, place_of, field_of}
-use Rattle.py_tree.specs.Reachability.{goes_on, all_go_on, assigned_in, a_clause_goes_on}
+use Rattle.py_tree.specs.Reachability.{goes_on, all_go_on, assigned_in}
 use Rattle.py_tree.specs.Flow.{Context, type_at, condition_at, within_loop, Known, known_at, meet, way, behind_ways, with_local, at_head, settled, value_as, item_of, needs_none, return_fault, message_fault, local_fault, stored, assigned, field_assigned, field_declared, is_key_field, augmentation, combined_stored, Way, on, begun, broken_off, after_while, after_for, for_head, named_at, flow, flow_all, flow_arms, flow_clauses}
 use Rattle.program_meaning.specs.declared.vars.Var.{Var}
 use Rattle.program_meaning.specs.PointFits.{VarsFit}

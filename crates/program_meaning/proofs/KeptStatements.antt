@@ -15,7 +15,7 @@ use Rattle.sf_value.specs.declared.value.Value.TheVariants as value
 use Rattle.sf_value.specs.declared.Failure.{Failure}
 use Rattle.program_meaning.specs.declared.vars.Var.{Var}
 use Rattle.program_meaning.specs.ClassTables.{fields_of}
-use Rattle.program_meaning.specs.World.{Gives, Ends, Goes, Fails, assertion_error, told, assigned, with_given, next_turn, with_field, caught}
+use Rattle.program_meaning.specs.World.{Gives, Ends, Goes, Fails, assertion_error, told, assigned, with_given, next_turn, with_field}
 use Rattle.program_meaning.specs.Operations.{in_range, weighed, is_true}
 use Rattle.program_meaning.specs.Evaluation.{Site, eval}
 use Rattle.program_meaning.specs.Execution.{stepping, store, target_value, augmented, value_or_none, message, Turns, Items, Numbers, start_of, turns_of, turn, over_items, over_numbers, over_turns, counting, while_turns, checked, act, act_all, act_arms, act_clauses}

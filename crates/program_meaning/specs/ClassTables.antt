@@ -1,7 +1,7 @@
 -- What a program says of its classes: their methods, their fields in order, and where a key comes from.
-use Rattle.std.specs.Prelude.{ℕ, List, [], Some, None, slice_get, option_map}
+use Rattle.std.specs.Prelude.{ℕ, List, slice_get, option_map}
 use Rattle.std.specs.declared.option.Option.{Option}
-use Rattle.py_tree.specs.PlainProgram.{PlainMethod, PlainClass, PlainProgram}
+use Rattle.py_tree.specs.PlainProgram.{PlainMethod, PlainProgram}
 pub use Rattle.py_tree.specs.Acceptance.{members_of}
 use Rattle.py_tree.specs.ClassRules.{init_of as init_among, methods_of as methods_among, key_of, field_names, body_of}
 
