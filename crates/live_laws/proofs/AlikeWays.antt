@@ -264,8 +264,8 @@ module _ (C : Names) where
         let N : Names = OfStmt C A B (PTry at body clauses) in
         let head : List PlainLocal = at_head (assigned_in body) w.locals in
         let head2 : List PlainLocal = at_head (assigned_in body) u.locals in
-        let head_alike : Alike (OfClauses C A B clauses) head head2 = alike_head (assigned_in body) (fewer {P = N} (of_try_clauses A B at body clauses) a) in
-        carry (WayAlike (If (all_go_on body) A) B) (WayAlike (If (all_go_on body || a_clause_goes_on clauses) A) B) _ _ (all_alike body A B c w u (fewer {P = N} (of_try_body A B at body clauses) a) met) (λ b d e f b_alike.
+        let head_alike : Alike (OfClauses C A B clauses) head head2 = alike_head (assigned_in body) (fewer {P = N} (of_try_clauses C A B at body clauses) a) in
+        carry (WayAlike (If (all_go_on body) A) B) (WayAlike (If (all_go_on body || a_clause_goes_on clauses) A) B) _ _ (all_alike body A B c w u (fewer {P = N} (of_try_body C A B at body clauses) a) met) (λ b d e f b_alike.
         let head_end : Grows head b.locals = grows_same w.locals head b.locals b.locals (sym (shapes_at_head (assigned_in body) w.locals)) refl (follows_all body c w b e).grows in
         clauses_alike clauses A B (If (all_go_on body) A) c head head2 b d (way (all_go_on body) b.locals) (way (all_go_on body) d.locals) head_end head_alike b_alike.locals b_alike.breaks
         (alike_way (all_go_on body) b_alike.locals) (all_go_on body) (λ h. ap (λ g. is_some (way g b.locals)) h))
@@ -288,11 +288,11 @@ module _ (C : Names) where
         let start2 : Way = on u (settled u.locals (known_at head2)) in
         let same_start : shapes start.locals ≡ shapes w.locals = shapes_settled w.locals (known_at head) in
         carry (WayAlike (If (all_go_on body) A) B) (WayAlike (If (reached || (all_go_on body || a_clause_goes_on more)) A) B) _ _
-        (all_alike body A B c start start2 (alike_left (fewer {P = N} (of_clause_body A B kinds body more) a) g here) (met_same w.locals start.locals same_start met)) (λ k k2 e f k_alike.
+        (all_alike body A B c start start2 (alike_left (fewer {P = N} (of_clause_body C A B kinds body more) a) g here) (met_same w.locals start.locals same_start met)) (λ k k2 e f k_alike.
         let from_w : Grows w.locals k.locals = grows_same start.locals w.locals k.locals k.locals same_start refl (follows_all body c start k e).grows in
         let o : Option (List Known) = meet ended (way (all_go_on body) k.locals) in
         go_if (reached || (all_go_on body || a_clause_goes_on more)) ((reached || all_go_on body) || a_clause_goes_on more) (first_grouped reached (all_go_on body) (a_clause_goes_on more))
-        (clauses_alike more A B (If (all_go_on body) A) c head head2 k k2 o (meet ended2 (way (all_go_on body) k2.locals)) (grows_on head w.locals k.locals g from_w) (fewer {P = N} (of_more_clauses A B kinds body more) a)
+        (clauses_alike more A B (If (all_go_on body) A) c head head2 k k2 o (meet ended2 (way (all_go_on body) k2.locals)) (grows_on head w.locals k.locals g from_w) (fewer {P = N} (of_more_clauses C A B kinds body more) a)
         k_alike.locals k_alike.breaks (alike_meet (met_grown from_w ended_alike) (alike_way (all_go_on body) k_alike.locals)) (reached || all_go_on body)
         (λ h. in_either reached (all_go_on body) (is_some o ≡ true) h (λ r. some_left ended (way (all_go_on body) k.locals) (some r)) (λ q. some_right ended (way (all_go_on body) k.locals) (ap (λ b. is_some (way b k.locals)) q)))))
 
