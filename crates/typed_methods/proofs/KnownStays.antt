@@ -51,7 +51,7 @@ module _ (floor : List PlainLocal) where
   pub begun_above : (ls : List PlainLocal) → AllUnder floor ls → Above (begun ls)
   begun_above ls under = record { under = under; breaks = tt }
 
-  on_above : (w : Way) (ls : List PlainLocal) → Above w → Grows w.locals ls → AllUnder floor ls → Above (on w ls)
+  pub on_above : (w : Way) (ls : List PlainLocal) → Above w → Grows w.locals ls → AllUnder floor ls → Above (on w ls)
   on_above w ls a g under = record { under = under; breaks = above_grown floor w.locals ls w.breaks g a.breaks }
 
   -- Where a value is stored
@@ -94,7 +94,7 @@ module _ (floor : List PlainLocal) where
       by true f (Some k) e (Some t) u = (u.0, λ h. absurd (true≢false (sym h ∙ forgets x k f e)))
       by false f (Some k) e (Some t) u = u
 
-  before_above : (before after : List PlainLocal) → Grows before after → AllUnder floor before → AllUnder floor (settled after (known_at before))
+  pub before_above : (before after : List PlainLocal) → Grows before after → AllUnder floor before → AllUnder floor (settled after (known_at before))
   before_above before after g under x = subst (Under (seen floor x)) (sym (known_before before after x g)) (under x)
 
   -- Statements
@@ -133,7 +133,7 @@ module _ (floor : List PlainLocal) where
       above_behind floor end.locals (meet (way true head) end.breaks) a.under
       (above_both floor (shapes end.locals) (way true head) end.breaks (above_grown floor head end.locals (way true head) g (above_here floor true head under)) a.breaks)
 
-  head_of_for : (names : List ℕ) (ls named : List PlainLocal) → Forgets floor names → Grows ls named → AllUnder floor ls → AllUnder floor (for_head names ls named)
+  pub head_of_for : (names : List ℕ) (ls named : List PlainLocal) → Forgets floor names → Grows ls named → AllUnder floor ls → AllUnder floor (for_head names ls named)
   unfolding for_head
   head_of_for names ls named forgets g under = head_above names (settled named (known_at ls)) forgets (before_above ls named g under)
 
