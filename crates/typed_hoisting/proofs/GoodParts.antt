@@ -167,13 +167,13 @@ module _ (c : Context) (leaves : Leaving) where
   settled_good : (h : Stage) (a : Hoisted PlainExpr) (at : Place) (wanted : Option PlainTy) (ty : PlainTy) → Good c leaves h a (Typed c leaves wanted ty) → Good c leaves h (settled at ty a) (Typed c leaves wanted ty)
   unfolding stmts_fit PointsPass
   settled_good h a at wanted ty g = taken_good h a at ty wanted (λ r t. FSet t r) g (λ m env stands guard is rest goal goes.
-    let n : ℕ = a.stage.next in
-    let has : HasType c leaves env a.rest ty = record { wanted = wanted; typed = rest.0; stays = rest.1 } in
-    let more : Stands m.variables (n + 1) (a.stage.locals ++ temporary n ty ∷ []) (with_local n ty ty env) = stored_stands m.variables n ty env a.stage.locals g.free stands is in (
-      (ty, has, takes m.variables n ty ty env stands.are is (assigned_itself ty) goal (goes _ more)),
-      set_guarded c leaves m.variables n a.rest ty ty env has (found_local m.variables env n ty stands.are is) m.caught (guards_at m n a.stage.locals env guard stands)
-          (guards_at m (n + 1) (a.stage.locals ++ temporary n ty ∷ []) (with_local n ty ty env) (guards_more m n a.stage.locals ty guard) more),
-    )) (λ variables free typed. tt)
+      let n : ℕ = a.stage.next in
+      let has : HasType c leaves env a.rest ty = record { wanted = wanted; typed = rest.0; stays = rest.1 } in
+      let more : Stands m.variables (n + 1) (a.stage.locals ++ temporary n ty ∷ []) (with_local n ty ty env) = stored_stands m.variables n ty env a.stage.locals g.free stands is in (
+        (ty, has, takes m.variables n ty ty env stands.are is (assigned_itself ty) goal (goes _ more)),
+        set_guarded c leaves m.variables n a.rest ty ty env has (found_local m.variables env n ty stands.are is) m.caught (guards_at m n a.stage.locals env guard stands)
+            (guards_at m (n + 1) (a.stage.locals ++ temporary n ty ∷ []) (with_local n ty ty env) (guards_more m n a.stage.locals ty guard) more),
+      )) (λ variables free typed. tt)
 
   pub settled_unless_good : (lasting : Bool) (h : Stage) (a : Hoisted PlainExpr) (at : Place) (wanted : Option PlainTy) (s ty : PlainTy) → s ≡ ty → Good c leaves h a (Typed c leaves wanted ty) → Good c leaves h (settled_unless lasting at s a) (Typed c leaves wanted ty)
   settled_unless_good true h a at wanted s ty e g = g

@@ -1,23 +1,23 @@
 -- Points where clauses around begin are supplied throughout an item, where they are wherever as much is known as before it.
-use Rattle.std.proofs.Common.{◌≡◌, ◌≤◌, ◌+◌, arith, ℕ, true, Option, Some, Ok, List, [], ◌∷◌, ◌++◌, sym, ap, subst}
+use Rattle.std.proofs.Common.{◌≤◌, ◌+◌, arith, ℕ, Option, List, [], ◌∷◌, ◌++◌, ap, subst}
 use Rattle.std.specs.Prelude.{is_some}
 use Rattle.py_tree.specs.PlainTypes.{PlainTy}
 use Rattle.py_tree.specs.PlainExpressions.{PlainExpr}
 use Rattle.py_tree.specs.FlowEnvironment.{PlainLocal, narrowed}
-use Rattle.py_tree.specs.Flow.{Context, type_at, with_local}
+use Rattle.py_tree.specs.Flow.{Context, with_local}
 use Rattle.call_graph.specs.SuspendingCode.{Leaving}
 use Rattle.block_code.specs.PlainVars.{PlainVar}
-use Rattle.block_code.specs.PlainBlocks.{PlainItem, IMark, ISet, IPut, IGive, IFail}
+use Rattle.block_code.specs.PlainBlocks.{IMark, ISet, IPut, IGive, IFail}
 use Rattle.block_code.specs.GraphFits.{HasType, AtEachItem}
 use Rattle.flat_tree.specs.PlainFlat.{Point}
 use Rattle.flat_types.specs.FlatTypes.{Supplies, Guarded}
 use Rattle.flat_types.proofs.NoneAlike.{known_alike}
 use Rattle.hoisting.specs.Stages.{temporary}
-use Rattle.typed_hoisting.specs.KnownLocals.{seen, Alike, Stands, AtLeast}
+use Rattle.typed_hoisting.specs.KnownLocals.{seen, Alike, Stands}
 use Rattle.typed_hoisting.specs.TypedHoisting.{Around, SuppliesAll, GuardsHold}
 use Rattle.typed_hoisting.proofs.LocalLaws.{kept_then_under}
 use Rattle.typed_hoisting.proofs.EnvironmentLaws.{as_least, forgotten_least, more_alike}
-use Rattle.typed_hoisting.proofs.PointLaws.{IsVariable, Found, found_local}
+use Rattle.typed_hoisting.proofs.PointLaws.{Found}
 
 -- Wherever as much is known
 

@@ -1,10 +1,10 @@
 -- What is known before statements that assign nothing of it is known at each point within them too, so whatever is so where that is known is
 -- so at each of those points.
-use Rattle.std.proofs.Common.{◌≡◌, ℕ, Bool, true, false, cond, Ok, List, [], ◌∷◌, refl, sym, ap, ◌∙◌, subst}
+use Rattle.std.proofs.Common.{◌≡◌, ℕ, true, false, cond, List, [], ◌∷◌, refl, sym, ap, ◌∙◌, subst}
 use Rattle.py_tree.specs.PlainStatements.{PlainStmt, PPass, PBreak, PContinue, PDo, PReturn, PRaise, PAssert, PAssign, PAugment, PIf, PWhile, PFor, PlainStmts, PNoStmt, PStmt, PArm, PlainArms, PNoArm, PMoreArms}
 use Rattle.py_tree.specs.FlowEnvironment.{PlainLocal, shown, narrowed}
 use Rattle.py_tree.specs.Reachability.{goes_on, assigns, assigned_in, assigned_in_arms}
-use Rattle.py_tree.specs.Flow.{Context, Way, on, begun, within_loop, known_at, settled, with_local, at_head, for_head, named_at, flow, flow_all}
+use Rattle.py_tree.specs.Flow.{Context, Way, on, begun, within_loop, known_at, settled, with_local, at_head, for_head, named_at}
 use Rattle.program_meaning.proofs.LocalShapes.{shapes, Grows, alike_grows, local_grows, shapes_narrowed, shapes_settled, shapes_at_head}
 use Rattle.program_meaning.proofs.FlowParts.{stored_ok}
 use Rattle.program_meaning.proofs.FlowGrows.{for_shapes}
