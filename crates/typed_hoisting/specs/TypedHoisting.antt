@@ -1,8 +1,9 @@
 -- Hoisted expressions that keep the rules on types.
 --
 -- What runs before an expression keeps the rules wherever all variables of the method have their types beforehand, the temporaries
--- that it makes too; and what is left of the expression has the expression's type behind that. Where a test holds, and where it
--- doesn't, at least as much is known as the test shows.
+-- that it makes too, and whatever clauses are around, if wherever as much is known a failure may go on at each of them; and what is
+-- left of the expression has the expression's type behind that. Where a test holds, and where it doesn't, at least as much is known
+-- as the test shows.
 use Rattle.std.specs.Prelude.{◌≡◌, ◌≤◌, ◌+◌, ⊤, ℕ, Bool, true, false, List, [], ◌∷◌, find, Some, None, Ok}
 use Rattle.std.specs.declared.option.Option.{Option}
 use Rattle.py_tree.specs.PlainTypes.{PlainTy, TBool}
