@@ -24,6 +24,7 @@ use Rattle.typed_hoisting.proofs.PointLaws.{IsVariable, supplies, stands_behind}
 use Rattle.method_splitter.specs.Points.{PointsPass}
 use Rattle.typed_hoisting.proofs.PassingPoints.{point_passes}
 use Rattle.typed_hoisting.proofs.StoredLaws.{takes, stored_stands}
+use Rattle.typed_hoisting.proofs.GuardedItems.{guards_at, none_guarded}
 use Rattle.typed_hoisting.proofs.GoodParts.{up, still_good, built_good, turn_good, taken_good, kept_good}
 use Rattle.typed_hoisting.proofs.TypedLists.{TypedEach, SuitParams, ArgumentTypes, each_stay_typed, as_many, params_as_many, from_arguments, to_arguments}
 use Rattle.typed_hoisting.proofs.TypedKinds.{CalleeStands, callee_stands, call_typed}
@@ -122,7 +123,7 @@ module _ (c : Context) (leaves : Leaving) (limit : ℕ) where
       (call_typed c leaves there wanted at name name_at class sig ts a.rest.0 a.rest.1 found x.0.0 x.1.0 suit, call_stays at a.rest.0 name name_at a.rest.1 x.0.1 x.1.1 (stays refl)))
   call_good true h at name name_at wanted class sig ts a found suit stays g =
       let s : CalleeStands c class name sig = callee_stands c class name sig found in
-      taken_good c leaves h a at sig.result wanted (λ r t. FCall r.0 (callee_of c (TEntity class) name) r.1 t (surely (with_temporary sig.result a.stage).locals)) g (λ m env stands is x goal goes.
+      taken_good c leaves h a at sig.result wanted (λ r t. FCall r.0 (callee_of c (TEntity class) name) r.1 t (surely (with_temporary sig.result a.stage).locals)) g (λ m env stands guard is x goal goes.
       let behind = stored_behind m a.stage.next a.stage.locals sig.result env g.free stands is goal goes in (
         record {
           table = s.table;
@@ -134,7 +135,7 @@ module _ (c : Context) (leaves : Leaving) (limit : ℕ) where
           takes = behind.0;
         },
         behind.1,
-        tt,
+        none_guarded c m.caught env (guards_at m a.stage.next a.stage.locals env guard stands),
       )) (λ variables free typed. point_passes variables (a.stage.locals ++ temporary a.stage.next sig.result ∷ []) free.once typed)
 
   -- a receiver that is `self` stays

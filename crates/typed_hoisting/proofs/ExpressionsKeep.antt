@@ -250,11 +250,11 @@ own_by_marks names program marks class on name h = not_false (is_self on) (eithe
 pub expressions_keep_the_rules : ExpressionsKeepTheRules
 expressions_keep_the_rules names program marks class c limit e named = each_expression_keeps c (leaving names program marks class) (own_by_marks names program marks class) limit e named
 
--- Where there is no loop around
+-- Where there is neither a loop nor a clause around
 
 module _ (c : Context) (leaves : Leaving) (limit : ℕ) (e : PlainExpr) (both : Forms) (good : GoodForms c leaves limit e both) where
   abbrev outside : List PlainVar → Around
-  outside variables = record { variables = variables; breaks = Nowhere; continues = Nowhere }
+  outside variables = record { variables = variables; caught = []; breaks = Nowhere; continues = Nowhere }
 
   value_fits : (wanted : Option PlainTy) (h : Stage) (ty : PlainTy) → limit ≤ h.next → Free h.next h.locals → type_at c h.locals wanted e ≡ Ok ty → ValueFits c leaves h (both.value wanted h) ty
   value_fits wanted h ty below free is =
@@ -264,7 +264,7 @@ module _ (c : Context) (leaves : Leaving) (limit : ℕ) (e : PlainExpr) (both : 
         made = g.made;
         numbered = g.numbered;
         points = g.points;
-        fits = λ variables among env stands. g.before (outside variables) among env stands (IsTyped c leaves a.rest ty) (λ after there. record { wanted = wanted; typed = (g.rest after there.alike).0; stays = (g.rest after there.alike).1 });
+        fits = λ variables among env stands. g.before (outside variables) among env stands (λ env least. tt) (IsTyped c leaves a.rest ty) (λ after there. record { wanted = wanted; typed = (g.rest after there.alike).0; stays = (g.rest after there.alike).1 });
       }
 
   test_fits_so : (h : Stage) → limit ≤ h.next → Free h.next h.locals → type_at c h.locals None e ≡ Ok TBool → TestFits c leaves h (both.test h) (narrowed (shown true e) h.locals) (narrowed (shown false e) h.locals)
@@ -274,7 +274,7 @@ module _ (c : Context) (leaves : Leaving) (limit : ℕ) (e : PlainExpr) (both : 
         made = g.made;
         numbered = g.numbered;
         points = g.points;
-        fits = λ variables among env stands. g.sides (outside variables) among env stands (Supplies (surely (narrowed (shown true e) h.locals))) (Supplies (surely (narrowed (shown false e) h.locals)))
+        fits = λ variables among env stands. g.sides (outside variables) among env stands (λ env least. tt) (Supplies (surely (narrowed (shown true e) h.locals))) (Supplies (surely (narrowed (shown false e) h.locals)))
             (λ after least. supplies variables h.next (narrowed (shown true e) h.locals) after (free_narrowed h.next h.next (shown true e) h.locals (omega arith) free) least)
             (λ after least. supplies variables h.next (narrowed (shown false e) h.locals) after (free_narrowed h.next h.next (shown false e) h.locals (omega arith) free) least);
       }

@@ -8,23 +8,24 @@ use Rattle.py_tree.specs.PlainTypes.{PlainTy, TBool}
 use Rattle.py_tree.specs.PlainExpressions.{PlainExpr, PVar}
 use Rattle.py_tree.specs.Bounded.{ExprNames}
 use Rattle.py_tree.specs.FlowEnvironment.{PlainLocal, local_of, has_name, shown, narrowed}
-use Rattle.py_tree.specs.Flow.{Context, type_at}
+use Rattle.py_tree.specs.Flow.{Context, type_at, with_local}
 use Rattle.call_graph.specs.SuspendingCode.{Leaving, expr_suspends}
 use Rattle.block_code.specs.PlainVars.{PlainVar}
-use Rattle.block_code.specs.GraphFits.{Asked, is_var}
+use Rattle.block_code.specs.GraphFits.{Asked, HasType, is_var}
 use Rattle.flat_tree.specs.PlainFlat.{PlainFlatStmt, FSet, FNoStmt}
 use Rattle.method_splitter.specs.Points.{PointsPass}
 use Rattle.flat_types.specs.FlatTypes.{is_point, TestedFits, stmt_fits, stmts_fit, test_fits}
 use Rattle.hoisting.specs.Stages.{Stage, temporary}
 use Rattle.hoisting.specs.HoistExpressions.{Hoisted, Forms, still, built, in_turn, taken_into, settled, settled_unless, kept, leaf, by_value, forms_if}
 use Rattle.typed_hoisting.specs.KnownLocals.{Alike, Free, Stands}
-use Rattle.typed_hoisting.specs.TypedHoisting.{Numbered, AreAmong, AreTyped, Adds, Around, code_fits, asked_of, Typed, Good, GoodTest, GoodForms}
+use Rattle.typed_hoisting.specs.TypedHoisting.{Numbered, AreAmong, AreTyped, Adds, Around, GuardsHold, code_fits, asked_of, Typed, Good, GoodTest, GoodForms}
 use Rattle.typed_hoisting.proofs.LocalLaws.{or_else, one_more}
 use Rattle.typed_hoisting.proofs.Assignable.{assigned_itself}
 use Rattle.typed_hoisting.proofs.EnvironmentLaws.{alike_itself, alike_on, kept_at, more_alike, more_free, reads_temporary, narrowed_least}
-use Rattle.typed_hoisting.proofs.PointLaws.{IsVariable}
+use Rattle.typed_hoisting.proofs.PointLaws.{IsVariable, found_local}
 use Rattle.typed_hoisting.proofs.PassingPoints.{passes_both}
 use Rattle.typed_hoisting.proofs.StoredLaws.{takes, stored_stands}
+use Rattle.typed_hoisting.proofs.GuardedItems.{guards_on, guards_more, guards_at, none_guarded, set_guarded}
 
 -- Temporaries
 
@@ -85,7 +86,7 @@ module _ (c : Context) (leaves : Leaving) where
   pub code_both : (m : Around) (xs ys : List PlainFlatStmt) (goal : Asked) → code_fits c leaves m (xs ++ ys) goal ≡ code_fits c leaves m xs (code_fits c leaves m ys goal)
   unfolding stmts_fit
   code_both m [] ys goal = refl
-  code_both m (x ∷ xs) ys goal = ap (stmt_fits c leaves m.variables [] m.breaks m.continues x) (code_both m xs ys goal)
+  code_both m (x ∷ xs) ys goal = ap (stmt_fits c leaves m.variables m.caught m.breaks m.continues x) (code_both m xs ys goal)
 
   pub code_then : (m : Around) (xs ys : List PlainFlatStmt) (goal : Asked) (env : List PlainLocal) → code_fits c leaves m xs (code_fits c leaves m ys goal) env → code_fits c leaves m (xs ++ ys) goal env
   code_then m xs ys goal env h = subst (λ (f : Asked). f env) (sym (code_both m xs ys goal)) h
@@ -96,7 +97,7 @@ module _ (c : Context) (leaves : Leaving) where
   -- what stays
   pub still_good : {R : Type 0} (h : Stage) (e : R) (Rest : List PlainLocal → R → Type 0) → Free h.next h.locals → ((there : List PlainLocal) → Alike h.next h.locals there → Rest there e) → Good c leaves h (still e h) Rest
   unfolding stmts_fit PointsPass
-  still_good h e Rest free rest = record { made = []; numbered = refl; free = free; adds = adds_nothing h.locals; alike = alike_itself h.next h.locals; rest = rest; before = λ m among env stands goal goes. goes env stands; points = λ variables among typed. tt }
+  still_good h e Rest free rest = record { made = []; numbered = refl; free = free; adds = adds_nothing h.locals; alike = alike_itself h.next h.locals; rest = rest; before = λ m among env stands guard goal goes. goes env stands; points = λ variables among typed. tt }
 
   -- something is made of what is left
   pub built_good : {R S : Type 0} (h : Stage) (a : Hoisted R) (f : R → S) {RA : List PlainLocal → R → Type 0} (RB : List PlainLocal → S → Type 0) → Good c leaves h a RA → ((there : List PlainLocal) → RA there a.rest → RB there (f a.rest)) → Good c leaves h (built f a) RB
@@ -115,10 +116,10 @@ module _ (c : Context) (leaves : Leaving) where
         adds = adds_on ga.made gb.made h.locals a.stage.locals locals ga.adds gb.adds;
         alike = alike_on h.next a.stage.next h.locals a.stage.locals locals (up h a ga) ga.alike gb.alike;
         rest = λ there alike. both there (ga.rest there (alike_on a.stage.next next a.stage.locals locals there (up a.stage (b a.stage) gb) gb.alike alike)) (gb.rest there alike);
-        before = λ m among env stands goal goes.
+        before = λ m among env stands guard goal goes.
             code_then m a.before (b a.stage).before goal env
-            (ga.before m (among_first m.variables ga.made gb.made among) env stands (code_fits c leaves m (b a.stage).before goal)
-            (λ after there. gb.before m (among_rest m.variables ga.made gb.made among) after there goal goes));
+            (ga.before m (among_first m.variables ga.made gb.made among) env stands guard (code_fits c leaves m (b a.stage).before goal)
+            (λ after there. gb.before m (among_rest m.variables ga.made gb.made among) after there (guards_on m h.next a.stage.next h.locals a.stage.locals (up h a ga) ga.alike guard) goal goes));
         points = λ variables among typed.
             let first : AreAmong variables ga.made = among_first variables ga.made gb.made among in
             passes_both variables a.before (b a.stage).before (ga.points variables first typed) (gb.points variables (among_rest variables ga.made gb.made among) (ga.adds.only variables first typed));
@@ -133,8 +134,8 @@ module _ (c : Context) (leaves : Leaving) where
   -- a statement keeps the rules that puts a value of this type into the next temporary
   abbrev pub PutsNext : {R : Type 0} → PlainTy → Hoisted R → PlainFlatStmt → (List PlainLocal → R → Type 0) → Type 1
   PutsNext ty a x RA =
-      (m : Around) (env : List PlainLocal) → Stands m.variables a.stage.next a.stage.locals env → IsVariable m.variables a.stage.next ty → RA env a.rest
-      → (goal : Asked) → ((after : List PlainLocal) → Stands m.variables (a.stage.next + 1) (a.stage.locals ++ temporary a.stage.next ty ∷ []) after → goal after) → stmt_fits c leaves m.variables [] m.breaks m.continues x goal env
+      (m : Around) (env : List PlainLocal) → Stands m.variables a.stage.next a.stage.locals env → GuardsHold m a.stage.next a.stage.locals → IsVariable m.variables a.stage.next ty → RA env a.rest
+      → (goal : Asked) → ((after : List PlainLocal) → Stands m.variables (a.stage.next + 1) (a.stage.locals ++ temporary a.stage.next ty ∷ []) after → goal after) → stmt_fits c leaves m.variables m.caught m.breaks m.continues x goal env
 
   -- its point names variables, if the next temporary is one
   abbrev pub PassesNext : {R : Type 0} → PlainTy → Hoisted R → PlainFlatStmt → Type 0
@@ -153,10 +154,10 @@ module _ (c : Context) (leaves : Leaving) where
         adds = adds_on g.made last h.locals a.stage.locals (a.stage.locals ++ temporary n ty ∷ []) g.adds (adds_temporary n ty a.stage.locals);
         alike = alike_on h.next n h.locals a.stage.locals (a.stage.locals ++ temporary n ty ∷ []) (up h a g) g.alike (more_alike n a.stage.locals ty);
         rest = λ there alike. (reads_temporary n a.stage.locals ty g.free c there wanted at alike, variable_stays at n);
-        before = λ m among env stands goal goes.
+        before = λ m among env stands guard goal goes.
             code_then m a.before (f a.rest n ∷ []) goal env
-            (g.before m (among_first m.variables g.made last among) env stands (code_fits c leaves m (f a.rest n ∷ []) goal)
-            (λ after there. puts m after there (among_rest m.variables g.made last among).0 (g.rest after there.alike) (stmts_fit c leaves m.variables [] m.breaks m.continues FNoStmt goal) goes));
+            (g.before m (among_first m.variables g.made last among) env stands guard (code_fits c leaves m (f a.rest n ∷ []) goal)
+            (λ after there. puts m after there (guards_on m h.next n h.locals a.stage.locals (up h a g) g.alike guard) (among_rest m.variables g.made last among).0 (g.rest after there.alike) (stmts_fit c leaves m.variables m.caught m.breaks m.continues FNoStmt goal) goes));
         points = λ variables among typed.
             let first : AreAmong variables g.made = among_first variables g.made last among in
             passes_both variables a.before (f a.rest n ∷ []) (g.points variables first typed)
@@ -165,14 +166,14 @@ module _ (c : Context) (leaves : Leaving) where
 
   settled_good : (h : Stage) (a : Hoisted PlainExpr) (at : Place) (wanted : Option PlainTy) (ty : PlainTy) → Good c leaves h a (Typed c leaves wanted ty) → Good c leaves h (settled at ty a) (Typed c leaves wanted ty)
   unfolding stmts_fit PointsPass
-  settled_good h a at wanted ty g = taken_good h a at ty wanted (λ r t. FSet t r) g (λ m env stands is rest goal goes. (
-    (
-      ty,
-      record { wanted = wanted; typed = rest.0; stays = rest.1 },
-      takes m.variables a.stage.next ty ty env stands.are is (assigned_itself ty) goal (goes _ (stored_stands m.variables a.stage.next ty env a.stage.locals g.free stands is)),
-    ),
-    tt,
-  )) (λ variables free typed. tt)
+  settled_good h a at wanted ty g = taken_good h a at ty wanted (λ r t. FSet t r) g (λ m env stands guard is rest goal goes.
+      let n : ℕ = a.stage.next in
+      let has : HasType c leaves env a.rest ty = record { wanted = wanted; typed = rest.0; stays = rest.1 } in
+      let more : Stands m.variables (n + 1) (a.stage.locals ++ temporary n ty ∷ []) (with_local n ty ty env) = stored_stands m.variables n ty env a.stage.locals g.free stands is in (
+        (ty, has, takes m.variables n ty ty env stands.are is (assigned_itself ty) goal (goes _ more)),
+        set_guarded c leaves m.variables n a.rest ty ty env has (found_local m.variables env n ty stands.are is) m.caught (guards_at m n a.stage.locals env guard stands)
+            (guards_at m (n + 1) (a.stage.locals ++ temporary n ty ∷ []) (with_local n ty ty env) (guards_more m n a.stage.locals ty guard) more),
+      )) (λ variables free typed. tt)
 
   pub settled_unless_good : (lasting : Bool) (h : Stage) (a : Hoisted PlainExpr) (at : Place) (wanted : Option PlainTy) (s ty : PlainTy) → s ≡ ty → Good c leaves h a (Typed c leaves wanted ty) → Good c leaves h (settled_unless lasting at s a) (Typed c leaves wanted ty)
   settled_unless_good true h a at wanted s ty e g = g
@@ -195,13 +196,13 @@ module _ (c : Context) (leaves : Leaving) where
     points = g.points;
     made = g.made;
     numbered = g.numbered;
-    sides = λ m among env stands yes' no' holds fails. g.before m among env stands (TestedFits c leaves [] a.rest yes' no') (λ after there. (
+    sides = λ m among env stands guard yes' no' holds fails. g.before m among env stands guard (TestedFits c leaves m.caught a.rest yes' no') (λ after there. (
       (
         record { wanted = None; typed = (g.rest after there.alike).0; stays = (g.rest after there.alike).1 },
         holds _ (narrowed_least m.variables h.next a.stage.next (shown true e) (shown true a.rest) h.locals a.stage.locals after (up h a g) (shows true) g.alike there),
         fails _ (narrowed_least m.variables h.next a.stage.next (shown false e) (shown false a.rest) h.locals a.stage.locals after (up h a g) (shows false) g.alike there),
       ),
-      tt,
+      none_guarded c m.caught after (guards_at m a.stage.next a.stage.locals after (guards_on m h.next a.stage.next h.locals a.stage.locals (up h a g) g.alike guard) there),
     ));
   }
 

@@ -8,26 +8,27 @@ use Rattle.py_tree.specs.ExpressionTypes.{assignable, type_of}
 use Rattle.py_tree.specs.Flow.{Context, with_local}
 use Rattle.call_graph.specs.SuspendingCode.{Leaving, expr_suspends}
 use Rattle.block_code.specs.PlainVars.{PlainVar}
-use Rattle.block_code.specs.GraphFits.{Asked, at_start}
+use Rattle.block_code.specs.GraphFits.{Asked, HasType, at_start}
 use Rattle.flat_tree.specs.PlainFlat.{FSet, PlainFlatTest, FNot, FAnd, FOr, FOperand, PlainOperands, FNoOperand, FMoreOperands, FNoStmt}
 use Rattle.method_splitter.specs.Points.{PointsPass, PointsPassInOperands}
 use Rattle.flat_types.specs.FlatTypes.{is_point, Supplies, Behind, stmts_fit, test_fits, each_fits}
 use Rattle.hoisting.specs.Stages.{Stage, surely, temporary, where_shown}
 use Rattle.hoisting.specs.HoistExpressions.{Hoisted, Tested, still, chosen, truth_of, made_of}
 use Rattle.typed_hoisting.specs.KnownLocals.{Free, Stands, AtLeast}
-use Rattle.typed_hoisting.specs.TypedHoisting.{AreAmong, AreTyped, Around, AskedOfTest, code_fits, asked_of, Typed, Good, GoodTest}
+use Rattle.typed_hoisting.specs.TypedHoisting.{AreAmong, AreTyped, Around, GuardsHold, AskedOfTest, code_fits, asked_of, Typed, Good, GoodTest}
 use Rattle.typed_hoisting.proofs.Assignable.{assigned_itself}
 use Rattle.typed_hoisting.proofs.EnvironmentLaws.{alike_itself, alike_on, more_alike, more_free, free_later, free_narrowed, reads_temporary, as_least, narrowed_least, forgotten_least, joined_least, unnarrowed_least, least_behind}
-use Rattle.typed_hoisting.proofs.PointLaws.{IsVariable, supplies, stands_behind}
+use Rattle.typed_hoisting.proofs.PointLaws.{IsVariable, found_local, supplies, stands_behind}
 use Rattle.typed_hoisting.proofs.PassingPoints.{point_passes, typed_narrowed, passes_both}
 use Rattle.typed_hoisting.proofs.StoredLaws.{takes, stored_least}
+use Rattle.typed_hoisting.proofs.GuardedItems.{guards_on, guards_narrowed, guards_more, set_guarded}
 use Rattle.typed_hoisting.proofs.GoodParts.{made_var, numbered_up, numbered_both, one_numbered, among_first, among_rest, adds_behind, adds_temporary, code_then, still_good, variable_stays}
 
 module _ (c : Context) (leaves : Leaving) where
   -- what is asked of operands
   abbrev pub asked_of_each : Bool → PlainOperands → AskedOfTest
   asked_of_each truth operands = record {
-    fits = λ m holds fails locals. each_fits c leaves m.variables truth [] m.breaks m.continues operands holds fails locals;
+    fits = λ m holds fails locals. each_fits c leaves m.variables truth m.caught m.breaks m.continues operands holds fails locals;
     passes = λ variables. PointsPassInOperands (is_point variables) operands;
   }
 
@@ -45,15 +46,15 @@ module _ (c : Context) (leaves : Leaving) where
   pub not_test : (h : Stage) (at : Place) (a : PlainExpr) (t : Tested PlainFlatTest) → GoodTest c leaves h (asked_of c leaves t.test) t.next (narrowed (shown true a) h.locals) (narrowed (shown false a) h.locals)
       → GoodTest c leaves h (asked_of c leaves (made_of FNot t).test) t.next (narrowed (shown true (PNot at a)) h.locals) (narrowed (shown false (PNot at a)) h.locals)
   unfolding test_fits shown PointsPass
-  not_test h at a t g = record { points = g.points; made = g.made; numbered = g.numbered; sides = λ m among env stands yes' no' holds fails. g.sides m among env stands no' yes' fails holds }
+  not_test h at a t g = record { points = g.points; made = g.made; numbered = g.numbered; sides = λ m among env stands guard yes' no' holds fails. g.sides m among env stands guard no' yes' fails holds }
 
   pub no_and : (h : Stage) → GoodTest c leaves h (asked_of_each true FNoOperand) h.next (narrowed (shown_by_each true PNoExpr) h.locals) h.locals
   unfolding each_fits shown PointsPass
-  no_and h = record { points = λ variables among typed. tt; made = []; numbered = refl; sides = λ m among env stands yes' no' holds fails. holds env (unnarrowed_least m.variables h.next h.locals env (as_least m.variables h.next h.locals env stands)) }
+  no_and h = record { points = λ variables among typed. tt; made = []; numbered = refl; sides = λ m among env stands guard yes' no' holds fails. holds env (unnarrowed_least m.variables h.next h.locals env (as_least m.variables h.next h.locals env stands)) }
 
   pub no_or : (h : Stage) → GoodTest c leaves h (asked_of_each false FNoOperand) h.next h.locals (narrowed (shown_by_each false PNoExpr) h.locals)
   unfolding each_fits shown PointsPass
-  no_or h = record { points = λ variables among typed. tt; made = []; numbered = refl; sides = λ m among env stands yes' no' holds fails. fails env (unnarrowed_least m.variables h.next h.locals env (as_least m.variables h.next h.locals env stands)) }
+  no_or h = record { points = λ variables among typed. tt; made = []; numbered = refl; sides = λ m among env stands guard yes' no' holds fails. fails env (unnarrowed_least m.variables h.next h.locals env (as_least m.variables h.next h.locals env stands)) }
 
   module _ (h : Stage) (free : Free h.next h.locals) (names others later : List ℕ) (t : PlainFlatTest) (mid : ℕ) (operands : PlainOperands) (next : ℕ) where
     abbrev there : Stage
@@ -73,11 +74,11 @@ module _ (c : Context) (leaves : Leaving) where
       );
       made = a.made ++ b.made;
       numbered = numbered_both h.next a.made b.made mid next a.numbered b.numbered;
-      sides = λ m among env stands yes' no' holds fails. (
-        a.sides m (among_first m.variables a.made b.made among) env stands (Supplies (surely (narrowed names h.locals))) no'
+      sides = λ m among env stands guard yes' no' holds fails. (
+        a.sides m (among_first m.variables a.made b.made among) env stands guard (Supplies (surely (narrowed names h.locals))) no'
             (λ after least. narrowed_supplies m h names after free least)
             (λ after least. fails after (forgotten_least m.variables h.next h.next others h.locals after (omega arith) least)),
-        b.sides m (among_rest m.variables a.made b.made among) (at_start m.variables (surely (narrowed names h.locals))) (narrowed_behind m h names env free stands mid) yes' no'
+        b.sides m (among_rest m.variables a.made b.made among) (at_start m.variables (surely (narrowed names h.locals))) (narrowed_behind m h names env free stands mid) (guards_narrowed m h.next mid names h.locals (numbered_up h.next a.made mid a.numbered) guard) yes' no'
             (λ after least. holds after (joined_least m.variables h.next mid names later h.locals after (numbered_up h.next a.made mid a.numbered) least))
             (λ after least. fails after (forgotten_least m.variables h.next mid names h.locals after (numbered_up h.next a.made mid a.numbered) least)),
       );
@@ -94,11 +95,11 @@ module _ (c : Context) (leaves : Leaving) where
       );
       made = a.made ++ b.made;
       numbered = numbered_both h.next a.made b.made mid next a.numbered b.numbered;
-      sides = λ m among env stands yes' no' holds fails. (
-        a.sides m (among_first m.variables a.made b.made among) env stands yes' (Supplies (surely (narrowed names h.locals)))
+      sides = λ m among env stands guard yes' no' holds fails. (
+        a.sides m (among_first m.variables a.made b.made among) env stands guard yes' (Supplies (surely (narrowed names h.locals)))
             (λ after least. holds after (forgotten_least m.variables h.next h.next others h.locals after (omega arith) least))
             (λ after least. narrowed_supplies m h names after free least),
-        b.sides m (among_rest m.variables a.made b.made among) (at_start m.variables (surely (narrowed names h.locals))) (narrowed_behind m h names env free stands mid) yes' no'
+        b.sides m (among_rest m.variables a.made b.made among) (at_start m.variables (surely (narrowed names h.locals))) (narrowed_behind m h names env free stands mid) (guards_narrowed m h.next mid names h.locals (numbered_up h.next a.made mid a.numbered) guard) yes' no'
             (λ after least. holds after (forgotten_least m.variables h.next mid names h.locals after (numbered_up h.next a.made mid a.numbered) least))
             (λ after least. fails after (joined_least m.variables h.next mid names later h.locals after (numbered_up h.next a.made mid a.numbered) least)),
       );
@@ -126,7 +127,7 @@ module _ (c : Context) (leaves : Leaving) where
     points = g.points;
     made = g.made;
     numbered = g.numbered;
-    sides = λ m among env stands yes' no' holds fails. g.sides m among env stands yes' no' holds (λ after least. fails after (unnarrowed_least m.variables h.next h.locals after least));
+    sides = λ m among env stands guard yes' no' holds fails. g.sides m among env stands guard yes' no' holds (λ after least. fails after (unnarrowed_least m.variables h.next h.locals after least));
   }
 
   pub or_test : (h : Stage) (at : Place) (items : PlainExprs) (t : Tested PlainOperands) → GoodTest c leaves h (asked_of_each false t.test) t.next h.locals (narrowed (shown_by_each false items) h.locals)
@@ -136,32 +137,35 @@ module _ (c : Context) (leaves : Leaving) where
     points = g.points;
     made = g.made;
     numbered = g.numbered;
-    sides = λ m among env stands yes' no' holds fails. g.sides m among env stands yes' no' (λ after least. holds after (unnarrowed_least m.variables h.next h.locals after least)) fails;
+    sides = λ m among env stands guard yes' no' holds fails. g.sides m among env stands guard yes' no' (λ after least. holds after (unnarrowed_least m.variables h.next h.locals after least)) fails;
   }
 
   -- One of two values
 
   -- a side that puts its value into a variable of the method
-  side_fits : (m : Around) (h : Stage) (free : Free h.next h.locals) (env : List PlainLocal) (stands : Stands m.variables h.next h.locals env) (names : List ℕ) (first : ℕ) (a : Hoisted PlainExpr) (wanted : Option PlainTy) (s ty : PlainTy) (n : ℕ) → h.next ≤ first → a.stage.next ≤ n
+  side_fits : (m : Around) (h : Stage) (free : Free h.next h.locals) (env : List PlainLocal) (stands : Stands m.variables h.next h.locals env) (guard : GuardsHold m h.next h.locals) (names : List ℕ) (first : ℕ) (a : Hoisted PlainExpr) (wanted : Option PlainTy) (s ty : PlainTy) (n : ℕ) → h.next ≤ first → a.stage.next ≤ n
       → (g : Good c leaves (record { locals = narrowed names h.locals; next = first }) a (Typed c leaves wanted s)) → AreAmong m.variables g.made → IsVariable m.variables n ty → assignable s ty ≡ true
       → Behind m.variables (surely (narrowed names h.locals)) (code_fits c leaves m (a.before ++ FSet n a.rest ∷ []) (Supplies (surely (h.locals ++ temporary n ty ∷ []))))
   unfolding stmts_fit
-  side_fits m h free env stands names first a wanted s ty n below under g among is fit =
+  side_fits m h free env stands guard names first a wanted s ty n below under g among is fit =
       let start : List PlainLocal = at_start m.variables (surely (narrowed names h.locals)) in
       let point : Asked = Supplies (surely (h.locals ++ temporary n ty ∷ [])) in
       let inside : first ≤ a.stage.next = numbered_up first g.made a.stage.next g.numbered in
       let later : h.next ≤ n = omega (arith, below, under, inside) in
       code_then c leaves m a.before (FSet n a.rest ∷ []) point start
-      (g.before m among start (narrowed_behind m h names env free stands first) (code_fits c leaves m (FSet n a.rest ∷ []) point) (λ after there.
-      let least : AtLeast m.variables h.next h.locals after = least_behind m.variables h.next first a.stage.next names h.locals a.stage.locals after below inside g.alike there in (
+      (g.before m among start (narrowed_behind m h names env free stands first) (guards_narrowed m h.next first names h.locals below guard) (code_fits c leaves m (FSet n a.rest ∷ []) point) (λ after there.
+      let least : AtLeast m.variables h.next h.locals after = least_behind m.variables h.next first a.stage.next names h.locals a.stage.locals after below inside g.alike there in
+      let more : List PlainLocal = h.locals ++ temporary n ty ∷ [] in
+      let stored : AtLeast m.variables (n + 1) more (with_local n s s after) = stored_least m.variables n ty s after there.are is h.next later h.locals free least in
+      let has : HasType c leaves after a.rest s = record { wanted = wanted; typed = (g.rest after there.alike).0; stays = (g.rest after there.alike).1 } in (
         (
           s,
-          record { wanted = wanted; typed = (g.rest after there.alike).0; stays = (g.rest after there.alike).1 },
-          takes m.variables n ty s after there.are is fit (stmts_fit c leaves m.variables [] m.breaks m.continues FNoStmt point)
-              (supplies m.variables (n + 1) (h.locals ++ temporary n ty ∷ []) (with_local n s s after) (more_free n h.locals ty (free_later h.next n h.locals later free))
-              (stored_least m.variables n ty s after there.are is h.next later h.locals free least)),
+          has,
+          takes m.variables n ty s after there.are is fit (stmts_fit c leaves m.variables m.caught m.breaks m.continues FNoStmt point)
+              (supplies m.variables (n + 1) more (with_local n s s after) (more_free n h.locals ty (free_later h.next n h.locals later free)) stored),
         ),
-        tt,
+        set_guarded c leaves m.variables n a.rest s ty after has (found_local m.variables after n ty there.are is) m.caught (guard after least)
+            (guards_more m n h.locals ty (guards_on m h.next n h.locals h.locals later (alike_itself h.next h.locals) guard) (with_local n s s after) stored),
       )))
 
   pub chosen_good : (h : Stage) (free : Free h.next h.locals) (at : Place) (ty : PlainTy) (test : PlainExpr) (t : Tested PlainFlatTest) (first second : Stage → Hoisted PlainExpr) (wanted : Option PlainTy) (s u : PlainTy)
@@ -208,15 +212,15 @@ module _ (c : Context) (leaves : Leaving) where
               ),
               tt,
             );
-        before = λ m among env stands goal goes.
+        before = λ m among env stands guard goal goes.
             let rest1 : AreAmong m.variables (ga.made ++ (gb.made ++ last)) = among_rest m.variables gt.made (ga.made ++ (gb.made ++ last)) among in
             let rest2 : AreAmong m.variables (gb.made ++ last) = among_rest m.variables ga.made (gb.made ++ last) rest1 in
             let is : IsVariable m.variables n ty = (among_rest m.variables gb.made last rest2).0 in (
               (
-                gt.sides m (among_first m.variables gt.made (ga.made ++ (gb.made ++ last)) among) env stands (Supplies (surely (narrowed (shown true test) h.locals))) (Supplies (surely (narrowed (shown false test) h.locals)))
+                gt.sides m (among_first m.variables gt.made (ga.made ++ (gb.made ++ last)) among) env stands guard (Supplies (surely (narrowed (shown true test) h.locals))) (Supplies (surely (narrowed (shown false test) h.locals)))
                     (λ after least. narrowed_supplies m h (shown true test) after free least) (λ after least. narrowed_supplies m h (shown false test) after free least),
-                side_fits m h free env stands (shown true test) t.next a wanted s ty n to_test to_second ga (among_first m.variables ga.made (gb.made ++ last) rest1) is es,
-                side_fits m h free env stands (shown false test) a.stage.next b wanted u ty n (omega (arith, to_test, to_first)) (omega arith) gb (among_first m.variables gb.made last rest2) is eu,
+                side_fits m h free env stands guard (shown true test) t.next a wanted s ty n to_test to_second ga (among_first m.variables ga.made (gb.made ++ last) rest1) is es,
+                side_fits m h free env stands guard (shown false test) a.stage.next b wanted u ty n (omega (arith, to_test, to_first)) (omega arith) gb (among_first m.variables gb.made last rest2) is eu,
               ),
               goes (at_start m.variables (surely (h.locals ++ temporary n ty ∷ [])))
                   (stands_behind m.variables (n + 1) (h.locals ++ temporary n ty ∷ []) (with_local n ty ty env) (more_free n h.locals ty open')

@@ -5,6 +5,7 @@ pub mod Assignable
 pub mod PointLaws
 pub mod PassingPoints
 pub mod StoredLaws
+pub mod GuardedItems
 pub mod GoodParts
 pub mod GoodTests
 pub mod TypedLists

@@ -186,6 +186,10 @@ under_kept None q r f g = tt
 under_kept (Some s) None r f g = absurd f
 under_kept (Some s) (Some t) r f g = subst (Under (Some s)) (sym g) f
 
+pub kept_then_under : (o q r : Option Seen) → Kept o q → Under q r → Under o r
+kept_then_under None q r f g = tt
+kept_then_under (Some s) q r f g = subst (λ p. Under p r) f g
+
 pub under_itself : (o : Option Seen) → Under o o
 under_itself None = tt
 under_itself (Some s) = (refl, λ h. h)

@@ -24,6 +24,7 @@ use Rattle.typed_hoisting.specs.TypedHoisting.{Typed, Good}
 use Rattle.typed_hoisting.proofs.EnvironmentLaws.{alike_on, kept_at}
 use Rattle.method_splitter.specs.Points.{PointsPass}
 use Rattle.typed_hoisting.proofs.PassingPoints.{point_passes}
+use Rattle.typed_hoisting.proofs.GuardedItems.{guards_at, none_guarded}
 use Rattle.typed_hoisting.proofs.GoodParts.{up, built_good, turn_good, taken_good, settled_unless_good}
 use Rattle.typed_hoisting.proofs.TypedLists.{TypedEach, SuitElement, ArgumentTypes, OperandTypes, ElementTypes, as_many, params_as_many, from_arguments, to_arguments, from_each, to_each, from_elements, to_elements}
 use Rattle.typed_hoisting.proofs.TypedKinds.{FunctionTakes, function_takes, created_stands, RunTyped, no_link_typed, one_link_typed, more_links_typed, run_typed, run_stays, link_parts, last_link}
@@ -74,7 +75,7 @@ module _ (c : Context) (leaves : Leaving) (limit : ℕ) where
         let a : Hoisted PlainExprs = parts c leaves limit wants args h in
         let g : Good c leaves h a (StayTyped c leaves limit wants all.0) = parts_good c leaves limit args named good_args wants all.0 h below free all.1 in
         let whole : Good c leaves h (apply_of c true at (TEntity table.name) name a) (Typed c leaves wanted (TEntity table.name)) =
-        taken_good c leaves h a at (TEntity table.name) wanted (λ r t. FMake (created_of c name) r t (surely (with_temporary (TEntity table.name) a.stage).locals)) g (λ m env stands is x goal goes.
+        taken_good c leaves h a at (TEntity table.name) wanted (λ r t. FMake (created_of c name) r t (surely (with_temporary (TEntity table.name) a.stage).locals)) g (λ m env stands guard is x goal goes.
         let behind = stored_behind m a.stage.next a.stage.locals (TEntity table.name) env g.free stands is goal goes in (
           record {
             table = table;
@@ -83,7 +84,7 @@ module _ (c : Context) (leaves : Leaving) (limit : ℕ) where
             takes = behind.0;
           },
           behind.1,
-          tt,
+          none_guarded c m.caught env (guards_at m a.stage.next a.stage.locals env guard stands),
         )) (λ variables free typed. point_passes variables (a.stage.locals ++ temporary a.stage.next (TEntity table.name) ∷ []) free.once typed) in
         subst (λ o. Good c leaves h (apply_of c true at ty name (parts c leaves limit (by_params (init_params o)) args h)) (Typed c leaves wanted ty)) (sym p.1)
         (subst (λ t. Good c leaves h (apply_of c true at t name a) (Typed c leaves wanted t)) result whole)

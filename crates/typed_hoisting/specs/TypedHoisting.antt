@@ -1,8 +1,9 @@
 -- Hoisted expressions that keep the rules on types.
 --
 -- What runs before an expression keeps the rules wherever all variables of the method have their types beforehand, the temporaries
--- that it makes too; and what is left of the expression has the expression's type behind that. Where a test holds, and where it
--- doesn't, at least as much is known as the test shows.
+-- that it makes too, and whatever clauses are around, if wherever as much is known a failure may go on at each of them; and what is
+-- left of the expression has the expression's type behind that. Where a test holds, and where it doesn't, at least as much is known
+-- as the test shows.
 use Rattle.std.specs.Prelude.{◌≡◌, ◌≤◌, ◌+◌, ⊤, ℕ, Bool, true, false, List, [], ◌∷◌, find, Some, None, Ok}
 use Rattle.std.specs.declared.option.Option.{Option}
 use Rattle.py_tree.specs.PlainTypes.{PlainTy, TBool}
@@ -14,7 +15,7 @@ use Rattle.py_tree.specs.PlainProgram.{PlainProgram}
 use Rattle.call_graph.specs.SuspendingCode.{Leaving, leaving, expr_suspends}
 use Rattle.block_code.specs.PlainVars.{PlainVar}
 use Rattle.block_code.specs.GraphFits.{Asked, HasType, is_var}
-use Rattle.flat_tree.specs.PlainFlat.{PlainFlatStmt, PlainFlatTest, flat_stmts_of}
+use Rattle.flat_tree.specs.PlainFlat.{Point, PlainFlatStmt, PlainFlatTest, flat_stmts_of}
 use Rattle.method_splitter.specs.Points.{PointsPassInAll, PointsPassInTest}
 use Rattle.flat_types.specs.FlatTypes.{is_point, Nowhere, Supplies, stmts_fit, test_fits}
 use Rattle.hoisting.specs.Stages.{Stage, surely}
@@ -40,11 +41,21 @@ pub record Adds (made : List PlainVar) (before after : List PlainLocal) : Type 0
   pub keeps : (x : ℕ) (ty : PlainTy) → HasTy before x ty → HasTy after x ty
   pub only : (variables : List PlainVar) → AreAmong variables made → AreTyped variables before → AreTyped variables after
 
--- the variables of a method, and what is asked at a `break` and at a `continue`
+-- the variables of a method, the points where clauses around begin, and what is asked at a `break` and at a `continue`
 pub record Around : Type 1 where
   pub variables : List PlainVar
+  pub caught : List Point
   pub breaks : Asked
   pub continues : Asked
+
+-- ways lead to each of these points
+abbrev pub SuppliesAll : List Point → Asked
+SuppliesAll [] locals = ⊤
+SuppliesAll (p ∷ ps) locals = Supplies p locals × SuppliesAll ps locals
+
+-- wherever at least as much is known as here, a failure may go on at each clause around
+abbrev pub GuardsHold : Around → ℕ → List PlainLocal → Type 0
+GuardsHold m next locals = (env : List PlainLocal) → AtLeast m.variables next locals env → SuppliesAll m.caught env
 
 -- each point in code names variables of the method
 abbrev pub CodePasses : List PlainVar → List PlainFlatStmt → Type 0
@@ -57,11 +68,11 @@ pub record AskedOfTest : Type 1 where
 
 module _ (c : Context) (leaves : Leaving) where
   abbrev pub code_fits : Around → List PlainFlatStmt → Asked → Asked
-  code_fits m code goal locals = stmts_fit c leaves m.variables [] m.breaks m.continues (flat_stmts_of code) goal locals
+  code_fits m code goal locals = stmts_fit c leaves m.variables m.caught m.breaks m.continues (flat_stmts_of code) goal locals
 
   abbrev pub asked_of : PlainFlatTest → AskedOfTest
   asked_of test = record {
-    fits = λ m holds fails locals. test_fits c leaves m.variables [] m.breaks m.continues test holds fails locals;
+    fits = λ m holds fails locals. test_fits c leaves m.variables m.caught m.breaks m.continues test holds fails locals;
     passes = λ variables. PointsPassInTest (is_point variables) test;
   }
 
@@ -78,7 +89,7 @@ module _ (c : Context) (leaves : Leaving) where
     pub alike : Alike h.next h.locals a.stage.locals
     pub rest : (there : List PlainLocal) → Alike a.stage.next a.stage.locals there → Rest there a.rest
     pub before : (m : Around) → AreAmong m.variables made → (env : List PlainLocal) → Stands m.variables h.next h.locals env
-        → (goal : Asked) → ((after : List PlainLocal) → Stands m.variables a.stage.next a.stage.locals after → goal after)
+        → GuardsHold m h.next h.locals → (goal : Asked) → ((after : List PlainLocal) → Stands m.variables a.stage.next a.stage.locals after → goal after)
         → code_fits m a.before goal env
     pub points : (variables : List PlainVar) → AreAmong variables made → AreTyped variables h.locals → CodePasses variables a.before
 
@@ -87,7 +98,7 @@ module _ (c : Context) (leaves : Leaving) where
     pub made : List PlainVar
     pub numbered : Numbered h.next made next
     pub sides : (m : Around) → AreAmong m.variables made → (env : List PlainLocal) → Stands m.variables h.next h.locals env
-        → (yes no : Asked) → ((after : List PlainLocal) → AtLeast m.variables h.next holds after → yes after)
+        → GuardsHold m h.next h.locals → (yes no : Asked) → ((after : List PlainLocal) → AtLeast m.variables h.next holds after → yes after)
         → ((after : List PlainLocal) → AtLeast m.variables h.next fails after → no after)
         → fit.fits m yes no env
     pub points : (variables : List PlainVar) → AreAmong variables made → AreTyped variables h.locals → fit.passes variables
@@ -107,7 +118,7 @@ ExpressionsKeepTheRules =
     → ExprNames limit e
     → GoodForms c (leaving names program marks class) limit e (forms (leaving names program marks class) c e)
 
--- Where there is no loop around, and no more is asked than that
+-- Where there is neither a loop nor a clause around, and no more is asked than that
 
 module _ (c : Context) (leaves : Leaving) where
   abbrev pub IsTyped : PlainExpr → PlainTy → Asked

@@ -21,23 +21,27 @@ use Rattle.call_graph.specs.SuspendingCode.{Leaving, expr_suspends}
 use Rattle.program_meaning.proofs.LocalShapes.{shapes, type_in, earlier_is}
 use Rattle.program_meaning.proofs.TypedParts.{done, same_ok, found_ok, needs_ok, Joins, numbers, texts, lists}
 use Rattle.program_meaning.proofs.FlowParts.{Augments, augments_ok, put_local_ok, put_field_ok}
+use Rattle.block_code.specs.GraphFits.{HasType}
 use Rattle.method_splitter.specs.Points.{PointsPass}
 use Rattle.flat_types.specs.FlatTypes.{stmts_fit}
 use Rattle.hoisting.specs.Stages.{Stage, ty_at, found_ty}
 use Rattle.hoisting.specs.HoistExpressions.{Hoisted, still, in_turn, settled, forms}
 use Rattle.hoisting.specs.HoistStatements.{stored as store, read_of, combination, opened}
 use Rattle.typed_hoisting.specs.KnownLocals.{Free}
-use Rattle.typed_hoisting.specs.TypedHoisting.{Typed, Good}
+use Rattle.typed_hoisting.specs.TypedHoisting.{Around, GuardsHold, Typed, Good}
 use Rattle.typed_hoisting.proofs.LocalLaws.{read_seen, seen_read}
 use Rattle.typed_hoisting.proofs.Assignable.{assigned_itself}
 use Rattle.typed_hoisting.proofs.EnvironmentLaws.{kept_at}
+use Rattle.typed_hoisting.proofs.PointLaws.{found_local}
 use Rattle.typed_hoisting.proofs.StoredLaws.{takes, stored_variables}
+use Rattle.typed_hoisting.proofs.GuardedItems.{put_guarded, set_guarded}
 use Rattle.typed_hoisting.proofs.GoodParts.{up, still_good, turn_good, settled_unless_good}
 use Rattle.typed_hoisting.proofs.TypedKinds.{RunTyped, run_typed, run_stays, one_link_typed}
 use Rattle.typed_hoisting.proofs.CallsKeep.{Own}
 use Rattle.typed_methods.proofs.StoredKnown.{stored_there}
 use Rattle.typed_methods.proofs.KeptParts.{in_loop_if}
-use Rattle.typed_methods.proofs.CodeLaws.{stage, At, at_as, variable_typed, no_more, no_more_is, behind_good, marked_passes, marked_fits}
+use Rattle.typed_methods.proofs.Floors.{Floors, EachForgets, each_stored}
+use Rattle.typed_methods.proofs.CodeLaws.{stage, At, CaughtAbove, guards_above, supplied_at, at_as, variable_typed, no_more, no_more_is, behind_good, marked_passes, marked_fits}
 use Rattle.typed_methods.proofs.SimpleKeep.{EachVariable, Begins, forms_good, GoodOpened}
 
 -- What joins
@@ -110,17 +114,20 @@ module _ (c : Context) (leaves : Leaving) (own : Own leaves) (limit : ℕ) where
       let run : RunTyped c leaves s there (a.rest, PLink o op_at ((forms leaves c e).value (right_wanted o s) a.stage).rest ∷ []) = (l, one_link_typed c leaves s t there o op_at ((forms leaves c e).value (right_wanted o s) a.stage).rest (joins_combined o op_at s t joins) r) in
       (run_typed c leaves s there None at a.rest (PLink o op_at ((forms leaves c e).value (right_wanted o s) a.stage).rest ∷ []) run, run_stays c leaves s there at a.rest (PLink o op_at ((forms leaves c e).value (right_wanted o s) a.stage).rest ∷ []) run)))
 
-  module _ (looping : Bool) (floor : List PlainLocal) (w : Way) (n : ℕ) (b : Begins limit floor w n) (end : Way) where
+  module _ (looping : Bool) (floor : Floors) (w : Way) (n : ℕ) (b : Begins limit floor w n) (end : Way) where
     abbrev d : Context
     d = in_loop_if c looping
 
     abbrev here : Stage
     here = stage w n
 
-    pub augment_local : (at : Place) (x : PlacedName) (o : BinOp) (op_at : Place) (e : PlainExpr) → StmtNames limit (PAugment at (Local x) o op_at e) → EachVariable w.locals (local_assigned (Local x)) → flow d w (PAugment at (Local x) o op_at e) ≡ Ok end
+    guard : (m : Around) → CaughtAbove m floor.clauses → GuardsHold m n w.locals
+    guard m caught = guards_above m floor.clauses caught w.locals b.above.1 n b.free
+
+    pub augment_local : (at : Place) (x : PlacedName) (o : BinOp) (op_at : Place) (e : PlainExpr) → StmtNames limit (PAugment at (Local x) o op_at e) → EachVariable w.locals (local_assigned (Local x)) → EachForgets floor.clauses (local_assigned (Local x)) → flow d w (PAugment at (Local x) o op_at e) ≡ Ok end
         → GoodOpened c leaves own limit (PAugment at (Local x) o op_at e) looping floor w n end
     unfolding flow opened goes_on breaks StmtNames stmts_fit PointsPass
-    augment_local at x o op_at e named variable h =
+    augment_local at x o op_at e named variable forgets h =
         let p : (ls : List PlainLocal) × (augmentation d w.locals at (Local x) o op_at e ≡ Ok ls) × (done (on w ls) ≡ Ok end) = found_ok (augmentation d w.locals at (Local x) o op_at e) (λ ls. Ok (on w ls)) end h in
         let q : Augments d w.locals at (Local x) o op_at e p.0 = augments_ok d w.locals at (Local x) o op_at e p.0 p.1 in
         let put = put_local_ok d w.locals x q.before p.0 q.put in
@@ -133,21 +140,23 @@ module _ (c : Context) (leaves : Leaving) (own : Own leaves) (limit : ℕ) where
           numbered = g.numbered;
           points = λ variables among typed. marked_passes c leaves here a (store (Local x) a.rest) g variables among typed tt;
           fits = λ m among typed env at' ways goal goes.
-              marked_fits c leaves here a (store (Local x)) g m among env at' goal
-              (λ after stands rest.
+              marked_fits c leaves here a (store (Local x)) g m among (guard m ways.at_caught) env at' goal
+              (λ after stands rest supplied.
               let before : At m.variables w.locals after = behind_good c leaves here a m.variables after b.free g stands in
               let variable = typed x.name.0 has.0 has.1 in
               let after2 : List PlainLocal = with_local x.name.0 q.before q.before after in
               let behind : At m.variables (with_local x.name.0 q.before q.before w.locals) after2 = record {
                 are = stored_variables m.variables x.name.0 has.0 q.before after before.are variable;
                 kept = stored_there x.name.0 q.before q.before q.before w.locals after (variable_typed m.variables after x.name.0 has.0 before.are variable ∙ sym (ap (λ o. Some (unwrap_or o q.before)) has.1)) before.kept;
-              } in (
+              } in
+              let typed_rest : HasType c leaves after a.rest q.before = record { wanted = None; typed = rest.0; stays = rest.1 } in (
                 (
                   q.before,
-                  record { wanted = None; typed = rest.0; stays = rest.1 },
+                  typed_rest,
                   takes m.variables x.name.0 has.0 q.before after before.are variable has.2 (no_more c leaves m goal) (no_more_is c leaves m goal after2 (goes refl after2 (at_as m.variables _ end.locals after2 is behind))),
                 ),
-                tt,
+                set_guarded c leaves m.variables x.name.0 a.rest q.before has.0 after typed_rest (found_local m.variables after x.name.0 has.0 before.are variable) m.caught supplied
+                    (supplied_at m floor.clauses ways.at_caught (with_local x.name.0 q.before q.before w.locals) (each_stored floor.clauses x.name.0 q.before q.before w.locals forgets b.above.1) after2 behind),
               ));
         }
       where
@@ -168,12 +177,12 @@ module _ (c : Context) (leaves : Leaving) (own : Own leaves) (limit : ℕ) where
           numbered = g.numbered;
           points = λ variables among typed. marked_passes c leaves here a (store (Field f) a.rest) g variables among typed tt;
           fits = λ m among typed env at' ways goal goes.
-              marked_fits c leaves here a (store (Field f)) g m among env at' goal
-              (λ after stands rest. (
+              marked_fits c leaves here a (store (Field f)) g m among (guard m ways.at_caught) env at' goal
+              (λ after stands rest supplied. (
                 (
                   record { ty = q.before; is = field_read w.locals at f q.before q.read; fits = record { ty = q.before; has = record { wanted = None; typed = rest.0; stays = rest.1 }; suits = assigned_itself q.before } },
                   no_more_is c leaves m goal after (goes refl after (at_as m.variables w.locals end.locals after is (behind_good c leaves here a m.variables after b.free g stands))),
                 ),
-                tt,
+                put_guarded c m.caught f.name.0 a.rest after supplied,
               ));
         }

@@ -14,14 +14,16 @@ use Rattle.flat_types.specs.FlatTypes.{is_point, Supplies, stmt_fits, stmts_fit}
 use Rattle.hoisting.specs.Stages.{Stage, surely}
 use Rattle.hoisting.specs.HoistExpressions.{Hoisted}
 use Rattle.typed_hoisting.specs.KnownLocals.{HasTy, seen, Free, AreVariables, Stands}
-use Rattle.typed_hoisting.specs.TypedHoisting.{Numbered, AreAmong, AreTyped, CodePasses, Around, code_fits, Good}
+use Rattle.typed_hoisting.specs.TypedHoisting.{Numbered, AreAmong, AreTyped, CodePasses, Around, SuppliesAll, GuardsHold, code_fits, Good}
 use Rattle.typed_hoisting.proofs.LocalLaws.{kept_on, kept_narrowed}
 use Rattle.typed_hoisting.proofs.EnvironmentLaws.{variables_narrowed}
 use Rattle.typed_hoisting.proofs.PointLaws.{IsVariable, Found, found_local, point_stands, supplies}
 use Rattle.typed_hoisting.proofs.PassingPoints.{point_passes, passes_both}
-use Rattle.typed_hoisting.proofs.GoodParts.{code_then}
+use Rattle.typed_hoisting.proofs.GuardedItems.{guards_on, guards_at, mark_guarded}
+use Rattle.typed_hoisting.proofs.GoodParts.{up, code_then}
 use Rattle.typed_methods.proofs.KnownWays.{MetUnder, under_then}
-use Rattle.typed_methods.proofs.StoredKnown.{AllKept, AllUnder, TypedThere, kept_free}
+use Rattle.typed_methods.proofs.StoredKnown.{AllKept, AllUnder, TypedThere, all_under, kept_free, under_free}
+use Rattle.typed_methods.proofs.Floors.{Floors, EachUnder, each_on}
 
 abbrev pub stage : Way → ℕ → Stage
 stage w n = record { locals = w.locals; next = n }
@@ -35,16 +37,28 @@ pub record At (variables : List PlainVar) (locals env : List PlainLocal) : Type 
 abbrev pub TypedAs : List PlainVar → List PlainLocal → Type 0
 TypedAs variables locals = (x : ℕ) (t : PlainTy) → type_in (shapes locals) x ≡ Some t → IsVariable variables x t
 
--- what is asked at a `break`, if one can be reached, and in a loop at a `continue`
-pub record WaysLead (m : Around) (floor : List PlainLocal) (looping left : Bool) (w : Way) : Type 0 where
+-- wherever at least as much is known as where the clauses around begin, a failure may go on at each of them
+abbrev pub CaughtAbove : Around → List (List PlainLocal) → Type 0
+CaughtAbove m clauses = (env : List PlainLocal) → AreVariables m.variables env → EachUnder clauses env → SuppliesAll m.caught env
+
+-- what is asked at a `break`, if one can be reached, in a loop at a `continue`, and at clauses around
+pub record WaysLead (m : Around) (floor : Floors) (looping left : Bool) (w : Way) : Type 0 where
   pub at_break : left ≡ true → (env : List PlainLocal) → AreVariables m.variables env → MetUnder (shapes w.locals) w.breaks env → m.breaks env
-  pub at_continue : looping ≡ true → (env : List PlainLocal) → AreVariables m.variables env → AllUnder floor env → m.continues env
+  pub at_continue : looping ≡ true → (env : List PlainLocal) → AreVariables m.variables env → AllUnder floor.head env → m.continues env
+  pub at_caught : CaughtAbove m floor.clauses
 
 pub all_kept_on : (a b d : List PlainLocal) → AllKept a b → AllKept b d → AllKept a d
 all_kept_on a b d f g x = kept_on (seen a x) (seen b x) (seen d x) (f x) (g x)
 
 pub all_under_on : (a b d : List PlainLocal) → AllUnder a b → AllUnder b d → AllUnder a d
 all_under_on a b d f g x = under_then (seen a x) (seen b x) (seen d x) (f x) (g x)
+
+module _ (m : Around) (clauses : List (List PlainLocal)) (caught : CaughtAbove m clauses) (locals : List PlainLocal) (above : EachUnder clauses locals) where
+  pub guards_above : (k : ℕ) → Free k locals → GuardsHold m k locals
+  guards_above k free env least = caught env least.are (each_on clauses locals env above (under_free k m.variables locals env free least))
+
+  pub supplied_at : (env : List PlainLocal) → At m.variables locals env → SuppliesAll m.caught env
+  supplied_at env at = caught env at.are (each_on clauses locals env above (all_under locals env at.kept))
 
 -- Types by names and types of locals, or by the local that is found
 
@@ -99,7 +113,7 @@ module _ (variables : List PlainVar) where
 
 module _ (c : Context) (leaves : Leaving) where
   -- code keeps the rules wherever what is known at its beginning is known so, if what is asked where its ways lead is so
-  pub record GoodCode (looping : Bool) (floor : List PlainLocal) (w : Way) (n : ℕ) (code : List PlainFlatStmt) (next : ℕ) (end : Way) (goes left : Bool) : Type 1 where
+  pub record GoodCode (looping : Bool) (floor : Floors) (w : Way) (n : ℕ) (code : List PlainFlatStmt) (next : ℕ) (end : Way) (goes left : Bool) : Type 1 where
     pub made : List PlainVar
     pub numbered : Numbered n made next
     pub points : (variables : List PlainVar) → AreAmong variables made → TypedAs variables w.locals → CodePasses variables code
@@ -108,7 +122,7 @@ module _ (c : Context) (leaves : Leaving) where
 
   -- what is asked behind the last statement
   abbrev pub no_more : Around → Asked → Asked
-  no_more m goal locals = stmts_fit c leaves m.variables [] m.breaks m.continues FNoStmt goal locals
+  no_more m goal locals = stmts_fit c leaves m.variables m.caught m.breaks m.continues FNoStmt goal locals
 
   pub no_more_is : (m : Around) (goal : Asked) (env : List PlainLocal) → goal env → no_more m goal env
   unfolding stmts_fit
@@ -126,8 +140,13 @@ module _ (c : Context) (leaves : Leaving) where
   marked_passes h a x g variables among typed last = (tt, passes_both variables a.before (x ∷ []) (g.points variables among (are_typed variables h.locals typed)) (last, tt))
 
   -- a step, what runs before an expression, and a statement over what is left
-  pub marked_fits : {R : Type 0} (h : Stage) (a : Hoisted R) (f : R → PlainFlatStmt) {Rest : List PlainLocal → R → Type 0} → (g : Good c leaves h a Rest) → (m : Around) → AreAmong m.variables g.made → (env : List PlainLocal) → At m.variables h.locals env → (goal : Asked)
-      → ((after : List PlainLocal) → Stands m.variables a.stage.next a.stage.locals after → Rest after a.rest → stmt_fits c leaves m.variables [] m.breaks m.continues (f a.rest) (no_more m goal) after) → code_fits c leaves m (FMark ∷ a.before ++ f a.rest ∷ []) goal env
+  pub marked_fits : {R : Type 0} (h : Stage) (a : Hoisted R) (f : R → PlainFlatStmt) {Rest : List PlainLocal → R → Type 0} → (g : Good c leaves h a Rest) → (m : Around) → AreAmong m.variables g.made → GuardsHold m h.next h.locals → (env : List PlainLocal) → At m.variables h.locals env → (goal : Asked)
+      → ((after : List PlainLocal) → Stands m.variables a.stage.next a.stage.locals after → Rest after a.rest → SuppliesAll m.caught after → stmt_fits c leaves m.variables m.caught m.breaks m.continues (f a.rest) (no_more m goal) after) → code_fits c leaves m (FMark ∷ a.before ++ f a.rest ∷ []) goal env
   unfolding stmts_fit
-  marked_fits h a f g m among env at goal last =
-      (code_then c leaves m a.before (f a.rest ∷ []) goal env (g.before m among env (to_stands m.variables h.next h.locals env at) (code_fits c leaves m (f a.rest ∷ []) goal) (λ after there. last after there (g.rest after there.alike))), tt)
+  marked_fits h a f g m among guard env at goal last =
+      let stands : Stands m.variables h.next h.locals env = to_stands m.variables h.next h.locals env at in
+      let later : GuardsHold m a.stage.next a.stage.locals = guards_on m h.next a.stage.next h.locals a.stage.locals (up c leaves h a g) g.alike guard in (
+        code_then c leaves m a.before (f a.rest ∷ []) goal env
+            (g.before m among env stands guard (code_fits c leaves m (f a.rest ∷ []) goal) (λ after there. last after there (g.rest after there.alike) (guards_at m a.stage.next a.stage.locals after later there))),
+        mark_guarded c m.caught env (guards_at m h.next h.locals env guard stands),
+      )

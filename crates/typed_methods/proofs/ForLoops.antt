@@ -20,7 +20,7 @@ use Rattle.block_code.specs.PlainVars.{PlainVar}
 use Rattle.block_code.specs.GraphFits.{Asked, HasType, at_start}
 use Rattle.flat_tree.specs.PlainFlat.{Point, PlainFlatStmt, FSet, FWhile, FLeaf, FNoStmt, flat_stmts_of}
 use Rattle.method_splitter.specs.Points.{PointsPass}
-use Rattle.flat_types.specs.FlatTypes.{is_point, Supplies, Ends, Behind, LoopFits, stmt_fits, stmts_fit}
+use Rattle.flat_types.specs.FlatTypes.{is_point, Supplies, Ends, Behind, LoopFits, Guarded, stmt_fits, stmts_fit}
 use Rattle.flat_types.proofs.FlowStays.{EachTyped, all_stay, stmt_stays, shapes_with}
 use Rattle.hoisting.specs.Stages.{surely, locals_behind, point_behind}
 use Rattle.hoisting.specs.HoistStatements.{Flattened, flat_all, plus}
@@ -31,6 +31,7 @@ use Rattle.typed_hoisting.proofs.Assignable.{assigned_itself}
 use Rattle.typed_hoisting.proofs.EnvironmentLaws.{free_later, variables_narrowed}
 use Rattle.typed_hoisting.proofs.PointLaws.{IsVariable}
 use Rattle.typed_hoisting.proofs.StoredLaws.{stored_variables}
+use Rattle.typed_hoisting.proofs.GuardedItems.{none_guarded}
 use Rattle.typed_hoisting.proofs.PassingPoints.{passes_both}
 use Rattle.typed_hoisting.proofs.GoodParts.{code_then}
 use Rattle.typed_hoisting.proofs.CallsKeep.{Own}
@@ -39,7 +40,8 @@ use Rattle.typed_methods.proofs.StoredKnown.{AllKept, AllUnder, TypedThere, all_
 use Rattle.typed_methods.proofs.KeptParts.{in_loop_if}
 use Rattle.typed_methods.proofs.FlowKept.{GoesSo, begun_ahead, all_kept}
 use Rattle.typed_methods.proofs.KnownStays.{begun_above, all_above, Forgets, forgets_first, forgets_rest, narrowed_above, stored_above}
-use Rattle.typed_methods.proofs.CodeLaws.{stage, At, TypedAs, WaysLead, all_under_on, supplies_all, point_at, typed_same, surely_passes, variable_typed, GoodCode}
+use Rattle.typed_methods.proofs.Floors.{Floors, inside_loop, EachForgets, EachUnder, each_first, each_rest, each_on, each_at_head, each_stored}
+use Rattle.typed_methods.proofs.CodeLaws.{stage, At, TypedAs, CaughtAbove, WaysLead, supplied_at, all_under_on, supplies_all, point_at, typed_same, surely_passes, variable_typed, GoodCode}
 use Rattle.typed_methods.proofs.SimpleKeep.{EachVariable, Begins}
 use Rattle.typed_methods.proofs.StillKeep.{some_typed, each_there}
 use Rattle.typed_methods.proofs.PointsBehind.{settled_same, behind_is, ends_behind, behind_passes, behind_end}
@@ -69,7 +71,7 @@ tested : (variables : List PlainVar) (head : Point) (after : Option Point) (test
 tested variables head after test body b e h = subst (λ o. LoopFits variables o head head after test body) (sym e) h
 
 module _ (c : Context) (leaves : Leaving) (own : Own leaves) (limit : ℕ) (at : Place) (name : ℕ) (name_at : Place) (over : PlainOver) (body : PlainStmts) (named : StmtsNames limit body) (good_body : GoodAll c leaves own limit body)
-    (looping : Bool) (floor : List PlainLocal) (w : Way) (n : ℕ) (end : Way) (b : Begins limit floor w n) (variables : EachVariable w.locals (name ∷ assigned_in body)) (h : flow (in_loop_if c looping) w (PFor at name name_at over body) ≡ Ok end) where
+    (looping : Bool) (floor : Floors) (w : Way) (n : ℕ) (end : Way) (b : Begins limit floor w n) (variables : EachVariable w.locals (name ∷ assigned_in body)) (forgotten : EachForgets floor.clauses (name ∷ assigned_in body)) (h : flow (in_loop_if c looping) w (PFor at name name_at over body) ≡ Ok end) where
   abbrev pub statement : PlainStmt
   statement = PFor at name name_at over body
 
@@ -164,10 +166,20 @@ module _ (c : Context) (leaves : Leaving) (own : Own leaves) (limit : ℕ) (at :
     start_above : AllUnder head start
     start_above = stored_above head name item item head (forgets_first head (name ∷ []) (assigned_in body) forgets) (all_under head head (all_itself head))
 
-    body_good : GoodCode c leaves true head (begun start) k code.code code.next turn_kept.end (all_go_on body) (break_in body)
+    clauses_head : EachUnder floor.clauses head
+    clauses_head = each_at_head floor.clauses all ls forgotten (each_on floor.clauses w.locals ls b.above.1 (all_under w.locals ls kept))
+
+    clauses_start : EachUnder floor.clauses start
+    clauses_start = each_stored floor.clauses name item item head (each_first floor.clauses (name ∷ []) (assigned_in body) forgotten) clauses_head
+
+    abbrev inner_floor : Floors
+    inner_floor = inside_loop head floor
+
+    body_good : GoodCode c leaves true inner_floor (begun start) k code.code code.next turn_kept.end (all_go_on body) (break_in body)
     body_good =
-        good_body true head (begun start) k turn_kept.end (record { below = below; free = free_same k ls start start_shapes free; above = start_above })
-        (each_there w.locals start (assigned_in body) to_start variables.1) (forgets_rest head (name ∷ []) (assigned_in body) forgets) turn_kept.is
+        good_body true inner_floor (begun start) k turn_kept.end (record { below = below; free = free_same k ls start start_shapes free; above = (start_above, clauses_start) })
+        (each_there w.locals start (assigned_in body) to_start variables.1)
+        (forgets_rest head (name ∷ []) (assigned_in body) forgets, each_rest floor.clauses (name ∷ []) (assigned_in body) forgotten) turn_kept.is
 
     end_above : AllUnder head turn_kept.end.locals
     end_above = (all_above head body (in_loop_if c true) (begun start) turn_kept.end (forgets_rest head (name ∷ []) (assigned_in body) forgets) (begun_above head start start_above) turn_kept.is).under
@@ -195,13 +207,13 @@ module _ (c : Context) (leaves : Leaving) (own : Own leaves) (limit : ℕ) (at :
         )
 
     -- a loop whose test is this, and whose turns begin so
-    pub loop_fits : (m : Around) → AreAmong m.variables made_inside → TypedAs m.variables w.locals → TypedAs m.variables ls → (env : List PlainLocal) → At m.variables ls env → (e : PlainExpr) (turn : List PlainFlatStmt) → is_true e ≡ false
+    pub loop_fits : (m : Around) → CaughtAbove m floor.clauses → AreAmong m.variables made_inside → TypedAs m.variables w.locals → TypedAs m.variables ls → (env : List PlainLocal) → At m.variables ls env → (e : PlainExpr) (turn : List PlainFlatStmt) → is_true e ≡ false
         → ((env : List PlainLocal) → At m.variables head env → HasType c leaves env e TBool)
-        → ((inner : Around) → inner.variables ≡ m.variables → (env : List PlainLocal) → At inner.variables head env → (goal : Asked) → ((after : List PlainLocal) → At inner.variables start after → goal after) → code_fits c leaves inner turn goal env)
+        → ((inner : Around) → inner.variables ≡ m.variables → CaughtAbove inner floor.clauses → (env : List PlainLocal) → At inner.variables head env → (goal : Asked) → ((after : List PlainLocal) → At inner.variables start after → goal after) → code_fits c leaves inner turn goal env)
         → (goal : Asked) → ((after : List PlainLocal) → At m.variables end.locals after → goal after)
-        → stmt_fits c leaves m.variables [] m.breaks m.continues (FWhile (surely head) (FLeaf FNoStmt e) (surely head) (flat_stmts_of (turn ++ code.code)) (point_behind c statement w.locals)) goal env
+        → stmt_fits c leaves m.variables m.caught m.breaks m.continues (FWhile (surely head) (FLeaf FNoStmt e) (surely head) (flat_stmts_of (turn ++ code.code)) (point_behind c statement w.locals)) goal env
     unfolding stmt_fits made_inside goes_on
-    loop_fits m among typed typed_ls env at' e turn literal test begins goal go_on =
+    loop_fits m caught among typed typed_ls env at' e turn literal test begins goal go_on =
         let ks : List PlainLocal = locals_behind c statement w.locals in
         let is : ks ≡ end.locals = behind_is c looping w end statement h in
         let after : Option Point = point_behind c statement w.locals in
@@ -215,12 +227,14 @@ module _ (c : Context) (leaves : Leaving) (own : Own leaves) (limit : ℕ) (at :
         let names : Bool → List ℕ = λ b. shown b e in
         let ends : (env : List PlainLocal) → AreVariables m.variables env → AllUnder end.locals env → Ends after env = λ env are under.
         ends_behind true ks env refl (subst (λ ks. Supplies (surely ks) env) (sym is) (supplies_all m.variables k end.locals env free_end are under)) in
-        let inside : Around = record { variables = m.variables; breaks = Ends after; continues = Supplies (surely head) } in
-        let ways_body : WaysLead inside head true (break_in body) turn_kept.end = record {
+        let guarded : Guarded c m.caught [] env_h = none_guarded c m.caught env_h (supplied_at m floor.clauses caught head clauses_head env_h at_h) in
+        let inside : Around = record { variables = m.variables; caught = m.caught; breaks = Ends after; continues = Supplies (surely head) } in
+        let ways_body : WaysLead inside inner_floor true (break_in body) turn_kept.end = record {
           at_break = λ left env are met.
               ends env are
               (behind_met env (met_right (shapes parts_of.end.locals) env (way true (at_head all w.locals)) parts_of.end.breaks (met_back (shapes parts_of.end.locals) (shapes turn_kept.end.locals) parts_of.end.breaks turn_kept.end.breaks env turn_kept.ahead.breaks met)));
           at_continue = λ loops env are under. supplies_all m.variables k head env free_head are under;
+          at_caught = caught;
         } in
         let failing : AllUnder end.locals (narrowed (names false) env_h) =
         behind_met (narrowed (names false) env_h)
@@ -236,26 +250,26 @@ module _ (c : Context) (leaves : Leaving) (own : Own leaves) (limit : ℕ) (at :
                 supplies_all m.variables k head (narrowed (names true) env_h) free_head (variables_narrowed m.variables (names true) env_h at_h.are) (narrowed_above head (names true) env_h under_h),
                 ends (narrowed (names false) env_h) (variables_narrowed m.variables (names false) env_h at_h.are) failing,
               ),
-              tt,
+              guarded,
             ),
             code_then c leaves inside turn code.code (Supplies (surely head)) env_h
-                (begins inside refl env_h at_h (code_fits c leaves inside code.code (Supplies (surely head)))
+                (begins inside refl caught env_h at_h (code_fits c leaves inside code.code (Supplies (surely head)))
                 (λ env there. body_good.fits inside among typed_start env there ways_body (Supplies (surely head))
                 (λ go last at_last. supplies_all m.variables k head last free_head at_last.are (all_under_on head turn_kept.end.locals last end_above (all_under turn_kept.end.locals last at_last.kept))))),
           ),
           behind_end true ks m.variables goal (λ go. go_on (at_start m.variables (surely ks)) (subst (λ ks. At m.variables end.locals (at_start m.variables (surely ks))) (sym is) (point_at m.variables k end.locals free_end typed_end))),
-          tt,
-          tt,
+          guarded,
+          guarded,
         )
 
     name_apart : name < limit → (s : ℕ) → limit ≤ s → (name == s) ≡ false
     name_apart low s high = apart name s (λ e. omega (arith, low, high, e))
 
     -- a turn puts a value into the name, and counts on
-    pub counted_turn : name < limit → (m : Around) → TypedAs m.variables ls → (env : List PlainLocal) → At m.variables head env → (v : PlainExpr) → Typed c leaves None item env v → (s : ℕ) → limit ≤ s → seen ls s ≡ with_type TInt → IsVariable m.variables s TInt
+    pub counted_turn : name < limit → (m : Around) → CaughtAbove m floor.clauses → TypedAs m.variables ls → (env : List PlainLocal) → At m.variables head env → (v : PlainExpr) → Typed c leaves None item env v → (s : ℕ) → limit ≤ s → seen ls s ≡ with_type TInt → IsVariable m.variables s TInt
         → (goal : Asked) → ((after : List PlainLocal) → At m.variables start after → goal after) → code_fits c leaves m (FSet name v ∷ FSet s (plus at (PVar at s) (PInt at (pos 1))) ∷ []) goal env
     unfolding stmts_fit
-    counted_turn low m typed_ls env at' v hv s high counter is_s goal goes =
+    counted_turn low m caught typed_ls env at' v hv s high counter is_s goal goes =
         let t : PlainTy = name_type.0 in
         let is_name : IsVariable m.variables name t = typed_ls name t (there name t name_type.1) in
         let env1 : List PlainLocal = with_local name item item env in
@@ -267,8 +281,8 @@ module _ (c : Context) (leaves : Leaving) (own : Own leaves) (limit : ℕ) (at :
         stored_seen name item item head s ∙ ap (λ b. cond b (Some (given_as (type_or head name item) item)) (seen head s)) (name_apart low s high) ∙ head_type all ls s TInt counter in
         let env2 : List PlainLocal = with_local s TInt TInt env1 in
         let at2 : At m.variables start env2 = stored_at m.variables s TInt TInt env1 at1.are is_s start at1.kept (subst (λ o. Kept o (Some (given_as TInt TInt))) (sym counter1) refl) in
-        set_fits c leaves m name v item t env (as_has c leaves None item env v hv) at'.are is_name suits _
+        set_fits c leaves m name v item t env (as_has c leaves None item env v hv) at'.are is_name suits (supplied_at m floor.clauses caught head clauses_head env at') (supplied_at m floor.clauses caught start clauses_start env1 at1) _
         (set_fits c leaves m s (plus at (PVar at s) (PInt at (pos 1))) TInt TInt env1
         (as_has c leaves None TInt env1 (plus at (PVar at s) (PInt at (pos 1)))
         (plus_typed c leaves env1 at (PVar at s) (PInt at (pos 1)) TInt numbers (variable_reads c leaves env1 None at s TInt (seen_at m.variables start env1 s TInt at1 counter1)) (int_typed c leaves env1 (right_wanted op.Add TInt) at (pos 1))))
-        at1.are is_s (assigned_itself TInt) _ (goes env2 at2))
+        at1.are is_s (assigned_itself TInt) (supplied_at m floor.clauses caught start clauses_start env1 at1) (supplied_at m floor.clauses caught start clauses_start env2 at2) _ (goes env2 at2))

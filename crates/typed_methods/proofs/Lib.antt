@@ -6,6 +6,7 @@ pub mod FlowKept
 pub mod BegunAnew
 pub mod WaysOn
 pub mod KnownStays
+pub mod Floors
 pub mod PointsAbove
 pub mod CodeLaws
 pub mod SimpleKeep

@@ -24,18 +24,20 @@ use Rattle.hoisting.specs.Stages.{Stage, surely, temporary, found_ty, item_ty, p
 use Rattle.hoisting.specs.HoistExpressions.{Hoisted, settled, forms}
 use Rattle.hoisting.specs.HoistStatements.{Flattened, opened, flat_all, plus, list_stage, head_locals, body_stage, list_test, list_turn, list_loop}
 use Rattle.typed_hoisting.specs.KnownLocals.{seen, seen_of, Kept, Free}
-use Rattle.typed_hoisting.specs.TypedHoisting.{AreAmong, Adds, Around, Typed, Good}
+use Rattle.typed_hoisting.specs.TypedHoisting.{AreAmong, Adds, Around, SuppliesAll, Typed, Good}
 use Rattle.typed_hoisting.proofs.LocalLaws.{apart, kept_seen}
 use Rattle.typed_hoisting.proofs.Assignable.{assigned_itself}
 use Rattle.typed_hoisting.proofs.EnvironmentLaws.{more_alike, more_free, temporary_local, temporary_seen}
 use Rattle.typed_hoisting.proofs.PointLaws.{IsVariable}
+use Rattle.typed_hoisting.proofs.GuardedItems.{mark_guarded}
 use Rattle.typed_hoisting.proofs.PassingPoints.{passes_both}
 use Rattle.typed_hoisting.proofs.GoodParts.{made_var, up, numbered_both, among_first, among_rest, adds_on, adds_temporary, settled_unless_good, code_then}
 use Rattle.typed_hoisting.proofs.TypedKinds.{index_typed}
 use Rattle.typed_hoisting.proofs.CallsKeep.{Own}
-use Rattle.typed_methods.proofs.StoredKnown.{AllKept, TypedThere, given_as, kept_free}
+use Rattle.typed_methods.proofs.StoredKnown.{AllKept, TypedThere, all_under, given_as, kept_free}
 use Rattle.typed_methods.proofs.KeptParts.{in_loop_if}
-use Rattle.typed_methods.proofs.CodeLaws.{stage, At, TypedAs, all_kept_on, to_stands, from_stands, ty_as, as_ty, are_typed, GoodCode}
+use Rattle.typed_methods.proofs.Floors.{Floors, EachForgets, EachUnder, each_on}
+use Rattle.typed_methods.proofs.CodeLaws.{stage, At, TypedAs, guards_above, supplied_at, all_kept_on, to_stands, from_stands, ty_as, as_ty, are_typed, GoodCode}
 use Rattle.typed_methods.proofs.SimpleKeep.{EachVariable, Begins, forms_good, GoodOpened}
 use Rattle.typed_methods.proofs.ArmsKeep.{GoodAll}
 use Rattle.typed_methods.proofs.StoredAt.{with_type, stored_itself, stored_other, stored_at, more_at, seen_at, head_type, set_fits, as_has, variable_reads, int_typed, empty_typed, plus_typed, less_typed, length_typed}
@@ -96,7 +98,8 @@ module _ (u : PlainTy) (t : ℕ) (before : List PlainLocal) (free : Free t befor
   unseen : (x : ℕ) → t + 1 ≤ x → (s : _) → Kept (seen with_list x) (Some s)
   unseen x later s = subst (λ o. Kept o (Some s)) (sym (ap seen_of (free_list.free x later))) tt
 
-  module _ (c : Context) (leaves : Leaving) (at : Place) (m : Around) (among : AreAmong m.variables two_made) (is_list : IsVariable m.variables t list_ty) where
+  module _ (c : Context) (leaves : Leaving) (at : Place) (m : Around) (among : AreAmong m.variables two_made) (is_list : IsVariable m.variables t list_ty)
+      (supplied : (env : List PlainLocal) → At m.variables with_list env → SuppliesAll m.caught env) where
     is_place : IsVariable m.variables (t + 1) TInt
     is_place = among.0
 
@@ -104,8 +107,8 @@ module _ (u : PlainTy) (t : ℕ) (before : List PlainLocal) (free : Free t befor
     is_second = subst (λ q. IsVariable m.variables q list_ty) second_is among.1.0
 
     -- the list is copied, and its first place is 0
-    starts : (env : List PlainLocal) → At m.variables with_list env → (rest : PlainFlatStmt) (goal : Asked) → ((after : List PlainLocal) → At m.variables with_both after → stmts_fit c leaves m.variables [] m.breaks m.continues (flat_stmts_of (rest ∷ [])) goal after)
-        → stmts_fit c leaves m.variables [] m.breaks m.continues
+    starts : (env : List PlainLocal) → At m.variables with_list env → (rest : PlainFlatStmt) (goal : Asked) → ((after : List PlainLocal) → At m.variables with_both after → stmts_fit c leaves m.variables m.caught m.breaks m.continues (flat_stmts_of (rest ∷ [])) goal after)
+        → stmts_fit c leaves m.variables m.caught m.breaks m.continues
         (flat_stmts_of (FSet (t + 2) (PList at PNoExpr) ∷ FSet t (plus at (PVar at (t + 2)) (PVar at t)) ∷ FSet (t + 1) (PInt at (pos 0)) ∷ rest ∷ [])) goal env
     unfolding stmts_fit
     starts env at1 rest goal goes =
@@ -124,19 +127,19 @@ module _ (u : PlainTy) (t : ℕ) (before : List PlainLocal) (free : Free t befor
         let second4 : seen env4 q ≡ with_type list_ty = stored_other vs (t + 1) TInt TInt env3 at3.are is_place q (differ (t + 1) q (omega arith)) ∙ second3 in
         let at5 : At vs with_place env4 = more_at vs (t + 1) TInt with_list env4 free_list at4 place4 in
         let at6 : At vs with_both env4 = more_at vs (t + 1 + 1) list_ty with_place env4 free_place at5 (ap (seen env4) second_is ∙ second4) in
-        set_fits c leaves m q (PList at PNoExpr) list_ty list_ty env (as_has c leaves (Some list_ty) list_ty env (PList at PNoExpr) (empty_typed c leaves env at u)) at1.are is_second (assigned_itself list_ty) _
+        set_fits c leaves m q (PList at PNoExpr) list_ty list_ty env (as_has c leaves (Some list_ty) list_ty env (PList at PNoExpr) (empty_typed c leaves env at u)) at1.are is_second (assigned_itself list_ty) (supplied env at1) (supplied env2 at2) _
         (set_fits c leaves m t (plus at (PVar at q) (PVar at t)) list_ty list_ty env2
         (as_has c leaves None list_ty env2 (plus at (PVar at q) (PVar at t))
         (plus_typed c leaves env2 at (PVar at q) (PVar at t) list_ty lists (variable_reads c leaves env2 None at q list_ty second2) (variable_reads c leaves env2 (Some list_ty) at t list_ty list2)))
-        at2.are is_list (assigned_itself list_ty) _
-        (set_fits c leaves m (t + 1) (PInt at (pos 0)) TInt TInt env3 (as_has c leaves None TInt env3 (PInt at (pos 0)) (int_typed c leaves env3 None at (pos 0))) at3.are is_place (assigned_itself TInt) _ (goes env4 at6)))
+        at2.are is_list (assigned_itself list_ty) (supplied env2 at2) (supplied env3 at3) _
+        (set_fits c leaves m (t + 1) (PInt at (pos 0)) TInt TInt env3 (as_has c leaves None TInt env3 (PInt at (pos 0)) (int_typed c leaves env3 None at (pos 0))) at3.are is_place (assigned_itself TInt) (supplied env3 at3) (supplied env4 at4) _ (goes env4 at6)))
 
 module _ (c : Context) (leaves : Leaving) (own : Own leaves) (limit : ℕ) where
   pub list_good : (at : Place) (name : ℕ) (name_at : Place) (e : PlainExpr) (body : PlainStmts) → StmtNames limit (PFor at name name_at (PItems e) body) → GoodAll c leaves own limit body
-      → (looping : Bool) (floor : List PlainLocal) (w : Way) (n : ℕ) (end : Way) → Begins limit floor w n → EachVariable w.locals (name ∷ assigned_in body) → flow (in_loop_if c looping) w (PFor at name name_at (PItems e) body) ≡ Ok end
+      → (looping : Bool) (floor : Floors) (w : Way) (n : ℕ) (end : Way) → Begins limit floor w n → EachVariable w.locals (name ∷ assigned_in body) → EachForgets floor.clauses (name ∷ assigned_in body) → flow (in_loop_if c looping) w (PFor at name name_at (PItems e) body) ≡ Ok end
       → GoodOpened c leaves own limit (PFor at name name_at (PItems e) body) looping floor w n end
   unfolding opened goes_on breaks stmts_fit StmtNames PointsPass
-  list_good at name name_at e body named good_body looping floor w n end b variables h =
+  list_good at name name_at e body named good_body looping floor w n end b variables forgets h =
       let over : PlainOver = PItems e in
       let here : Stage = stage w n in
       let p : ForParts (in_loop_if c looping) w end name name_at over body = for_parts (in_loop_if c looping) w end at name name_at over body h in
@@ -155,10 +158,11 @@ module _ (c : Context) (leaves : Leaving) (own : Own leaves) (limit : ℕ) where
       let kept_w : AllKept w.locals ls =
       all_kept_on w.locals s.stage.locals ls (kept_free n w.locals s.stage.locals b.free gs.alike)
       (all_kept_on s.stage.locals (with_place u t before ga.free) ls (kept_place u t before ga.free) (kept_both u t before ga.free)) in
+      let above_s : EachUnder floor.clauses s.stage.locals = each_on floor.clauses w.locals s.stage.locals b.above.1 (all_under w.locals s.stage.locals (kept_free n w.locals s.stage.locals b.free gs.alike)) in
       let there : TypedThere w.locals ls = λ x v f. as_ty ls x v ((two_add u t before ga.free).keeps x v (ty_as s.stage.locals x v (added_there c leaves here s gs x v f))) in
       let free : Free k ls = free_both u t before ga.free in
-      let hs : List PlainLocal = head c leaves own limit at name name_at over body named.2 good_body looping floor w n end b variables h ls k up_k kept_w there free in
-      let inside_made : List PlainVar = made_inside c leaves own limit at name name_at over body named.2 good_body looping floor w n end b variables h ls k up_k kept_w there free in
+      let hs : List PlainLocal = head c leaves own limit at name name_at over body named.2 good_body looping floor w n end b variables forgets h ls k up_k kept_w there free in
+      let inside_made : List PlainVar = made_inside c leaves own limit at name name_at over body named.2 good_body looping floor w n end b variables forgets h ls k up_k kept_w there free in
       let test : PlainExpr = PCompare at cmp.Lt at (PVar at (t + 1)) (PApply at (reserved_number (codes "len")) (PExpr (PVar at t) PNoExpr)) in
       let element : PlainExpr = PIndex at (PVar at t) (PVar at (t + 1)) in
       let coded : PlainTy → Flattened (List PlainFlatStmt) = λ ty. flat_all leaves c body (body_stage name (item_ty ty) body (list_stage ty a.stage)) in
@@ -170,7 +174,7 @@ module _ (c : Context) (leaves : Leaving) (own : Own leaves) (limit : ℕ) where
       let good : GoodCode c leaves looping floor w n (all_code (TList u)) (coded (TList u)).next end true false = record {
         made = gs.made ++ (two ++ inside_made);
         numbered = numbered_both n gs.made (two ++ inside_made) (t + 1) (coded (TList u)).next gs.numbered
-            (numbered_both (t + 1) two inside_made k (coded (TList u)).next (refl, (refl, refl)) (numbered_inside c leaves own limit at name name_at over body named.2 good_body looping floor w n end b variables h ls k up_k kept_w there free));
+            (numbered_both (t + 1) two inside_made k (coded (TList u)).next (refl, (refl, refl)) (numbered_inside c leaves own limit at name name_at over body named.2 good_body looping floor w n end b variables forgets h ls k up_k kept_w there free));
         points = λ vs among typed.
             let among_s : AreAmong vs gs.made = among_first vs gs.made (two ++ inside_made) among in
             let among_r : AreAmong vs (two ++ inside_made) = among_rest vs gs.made (two ++ inside_made) among in
@@ -178,7 +182,7 @@ module _ (c : Context) (leaves : Leaving) (own : Own leaves) (limit : ℕ) where
             let typed_ls : TypedAs vs ls = λ x v f. (two_add u t before ga.free).only vs (among_first vs two inside_made among_r) (λ y z g. typed_s y z (as_ty s.stage.locals y z g)) x v (ty_as ls x v f) in (
               tt,
               passes_both vs s.before _ (gs.points vs among_s (are_typed vs w.locals typed))
-                  (tt, (tt, (tt, (loop_passes c leaves own limit at name name_at over body named.2 good_body looping floor w n end b variables h ls k up_k kept_w there free vs (among_rest vs two inside_made among_r) typed typed_ls test (FSet name element ∷ FSet (t + 1) (plus at (PVar at (t + 1)) (PInt at (pos 1))) ∷ []) (tt, (tt, tt)), tt)))),
+                  (tt, (tt, (tt, (loop_passes c leaves own limit at name name_at over body named.2 good_body looping floor w n end b variables forgets h ls k up_k kept_w there free vs (among_rest vs two inside_made among_r) typed typed_ls test (FSet name element ∷ FSet (t + 1) (plus at (PVar at (t + 1)) (PInt at (pos 1))) ∷ []) (tt, (tt, tt)), tt)))),
             );
         fits = λ m among typed env at' ways goal goes.
             let among_s : AreAmong m.variables gs.made = among_first m.variables gs.made (two ++ inside_made) among in
@@ -188,23 +192,23 @@ module _ (c : Context) (leaves : Leaving) (own : Own leaves) (limit : ℕ) where
             let typed_ls : TypedAs m.variables ls = λ x v f. (two_add u t before ga.free).only m.variables among_two (λ y z g. typed_s y z (as_ty s.stage.locals y z g)) x v (ty_as ls x v f) in
             let is_list : IsVariable m.variables t (TList u) = typed_s t (TList u) (as_ty s.stage.locals t (TList u) (ap (option_map (λ (l : PlainLocal). l.ty)) (temporary_local t before (TList u) ga.free))) in (
               code_then c leaves m s.before _ goal env
-                  (gs.before m among_s env (to_stands m.variables n w.locals env at') _
+                  (gs.before m among_s env (to_stands m.variables n w.locals env at') (guards_above m floor.clauses ways.at_caught w.locals b.above.1 n b.free) _
                   (λ env1 stands.
-                  starts u t before ga.free c leaves at m among_two is_list env1 (from_stands m.variables (t + 1) s.stage.locals env1 gs.free stands) loop goal
+                  starts u t before ga.free c leaves at m among_two is_list (supplied_at m floor.clauses ways.at_caught s.stage.locals above_s) env1 (from_stands m.variables (t + 1) s.stage.locals env1 gs.free stands) loop goal
                   (λ env2 at2.
-                  loop_fits c leaves own limit at name name_at over body named.2 good_body looping floor w n end b variables h ls k up_k kept_w there free m (among_rest m.variables two inside_made among_r) typed typed_ls env2 at2 test
+                  loop_fits c leaves own limit at name name_at over body named.2 good_body looping floor w n end b variables forgets h ls k up_k kept_w there free m ways.at_caught (among_rest m.variables two inside_made among_r) typed typed_ls env2 at2 test
                   (FSet name element ∷ FSet (t + 1) (plus at (PVar at (t + 1)) (PInt at (pos 1))) ∷ []) refl
                   (λ env3 at3.
                   as_has c leaves None TBool env3 test
                   (less_typed c leaves env3 at (PVar at (t + 1)) (PApply at (reserved_number (codes "len")) (PExpr (PVar at t) PNoExpr)) (variable_reads c leaves env3 None at (t + 1) TInt (seen_at m.variables hs env3 (t + 1) TInt at3 (head_type _ ls (t + 1) TInt (place_there u t before ga.free))))
                   (length_typed c leaves env3 at (PVar at t) u (variable_reads c leaves env3 None at t (TList u) (seen_at m.variables hs env3 t (TList u) at3 (head_type _ ls t (TList u) (list_there u t before ga.free)))))))
-                  (λ inner same env3 at3 goal2 goes2.
-                  counted_turn c leaves own limit at name name_at over body named.2 good_body looping floor w n end b variables h ls k up_k kept_w there free named.0 inner (subst (λ vs. TypedAs vs ls) (sym same) typed_ls) env3 at3 element
+                  (λ inner same caught env3 at3 goal2 goes2.
+                  counted_turn c leaves own limit at name name_at over body named.2 good_body looping floor w n end b variables forgets h ls k up_k kept_w there free named.0 inner caught (subst (λ vs. TypedAs vs ls) (sym same) typed_ls) env3 at3 element
                   (index_typed c leaves env3 None at (PVar at t) (PVar at (t + 1)) u (variable_reads c leaves env3 None at t (TList u) (seen_at inner.variables hs env3 t (TList u) at3 (head_type _ ls t (TList u) (list_there u t before ga.free))))
                   (variable_reads c leaves env3 None at (t + 1) TInt (seen_at inner.variables hs env3 (t + 1) TInt at3 (head_type _ ls (t + 1) TInt (place_there u t before ga.free)))))
                   (t + 1) (omega (arith, b.below, up_t)) (place_there u t before ga.free) (subst (λ vs. IsVariable vs (t + 1) TInt) (sym same) among_two.0) goal2 goes2)
                   _ (λ after at_end. goes refl after at_end)))),
-              tt,
+              mark_guarded c m.caught env (supplied_at m floor.clauses ways.at_caught w.locals b.above.1 env at'),
             );
       } in
       subst (λ ty. GoodCode c leaves looping floor w n (all_code ty) (coded ty).next end true false) (sym (ap found_ty typed_e)) good

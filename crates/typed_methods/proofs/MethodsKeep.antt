@@ -44,6 +44,7 @@ use Rattle.typed_methods.specs.TypedMethods.{behind_temporaries, MethodKeepsType
 use Rattle.typed_methods.proofs.KnownWays.{MetUnder, known_before}
 use Rattle.typed_methods.proofs.StoredKnown.{AllKept, free_same}
 use Rattle.typed_methods.proofs.FlowKept.{GoesSo, begun_ahead, all_kept}
+use Rattle.typed_methods.proofs.Floors.{Floors}
 use Rattle.typed_methods.proofs.CodeLaws.{stage, TypedAs, WaysLead, point_at, surely_passes, GoodCode}
 use Rattle.typed_methods.proofs.StatementsKeep.{all_good}
 use Rattle.typed_methods.proofs.NewLocals.{free_more, Settles, all_settle, each_as}
@@ -122,11 +123,14 @@ module _ (tables : List PlainTable) (class number : ℕ) (sig : PlainSig) (m : P
   again = all_kept c limit (stmts_of m.body) false false (begun first) (begun locals) flows.end names (λ j t. t) (begun_ahead first locals first_kept) (λ x t e. ap (λ ss. type_in ss x) locals_are ∙ e) flows.goes
 
   module _ (leaves : Leaving) (own : Own leaves) where
-    code_good : GoodCode c leaves false [] (begun locals) limit (flat_all leaves c (stmts_of m.body) (stage (begun locals) limit)).code (flat_all leaves c (stmts_of m.body) (stage (begun locals) limit)).next again.end (all_go_on (stmts_of m.body)) (break_in (stmts_of m.body))
+    abbrev no_floors : Floors
+    no_floors = record { head = []; clauses = [] }
+
+    code_good : GoodCode c leaves false no_floors (begun locals) limit (flat_all leaves c (stmts_of m.body) (stage (begun locals) limit)).code (flat_all leaves c (stmts_of m.body) (stage (begun locals) limit)).next again.end (all_go_on (stmts_of m.body)) (break_in (stmts_of m.body))
     unfolding local_of
     code_good =
-        all_good c leaves own limit refl refl (stmts_of m.body) names raises false [] (begun locals) limit again.end (record { below = omega arith; free = free; above = λ x. tt })
-        (each_as flows.end.locals locals (assigned_in (stmts_of m.body)) locals_are settles.typed) (λ x s h e. absurd (none-some s e)) again.is
+        all_good c leaves own limit refl refl (stmts_of m.body) names raises false no_floors (begun locals) limit again.end (record { below = omega arith; free = free; above = (λ x. tt, tt) })
+        (each_as flows.end.locals locals (assigned_in (stmts_of m.body)) locals_are settles.typed) (λ x s h e. absurd (none-some s e), tt) again.is
 
     abbrev flat_of : List PlainLocal → PlainFlat
     flat_of ls = record { params = map var_of_param sig.params; body = (flat_all leaves c (stmts_of m.body) (record { locals = ls; next = limit })).code }
@@ -143,8 +147,8 @@ module _ (tables : List PlainTable) (class number : ℕ) (sig : PlainSig) (m : P
         let variables : List PlainVar = map var_of locals ++ g.made in
         let typed : TypedAs variables locals = locals_typed locals g.made in
         let among : AreAmong variables g.made = made_among (map var_of locals) g.made limit (behind locals) g.numbered (λ x up. none_named locals x (free.free x up)) in
-        let around : Around = record { variables = variables; breaks = Nowhere; continues = Nowhere } in
-        let ways : WaysLead around [] false (break_in (stmts_of m.body)) again.end = record { at_break = λ left env are met. no_break env met; at_continue = λ loops env are under. absurd (true≢false (sym loops)) } in
+        let around : Around = record { variables = variables; caught = []; breaks = Nowhere; continues = Nowhere } in
+        let ways : WaysLead around no_floors false (break_in (stmts_of m.body)) again.end = record { at_break = λ left env are met. no_break env met; at_continue = λ loops env are under. absurd (true≢false (sym loops)); at_caught = λ env are under. tt } in
         let start : List PlainLocal = at_start variables (surely locals) in
         record {
           made = g.made;

@@ -26,13 +26,15 @@ use Rattle.typed_hoisting.specs.TypedHoisting.{AreAmong, Typed, Good}
 use Rattle.typed_hoisting.proofs.LocalLaws.{kept_seen}
 use Rattle.typed_hoisting.proofs.EnvironmentLaws.{kept_at, temporary_local, temporary_seen}
 use Rattle.typed_hoisting.proofs.PointLaws.{IsVariable}
+use Rattle.typed_hoisting.proofs.GuardedItems.{mark_guarded}
 use Rattle.typed_hoisting.proofs.PassingPoints.{passes_both}
 use Rattle.typed_hoisting.proofs.GoodParts.{up, numbered_both, among_first, among_rest, built_good, settled_unless_good, turn_good, code_then}
 use Rattle.typed_hoisting.proofs.TypedKinds.{pos_typed}
 use Rattle.typed_hoisting.proofs.CallsKeep.{Own}
 use Rattle.typed_methods.proofs.StoredKnown.{AllKept, TypedThere, kept_free}
 use Rattle.typed_methods.proofs.KeptParts.{in_loop_if}
-use Rattle.typed_methods.proofs.CodeLaws.{stage, TypedAs, all_kept_on, to_stands, from_stands, ty_as, as_ty, are_typed, GoodCode}
+use Rattle.typed_methods.proofs.Floors.{Floors, EachForgets}
+use Rattle.typed_methods.proofs.CodeLaws.{stage, TypedAs, guards_above, supplied_at, all_kept_on, to_stands, from_stands, ty_as, as_ty, are_typed, GoodCode}
 use Rattle.typed_methods.proofs.SimpleKeep.{EachVariable, Begins, forms_good, GoodOpened}
 use Rattle.typed_methods.proofs.ArmsKeep.{GoodAll}
 use Rattle.typed_methods.proofs.StoredAt.{with_type, seen_at, head_type, as_has, variable_reads, less_typed}
@@ -77,10 +79,10 @@ module _ (c : Context) (leaves : Leaving) (own : Own leaves) (limit : ℕ) where
   range_ends looping locals at (Some e) end ty h = range_ok (in_loop_if c looping) locals e end ty h
 
   pub range_good : (at : Place) (name : ℕ) (name_at : Place) (from : Option PlainExpr) (to : PlainExpr) (body : PlainStmts) → StmtNames limit (PFor at name name_at (PRange from to) body) → GoodAll c leaves own limit body
-      → (looping : Bool) (floor : List PlainLocal) (w : Way) (n : ℕ) (end : Way) → Begins limit floor w n → EachVariable w.locals (name ∷ assigned_in body) → flow (in_loop_if c looping) w (PFor at name name_at (PRange from to) body) ≡ Ok end
+      → (looping : Bool) (floor : Floors) (w : Way) (n : ℕ) (end : Way) → Begins limit floor w n → EachVariable w.locals (name ∷ assigned_in body) → EachForgets floor.clauses (name ∷ assigned_in body) → flow (in_loop_if c looping) w (PFor at name name_at (PRange from to) body) ≡ Ok end
       → GoodOpened c leaves own limit (PFor at name name_at (PRange from to) body) looping floor w n end
   unfolding opened goes_on breaks stmts_fit StmtNames PointsPass
-  range_good at name name_at from to body named good_body looping floor w n end b variables h =
+  range_good at name name_at from to body named good_body looping floor w n end b variables forgets h =
       let over : PlainOver = PRange from to in
       let here : Stage = stage w n in
       let p : ForParts (in_loop_if c looping) w end name name_at over body = for_parts (in_loop_if c looping) w end at name name_at over body h in
@@ -106,39 +108,39 @@ module _ (c : Context) (leaves : Leaving) (own : Own leaves) (limit : ℕ) where
       let there : TypedThere w.locals ls = λ x v e. added_there c leaves a.stage d gd x v (added_there c leaves here a ga x v e) in
       let count_t : seen ls t ≡ with_type TInt = kept_seen (seen a.stage.locals t) (seen ls t) _ (kept_free a.stage.next a.stage.locals ls ga.free gd.alike t) seen_t.0 in
       let item_is : p.item ≡ TInt = ends.2 in
-      let hs : List PlainLocal = head c leaves own limit at name name_at over body named.2 good_body looping floor w n end b variables h ls k up_k kept_w there gd.free in
+      let hs : List PlainLocal = head c leaves own limit at name name_at over body named.2 good_body looping floor w n end b variables forgets h ls k up_k kept_w there gd.free in
       let test : PlainExpr = PCompare at cmp.Lt at (PVar at t) (PVar at u) in
-      let inside_made : List PlainVar = made_inside c leaves own limit at name name_at over body named.2 good_body looping floor w n end b variables h ls k up_k kept_w there gd.free in
+      let inside_made : List PlainVar = made_inside c leaves own limit at name name_at over body named.2 good_body looping floor w n end b variables forgets h ls k up_k kept_w there gd.free in
       let coded : PlainTy → Flattened (List PlainFlatStmt) = λ ty. flat_all leaves c body (record { locals = with_local name ty ty (head_locals name body ls); next = k }) in
       let both : Good c leaves here (in_turn (λ (x y : PlainExpr). x) a (λ g. whole at to g)) (λ there r. ⊤) = turn_good c leaves here (λ x y. x) a (λ g. whole at to g) (λ there r. ⊤) ga gd (λ there x y. tt) in
       let good : GoodCode c leaves looping floor w n (FMark ∷ (a.before ++ d.before) ++ range_loop at name t u (surely (head_locals name body ls)) (point_behind c (PFor at name name_at over body) w.locals) (coded p.item).code) (coded p.item).next end true false = record {
         made = both.made ++ inside_made;
-        numbered = numbered_both n both.made inside_made k (coded p.item).next both.numbered (numbered_inside c leaves own limit at name name_at over body named.2 good_body looping floor w n end b variables h ls k up_k kept_w there gd.free);
+        numbered = numbered_both n both.made inside_made k (coded p.item).next both.numbered (numbered_inside c leaves own limit at name name_at over body named.2 good_body looping floor w n end b variables forgets h ls k up_k kept_w there gd.free);
         points = λ vs among typed.
             let among1 : AreAmong vs both.made = among_first vs both.made inside_made among in
             let typed_ls : TypedAs vs ls = added_typed c leaves here (in_turn (λ (x y : PlainExpr). x) a (λ g. whole at to g)) both vs among1 typed in (
               tt,
               passes_both vs (a.before ++ d.before) _ (both.points vs among1 (are_typed vs w.locals typed))
-                  (loop_passes c leaves own limit at name name_at over body named.2 good_body looping floor w n end b variables h ls k up_k kept_w there gd.free vs (among_rest vs both.made inside_made among) typed typed_ls test (FSet name (PVar at t) ∷ FSet t (plus at (PVar at t) (PInt at (pos 1))) ∷ []) (tt, (tt, tt)), tt),
+                  (loop_passes c leaves own limit at name name_at over body named.2 good_body looping floor w n end b variables forgets h ls k up_k kept_w there gd.free vs (among_rest vs both.made inside_made among) typed typed_ls test (FSet name (PVar at t) ∷ FSet t (plus at (PVar at t) (PInt at (pos 1))) ∷ []) (tt, (tt, tt)), tt),
             );
         fits = λ m among typed env at' ways goal goes.
             let among1 : AreAmong m.variables both.made = among_first m.variables both.made inside_made among in
             let typed_ls : TypedAs m.variables ls = added_typed c leaves here (in_turn (λ (x y : PlainExpr). x) a (λ g. whole at to g)) both m.variables among1 typed in
             let is_t : IsVariable m.variables t TInt = typed_ls t TInt (added_there c leaves a.stage d gd t TInt (as_ty a.stage.locals t TInt seen_t.1)) in (
               code_then c leaves m (a.before ++ d.before) _ goal env
-                  (both.before m among1 env (to_stands m.variables n w.locals env at') _
+                  (both.before m among1 env (to_stands m.variables n w.locals env at') (guards_above m floor.clauses ways.at_caught w.locals b.above.1 n b.free) _
                   (λ env1 stands.
-                  loop_fits c leaves own limit at name name_at over body named.2 good_body looping floor w n end b variables h ls k up_k kept_w there gd.free m (among_rest m.variables both.made inside_made among) typed typed_ls env1 (from_stands m.variables k ls env1 gd.free stands) test
+                  loop_fits c leaves own limit at name name_at over body named.2 good_body looping floor w n end b variables forgets h ls k up_k kept_w there gd.free m ways.at_caught (among_rest m.variables both.made inside_made among) typed typed_ls env1 (from_stands m.variables k ls env1 gd.free stands) test
                   (FSet name (PVar at t) ∷ FSet t (plus at (PVar at t) (PInt at (pos 1))) ∷ []) refl
                   (λ env2 at2.
                   as_has c leaves None TBool env2 test
                   (less_typed c leaves env2 at (PVar at t) (PVar at u) (variable_reads c leaves env2 None at t TInt (seen_at m.variables hs env2 t TInt at2 (head_type _ ls t TInt count_t))) (variable_reads c leaves env2 None at u TInt (seen_at m.variables hs env2 u TInt at2 (head_type _ ls u TInt seen_u.0)))))
-                  (λ inner same env2 at2 goal2 goes2.
-                  counted_turn c leaves own limit at name name_at over body named.2 good_body looping floor w n end b variables h ls k up_k kept_w there gd.free named.0 inner (subst (λ vs. TypedAs vs ls) (sym same) typed_ls) env2 at2 (PVar at t)
+                  (λ inner same caught env2 at2 goal2 goes2.
+                  counted_turn c leaves own limit at name name_at over body named.2 good_body looping floor w n end b variables forgets h ls k up_k kept_w there gd.free named.0 inner caught (subst (λ vs. TypedAs vs ls) (sym same) typed_ls) env2 at2 (PVar at t)
                   (subst (λ ty. Typed c leaves None ty env2 (PVar at t)) (sym item_is) (variable_reads c leaves env2 None at t TInt (seen_at inner.variables hs env2 t TInt at2 (head_type _ ls t TInt count_t))))
                   t (omega (arith, b.below, up_t)) count_t (subst (λ vs. IsVariable vs t TInt) (sym same) is_t) goal2 goes2)
                   _ (λ after at_end. goes refl after at_end))),
-              tt,
+              mark_guarded c m.caught env (supplied_at m floor.clauses ways.at_caught w.locals b.above.1 env at'),
             );
       } in
       subst (λ ty. GoodCode c leaves looping floor w n (FMark ∷ (a.before ++ d.before) ++ range_loop at name t u (surely (head_locals name body ls)) (point_behind c (PFor at name name_at over body) w.locals) (coded ty).code) (coded ty).next end true false) item_is good

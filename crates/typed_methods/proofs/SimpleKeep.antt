@@ -19,51 +19,55 @@ use Rattle.program_meaning.proofs.LocalShapes.{shapes, type_in, earlier_is}
 use Rattle.program_meaning.proofs.TypedParts.{done, same_ok, found_ok, refuse_ok, passes_ok, str_is, condition_ok}
 use Rattle.program_meaning.proofs.FlowParts.{no_fault, no_need, return_nothing_ok, return_ok, field_ok}
 use Rattle.block_code.specs.PlainVars.{PlainVar}
-use Rattle.block_code.specs.GraphFits.{Asked, MessageFits, ValueSuits, at_start}
+use Rattle.block_code.specs.PlainBlocks.{IMark}
+use Rattle.block_code.specs.GraphFits.{Asked, HasType, MessageFits, ValueSuits, at_start}
 use Rattle.flat_tree.specs.PlainFlat.{Point, FGive, FFail}
 use Rattle.method_splitter.specs.Points.{PointsPass}
-use Rattle.flat_types.specs.FlatTypes.{is_point, Supplies, stmts_fit}
+use Rattle.flat_types.specs.FlatTypes.{is_point, Supplies, Guarded, stmts_fit}
 use Rattle.flat_types.proofs.FlowStays.{EachTyped}
 use Rattle.hoisting.specs.Stages.{Stage, surely, ty_at, found_ty}
 use Rattle.hoisting.specs.HoistExpressions.{Hoisted, Tested, settled_unless, lasts, forms}
 use Rattle.hoisting.specs.HoistStatements.{stored as store, optional, opened}
 use Rattle.typed_hoisting.specs.KnownLocals.{Free}
-use Rattle.typed_hoisting.specs.TypedHoisting.{code_fits, Typed, Good, GoodTest, GoodForms}
+use Rattle.typed_hoisting.specs.TypedHoisting.{Around, GuardsHold, code_fits, Typed, Good, GoodTest, GoodForms}
 use Rattle.typed_hoisting.proofs.EnvironmentLaws.{free_later, free_narrowed, forgotten_least}
-use Rattle.typed_hoisting.proofs.PointLaws.{supplies}
+use Rattle.typed_hoisting.proofs.PointLaws.{found_local, supplies}
 use Rattle.typed_hoisting.proofs.StoredLaws.{takes, stored_variables}
+use Rattle.typed_hoisting.proofs.GuardedItems.{guards_on, guards_at, mark_guarded, put_guarded, give_guarded, fail_guarded, set_guarded}
 use Rattle.typed_hoisting.proofs.PassingPoints.{passes_both}
 use Rattle.typed_hoisting.proofs.GoodParts.{numbered_up, numbered_both, among_first, among_rest, still_good, built_good, settled_unless_good, code_then}
 use Rattle.typed_hoisting.proofs.CallsKeep.{Own}
 use Rattle.typed_hoisting.proofs.ExpressionsKeep.{each_expression_keeps}
 use Rattle.typed_methods.proofs.KnownWays.{MetUnder, met_right, met_here}
-use Rattle.typed_methods.proofs.StoredKnown.{AllUnder, all_under, type_or, stored_there}
+use Rattle.typed_methods.proofs.StoredKnown.{all_under, type_or, stored_there}
 use Rattle.typed_methods.proofs.KeptParts.{in_loop_if, LocalAssigned, local_parts}
-use Rattle.typed_methods.proofs.CodeLaws.{stage, At, TypedAs, all_under_on, to_stands, at_as, supplies_all, point_at, variable_typed, typed_same, are_typed, surely_passes, marked_passes, GoodCode, no_more, no_more_is, behind_good, marked_fits}
+use Rattle.typed_methods.proofs.Floors.{Floors, all_floors, EachForgets, EachUnder, each_stored}
+use Rattle.typed_methods.proofs.CodeLaws.{stage, At, TypedAs, CaughtAbove, guards_above, supplied_at, all_under_on, to_stands, at_as, supplies_all, point_at, variable_typed, typed_same, are_typed, surely_passes, marked_passes, GoodCode, no_more, no_more_is, behind_good, marked_fits}
 use Rattle.program_meaning.proofs.LocalShapes.{shapes_narrowed}
 
 abbrev pub EachVariable : List PlainLocal → List ℕ → Type 0
 EachVariable locals names = EachTyped (shapes locals) names
 
--- where a statement begins: temporaries from the next one on are unused, and at least as much is known as at the head of the loop around
-pub record Begins (limit : ℕ) (floor : List PlainLocal) (w : Way) (n : ℕ) : Type 0 where
+-- where a statement begins: temporaries from the next one on are unused, and at least as much is known as at the head of the loop around and
+-- where the clauses around begin
+pub record Begins (limit : ℕ) (floor : Floors) (w : Way) (n : ℕ) : Type 0 where
   pub below : limit ≤ n
   pub free : Free n w.locals
-  pub above : AllUnder floor w.locals
+  pub above : EachUnder (all_floors floor) w.locals
 
 module _ (c : Context) (leaves : Leaving) (own : Own leaves) (limit : ℕ) where
   pub forms_good : (e : PlainExpr) → ExprNames limit e → GoodForms c leaves limit e (forms leaves c e)
   forms_good e named = each_expression_keeps c leaves own limit e named
 
   -- a statement that is opened
-  abbrev pub GoodOpened : PlainStmt → Bool → List PlainLocal → Way → ℕ → Way → Type 1
+  abbrev pub GoodOpened : PlainStmt → Bool → Floors → Way → ℕ → Way → Type 1
   GoodOpened x looping floor w n end = GoodCode c leaves looping floor w n (opened leaves c x (stage w n)).code (opened leaves c x (stage w n)).next end (goes_on x) (breaks x)
 
   result_here : (looping : Bool) → result_at (in_loop_if c looping) ≡ result_at c
   unfolding result_at
   result_here looping = refl
 
-  module _ (looping : Bool) (floor : List PlainLocal) (w : Way) (n : ℕ) (b : Begins limit floor w n) (end : Way) where
+  module _ (looping : Bool) (floor : Floors) (w : Way) (n : ℕ) (b : Begins limit floor w n) (end : Way) where
     abbrev d : Context
     d = in_loop_if c looping
 
@@ -73,9 +77,15 @@ module _ (c : Context) (leaves : Leaving) (own : Own leaves) (limit : ℕ) where
     goes_to : (variables : List PlainVar) (after : List PlainLocal) → w ≡ end → At variables w.locals after → At variables end.locals after
     goes_to variables after e at = at_as variables w.locals end.locals after (ap (λ (v : Way). v.locals) e) at
 
+    guard : (m : Around) → CaughtAbove m floor.clauses → GuardsHold m n w.locals
+    guard m caught = guards_above m floor.clauses caught w.locals b.above.1 n b.free
+
+    marked : (m : Around) → CaughtAbove m floor.clauses → (env : List PlainLocal) → At m.variables w.locals env → Guarded c m.caught (IMark ∷ []) env
+    marked m caught env at = mark_guarded c m.caught env (supplied_at m floor.clauses caught w.locals b.above.1 env at)
+
     pub pass_good : (at : Place) → flow d w (PPass at) ≡ Ok end → GoodOpened (PPass at) looping floor w n end
     unfolding flow opened goes_on breaks stmts_fit PointsPass
-    pass_good at h = record { made = []; numbered = refl; points = λ variables among typed. (tt, tt); fits = λ m among typed env at' ways goal goes. (goes refl env (goes_to m.variables env (same_ok w end h) at'), tt) }
+    pass_good at h = record { made = []; numbered = refl; points = λ variables among typed. (tt, tt); fits = λ m among typed env at' ways goal goes. (goes refl env (goes_to m.variables env (same_ok w end h) at'), marked m ways.at_caught env at') }
 
     pub break_good : (at : Place) → flow d w (PBreak at) ≡ Ok end → GoodOpened (PBreak at) looping floor w n end
     unfolding flow opened goes_on breaks stmts_fit PointsPass
@@ -88,7 +98,7 @@ module _ (c : Context) (leaves : Leaving) (own : Own leaves) (limit : ℕ) where
           fits = λ m among typed env at' ways goal goes. (
             ways.at_break refl env at'.are
                 (subst (λ (v : Way). MetUnder (shapes v.locals) v.breaks env) is (met_right (shapes w.locals) env w.breaks (way true w.locals) (met_here w.locals env (all_under w.locals env at'.kept)))),
-            tt,
+            marked m ways.at_caught env at',
           );
         }
 
@@ -98,7 +108,7 @@ module _ (c : Context) (leaves : Leaving) (own : Own leaves) (limit : ℕ) where
       made = [];
       numbered = refl;
       points = λ variables among typed. (tt, (tt, tt));
-      fits = λ m among typed env at' ways goal goes. (ways.at_continue (in_a_loop looping (refuse_ok (not looping) LoopWord at (Ok w) end h).0) env at'.are (all_under_on floor w.locals env b.above (all_under w.locals env at'.kept)), tt);
+      fits = λ m among typed env at' ways goal goes. (ways.at_continue (in_a_loop looping (refuse_ok (not looping) LoopWord at (Ok w) end h).0) env at'.are (all_under_on floor.head w.locals env b.above.0 (all_under w.locals env at'.kept)), marked m ways.at_caught env at');
     }
       where
         in_a_loop : (a : Bool) → not a ≡ false → a ≡ true
@@ -115,8 +125,11 @@ module _ (c : Context) (leaves : Leaving) (own : Own leaves) (limit : ℕ) where
           made = g.made;
           numbered = g.numbered;
           points = λ variables among typed. (tt, g.points variables among (are_typed variables w.locals typed));
-          fits = λ m among typed env at' ways goal goes.
-              (g.before m among env (to_stands m.variables n w.locals env at') goal (λ after there. goes refl after (goes_to m.variables after (same_ok w end p.2) (behind_good c leaves here a m.variables after b.free g there))), tt);
+          fits = λ m among typed env at' ways goal goes. (
+            g.before m among env (to_stands m.variables n w.locals env at') (guard m ways.at_caught) goal
+                (λ after there. goes refl after (goes_to m.variables after (same_ok w end p.2) (behind_good c leaves here a m.variables after b.free g there))),
+            marked m ways.at_caught env at',
+          );
         }
 
     -- Returns
@@ -129,7 +142,7 @@ module _ (c : Context) (leaves : Leaving) (own : Own leaves) (limit : ℕ) where
     unfolding flow opened goes_on breaks stmts_fit PointsPass StmtNames
     return_good at None named h =
         let suits : assignable TNil (result_at c) ≡ true = ap (assignable TNil) (sym (result_here looping)) ∙ return_nothing_ok d w.locals at (no_need (return_fault d w.locals at None) (Ok w) end h).0 in
-        record { made = []; numbered = refl; points = λ variables among typed. (tt, (tt, tt)); fits = λ m among typed env at' ways goal goes. ((nil_suits env at suits, tt), tt) }
+        record { made = []; numbered = refl; points = λ variables among typed. (tt, (tt, tt)); fits = λ m among typed env at' ways goal goes. ((nil_suits env at suits, give_guarded c m.caught (PNil at) env (supplied_at m floor.clauses ways.at_caught w.locals b.above.1 env at')), marked m ways.at_caught env at') }
     return_good at (Some e) named h =
         let p : (ty : PlainTy) × (type_at d w.locals (Some (result_at d)) e ≡ Ok ty) × (assignable ty (result_at d) ≡ true) = return_ok d w.locals at e (no_need (return_fault d w.locals at (Some e)) (Ok w) end h).0 in
         let wanted : Option PlainTy = Some (result_at c) in
@@ -140,8 +153,8 @@ module _ (c : Context) (leaves : Leaving) (own : Own leaves) (limit : ℕ) where
           numbered = g.numbered;
           points = λ variables among typed. marked_passes c leaves here a (FGive a.rest) g variables among typed tt;
           fits = λ m among typed env at' ways goal goes.
-              marked_fits c leaves here a (λ r. FGive r) g m among env at' goal
-              (λ after there rest. (record { ty = p.0; has = record { wanted = wanted; typed = rest.0; stays = rest.1 }; suits = ap (assignable p.0) (sym (result_here looping)) ∙ p.2 }, tt));
+              marked_fits c leaves here a (λ r. FGive r) g m among (guard m ways.at_caught) env at' goal
+              (λ after there rest supplied. (record { ty = p.0; has = record { wanted = wanted; typed = rest.0; stays = rest.1 }; suits = ap (assignable p.0) (sym (result_here looping)) ∙ p.2 }, give_guarded c m.caught a.rest after supplied));
         }
 
     -- Failures
@@ -176,7 +189,7 @@ module _ (c : Context) (leaves : Leaving) (own : Own leaves) (limit : ℕ) where
           made = g.made;
           numbered = g.numbered;
           points = λ variables among typed. marked_passes c leaves here a (FFail kind a.rest) g variables among typed tt;
-          fits = λ m among typed env at' ways goal goes. marked_fits c leaves here a (FFail kind) g m among env at' goal (λ after there rest. ((omega (arith, kinds.0), omega (arith, kinds.1), rest), tt));
+          fits = λ m among typed env at' ways goal goes. marked_fits c leaves here a (FFail kind) g m among (guard m ways.at_caught) env at' goal (λ after there rest supplied. ((omega (arith, kinds.0), omega (arith, kinds.1), rest), fail_guarded c m.caught kind a.rest after supplied));
         }
 
     -- Asserts
@@ -218,29 +231,31 @@ module _ (c : Context) (leaves : Leaving) (own : Own leaves) (limit : ℕ) where
               let at_true : At m.variables ls (at_start m.variables behind) = point_at m.variables t.next ls free_true typed_true in
               let at_false : At m.variables w.locals (at_start m.variables (surely w.locals)) = point_at m.variables t.next w.locals free typed in
               let tail : Asked = code_fits c leaves m (FFail 3 a.rest ∷ []) (Supplies behind) in
-              let start : List PlainLocal = at_start m.variables (surely w.locals) in (
+              let start : List PlainLocal = at_start m.variables (surely w.locals) in
+              let later : GuardsHold m t.next w.locals = guards_above m floor.clauses ways.at_caught w.locals b.above.1 t.next free in
+              let failed : GuardsHold m a.stage.next a.stage.locals = guards_on m t.next a.stage.next w.locals a.stage.locals (numbered_up t.next g.made a.stage.next g.numbered) g.alike later in (
                 (
                   (
-                    gt.sides m (among_first m.variables gt.made g.made among) env (to_stands m.variables n w.locals env at') (Supplies behind) (Supplies (surely w.locals))
+                    gt.sides m (among_first m.variables gt.made g.made among) env (to_stands m.variables n w.locals env at') (guard m ways.at_caught) (Supplies behind) (Supplies (surely w.locals))
                         (λ after least. supplies m.variables n ls after (free_narrowed n n (shown true test) w.locals (omega arith) b.free) least)
                         (λ after least. supplies m.variables n w.locals after b.free (forgotten_least m.variables n n (shown false test) w.locals after (omega arith) least)),
                     supplies_all m.variables t.next ls (at_start m.variables behind) free_true at_true.are (all_under ls (at_start m.variables behind) at_true.kept),
                     code_then c leaves m a.before (FFail 3 a.rest ∷ []) (Supplies behind) start
-                        (g.before m (among_rest m.variables gt.made g.made among) start (to_stands m.variables t.next w.locals start at_false) tail
-                        (λ after there. ((omega arith, omega arith, g.rest after there.alike), tt))),
+                        (g.before m (among_rest m.variables gt.made g.made among) start (to_stands m.variables t.next w.locals start at_false) later tail
+                        (λ after there. ((omega arith, omega arith, g.rest after there.alike), fail_guarded c m.caught 3 a.rest after (guards_at m a.stage.next a.stage.locals after failed there)))),
                   ),
                   goes refl (at_start m.variables behind) (at_as m.variables ls end.locals (at_start m.variables behind) (ap (λ (v : Way). v.locals) (same_ok (on w ls) end q.1)) at_true),
                 ),
-                tt,
+                marked m ways.at_caught env at',
               );
         }
 
     -- Assignments
 
-    pub assign_local : (at : Place) (x : PlacedName) (written : Option PlainWritten) (e : PlainExpr) → StmtNames limit (PAssign at (Local x) written e) → EachVariable w.locals (local_assigned (Local x)) → flow d w (PAssign at (Local x) written e) ≡ Ok end
+    pub assign_local : (at : Place) (x : PlacedName) (written : Option PlainWritten) (e : PlainExpr) → StmtNames limit (PAssign at (Local x) written e) → EachVariable w.locals (local_assigned (Local x)) → EachForgets floor.clauses (local_assigned (Local x)) → flow d w (PAssign at (Local x) written e) ≡ Ok end
         → GoodOpened (PAssign at (Local x) written e) looping floor w n end
     unfolding flow opened goes_on breaks stmts_fit PointsPass StmtNames
-    assign_local at x written e named variable h =
+    assign_local at x written e named variable forgets h =
         let p : (ls : List PlainLocal) × (assigned d w.locals at (Local x) written e ≡ Ok ls) × (done (on w ls) ≡ Ok end) = found_ok (assigned d w.locals at (Local x) written e) (λ ls. Ok (on w ls)) end h in
         let q : LocalAssigned d w.locals x written e p.0 = local_parts d w.locals x e p.0 at written p.1 in
         let t : PlainTy = type_or w.locals x.name.0 q.first in
@@ -254,21 +269,23 @@ module _ (c : Context) (leaves : Leaving) (own : Own leaves) (limit : ℕ) where
           numbered = g.numbered;
           points = λ variables among typed. marked_passes c leaves here a (store (Local x) a.rest) g variables among typed tt;
           fits = λ m among typed env at' ways goal goes.
-              marked_fits c leaves here a (store (Local x)) g m among env at' goal
-              (λ after stands rest.
+              marked_fits c leaves here a (store (Local x)) g m among (guard m ways.at_caught) env at' goal
+              (λ after stands rest supplied.
               let before : At m.variables w.locals after = behind_good c leaves here a m.variables after b.free g stands in
               let variable = typed x.name.0 t has in
               let after2 : List PlainLocal = with_local x.name.0 q.ty q.ty after in
               let behind : At m.variables (with_local x.name.0 q.first q.ty w.locals) after2 = record {
                 are = stored_variables m.variables x.name.0 t q.ty after before.are variable;
                 kept = stored_there x.name.0 q.first q.ty q.ty w.locals after (variable_typed m.variables after x.name.0 t before.are variable) before.kept;
-              } in (
+              } in
+              let has : HasType c leaves after a.rest q.ty = record { wanted = wanted; typed = rest.0; stays = rest.1 } in (
                 (
                   q.ty,
-                  record { wanted = wanted; typed = rest.0; stays = rest.1 },
+                  has,
                   takes m.variables x.name.0 t q.ty after before.are variable q.suits (no_more c leaves m goal) (no_more_is c leaves m goal after2 (goes refl after2 (at_as m.variables _ end.locals after2 is behind))),
                 ),
-                tt,
+                set_guarded c leaves m.variables x.name.0 a.rest q.ty t after has (found_local m.variables after x.name.0 t before.are variable) m.caught supplied
+                    (supplied_at m floor.clauses ways.at_caught (with_local x.name.0 q.first q.ty w.locals) (each_stored floor.clauses x.name.0 q.first q.ty w.locals forgets b.above.1) after2 behind),
               ));
         }
       where
@@ -291,12 +308,12 @@ module _ (c : Context) (leaves : Leaving) (own : Own leaves) (limit : ℕ) where
           numbered = g.numbered;
           points = λ variables among typed. marked_passes c leaves here a (store (Field f) a.rest) g variables among typed tt;
           fits = λ m among typed env at' ways goal goes.
-              marked_fits c leaves here a (store (Field f)) g m among env at' goal
-              (λ after stands rest. (
+              marked_fits c leaves here a (store (Field f)) g m among (guard m ways.at_caught) env at' goal
+              (λ after stands rest supplied. (
                 (
                   record { ty = q.0; is = q.2; fits = record { ty = q.1; has = record { wanted = wanted; typed = rest.0; stays = rest.1 }; suits = q.4 } },
                   no_more_is c leaves m goal after (goes refl after (at_as m.variables w.locals end.locals after is (behind_good c leaves here a m.variables after b.free g stands))),
                 ),
-                tt,
+                put_guarded c m.caught f.name.0 a.rest after supplied,
               ));
         }

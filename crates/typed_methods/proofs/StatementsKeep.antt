@@ -29,7 +29,7 @@ use Rattle.typed_methods.proofs.KeptParts.{in_loop_if}
 use Rattle.typed_methods.proofs.FlowKept.{or_left, or_right}
 use Rattle.typed_methods.proofs.BegunAnew.{way_at, LeadsTo, stmt_anew}
 use Rattle.typed_methods.proofs.WaysOn.{all_left_on}
-use Rattle.typed_methods.proofs.KnownStays.{Forgets, forgets_first, forgets_rest, begun_above, stmt_above}
+use Rattle.typed_methods.proofs.Floors.{Floors, all_floors, EachForgets, each_first, each_rest, each_under, each_begun, each_stmt}
 use Rattle.typed_methods.proofs.CodeLaws.{stage, at_as, typed_same, GoodCode}
 use Rattle.typed_methods.proofs.SimpleKeep.{EachVariable, Begins, GoodOpened, pass_good, break_good, continue_good, do_good, return_good, raise_good, assert_good, assign_local, assign_field}
 use Rattle.typed_methods.proofs.AugmentKeep.{augment_local, augment_field}
@@ -47,9 +47,9 @@ module _ (c : Context) (leaves : Leaving) (own : Own leaves) (limit : ℕ) (outs
   abbrev flattened : PlainStmt → Way → ℕ → Flattened (List PlainFlatStmt)
   flattened x w n = code_if (not (asks x)) x (stage w n) (opened leaves c x (stage w n))
 
-  abbrev Whenever : PlainStmt → ((looping : Bool) (floor : List PlainLocal) (w : Way) (n : ℕ) (end : Way) → Type 1) → Type 1
+  abbrev Whenever : PlainStmt → ((looping : Bool) (floor : Floors) (w : Way) (n : ℕ) (end : Way) → Type 1) → Type 1
   Whenever x P =
-      (looping : Bool) (floor : List PlainLocal) (w : Way) (n : ℕ) (end : Way) → Begins limit floor w n → EachVariable w.locals (assigns x) → Forgets floor (assigns x) → flow (in_loop_if c looping) w x ≡ Ok end → P looping floor w n end
+      (looping : Bool) (floor : Floors) (w : Way) (n : ℕ) (end : Way) → Begins limit floor w n → EachVariable w.locals (assigns x) → EachForgets (all_floors floor) (assigns x) → flow (in_loop_if c looping) w x ≡ Ok end → P looping floor w n end
 
   -- a statement that is opened, and one as it becomes flat
   abbrev GoodIfOpened : PlainStmt → Type 1
@@ -64,7 +64,7 @@ module _ (c : Context) (leaves : Leaving) (own : Own leaves) (limit : ℕ) (outs
       by : (o : Bool) → asks x ≡ o
           → GoodCode c leaves looping floor w n (code_if (not o) x (stage w n) (opened leaves c x (stage w n))).code (code_if (not o) x (stage w n) (opened leaves c x (stage w n))).next end (goes_on x) (breaks x)
       by true e = good looping floor w n end b variables forgets h
-      by false e = still_keeps c leaves limit outside x named raises e looping floor w n end variables h
+      by false e = still_keeps c leaves limit outside x named raises e looping floor w n end b variables forgets.1 h
 
   none_good : GoodAll c leaves own limit PNoStmt
   unfolding flow opened stmts_fit goes_on breaks PointsPass
@@ -82,12 +82,12 @@ module _ (c : Context) (leaves : Leaving) (own : Own leaves) (limit : ℕ) (outs
       let d : Context = in_loop_if c looping in
       let p : (mid : Way) × (flow d w x ≡ Ok mid) × (cond (goes_on x) (flow_all d mid xs) (done mid) ≡ Ok end) = all_parts d w end x xs h in
       let in_x : EachVariable w.locals (assigns x) = first_typed (shapes w.locals) (assigns x) (cond (goes_on x) (assigned_in xs) []) variables in
-      by (goes_on x) p.0 p.1 p.2 in_x (later_typed (shapes w.locals) (assigns x) (cond (goes_on x) (assigned_in xs) []) variables) (forgets_rest floor (assigns x) (cond (goes_on x) (assigned_in xs) []) forgets)
-      (good_x looping floor w n p.0 b in_x (forgets_first floor (assigns x) (cond (goes_on x) (assigned_in xs) []) forgets) p.1)
-      (forgets_first floor (assigns x) (cond (goes_on x) (assigned_in xs) []) forgets)
+      by (goes_on x) p.0 p.1 p.2 in_x (later_typed (shapes w.locals) (assigns x) (cond (goes_on x) (assigned_in xs) []) variables) (each_rest (all_floors floor) (assigns x) (cond (goes_on x) (assigned_in xs) []) forgets)
+      (good_x looping floor w n p.0 b in_x (each_first (all_floors floor) (assigns x) (cond (goes_on x) (assigned_in xs) []) forgets) p.1)
+      (each_first (all_floors floor) (assigns x) (cond (goes_on x) (assigned_in xs) []) forgets)
     where
-      by : (go : Bool) (mid : Way) → flow (in_loop_if c looping) w x ≡ Ok mid → cond go (flow_all (in_loop_if c looping) mid xs) (done mid) ≡ Ok end → EachVariable w.locals (assigns x) → EachVariable w.locals (cond go (assigned_in xs) []) → Forgets floor (cond go (assigned_in xs) [])
-          → GoodCode c leaves looping floor w n (flattened x w n).code (flattened x w n).next mid go (breaks x) → Forgets floor (assigns x)
+      by : (go : Bool) (mid : Way) → flow (in_loop_if c looping) w x ≡ Ok mid → cond go (flow_all (in_loop_if c looping) mid xs) (done mid) ≡ Ok end → EachVariable w.locals (assigns x) → EachVariable w.locals (cond go (assigned_in xs) []) → EachForgets (all_floors floor) (cond go (assigned_in xs) [])
+          → GoodCode c leaves looping floor w n (flattened x w n).code (flattened x w n).next mid go (breaks x) → EachForgets (all_floors floor) (assigns x)
           → GoodCode c leaves looping floor w n (followed go (flattened x w n) (λ next. flat_all leaves c xs (record { locals = locals_behind c x w.locals; next = next }))).code
           (followed go (flattened x w n) (λ next. flat_all leaves c xs (record { locals = locals_behind c x w.locals; next = next }))).next end (go && all_go_on xs) (breaks x || (go && break_in xs))
       by false mid hx hxs in_x in_xs f_xs g f_x = record {
@@ -96,7 +96,7 @@ module _ (c : Context) (leaves : Leaving) (own : Own leaves) (limit : ℕ) (outs
         points = g.points;
         fits = λ m among typed env at ways goal goes.
             g.fits m among typed env at
-            (record { at_break = λ left env are met. ways.at_break (or_left (breaks x) false left) env are (subst (λ (v : Way). MetUnder (shapes v.locals) v.breaks env) (same_ok mid end hxs) met); at_continue = ways.at_continue }) goal
+            (record { at_break = λ left env are met. ways.at_break (or_left (breaks x) false left) env are (subst (λ (v : Way). MetUnder (shapes v.locals) v.breaks env) (same_ok mid end hxs) met); at_continue = ways.at_continue; at_caught = ways.at_caught }) goal
             (λ e. absurd cc);
       }
       by true mid hx hxs in_x in_xs f_xs g f_x =
@@ -108,7 +108,7 @@ module _ (c : Context) (leaves : Leaving) (own : Own leaves) (limit : ℕ) (outs
           let begins : Begins limit floor mid f.next = record {
             below = omega (arith, b.below, up);
             free = free_same f.next w.locals mid.locals same (free_later n f.next w.locals up b.free);
-            above = (stmt_above floor x d (begun w.locals) (way_at mid.locals anew.0) f_x (begun_above floor w.locals b.above) anew.1).under;
+            above = each_under (all_floors floor) (way_at mid.locals anew.0) (each_stmt (all_floors floor) x d (begun w.locals) (way_at mid.locals anew.0) f_x (each_begun (all_floors floor) w.locals b.above) anew.1);
           } in
           let rest : List PlainLocal → Flattened (List PlainFlatStmt) = λ ls. flat_all leaves c xs (record { locals = ls; next = f.next }) in
           let gx : GoodCode c leaves looping floor mid f.next (rest (locals_behind c x w.locals)).code (rest (locals_behind c x w.locals)).next end (all_go_on xs) (break_in xs) =
@@ -124,11 +124,11 @@ module _ (c : Context) (leaves : Leaving) (own : Own leaves) (limit : ℕ) (outs
             fits = λ m among typed env at ways goal goes.
                 code_then c leaves m f.code (rest (locals_behind c x w.locals)).code goal env
                 (g.fits m (among_first m.variables g.made gx.made among) typed env at
-                (record { at_break = λ left env are met. ways.at_break (or_left (breaks x) (break_in xs) left) env are (all_left_on env xs d mid end hxs met); at_continue = ways.at_continue })
+                (record { at_break = λ left env are met. ways.at_break (or_left (breaks x) (break_in xs) left) env are (all_left_on env xs d mid end hxs met); at_continue = ways.at_continue; at_caught = ways.at_caught })
                 (code_fits c leaves m (rest (locals_behind c x w.locals)).code goal)
                 (λ go after there.
                 gx.fits m (among_rest m.variables g.made gx.made among) (typed_same m.variables w.locals mid.locals same typed) after there
-                (record { at_break = λ left env are met. ways.at_break (or_right (breaks x) (break_in xs) left) env are met; at_continue = ways.at_continue }) goal goes));
+                (record { at_break = λ left env are met. ways.at_break (or_right (breaks x) (break_in xs) left) env are met; at_continue = ways.at_continue; at_caught = ways.at_caught }) goal goes));
           }
 
   mutual
@@ -142,16 +142,16 @@ module _ (c : Context) (leaves : Leaving) (own : Own leaves) (limit : ℕ) (outs
     opened_good (PReturn at e) named raises = λ looping floor w n end b variables forgets h. return_good c leaves own limit looping floor w n b end at e named h
     opened_good (PRaise at kind e) named raises = λ looping floor w n end b variables forgets h. raise_good c leaves own limit looping floor w n b end at kind e named raises h
     opened_good (PAssert at test e) named raises = λ looping floor w n end b variables forgets h. assert_good c leaves own limit looping floor w n b end at test e named h
-    opened_good (PAssign at (Local x) ty e) named raises = λ looping floor w n end b variables forgets h. assign_local c leaves own limit looping floor w n b end at x ty e named variables h
+    opened_good (PAssign at (Local x) ty e) named raises = λ looping floor w n end b variables forgets h. assign_local c leaves own limit looping floor w n b end at x ty e named variables forgets.1 h
     opened_good (PAssign at (Field f) ty e) named raises = λ looping floor w n end b variables forgets h. assign_field c leaves own limit looping floor w n b end method at f ty e named h
-    opened_good (PAugment at (Local x) op op_at e) named raises = λ looping floor w n end b variables forgets h. augment_local c leaves own limit looping floor w n b end at x op op_at e named variables h
+    opened_good (PAugment at (Local x) op op_at e) named raises = λ looping floor w n end b variables forgets h. augment_local c leaves own limit looping floor w n b end at x op op_at e named variables forgets.1 h
     opened_good (PAugment at (Field f) op op_at e) named raises = λ looping floor w n end b variables forgets h. augment_field c leaves own limit looping floor w n b end at f op op_at e named h
     opened_good (PIf at arms other) named raises = λ looping floor w n end b variables forgets h.
         if_good c leaves own limit at arms other (arms_good arms named.0 raises.1) (all_good other named.1 raises.2) looping floor w n end b variables forgets h
-    opened_good (PWhile at test body) named raises = λ looping floor w n end b variables forgets h. while_good c leaves own limit at test body named.0 (all_good body named.1 raises.1) looping floor w n end b variables h
-    opened_good (PFor at name name_at (PItems e) body) named raises = λ looping floor w n end b variables forgets h. list_good c leaves own limit at name name_at e body named (all_good body named.2 raises.1) looping floor w n end b variables h
+    opened_good (PWhile at test body) named raises = λ looping floor w n end b variables forgets h. while_good c leaves own limit at test body named.0 (all_good body named.1 raises.1) looping floor w n end b variables forgets.1 h
+    opened_good (PFor at name name_at (PItems e) body) named raises = λ looping floor w n end b variables forgets h. list_good c leaves own limit at name name_at e body named (all_good body named.2 raises.1) looping floor w n end b variables forgets.1 h
     opened_good (PFor at name name_at (PRange from to) body) named raises = λ looping floor w n end b variables forgets h.
-        range_good c leaves own limit at name name_at from to body named (all_good body named.2 raises.1) looping floor w n end b variables h
+        range_good c leaves own limit at name name_at from to body named (all_good body named.2 raises.1) looping floor w n end b variables forgets.1 h
 
     pub all_good : (xs : PlainStmts) → StmtsNames limit xs → EachOfStmts RaisesFailure xs → GoodAll c leaves own limit xs
     all_good PNoStmt named raises = none_good

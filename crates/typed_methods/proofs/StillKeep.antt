@@ -1,5 +1,5 @@
 -- A statement that stays as it is keeps the rules as code.
-use Rattle.std.proofs.Common.{◌≡◌, ℕ, Bool, true, false, cond, Option, Some, None, Ok, List, [], ◌∷◌, ◌++◌, refl, sym, ap, ◌∙◌, true≢false}
+use Rattle.std.proofs.Common.{◌≡◌, ℕ, Bool, true, false, cond, Option, Some, None, Ok, List, [], ◌∷◌, ◌++◌, append-nil, refl, sym, ap, ◌∙◌, subst, true≢false}
 use Rattle.std.specs.Prelude.{◌||◌, ◌&&◌, is_some}
 use Rattle.std.specs.Cmp.Derive.{both_true as both_hold}
 use Rattle.py_tree.specs.Bounded.{StmtNames, EachStmt, EachOfStmts, RaisesFailure}
@@ -18,12 +18,14 @@ use Rattle.flat_tree.specs.Flatness.{jumps}
 use Rattle.method_splitter.specs.Points.{PointsPass}
 use Rattle.flat_types.specs.FlatTypes.{stmts_fit}
 use Rattle.flat_types.proofs.FlowStays.{EachTyped, stmt_stays}
-use Rattle.typed_methods.proofs.StoredKnown.{TypedThere, are_same}
+use Rattle.typed_methods.proofs.StoredKnown.{TypedThere, all_under, are_same}
 use Rattle.typed_methods.proofs.KeptParts.{in_loop_if}
 use Rattle.typed_methods.proofs.FlowKept.{LoopsToo, GoesSo, begun_ahead, stmt_kept}
 use Rattle.typed_methods.proofs.BegunAnew.{way_at, LeadsTo, stmt_anew}
+use Rattle.typed_methods.proofs.Floors.{Floors, EachForgets, EachUnder, each_on}
+use Rattle.typed_methods.proofs.PointsAbove.{code_guarded}
 use Rattle.typed_methods.proofs.CodeLaws.{GoodCode, typed_env, typed_same, no_more, no_more_is}
-use Rattle.typed_methods.proofs.SimpleKeep.{EachVariable}
+use Rattle.typed_methods.proofs.SimpleKeep.{EachVariable, Begins}
 
 pub all_variables : (locals : List PlainLocal) (names : List ℕ) → EachTyped (shapes locals) names → are_variables locals names ≡ true
 all_variables locals [] h = refl
@@ -50,6 +52,10 @@ nothing_more b locals [] h = by b
     by false = tt
 nothing_more b locals (x ∷ xs) h = (h.0, nothing_more b locals xs h.1)
 
+same_names : (b : Bool) (names : List ℕ) → names ++ cond b [] [] ≡ names
+same_names true names = append-nil names
+same_names false names = append-nil names
+
 module _ (c : Context) (leaves : Leaving) (limit : ℕ) (outside : c.in_loop ≡ false) (x : PlainStmt) (named : StmtNames limit x) (raises : EachStmt RaisesFailure x) (stays : stmt_suspends leaves x || jumps x ≡ false) where
   -- code in a context that is in no loop
   code_stays : (env : List PlainLocal) (end : Way) (goal : Asked) → flow (in_loop_if c false) (begun env) x ≡ Ok end → EachVariable env (assigns x) → (goes_on x ≡ true → goal end.locals) → CodeFits c leaves env (PStmt x PNoStmt) goal
@@ -67,10 +73,10 @@ module _ (c : Context) (leaves : Leaving) (limit : ℕ) (outside : c.in_loop ≡
       nothing true = refl
       nothing false = refl
 
-  pub still_keeps : (looping : Bool) (floor : List PlainLocal) (w : Way) (n : ℕ) (end : Way) → EachVariable w.locals (assigns x) → flow (in_loop_if c looping) w x ≡ Ok end
+  pub still_keeps : (looping : Bool) (floor : Floors) (w : Way) (n : ℕ) (end : Way) → Begins limit floor w n → EachVariable w.locals (assigns x) → EachForgets floor.clauses (assigns x) → flow (in_loop_if c looping) w x ≡ Ok end
       → GoodCode c leaves looping floor w n (FCode x ∷ []) n end (goes_on x) (breaks x)
-  unfolding stmts_fit PointsPass
-  still_keeps looping floor w n end variables h = record {
+  unfolding stmts_fit PointsPass assigns
+  still_keeps looping floor w n end b variables forgets h = record {
     made = [];
     numbered = refl;
     points = λ variables among typed. (tt, tt);
@@ -80,9 +86,12 @@ module _ (c : Context) (leaves : Leaving) (limit : ℕ) (outside : c.in_loop ≡
         let there : TypedThere w.locals env = typed_env m.variables w.locals env typed at.are in
         let loops : LoopsToo (jumps x) looping false = λ j t. absurd (true≢false (sym j ∙ (either_false (stmt_suspends leaves x) (jumps x) stays).1)) in
         let kept : GoesSo (way_at end.locals anew.0) (begun env) (flow (in_loop_if c false) (begun env) x) =
-        stmt_kept c limit x looping false (begun w.locals) (begun env) (way_at end.locals anew.0) named loops (begun_ahead w.locals env at.kept) (typed_env m.variables end.locals env (typed_same m.variables w.locals end.locals same typed) at.are) anew.1 in (
-          code_stays env kept.end (no_more c leaves m goal) kept.is (each_there w.locals env (assigns x) there variables)
+        stmt_kept c limit x looping false (begun w.locals) (begun env) (way_at end.locals anew.0) named loops (begun_ahead w.locals env at.kept) (typed_env m.variables end.locals env (typed_same m.variables w.locals end.locals same typed) at.are) anew.1 in
+        let in_env : EachVariable env (assigns x) = each_there w.locals env (assigns x) there variables in
+        let above : EachUnder floor.clauses env = each_on floor.clauses w.locals env b.above.1 (all_under w.locals env at.kept) in (
+          code_stays env kept.end (no_more c leaves m goal) kept.is in_env
               (λ go. no_more_is c leaves m goal kept.end.locals (goes go kept.end.locals (record { are = are_same m.variables env kept.end.locals kept.same at.are; kept = kept.ahead.kept }))),
-          tt,
+          code_guarded floor.clauses env (PStmt x PNoStmt) c (subst (EachForgets floor.clauses) (sym (same_names (goes_on x) (assigns x))) forgets) (nothing_more (goes_on x) env (assigns x) in_env) above m.caught
+              (λ ls under e. ways.at_caught ls (are_same m.variables env ls e at.are) under),
         );
   }

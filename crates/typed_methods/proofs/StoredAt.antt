@@ -20,11 +20,12 @@ use Rattle.flat_types.specs.FlatTypes.{stmt_fits}
 use Rattle.hoisting.specs.Stages.{temporary}
 use Rattle.hoisting.specs.HoistStatements.{plus}
 use Rattle.typed_hoisting.specs.KnownLocals.{Seen, seen_of, seen, Kept, Free, AreVariables}
-use Rattle.typed_hoisting.specs.TypedHoisting.{Around, Typed}
+use Rattle.typed_hoisting.specs.TypedHoisting.{Around, SuppliesAll, Typed}
 use Rattle.typed_hoisting.proofs.LocalLaws.{kept_seen, read_seen}
 use Rattle.typed_hoisting.proofs.EnvironmentLaws.{other_local, temporary_seen}
-use Rattle.typed_hoisting.proofs.PointLaws.{IsVariable}
+use Rattle.typed_hoisting.proofs.PointLaws.{IsVariable, found_local}
 use Rattle.typed_hoisting.proofs.StoredLaws.{takes, stored_variables}
+use Rattle.typed_hoisting.proofs.GuardedItems.{set_guarded}
 use Rattle.typed_hoisting.proofs.TypedKinds.{RunTyped, one_link_typed, run_typed, run_stays}
 use Rattle.typed_methods.proofs.StoredKnown.{AllKept, given_as, type_or, stored_seen, forget_if, head_seen}
 use Rattle.typed_methods.proofs.CodeLaws.{At, variable_typed}
@@ -75,10 +76,13 @@ head_type names locals x t h = head_seen names locals x ∙ ap (option_map (forg
 
 module _ (c : Context) (leaves : Leaving) where
   -- a variable takes a value
-  pub set_fits : (m : Around) (x : ℕ) (e : PlainExpr) (s t : PlainTy) (env : List PlainLocal) → HasType c leaves env e s → AreVariables m.variables env → IsVariable m.variables x t → assignable s t ≡ true → (goal : Asked) → goal (with_local x s s env)
-      → stmt_fits c leaves m.variables [] m.breaks m.continues (FSet x e) goal env
+  pub set_fits : (m : Around) (x : ℕ) (e : PlainExpr) (s t : PlainTy) (env : List PlainLocal) → HasType c leaves env e s → AreVariables m.variables env → IsVariable m.variables x t → assignable s t ≡ true → SuppliesAll m.caught env → SuppliesAll m.caught (with_local x s s env) → (goal : Asked) → goal (with_local x s s env)
+      → stmt_fits c leaves m.variables m.caught m.breaks m.continues (FSet x e) goal env
   unfolding stmt_fits
-  set_fits m x e s t env has are is suits goal goes = ((s, has, takes m.variables x t s env are is suits goal goes), tt)
+  set_fits m x e s t env has are is suits before behind goal goes = (
+    (s, has, takes m.variables x t s env are is suits goal goes),
+    set_guarded c leaves m.variables x e s t env has (found_local m.variables env x t are is) m.caught before behind,
+  )
 
   pub as_has : (wanted : Option PlainTy) (t : PlainTy) (env : List PlainLocal) (e : PlainExpr) → Typed c leaves wanted t env e → HasType c leaves env e t
   as_has wanted t env e h = record { wanted = wanted; typed = h.0; stays = h.1 }

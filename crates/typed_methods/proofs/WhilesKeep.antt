@@ -22,10 +22,11 @@ use Rattle.hoisting.specs.Stages.{Stage, surely, locals_behind, point_behind}
 use Rattle.hoisting.specs.HoistExpressions.{Tested, forms}
 use Rattle.hoisting.specs.HoistStatements.{opened, flat_all}
 use Rattle.typed_hoisting.specs.KnownLocals.{Seen, seen, Kept, Under, Free, AreVariables, AtLeast}
-use Rattle.typed_hoisting.specs.TypedHoisting.{AreAmong, Around, asked_of, code_fits, GoodTest}
+use Rattle.typed_hoisting.specs.TypedHoisting.{AreAmong, Around, GuardsHold, asked_of, code_fits, GoodTest}
 use Rattle.typed_hoisting.proofs.LocalLaws.{kept_same, narrowed_more, narrowed_seen}
 use Rattle.typed_hoisting.proofs.EnvironmentLaws.{free_later, free_narrowed}
 use Rattle.typed_hoisting.proofs.PointLaws.{supplies}
+use Rattle.typed_hoisting.proofs.GuardedItems.{none_guarded, mark_guarded}
 use Rattle.typed_hoisting.proofs.GoodParts.{numbered_up, numbered_both, among_first, among_rest}
 use Rattle.typed_hoisting.proofs.CallsKeep.{Own}
 use Rattle.typed_methods.proofs.KnownWays.{MetUnder, met_left, met_right, met_here, met_behind}
@@ -33,7 +34,8 @@ use Rattle.typed_methods.proofs.StoredKnown.{all_itself, AllKept, AllUnder, all_
 use Rattle.typed_methods.proofs.KeptParts.{in_loop_if}
 use Rattle.typed_methods.proofs.FlowKept.{or_left, or_right}
 use Rattle.typed_methods.proofs.KnownStays.{begun_above, all_above, Forgets, narrowed_above}
-use Rattle.typed_methods.proofs.CodeLaws.{stage, At, TypedAs, WaysLead, all_under_on, to_stands, supplies_all, point_at, typed_same, are_typed, surely_passes, GoodCode}
+use Rattle.typed_methods.proofs.Floors.{Floors, inside_loop, EachForgets, EachUnder, each_narrowed, each_at_head}
+use Rattle.typed_methods.proofs.CodeLaws.{stage, At, TypedAs, WaysLead, guards_above, supplied_at, all_under_on, to_stands, supplies_all, point_at, typed_same, are_typed, surely_passes, GoodCode}
 use Rattle.typed_methods.proofs.SimpleKeep.{EachVariable, Begins, forms_good, GoodOpened}
 use Rattle.typed_methods.proofs.PointsBehind.{behind_is, ends_behind, behind_passes, behind_end}
 use Rattle.typed_methods.proofs.ArmsKeep.{GoodAll}
@@ -131,10 +133,10 @@ loops variables head start after test body b yes' no' true e = yes' e
 loops variables head start after test body b yes' no' false e = no' e
 
 module _ (c : Context) (leaves : Leaving) (own : Own leaves) (limit : ℕ) where
-  pub while_good : (at : Place) (test : PlainExpr) (body : PlainStmts) → ExprNames limit test → GoodAll c leaves own limit body → (looping : Bool) (floor : List PlainLocal) (w : Way) (n : ℕ) (end : Way) → Begins limit floor w n → EachVariable w.locals (assigned_in body)
+  pub while_good : (at : Place) (test : PlainExpr) (body : PlainStmts) → ExprNames limit test → GoodAll c leaves own limit body → (looping : Bool) (floor : Floors) (w : Way) (n : ℕ) (end : Way) → Begins limit floor w n → EachVariable w.locals (assigned_in body) → EachForgets floor.clauses (assigned_in body)
       → flow (in_loop_if c looping) w (PWhile at test body) ≡ Ok end → GoodOpened c leaves own limit (PWhile at test body) looping floor w n end
   unfolding opened stmts_fit goes_on breaks after_while assigned_in PointsPass
-  while_good at test body named good_body looping floor w n end b variables h =
+  while_good at test body named good_body looping floor w n end b variables forgets h =
       let x : PlainStmt = PWhile at test body in
       let d : Context = in_loop_if c looping in
       let p : WhileParts d w end test body = while_parts d w end at test body h in
@@ -148,11 +150,14 @@ module _ (c : Context) (leaves : Leaving) (own : Own leaves) (limit : ℕ) where
       let t : Tested PlainFlatTest = (forms leaves c test).test (stage (begun hs) n) in
       let gt : GoodTest c leaves (stage (begun hs) n) (asked_of c leaves t.test) t.next ss ns = (forms_good c leaves own limit test named).test (stage (begun hs) n) b.below free_h p.condition in
       let up : n ≤ t.next = numbered_up n gt.made t.next gt.numbered in
+      let inner : Floors = inside_loop hs floor in
       let above_start : AllUnder hs ss = narrowed_above hs (shown true test) hs (all_under hs hs (all_itself hs)) in
+      let clauses_head : EachUnder floor.clauses hs = each_at_head floor.clauses (assigned_in body) w.locals forgets b.above.1 in
+      let clauses_start : EachUnder floor.clauses ss = each_narrowed floor.clauses (shown true test) hs clauses_head in
       let in_body : EachVariable ss (assigned_in body) = subst (λ ks. EachTyped ks (assigned_in body)) (sym to_ss) variables in
-      let begins : Begins limit hs (begun ss) t.next = record { below = omega (arith, b.below, up); free = free_narrowed n t.next (shown true test) hs up free_h; above = above_start } in
+      let begins : Begins limit inner (begun ss) t.next = record { below = omega (arith, b.below, up); free = free_narrowed n t.next (shown true test) hs up free_h; above = (above_start, clauses_start) } in
       let f = flat_all leaves c body (stage (begun ss) t.next) in
-      let gb : GoodCode c leaves true hs (begun ss) t.next f.code f.next p.end (all_go_on body) (break_in body) = good_body true hs (begun ss) t.next p.end begins in_body (head_forgets (assigned_in body) w.locals) p.turn in
+      let gb : GoodCode c leaves true inner (begun ss) t.next f.code f.next p.end (all_go_on body) (break_in body) = good_body true inner (begun ss) t.next p.end begins in_body (head_forgets (assigned_in body) w.locals, forgets) p.turn in
       let up2 : t.next ≤ f.next = numbered_up t.next gb.made f.next gb.numbered in
       let end_above : AllUnder hs p.end.locals = (all_above hs body (in_loop_if c true) (begun ss) p.end (head_forgets (assigned_in body) w.locals) (begun_above hs ss above_start) p.turn).under in
       let end_shapes : shapes p.end.locals ≡ shapes ss = (all_stay body (in_loop_if c true) (begun ss) p.end p.turn).same in_body in
@@ -194,19 +199,21 @@ module _ (c : Context) (leaves : Leaving) (own : Own leaves) (limit : ℕ) where
             let at_s : At m.variables ss env_s = point_at m.variables t.next ss begins.free typed_s in
             let ends : (there : List PlainLocal) → goes_here ≡ true → AreVariables m.variables there → AllUnder end.locals there → Ends after there = λ there go are under.
             ends_behind goes_here ls there go (subst (λ ks. Supplies (surely ks) there) (sym is) (supplies_all m.variables f.next end.locals there free are under)) in
-            let inside : Around = record { variables = m.variables; breaks = Ends after; continues = Supplies head } in
-            let ways_body : WaysLead inside hs true (break_in body) p.end = record {
+            let inside : Around = record { variables = m.variables; caught = m.caught; breaks = Ends after; continues = Supplies head } in
+            let ways_body : WaysLead inside inner true (break_in body) p.end = record {
               at_break = λ left there are met.
                   ends there (or_right (not (is_true test)) (break_in body) left) are (behind_met there (met_right (shapes p.end.locals) there (way (not (is_true test)) ns) p.end.breaks met));
               at_continue = λ loops there are under. supplies_all m.variables n hs there free_h are under;
+              at_caught = ways.at_caught;
             } in
             let body_fits : (start : List PlainLocal) → At m.variables ss start → code_fits c leaves inside f.code (Supplies head) start = λ start there.
             gb.fits inside (among_rest m.variables gt.made gb.made among) typed_s start there ways_body (Supplies head)
             (λ go last at_last. supplies_all m.variables n hs last free_h at_last.are (all_under_on hs p.end.locals last end_above (all_under p.end.locals last at_last.kept))) in
+            let guard : GuardsHold m n hs = guards_above m floor.clauses ways.at_caught hs clauses_head n free_h in
             let among1 : AreAmong m.variables gt.made = among_first m.variables gt.made gb.made among in
             let always_fits : always t.test ≡ true → At m.variables ss env_h = λ yes'.
             let least : AtLeast m.variables n ss (narrowed [] env_h) = always_leads c leaves m t.test (AtLeast m.variables n ss) (λ there. ⊤) env_h yes'
-            (gt.sides m among1 env_h (to_stands m.variables n hs env_h at_h) (AtLeast m.variables n ss) (λ there. ⊤) (λ there least. least) (λ there least. tt)) in
+            (gt.sides m among1 env_h (to_stands m.variables n hs env_h at_h) guard (AtLeast m.variables n ss) (λ there. ⊤) (λ there least. least) (λ there least. tt)) in
             record {
               are = at_h.are;
               kept = narrowed_already (shown true test) hs env_h at_h.kept
@@ -218,11 +225,11 @@ module _ (c : Context) (leaves : Leaving) (own : Own leaves) (limit : ℕ) where
             let met : MetUnder (shapes p.end.locals) (way (not (is_true test)) ns) there =
             subst (λ ks. MetUnder ks (way (not (is_true test)) ns) there) (to_ns ∙ sym to_ss ∙ sym end_shapes) (subst (λ o. MetUnder (shapes ns) (way o ns) there) (sym open') (met_here ns there under)) in
             ends there (or_left (not (is_true test)) (break_in body) open') least.are (behind_met there (met_left (shapes p.end.locals) there (way (not (is_true test)) ns) p.end.breaks met)) in
-            let loop : (o : Bool) → always t.test ≡ o → LoopFits m.variables o head (surely ss) after (λ yes' no' locals. test_fits c leaves m.variables [] m.breaks m.continues t.test yes' no' locals)
-            (λ locals. stmts_fit c leaves m.variables [] (Ends after) (Supplies head) (flat_stmts_of f.code) (Supplies head) locals) =
+            let loop : (o : Bool) → always t.test ≡ o → LoopFits m.variables o head (surely ss) after (λ yes' no' locals. test_fits c leaves m.variables m.caught m.breaks m.continues t.test yes' no' locals)
+            (λ locals. stmts_fit c leaves m.variables m.caught (Ends after) (Supplies head) (flat_stmts_of f.code) (Supplies head) locals) =
             loops m.variables head (surely ss) after _ _ (always t.test) (λ yes'. body_fits env_h (always_fits yes'))
             (λ no'. (
-              gt.sides m among1 env_h (to_stands m.variables n hs env_h at_h) (Supplies (surely ss)) (Ends after)
+              gt.sides m among1 env_h (to_stands m.variables n hs env_h at_h) guard (Supplies (surely ss)) (Ends after)
                   (λ there least. supplies m.variables n ss there (free_narrowed n n (shown true test) hs (omega arith) free_h) least) (failing no'),
               body_fits env_s at_s,
             )) in (
@@ -231,9 +238,9 @@ module _ (c : Context) (leaves : Leaving) (own : Own leaves) (limit : ℕ) where
                 loop (always t.test) refl,
                 behind_end goes_here ls m.variables goal
                     (λ go. go_on go (at_start m.variables (surely ls)) (subst (λ ks. At m.variables end.locals (at_start m.variables (surely ks))) (sym is) (point_at m.variables f.next end.locals free typed_end))),
-                tt,
-                tt,
+                none_guarded c m.caught env_h (supplied_at m floor.clauses ways.at_caught hs clauses_head env_h at_h),
+                none_guarded c m.caught env_s (supplied_at m floor.clauses ways.at_caught ss clauses_start env_s at_s),
               ),
-              tt,
+              mark_guarded c m.caught env (supplied_at m floor.clauses ways.at_caught w.locals b.above.1 env at'),
             );
       }
