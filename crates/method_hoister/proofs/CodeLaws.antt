@@ -9,7 +9,7 @@ use Rattle.block_code.specs.PlainVars.{plain_var, plain_vars}
 use Rattle.block_code.specs.GraphFits.{var_of_param}
 use Rattle.flat_tree.specs.declared.tree.FlatStmt.{FlatStmt}
 use Rattle.flat_tree.specs.declared.tree.FlatStmt as s
-use Rattle.flat_tree.specs.PlainFlat.{FMark, plain_flat_stmt, plain_flat_stmts}
+use Rattle.flat_tree.specs.PlainFlat.{FMark, plain_flat_stmts}
 use Rattle.flat_tree.proofs.FlatViews.{flat-Mark}
 use Rattle.hoisting.proofs.PartLaws.{pushed}
 

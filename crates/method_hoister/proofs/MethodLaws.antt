@@ -1,7 +1,7 @@
 -- The method of a number, as the rules on statements find it and as a program has it.
 use Rattle.std.proofs.Common.{◌≡◌, ℕ, Option, Some, None, List, refl}
 use Rattle.std.specs.Prelude.{slice_get, option_and_then}
-use Rattle.py_tree.specs.PlainProgram.{PlainMethod, PlainClass, PlainProgram}
+use Rattle.py_tree.specs.PlainProgram.{PlainClass, PlainProgram}
 use Rattle.py_tree.specs.ClassRules.{methods_of}
 use Rattle.py_tree.specs.Acceptance.{members_of, members_at}
 use Rattle.flow_types.specs.Views.{method_at}

@@ -1,5 +1,5 @@
 -- Statements and arms one after another, from one of them on.
-use Rattle.std.proofs.Common.{◌≡◌, ℕ, Bool, Option, true, false, List, [], ◌∷◌, ◌++◌, append_assoc, refl, sym, ap, ◌∙◌}
+use Rattle.std.proofs.Common.{◌≡◌, ℕ, Option, true, false, List, [], ◌∷◌, ◌++◌, append_assoc, refl, sym, ap, ◌∙◌}
 use Rattle.std.proofs.lemmas.List.{append-nil}
 use Rattle.py_tree.specs.PlainStatements.{PlainStmt, PlainStmts, PNoStmt, PStmt, PArm, PlainArm, PlainArms, PNoArm, PMoreArms, PClause, PlainClauses, PNoClause, PMoreClauses}
 use Rattle.py_tree.specs.FlowEnvironment.{PlainLocal}

@@ -15,7 +15,7 @@ use Rattle.py_tree.specs.PlainStatements.{PlainOver, PlainStmts, PlainArm, PArm,
 use Rattle.call_graph.specs.SuspendingCode.{Leaving}
 use Rattle.flat_tree.specs.PlainFlat.{Point, PlainFlatStmt, FMark, FSet, FGive, FFail, FIf, FWhile, FNoStmt, PlainFlatArm, FArm, PlainFlatTest, flat_stmts_of, FTry}
 use Rattle.hoisting.specs.Stages.{Stage, surely, where_shown, ty_at}
-use Rattle.hoisting.specs.HoistExpressions.{Hoisted, Tested, settled, settled_unless, lasts, forms}
+use Rattle.hoisting.specs.HoistExpressions.{Tested, settled, settled_unless, lasts, forms}
 use Rattle.hoisting.specs.HoistStatements.{Flattened, plus, stored, target_ty, marked, value_or_nil, start_or_zero, head_locals, optional, combination, range_start, range_end, for_code, flat_all, flat_arms, other_stage, flat_clauses}
 
 -- in which nothing runs

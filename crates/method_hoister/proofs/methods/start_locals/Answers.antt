@@ -1,4 +1,4 @@
-use Rattle.std.proofs.Common.{◌≡◌, Some, sym, ap, ◌∙◌, subst}
+use Rattle.std.proofs.Common.{◌≡◌, sym, ap, ◌∙◌, subst}
 use Rattle.std.specs.Option.{IsSome}
 use Rattle.py_tree.specs.CheckedViews.{checked_program, checked_names}
 use Rattle.py_tree.specs.Flow.{method_locals}

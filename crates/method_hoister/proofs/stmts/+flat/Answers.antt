@@ -1,6 +1,5 @@
-use Rattle.std.proofs.Common.{◌≡◌, ℕ, ◌+◌, ◌<◌, ◌≤◌, ◌++◌, ◌∷◌, [], arith, Bool, true, false, Option, None, drop, refl, sym, ap, ◌∙◌}
+use Rattle.std.proofs.Common.{◌≡◌, ◌+◌, ◌++◌, ◌∷◌, [], arith, true, false, None, drop, refl, sym, ap, ◌∙◌}
 use Rattle.std.proofs.lemmas.List.{map-append}
-use Rattle.py_tree.specs.declared.stmt.Arm.{out-Arm}
 use Rattle.py_tree.specs.declared.stmt.Clause.{out-Clause}
 use Rattle.py_tree.specs.PlainExpressions.{plain_expr}
 use Rattle.py_tree.specs.PlainTypes.{plain_ty, plain_written}
