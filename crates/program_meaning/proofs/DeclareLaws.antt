@@ -13,10 +13,11 @@ use Rattle.py_tree.specs.declared.stmt.Target.{Target}
 use Rattle.py_tree.specs.declared.stmt.Over.{Over}
 use Rattle.py_tree.specs.declared.stmt.Stmt.{Stmt}
 use Rattle.py_tree.specs.declared.stmt.Arm.{Arm}
+use Rattle.py_tree.specs.declared.stmt.Clause.{Clause}
 use Rattle.py_tree.specs.declared.stmt.StmtKind as kind
 use Rattle.py_tree.specs.PlainExpressions.{PlainExpr, plain_expr}
 use Rattle.py_tree.specs.PlainStatements.{plain_option, plain_stmt_kind, plain_stmt, plain_stmts, PlainStmt, PPass, PBreak, PContinue, PDo, PReturn, PRaise, PAssert, PAssign, PAugment, PIf, PWhile, PFor, PTry}
-use Rattle.py_tree.proofs.Views.{stmt-Assign, stmt-Assert, stmt-Pass, stmt-Break, stmt-Continue, stmt-Expr, stmt-Return, stmt-Raise, stmt-Augment, stmt-If, stmt-While, stmt-For}
+use Rattle.py_tree.proofs.Views.{stmt-Assign, stmt-Assert, stmt-Pass, stmt-Break, stmt-Continue, stmt-Expr, stmt-Return, stmt-Raise, stmt-Augment, stmt-If, stmt-While, stmt-For, stmt-Try}
 use Rattle.sf_value.specs.Keys.{Key, key_cmp}
 use Rattle.sf_value.proofs.Maps.{key_total}
 use Rattle.sf_value.specs.declared.value.Value.{Value}
@@ -118,6 +119,10 @@ module _ (src : Source) (me : Key) where
     unfolding declare
     declare-For x over body = ap (λ t. declare src me t vars (record_at w me) n) (stmt-For at x over body) ∙ step_more n m _ _ more
 
+    pub declare-Try : (body : List Stmt) (clauses : List Clause) → declare src me (plain_stmt_kind (kind.Try body clauses) at) vars (record_at w me) n ≡ Got value.Nil (record_at w me) m
+    unfolding declare
+    declare-Try body clauses = ap (λ t. declare src me t vars (record_at w me) n) (stmt-Try at body clauses) ∙ step_more n m _ _ more
+
   stmts_from : (ss : List Stmt) (i : ℕ) (x : Stmt) → i < length ss → x ≡ get_or ss i x → plain_stmts (drop i ss) ≡ plain_stmt x ∷ plain_stmts (drop (i + 1) ss)
   stmts_from ss i x lt is =
       let cut : drop i ss ≡ get_or ss i x ∷ drop (i + 1) ss = rw (add-one, drop-cons ss i x) in
@@ -131,7 +136,7 @@ module _ (src : Source) (me : Key) where
   unfolding declare_all
   declares_end ss i vars fields n le = let cut : drop i ss ≡ [] = drop_all i ss le in ap (λ l. declare_all src me (plain_stmts l) vars fields n) cut
 
-pub ruleset declare_is = (declare-Pass, declare-Break, declare-Continue, declare-Expr, declare-Return, declare-Raise, declare-Augment, declare-If, declare-While, declare-For)
+pub ruleset declare_is = (declare-Pass, declare-Break, declare-Continue, declare-Expr, declare-Return, declare-Raise, declare-Augment, declare-If, declare-While, declare-For, declare-Try)
 
 -- no record stands in the state without an entity
 pub no_record : (w : World) (me : Key) → w ≡ at_first no_state → record_at w me ≡ []

@@ -9,7 +9,7 @@ use Rattle.source_meaning.specs.declared.Stop.TheVariants as stop
 use Rattle.program_meaning.specs.declared.vars.Var.{Var}
 use Rattle.source_meaning.specs.declared.statements.Flow.{Flow}
 use Rattle.source_meaning.specs.declared.statements.Flow.TheVariants as flow
-use Rattle.program_meaning.specs.World.{World, Gives, Got, Fell, ◌>>=◌, Ends, Fails, told, with_given, next_turn, result_of}
+use Rattle.program_meaning.specs.World.{World, Gives, Got, Fell, ◌>>=◌, Ends, Fails, told, with_given, next_turn, result_of, caught}
 use Rattle.program_meaning.specs.Calls.{made}
 use Rattle.source_meaning.specs.Agrees.{FailsAs, FallsIn, FailsIn, AgreesIn, EndsIn, FallsWith}
 use Rattle.program_meaning.proofs.ViewLaws.{viewed}
@@ -49,6 +49,17 @@ body_falls (stop.Failed x) vars w n e g same fails = same ∙ ap result_of fails
 pub turn_fails : (s : Stop) (vars : List Var) (w : World) (n : ℕ) (e l : Ends World) (k : List Var → World → ℕ → Ends World) → l ≡ next_turn e k → FailsIn s vars w n e → FailsIn s vars w n l
 turn_fails stop.NoMemory vars w n e l k same fails = tt
 turn_fails (stop.Failed x) vars w n e l k same fails = same ∙ ap (λ y. next_turn y k) fails
+
+-- what a body comes to that doesn't fail passes the clauses
+pub caught_passes : (f : Flow) (vars : List Var) (w : World) (n : ℕ) (e : Ends World) (k : Failure → List Var → World → ℕ → Ends World) → EndsIn (Ok f) vars w n e → EndsIn (Ok f) vars w n (caught k e)
+caught_passes flow.On vars w n e k ends = ap (λ x. caught k x) ends
+caught_passes (flow.Gave v) vars w n e k ends = ap (λ x. caught k x) ends
+caught_passes flow.Broke vars w n e k ends = ap (λ x. caught k x) ends
+caught_passes flow.Continued vars w n e k ends = ap (λ x. caught k x) ends
+
+-- a failure is taken up
+pub caught_fails : (f : Failure) (vars : List Var) (w : World) (n : ℕ) (e : Ends World) (k : Failure → List Var → World → ℕ → Ends World) → FailsIn (stop.Failed f) vars w n e → caught k e ≡ k f vars w n
+caught_fails f vars w n e k fails = ap (λ x. caught k x) fails
 
 -- a part that falls fails its statement
 pub given_fails : {A : Type 0} (s : Stop) (vars : List Var) (w : World) (n : ℕ) (g : Gives World A) (l : Ends World) (k : A → World → ℕ → Ends World) → l ≡ with_given vars g k → FallsIn s w n g → FailsIn s vars w n l

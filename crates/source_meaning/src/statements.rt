@@ -103,7 +103,9 @@ fn execute_form(site: &Site<'_>, stmt: &Stmt, vars: &mut Vars, run: &mut Run) ->
             execute_for(site, &turn, over, vars, run)
         }
         StmtKind::Try { body, clauses } => {
-            execute_try(site, body.as_slice(), clauses.as_slice(), vars, run)
+            let tried = body.as_slice();
+            let named = clauses.as_slice();
+            execute_try(site, tried, named, vars, run)
         }
     }
 }
@@ -283,8 +285,9 @@ fn execute_try(
     ensures { EndsAs result vars.new site.now run.old run.new (tried site.now body.now clauses.now vars.old) }
 {
     match execute_all(site, body, vars, run) {
+        Ok(flow) => Ok(flow),
+        Err(Stop::NoMemory) => Err(Stop::NoMemory),
         Err(Stop::Failed(failure)) => take_up(site, clauses, failure, vars, run),
-        ended => ended,
     }
 }
 
@@ -301,9 +304,10 @@ fn take_up(
     ensures { EndsAs result vars.new site.now run.old run.new (taken_up site.now clauses.now failure vars.old) }
 {
     for clause in clauses {
+        let body = clause.body.as_slice();
         if names_kind(clause.kinds.as_slice(), failure.kind) {
             drop(failure);
-            return execute_all(site, clause.body.as_slice(), vars, run);
+            return execute_all(site, body, vars, run);
         }
     }
     Err(Stop::Failed(failure))

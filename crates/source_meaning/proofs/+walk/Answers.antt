@@ -6,8 +6,8 @@ use Rattle.program_meaning.specs.Execution.{all_of}
 use Rattle.source_meaning.specs.Sites.{site_of}
 use Rattle.source_meaning.specs.Transactions.{world_of}
 use Rattle.program_meaning.proofs.EvalLaws.{all_next, all_end, link_next, link_end, each_next, each_end}
-use Rattle.program_meaning.proofs.ActLaws.{stmts_next, stmts_end, arms_next, arms_end, while_over, items_end, numbers_over}
-use Rattle.py_tree.proofs.Sizes.{item_size, link_part, stmt_part, arm_part}
+use Rattle.program_meaning.proofs.ActLaws.{stmts_next, stmts_end, arms_next, arms_end, clauses_next, clauses_end, while_over, items_end, numbers_over}
+use Rattle.py_tree.proofs.Sizes.{item_size, link_part, stmt_part, arm_part, clause_part}
 use Rattle.std.proofs.Common.{◌≡◌, true, false, inl, inr, option_map, drop, ◌∷◌, ◌++◌}
 use Rattle.std.specs.Prelude.{is_some}
 use Rattle.std.specs.FinMap.{get}
@@ -21,7 +21,7 @@ use Rattle.source_meaning.specs.Sites.{calls_of}
 use Rattle.source_meaning.proofs.AgreeLaws.{falls_as, fails_as, agrees_by, falls_by, body_falls, turn_fails, given_fails, record_stops, making_stops}
 use Rattle.program_meaning.proofs.CallLaws.{within_zero, within_deep, within_more, nothing_made, call_zero, call_deep, call_more, make_zero, make_deep, make_more, enter_missing, enter_found, create_taken, create_free, body_is}
 use Rattle.program_meaning.proofs.DeclareLaws.{record_written, declare_none, declare-Assign, declare-Assert, declares_next, declares_end}
-use Rattle.program_meaning.proofs.ActLaws.{act-While, act-For, while_given, while_ends, while_stops, while_turn, items_stop, items_turn, numbers_end, numbers_stop, numbers_turn}
+use Rattle.program_meaning.proofs.ActLaws.{act-While, act-For, act-Try, while_given, while_ends, while_stops, while_turn, items_stop, items_turn, numbers_end, numbers_stop, numbers_turn}
 use Rattle.std.proofs.Common.{Ok, [], Bor, if◌then◌else◌, ◌+ℤ◌, pos, of_z, to_z}
 use Rattle.std.specs.Int.{w128}
 use Rattle.std.proofs.lemmas.Int.{to_z-of_z}
@@ -30,7 +30,7 @@ use Rattle.source_meaning.proofs.RangeLaws.{is_before, is_after, next_fits, next
 use Rattle.std.proofs.Common.{SFits}
 use Rattle.std.proofs.Math.Facts.{sfits_to_z}
 use Rattle.std.specs.Int.Signed.{le_z}
-use Rattle.program_meaning.proofs.DeclareLaws.{declare-Pass, declare-Break, declare-Continue, declare-Expr, declare-Return, declare-Raise, declare-Augment, declare-If, declare-While, declare-For}
+use Rattle.program_meaning.proofs.DeclareLaws.{declare-Pass, declare-Break, declare-Continue, declare-Expr, declare-Return, declare-Raise, declare-Augment, declare-If, declare-While, declare-For, declare-Try}
 use Rattle.py_tree.specs.PlainStatements.{plain_stmt_kind, plain_over}
 use Rattle.py_tree.specs.PlainExpressions.{plain_kind}
 use Rattle.py_tree.specs.PlainProgram.{plain_method}
@@ -38,6 +38,7 @@ use Rattle.py_tree.specs.Bounded.{stmts_size, expr_size}
 use Rattle.py_tree.specs.ClassRules.{body_of, params_of}
 use Rattle.py_tree.specs.declared.program.Method.{Method}
 use Rattle.py_tree.specs.declared.stmt.Arm.{out-Arm}
+use Rattle.py_tree.specs.declared.stmt.Clause.{out-Clause}
 use Rattle.sf_value.specs.declared.value.Value.TheVariants as value
 use Rattle.source_meaning.specs.Agrees.{EndsIn}
 use Rattle.program_meaning.specs.World.{with_given, next_turn, assigned, assertion_error, ◌>>=◌}
@@ -56,9 +57,9 @@ use Rattle.program_meaning.specs.RequestRun.{at_first}
 use Rattle.source_meaning.specs.Agrees.{GivesRecord, MakesIn}
 use Rattle.program_meaning.specs.Trailers.{Calling, last_trailer, all_followed}
 use Rattle.source_meaning.specs.TrailerViews.{plain_trailer}
-use Rattle.source_meaning.specs.Walks.{seen, record_seen, program_of, value_of, does, runs, check_failed}
+use Rattle.source_meaning.specs.Walks.{seen, record_seen, program_of, value_of, does, runs, check_failed, taken_up, tried}
 use Rattle.program_meaning.proofs.ActLaws.{act_none}
-use Rattle.source_meaning.proofs.AgreeLaws.{ends_as}
+use Rattle.source_meaning.proofs.AgreeLaws.{ends_as, caught_passes, caught_fails}
 use Rattle.program_meaning.proofs.DeclareLaws.{no_record}
 use Rattle.source_meaning.proofs.ClosedSites.{made_eval, made_message}
 use Rattle.program_meaning.proofs.TrailerLaws.{trailer-Call, eval_along, trailers_within}
@@ -147,6 +148,18 @@ statements::execute_arms-loop-arm-preserved t c = grind (arith, arms_next (site_
 
 pub statements::execute_arms-returns : goal.statements::execute_arms-returns
 statements::execute_arms-returns t c = grind (arith, arms_end (site_of c.args.site.now) c.loop-arm.vars (seen c.args.site.now c.loop-arm.run) c.loop-arm.run.steps c.args.arms.now c.loop-arm.arm-index (all_of (site_of c.args.site.now) (stmts_of (plain_stmts c.args.other.now))) c.loop-arm-test.false)
+
+pub statements::take_up-execute_all-requires : goal.statements::take_up-execute_all-requires
+statements::take_up-execute_all-requires t c = let h = clause_part c.args.clauses.now c.loop-clause.clause-index c.clause-item.result c.loop-clause-test.true c.clause-item.is in let b : stmts_size (stmts_of (plain_stmts c.as_slice-body.result.now)) ≡ stmts_size (stmts_of (plain_stmts (out-Clause c.clause-item.result).body)) = ap (λ x. stmts_size (stmts_of (plain_stmts x))) c.as_slice-body.ensures in omega arith
+
+pub statements::take_up-returns-then-names_kind : goal.statements::take_up-returns-then-names_kind
+statements::take_up-returns-then-names_kind t c = grind (arith, clauses_next (site_of c.args.site.now) c.loop-clause.vars (seen c.args.site.now c.loop-clause.run) c.loop-clause.run.steps c.args.clauses.now c.loop-clause.clause-index c.clause-item.result c.loop-clause.failure c.loop-clause-test.true c.clause-item.is)
+
+pub statements::take_up-loop-clause-preserved : goal.statements::take_up-loop-clause-preserved
+statements::take_up-loop-clause-preserved t c = grind (arith, clauses_next (site_of c.args.site.now) c.loop-clause.vars (seen c.args.site.now c.loop-clause.run) c.loop-clause.run.steps c.args.clauses.now c.loop-clause.clause-index c.clause-item.result c.loop-clause.failure c.loop-clause-test.true c.clause-item.is)
+
+pub statements::take_up-returns : goal.statements::take_up-returns
+statements::take_up-returns t c = grind (arith, clauses_end (site_of c.args.site.now) c.loop-clause.vars (seen c.args.site.now c.loop-clause.run) c.loop-clause.run.steps c.args.clauses.now c.loop-clause.clause-index c.loop-clause.failure c.loop-clause-test.false)
 
 pub calls::call_entity-returns-in_err-take_step : goal.calls::call_entity-returns-in_err-take_step
 calls::call_entity-returns-in_err-take_step t c = let h = falls_as c.in_err-take_step.field-0.0 step_limit (seen c.args.site.now c.args.run.now) c.take_step.new.steps _ c.in_err-take_step.ensures.failure (call_zero (program_of c.args.site.now) c.args.left (seen c.args.site.now c.args.run.now) c.args.run.now.steps (key_of c.args.at.now) c.args.number c.args.args.now c.in_err-take_step.ensures.none_left ∙ ap (Fell step_limit (seen c.args.site.now c.args.run.now)) (sym c.in_err-take_step.ensures.kept)) in grind (arith, h)
@@ -299,16 +312,30 @@ creations::declare-returns-in-Pass t c =
                                                           c.args.vars.now (seen c.args.site.now c.args.run.now) c.args.run.now.steps
                                                           c.take_step.new.steps c.in_ok-take_step.ensures.taken h8.0 h8.1
                                                       | inr r8 ↦
-                                                          ap
-                                                          (λ k.
-                                                          declare (program_of c.args.site.now) (key_of c.args.site.now.me.now)
-                                                          (plain_stmt_kind k c.args.stmt.now.place) c.args.vars.now
-                                                          (record_at (seen c.args.site.now c.args.run.now) (key_of c.args.site.now.me.now))
-                                                          c.args.run.now.steps)
-                                                          r8.3
-                                                          ∙ declare-For (program_of c.args.site.now) (key_of c.args.site.now.me.now) c.args.stmt.now.place
-                                                          c.args.vars.now (seen c.args.site.now c.args.run.now) c.args.run.now.steps
-                                                          c.take_step.new.steps c.in_ok-take_step.ensures.taken r8.0 r8.1 r8.2
+                                                          elim r8 [
+                                                            | inl h9 ↦
+                                                                ap
+                                                                (λ k.
+                                                                declare (program_of c.args.site.now) (key_of c.args.site.now.me.now)
+                                                                (plain_stmt_kind k c.args.stmt.now.place) c.args.vars.now
+                                                                (record_at (seen c.args.site.now c.args.run.now) (key_of c.args.site.now.me.now))
+                                                                c.args.run.now.steps)
+                                                                h9.3
+                                                                ∙ declare-For (program_of c.args.site.now) (key_of c.args.site.now.me.now) c.args.stmt.now.place
+                                                                c.args.vars.now (seen c.args.site.now c.args.run.now) c.args.run.now.steps
+                                                                c.take_step.new.steps c.in_ok-take_step.ensures.taken h9.0 h9.1 h9.2
+                                                            | inr r9 ↦
+                                                                ap
+                                                                (λ k.
+                                                                declare (program_of c.args.site.now) (key_of c.args.site.now.me.now)
+                                                                (plain_stmt_kind k c.args.stmt.now.place) c.args.vars.now
+                                                                (record_at (seen c.args.site.now c.args.run.now) (key_of c.args.site.now.me.now))
+                                                                c.args.run.now.steps)
+                                                                r9.2
+                                                                ∙ declare-Try (program_of c.args.site.now) (key_of c.args.site.now.me.now) c.args.stmt.now.place
+                                                                c.args.vars.now (seen c.args.site.now c.args.run.now) c.args.run.now.steps
+                                                                c.take_step.new.steps c.in_ok-take_step.ensures.taken r9.0 r9.1
+                                                          ]
                                                     ]
                                               ]
                                         ]
@@ -1138,6 +1165,33 @@ statements::execute_form-returns-in-For t c =
     (λ turns w n. over_turns c.in-For.name.name.0 (runs c.args.site.now b) turns c.args.vars.now w n))
     (sym c.as_slice-in-For.ensures)))
     c.execute_for.ensures
+
+pub statements::execute_form-returns-in-Try : goal.statements::execute_form-returns-in-Try
+statements::execute_form-returns-in-Try t c =
+    subst (λ e. EndsIn c.execute_try.result c.execute_try.new.vars (seen c.args.site.now c.execute_try.new.run) c.execute_try.new.run.steps e)
+    (sym
+    (ap
+    (λ k.
+    act (site_of c.args.site.now) (plain_stmt_kind k c.args.stmt.now.place) c.args.vars.now (seen c.args.site.now c.args.run.now)
+    (c.args.run.now.steps + 1))
+    c.in-Try.is
+    ∙ act-Try (site_of c.args.site.now) c.args.stmt.now.place c.args.vars.now (seen c.args.site.now c.args.run.now) c.args.run.now.steps
+    c.in-Try.body c.in-Try.clauses
+    ∙ ap (λ b. tried c.args.site.now b c.in-Try.clauses c.args.vars.now (seen c.args.site.now c.args.run.now) c.args.run.now.steps) (sym c.as_slice-tried.ensures)
+    ∙ ap (λ ks. tried c.args.site.now c.as_slice-tried.result.now ks c.args.vars.now (seen c.args.site.now c.args.run.now) c.args.run.now.steps) (sym c.as_slice-named.ensures)))
+    c.execute_try.ensures
+
+pub statements::execute_try-returns-in-Ok : goal.statements::execute_try-returns-in-Ok
+statements::execute_try-returns-in-Ok t c =
+    caught_passes c.in-Ok.field-0 c.execute_all.new.vars (seen c.args.site.now c.execute_all.new.run) c.execute_all.new.run.steps _
+    (λ f vars w n. taken_up c.args.site.now c.args.clauses.now f vars w n) c.in-Ok.ensures
+
+pub statements::execute_try-returns-in-Err-Failed : goal.statements::execute_try-returns-in-Err-Failed
+statements::execute_try-returns-in-Err-Failed t c =
+    ends_as c.take_up.result c.take_up.new.vars (seen c.args.site.now c.take_up.new.run) c.take_up.new.run.steps _ _
+    (caught_fails c.in-Err-Failed.failure c.execute_all.new.vars (seen c.args.site.now c.execute_all.new.run) c.execute_all.new.run.steps _
+    (λ f vars w n. taken_up c.args.site.now c.args.clauses.now f vars w n) (rw c.in-Err-Failed.field-0-is at c.in-Err-Failed.ensures))
+    c.take_up.ensures
 
 pub creations::declare-declare_field-requires : goal.creations::declare-declare_field-requires
 creations::declare-declare_field-requires t c = let e : stmt_size (plain_stmt c.args.stmt.now) ≡ 1 + expr_size (plain_expr c.in-Assign.value) = ap (λ k. stmt_size (plain_stmt_kind k c.args.stmt.now.place)) c.in-Assign.is ∙ stmt_size-Assign c.args.stmt.now.place c.in-Assign.target c.in-Assign.ty c.in-Assign.value in (omega arith, c.requires.closed)
