@@ -179,11 +179,17 @@ const OWN_BLOCKS: &str = "
     an own call  | return self.one()         | 1 blocks;   block 0: 1 vars, leave
     a call       | return b.get()            | 2 blocks;   block 0: 1 vars, call B.get then 1;   block 1: 1 vars, leave
     a creation   | b = B(\"k\", 1)↵return 2 | 2 blocks;   block 0: 1 vars, make B then 1;   block 1: 1 vars, leave
+    a quiet try  | try:↵    return 1↵except:↵    return 2 | 1 blocks;   block 0: 1 vars, leave
+    a try        | try:↵    return b.get()↵except:↵    return 1 \
+        | 4 blocks;   block 0: 1 vars, jump 3;   block 1: 0 vars, leave;   block 2: 1 vars, leave, catch 1;   block 3: 1 vars, call B.get then 2, catch 1
+    one in one   | try:↵    try:↵        return b.get()↵    except IndexError:↵        return 1↵except:↵    return 2 \
+        | 6 blocks;   block 0: 1 vars, jump 5;   block 1: 0 vars, leave;   block 2: 0 vars, leave, catch 1;   block 3: 1 vars, leave, catch 2, catch 1;   \
+        block 4: 1 vars, call B.get then 3, catch 2, catch 1;   block 5: 1 vars, jump 4, catch 1
 ";
 
 #[test]
 fn methods_have_their_own_blocks(rt: HostRuntime) -> Result<(), Fail> {
-    hold_table(rt.alloc(), OWN_BLOCKS, 4, |alloc, text| {
+    hold_table(rt.alloc(), OWN_BLOCKS, 7, |alloc, text| {
         let line = line_in(alloc, AWAY, text)?;
         Ok(String::from_str(alloc, own_blocks(line.as_str()))?)
     })
@@ -231,12 +237,15 @@ const CUT_OR_NOT: &str = "
     a break unreached     | def a(self, c: bool) -> int:↵    if c:↵        return 1↵        break↵    return 2                    | a;
     behind a branch       | def a(self, b: B) -> int:↵    if True:↵        return 1↵    return b.get()                            | cut a;
     in a test             | def a(self, b: B) -> int:↵    if b.get() == 1:↵        return 1↵    return 2                          | cut a;
+    in a try              | def a(self, b: B) -> int:↵    try:↵        return b.get()↵    except:↵        return 1                 | cut a;
+    in a clause           | def a(self, b: B) -> int:↵    try:↵        return 1 // 0↵    except:↵        return b.get()            | cut a;
+    a try on self         | def a(self) -> int:↵    try:↵        return self.c()↵    except:↵        return 1↵def c(self) -> int:↵    return 1 | a;c;
     behind a false part   | def a(self, b: B) -> bool:↵    return False and b.get() == 1                                          | cut a;
 ";
 
 #[test]
 fn a_method_that_may_leave_its_entity_is_cut(rt: HostRuntime) -> Result<(), Fail> {
-    hold_table(rt.alloc(), CUT_OR_NOT, 15, kinds_of)
+    hold_table(rt.alloc(), CUT_OR_NOT, 18, kinds_of)
 }
 
 #[test]

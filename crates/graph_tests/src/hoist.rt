@@ -174,6 +174,12 @@ const STATEMENTS: &str = "
         ]; code;
     over a range  | for y in range(b.get(1)):↵    x = y↵return x \
         | mark; t0 = (+0); t1 = call b.get 1 {b x flag t0 t1}; t2 = (+t1); while <(t0 < t2)> [y = t0; t0 = (t0 + 1); code; ]; code;
+    a try         | try:↵    x = b.get(1)↵except IndexError:↵    x = 2↵return x \
+        | mark; try [mark; t0 = call b.get 1 {b x flag t0}; x = t0; ] except 2 [code; ]; code;
+    two kinds     | try:↵    b.get(1)↵except RuntimeError:↵    pass↵return x \
+        | mark; try [mark; t0 = call b.get 1 {b x flag t0}; ] except 4 8 [code; ]; code;
+    in a clause   | try:↵    x = 1↵except IndexError:↵    x = b.get(1)↵return x \
+        | mark; try [code; ] except 2 [mark; t0 = call b.get 1 {b x flag t0}; x = t0; ]; code;
     in a body     | for y in [1]:↵    x = b.get(y)↵return x \
         | mark; t0 = (1); t2 = (); t0 = (t2 + t0); t1 = 0; while <(t1 < (len t0))> [y = (t0 at t1); t1 = (t1 + 1); mark; \
         t3 = call b.get y {b x flag y t0 t1 t2 t3}; x = t3; ]; code;
@@ -181,5 +187,5 @@ const STATEMENTS: &str = "
 
 #[test]
 fn calls_are_taken_out_of_each_statement(rt: HostRuntime) -> Result<(), Fail> {
-    hold_table(rt.alloc(), STATEMENTS, 14, row_told)
+    hold_table(rt.alloc(), STATEMENTS, 17, row_told)
 }

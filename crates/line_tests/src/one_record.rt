@@ -180,6 +180,23 @@ fn a_failing_statement_leaves_the_locals_and_the_steps_of_that_moment(
 }
 
 /// Computes an expression with so many calls open, and gives what it comes to.
+const CAUGHT: &str = "
+    what was assigned stays   | try:↵    x = 7↵    assert False↵except AssertionError: self.x = 6 | on: 'a', 6 written, x 7, leaves 6
+    so does what was written  | try:↵    self.x = 7↵    assert False↵except: pass                | on: 'a', 7 written, leaves 6
+    nothing fails             | try: self.x = 7↵except: self.x = 6                               | on: 'a', 7 written, leaves 8
+    the first that names it   | try: assert False↵except IndexError: self.x = 1↵except AssertionError: self.x = 2↵except: self.x = 3 | on: 'a', 2 written, leaves 7
+    none names it             | try: assert False↵except IndexError: pass                        | AssertionError: 'a', 5 as it was, leaves 8
+    the inner one             | try:↵    try: assert False↵    except: self.x = 1↵except: self.x = 2 | on: 'a', 1 written, leaves 6
+    the outer one             | try:↵    try: assert False↵    except IndexError: self.x = 1↵except: self.x = 2 | on: 'a', 2 written, leaves 6
+    a clause fails            | try: assert False↵except: assert False                           | AssertionError: 'a', 5 as it was, leaves 7
+    no step is left           | try:↵    while True: pass↵except: self.x = 1                     | StepLimit: 'a', 5 as it was, leaves 0
+";
+
+#[test]
+fn a_clause_goes_on_from_where_its_body_failed(rt: HostRuntime) -> Result<(), Fail> {
+    hold(rt.alloc(), CAUGHT, 9, false)
+}
+
 fn computed(
     alloc: Global,
     program: &Checked,

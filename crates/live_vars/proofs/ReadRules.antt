@@ -22,7 +22,7 @@ use Rattle.py_tree.specs.Flow.{target_read}
 use Rattle.py_tree.specs.Reachability.{is_true}
 use Rattle.py_tree.specs.PlainExpressions.{plain_kind, plain_expr, plain_exprs, exprs_of, plain_links, links_of}
 use Rattle.py_tree.specs.PlainStatements.{plain_option, plain_over, plain_stmt_kind, plain_stmt, plain_stmts, stmts_of, plain_arms, arms_of, plain_clauses, clauses_of}
-use Rattle.py_tree.proofs.Views.{plain-Int, plain-Bool, plain-Str, plain-Nil, plain-Var, plain-SelfRef, plain-Attr, plain-Call, plain-Apply, plain-Index, plain-List, plain-Neg, plain-Pos, plain-Not, plain-Chain, plain-And, plain-Or, plain-Compare, plain-IsNone, plain-Cond, stmt-Pass, stmt-Break, stmt-Continue, stmt-Expr, stmt-Return, stmt-Raise, stmt-Assert, stmt-Assign, stmt-Augment, stmt-If, stmt-While, stmt-For, stmt-Try, stmt-Try}
+use Rattle.py_tree.proofs.Views.{plain-Int, plain-Bool, plain-Str, plain-Nil, plain-Var, plain-SelfRef, plain-Attr, plain-Call, plain-Apply, plain-Index, plain-List, plain-Neg, plain-Pos, plain-Not, plain-Chain, plain-And, plain-Or, plain-Compare, plain-IsNone, plain-Cond, stmt-Pass, stmt-Break, stmt-Continue, stmt-Expr, stmt-Return, stmt-Raise, stmt-Assert, stmt-Assign, stmt-Augment, stmt-If, stmt-While, stmt-For, stmt-Try}
 use Rattle.py_tree.proofs.ListWalks.{exprs_from, exprs_end, links_from, links_end, stmts_from, stmts_end, arms_from, arms_end, clauses_from, clauses_end}
 use Rattle.live_laws.specs.Reads.{reads, any_read, links_read, reads_if_there, over_reads, assigns, spares, all_spare, an_arm_spares, leaves_sparing, break_spares, break_in_arm_spares, reads_first, all_read_first, arms_read_first, a_clause_spares, break_in_clause_spares, clauses_read_first}
 

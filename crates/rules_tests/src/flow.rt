@@ -154,6 +154,26 @@ fn a_name_is_assigned_where_it_is_on_each_way(rt: HostRuntime) -> Result<(), Fai
     hold(rt.alloc(), ENDS, WAYS, 4)
 }
 
+const CAUGHT: &str = "
+    in body and clause       | try: x = 1↵except: x = 2↵x                                     | 4 locals, x: int
+    in the body alone        | try: x = 1↵except: pass↵x                                      | Unassigned 10:9
+    in the clause alone      | try: pass↵except: x = 1↵x                                      | Unassigned 10:9
+    in one clause of two     | try: x = 1↵except IndexError: x = 2↵except ValueError: pass↵x  | Unassigned 11:9
+    the clause doesn't go on | try: x = 1↵except: return↵x                                    | 4 locals, x: int
+    the body doesn't go on   | try: return↵except: x = 1↵x                                    | 4 locals, x: int
+    read in the clause       | try: x = 1↵except: x                                           | Unassigned 9:17
+    another type             | try: x = 1↵except: x = 'a'                                     | LocalRetyped 9:17
+    the body assigns another | assert maybe is not None↵try: n = 1↵except: n = maybe          | 3 locals
+    the body assigns it      | assert maybe is not None↵try: maybe = None↵except: n = maybe   | LocalRetyped 10:17
+    out of a loop            | while True:↵    try: x = 1; break↵    except: pass↵x           | 4 locals, x: int
+    a break in a clause      | try: pass↵except: break                                        | LoopWord 9:17
+";
+
+#[test]
+fn a_clause_begins_with_what_was_known_before_the_try(rt: HostRuntime) -> Result<(), Fail> {
+    hold(rt.alloc(), ENDS, CAUGHT, 12)
+}
+
 const FORS: &str = "
     not before    | for i in range(n): i↵i          | Unassigned 9:9
     before        | i = 1↵for i in range(n): pass↵i | 4 locals, i: int
@@ -272,11 +292,13 @@ const GIVEN: &str = "
     a bool       | return flag      | Mismatch 8:16
     nothing      | return           | Mismatch 8:9
     no end       | while True: pass | 3 locals
+    both give    | try: return n↵except: return 0 | 3 locals
+    one gives    | try: return n↵except: pass     | MissingReturn 7:9
 ";
 
 #[test]
 fn a_method_gives_what_it_is_to_give(rt: HostRuntime) -> Result<(), Fail> {
-    hold(rt.alloc(), GIVES, GIVEN, 5)
+    hold(rt.alloc(), GIVES, GIVEN, 7)
 }
 
 /// A row has the declarations behind that of the key.
@@ -379,23 +401,27 @@ const WALKED: &str = "
     a number is given         | sure = 1          | goes on, n,sure,flag are assigned, sure are not None
     a name that is none       | sure = nope       | UnknownName 7:16
     a break of a loop outside | sure = None↵break | stops
+    a try that may give None  | try: sure = 1↵except: sure = None | goes on, n,sure,flag are assigned
+    a try that gives numbers  | try: sure = 1↵except: sure = 2    | goes on, n,sure,flag are assigned, sure are not None
+    a try that is left        | try: return↵except: break         | stops
 ";
 
 #[test]
 fn a_body_is_walked_step_by_step(rt: HostRuntime) -> Result<(), Fail> {
-    hold_table(rt.alloc(), WALKED, 4, told_of_walk)
+    hold_table(rt.alloc(), WALKED, 7, told_of_walk)
 }
 
-/// What is known at the head of a loop.
+/// What is known at the head of a loop, or where the clauses of a `try` begin.
 fn head_of(alloc: Global, env: &FlowEnv, line: &Stmt) -> Result<FlowEnv, Fail> {
     match &line.kind {
         StmtKind::While { body, .. } => Ok(loop_head(alloc, env, None, body)?),
         StmtKind::For { name, body, .. } => Ok(loop_head(alloc, env, Some(name.name), body)?),
+        StmtKind::Try { body, .. } => Ok(loop_head(alloc, env, None, body)?),
         _ => Err(Fail::from("no loop")),
     }
 }
 
-/// The same of the loop that is the first line.
+/// The same of the loop or the `try` that is the first line.
 fn head_told(alloc: Global, point: &Point) -> Result<String, Fail> {
     let line = written(&point.tree).get(0).ok_or("no line")?;
     let head = head_of(alloc, &point.env, line)?;
@@ -404,7 +430,7 @@ fn head_told(alloc: Global, point: &Point) -> Result<String, Fail> {
     Ok(told?)
 }
 
-/// The same of the loop that is a row.
+/// The same of the loop or the `try` that is a row.
 fn told_of_loop(alloc: Global, text: &str) -> Result<String, Fail> {
     let point = point_of(alloc, KNOWING, text)?;
     let told = head_told(alloc, &point);
@@ -416,9 +442,11 @@ const LOOP_HEADS: &str = "
     the body assigns        | while flag: sure = None    | n,sure,flag are assigned
     the name of a for       | for x in range(n): pass    | n,sure,flag are assigned, sure are not None
     that of what isn't None | for sure in range(n): pass | n,sure,flag are assigned
+    a try assigns it        | try: sure = 1↵except: pass | n,sure,flag are assigned
+    a try assigns another   | try: n = 1↵except: pass    | n,sure,flag are assigned, sure are not None
 ";
 
 #[test]
 fn a_loop_begins_with_what_stays_known(rt: HostRuntime) -> Result<(), Fail> {
-    hold_table(rt.alloc(), LOOP_HEADS, 3, told_of_loop)
+    hold_table(rt.alloc(), LOOP_HEADS, 5, told_of_loop)
 }

@@ -3,7 +3,7 @@
 use memory_calls::{Answer, Call, Faults, NO_FAULTS, Wanted, call, hold_answer, hold_call};
 use std::alloc::{AllocError, Global};
 use std::test::Fail;
-use test_support::{NUM, PING, SHOP};
+use test_support::{NUM, PING, SAFE, SHOP};
 
 /// A run: its program, its words behind the file, its input, and what it answers and traces.
 #[derive(Clone, Copy)]
@@ -57,6 +57,35 @@ batch 5: pending 1, committed 1, events 5
 batch 6: pending 1, committed 1, events 1
 batch 7: pending 1, committed 1, events 5
 batch 8: pending 1, committed 1, events 1
+",
+};
+
+/// What a called entity wrote before it failed stays where the failure is caught, and the caller goes on with its
+/// locals of that moment.
+const CAUGHT: Row = Row {
+    label: "caught",
+    program: SAFE,
+    options: &["--batch", "1", "--trace"],
+    input: r#"{"id":"a","class":"T","new":["a"]}
+{"id":"b","class":"T","new":["b"]}
+{"id":"s","class":"T","key":"a","method":"safe","args":["b"]}
+{"id":"g","class":"T","key":"b","method":"get","args":[]}
+{"id":"m","class":"T","key":"a","method":"safe","args":["c"]}
+{"id":"z","class":"T","key":"a","method":"spin","args":[]}
+"#,
+    replies: r#"{"id":"a","ok":"a","seq":1}
+{"id":"b","ok":"b","seq":2}
+{"id":"s","ok":2,"seq":3}
+{"id":"g","ok":5,"seq":4}
+{"error":"NoEntity","id":"m","message":"","seq":5}
+{"error":"StepLimit","id":"z","message":"","seq":6}
+"#,
+    traced: "batch 1: pending 1, committed 1, events 1
+batch 2: pending 1, committed 1, events 1
+batch 3: pending 1, committed 1, events 3
+batch 4: pending 1, committed 1, events 1
+batch 5: pending 1, committed 1, events 2
+batch 6: pending 1, committed 1, events 1
 ",
 };
 
@@ -199,6 +228,7 @@ const ROWS: [Row; 11] = [
     CALLED_BACK,
     LOOP_OF_CALLS,
     CALL_LEFT_OUT,
+    CAUGHT,
     Row {
         label: "carried",
         program: SHOP,

@@ -4,6 +4,8 @@
 #[cfg(test)]
 mod arguments;
 #[cfg(test)]
+mod attempts;
+#[cfg(test)]
 mod bounds;
 #[cfg(test)]
 mod counter;

@@ -164,3 +164,42 @@ class B:
     def set(self, v: int) -> None:
         self.v = v
 ";
+
+/// A call that fails is caught by who called it, and steps that are used up by nobody.
+pub const SAFE: &str = "from typing import List
+from stateflow import entity, transactional
+
+
+@entity
+class T:
+    def __init__(self, k: str):
+        self.k: str = k
+        self.n: int = 0
+
+    def __key__(self):
+        return self.k
+
+    def get(self) -> int:
+        return self.n
+
+    def bump(self, by: int) -> int:
+        self.n += 5
+        return 10 // by
+
+    def safe(self, o: 'T') -> int:
+        x = 1
+        try:
+            x = 2
+            x = o.bump(0)
+        except ZeroDivisionError:
+            return x
+        return x
+
+    def spin(self) -> int:
+        try:
+            while True:
+                pass
+        except:
+            return 0
+        return 1
+";
