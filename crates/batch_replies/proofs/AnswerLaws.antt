@@ -48,24 +48,24 @@ module _ (src : Source) (rule : List Access → Chosen) (limits : Limits) (core 
     }
 
     -- the batch is committed, and its lines are written, or a part of them
-    pub answered : (result : Result BatchCounts Stop) (new : Core) (held held' : Option (List ℕ)) (lines : List (List ℕ)) (counts : BatchCounts)
-        → lines ≡ reply_lines (requests_at core.pending places) replies → new ≡ after_batch src core places
+    pub answered : (result : Result BatchCounts Stop) (new : Core) (held held' : Option (List ℕ)) (text : List ℕ) (counts : BatchCounts)
+        → text ≡ joined (reply_lines (requests_at core.pending places) replies) → new ≡ after_batch src core places
         → counts.pending ≡ length core.pending → counts.committed ≡ length places → counts.failed ≡ failure_count (over (λ (reply : Reply). reply.outcome) replies)
-        → IfOk result (λ answer. answer ≡ counts) → IfErr result (λ stop. stop ≡ WriteFault) → OnOk result (Appends held held' (joined lines)) → OnErr result (AppendsPrefix held held' (joined lines))
+        → IfOk result (λ answer. answer ≡ counts) → IfErr result (λ stop. stop ≡ WriteFault) → OnOk result (Appends held held' text) → OnErr result (AppendsPrefix held held' text)
         → Answers src rule limits result core new held held'
-    answered (Ok answer) new held held' lines counts made behind pending count failed same stop whole part = (
+    answered (Ok answer) new held held' text counts made behind pending count failed same stop whole part = (
       has_place within,
       subst (AreCounts src rule limits core) (sym same) (counts_are counts pending count failed),
       behind ∙ ap (after_batch src core) chosen,
-      subst (λ l. Appends held held' (joined l)) (made ∙ lines_are) whole,
+      subst (Appends held held') (made ∙ ap joined lines_are) whole,
     )
-    answered (Err HistoryFull) new held held' lines counts made behind pending count failed same stop whole part = cc
-    answered (Err NoMemory) new held held' lines counts made behind pending count failed same stop whole part = cc
-    answered (Err DiskFault) new held held' lines counts made behind pending count failed same stop whole part = cc
-    answered (Err WriteFault) new held held' lines counts made behind pending count failed same stop whole part = (
+    answered (Err HistoryFull) new held held' text counts made behind pending count failed same stop whole part = cc
+    answered (Err NoMemory) new held held' text counts made behind pending count failed same stop whole part = cc
+    answered (Err DiskFault) new held held' text counts made behind pending count failed same stop whole part = cc
+    answered (Err WriteFault) new held held' text counts made behind pending count failed same stop whole part = (
       has_place within,
       behind ∙ ap (after_batch src core) chosen,
-      subst (λ l. AppendsPrefix held held' (joined l)) (made ∙ lines_are) part,
+      subst (AppendsPrefix held held') (made ∙ ap joined lines_are) part,
     )
 
 -- the replies of a plan are those to the entries of its batch

@@ -23,7 +23,6 @@ ghost use Rattle.batch_replies.specs.Flushing.{Flushes};
 
 use crate::counting::{BatchCounts, counts_of};
 use crate::drafts::{Draft, draft_of};
-use crate::lines::Lines;
 use crate::stops::Stop;
 use crate::writing::write_all;
 use batch_output::{Engine, PlanFault, Planned};
@@ -31,6 +30,7 @@ use operator_graph::Watch;
 use reservations::CommitRule;
 use session_store::{Store, log_planned};
 use sf_outside::{Chooser, Disk, Sink};
+use sf_value::Bytes;
 use std::alloc::Global;
 
 /// Runs a batch of all requests that wait, logs it where there is a store, commits it, and writes the
@@ -125,7 +125,7 @@ fn answer_drafted<K: Sink, D: Disk>(
     requires some { 1 ≤ length planned.batch.committed }
     requires ready { CanGoOn (state_of engine.old store.old (D.facts disk.old) (D.faults disk.old) (D.mounts disk.old)) }
     requires is_record { IsRecordFor store.old planned.batch draft.record }
-    requires lines { draft.lines ≡ reply_lines (requests_at (core_of engine.old).pending planned.batch.committed) planned.replies }
+    requires lines { draft.lines ≡ joined (reply_lines (requests_at (core_of engine.old).pending planned.batch.committed) planned.replies) }
     ensures answers { (rule : List Access → Chosen) (size : ℕ) → IsChosenBy rule engine.old planned.batch.committed
         → AnswersBatch rule size result engine.old engine.new (K.held out.old) (K.held out.new) }
     ensures placed { result ≢ Err Stop.HistoryFull }
@@ -162,11 +162,11 @@ fn answer_drafted<K: Sink, D: Disk>(
 }
 
 /// Writes the lines of a batch that is committed, and answers its counts.
-fn written<K: Sink>(out: &mut K, lines: Lines, counts: BatchCounts) -> Result<BatchCounts, Stop>
+fn written<K: Sink>(out: &mut K, lines: Bytes, counts: BatchCounts) -> Result<BatchCounts, Stop>
     ensures counts { IfOk result (λ answered. answered ≡ counts) }
     ensures fault { IfErr result (λ stop. stop ≡ Stop.WriteFault) }
-    ensures whole { OnOk result (Appends (K.held out.old) (K.held out.new) (joined lines)) }
-    ensures part { OnErr result (AppendsPrefix (K.held out.old) (K.held out.new) (joined lines)) }
+    ensures whole { OnOk result (Appends (K.held out.old) (K.held out.new) lines) }
+    ensures part { OnErr result (AppendsPrefix (K.held out.old) (K.held out.new) lines) }
     ensures cause { HasCause (K.faults out.old) (K.faults out.new) result }
     ensures flushes { Flushes result (K.handed out.old) (K.handed out.new) (K.held out.new) }
 {

@@ -2,11 +2,12 @@
 
 ghost use Rattle.std.specs.Prelude.{◌≡◌, IfOk};
 ghost use Rattle.byte_sizes.specs.Spelt.{IsSpeltBatch};
+ghost use Rattle.sf_outside.specs.Gains.{joined};
 ghost use Rattle.batch_output.specs.Vocabulary.{requests_at, core_of};
 ghost use Rattle.session_store.specs.Stores.{IsRecordFor};
 ghost use Rattle.batch_replies.specs.LinesInOrder.{reply_lines};
 
-use crate::lines::{Lines, reply_lines};
+use crate::lines::reply_lines;
 use batch_output::{Engine, Planned};
 use session_store::{Store, record_bytes};
 use sf_value::Bytes;
@@ -16,7 +17,7 @@ use std::alloc::{AllocError, Global};
 #[derive(Drop)]
 pub(crate) struct Draft {
     pub(crate) record: Option<Bytes>,
-    pub(crate) lines: Lines,
+    pub(crate) lines: Bytes,
 }
 
 /// Makes what is written of a plan.
@@ -29,7 +30,7 @@ pub(crate) fn draft_of(
     requires spelt { IsSpeltBatch planned.now.batch }
     ensures record { IfOk result (λ draft. IsRecordFor store.now planned.now.batch draft.record) }
     ensures lines { IfOk result (λ draft. draft.lines
-        ≡ reply_lines (requests_at (core_of engine.now).pending planned.now.batch.committed) planned.now.replies) }
+        ≡ joined (reply_lines (requests_at (core_of engine.now).pending planned.now.batch.committed) planned.now.replies)) }
 {
     let lines = reply_lines(alloc, engine.pending(), planned)?;
     match record_bytes(alloc, store, planned) {

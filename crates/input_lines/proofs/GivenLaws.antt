@@ -100,6 +100,13 @@ line_shortens {old} {new} e =
     sym (length-append old.piece e.uses.taken) ∙ ap length e.uses.bytes ∙ length-append (e.bytes ++ 10 ∷ []) new.piece in
     omega (arith, sum, e.uses.counted, length-append e.bytes (10 ∷ []))
 
+-- and a part of one may have none
+pub part_shortens : {old new : Lines} {l₁ l₂ : Option (List ℕ)} → Joins old new l₁ l₂ → new.room + length new.piece ≤ old.room + length old.piece
+part_shortens {old} {new} j =
+    let sum : length old.piece + length j.uses.taken ≡ length j.bytes + length new.piece =
+    sym (length-append old.piece j.uses.taken) ∙ ap length j.uses.bytes ∙ length-append j.bytes new.piece in
+    omega (arith, sum, j.uses.counted)
+
 -- ---- where no more is asked of the reader
 
 -- these bytes were taken, at most so many, and these lines are their first whole ones

@@ -1,13 +1,14 @@
 -- One step of a reader after another.
-use Rattle.std.proofs.Common.{◌≡◌, ◌≢◌, ℕ, ◌+◌, false, List, [], ◌∷◌, ◌++◌, length, take, Some, None, refl, sym, ap, ◌∙◌, subst, append_assoc, append-nil, if◌then◌else◌, arith}
+use Rattle.std.proofs.Common.{◌≡◌, ◌≢◌, ℕ, ◌+◌, Bool, true, false, List, [], ◌∷◌, ◌++◌, length, take, Some, None, Ok, Err, refl, sym, ap, ◌∙◌, subst, append_assoc, append-nil, if◌then◌else◌, arith}
 use Rattle.std.proofs.lemmas.List.{length-append, nil_from_length}
 use Rattle.std.proofs.lemmas.List.Elements.{All-append}
 use Rattle.std.specs.declared.option.Option.{Option}
+use Rattle.std.specs.declared.result.Result.{Result}
 use Rattle.std.specs.Io.KnownBytes.{Keeps, Consumes, IsAtEnd}
 use Rattle.std.proofs.KnownBytes.{Consumes-nil, Consumes-trans, Consumes-kept}
 use Rattle.input_lines.specs.CutLaws.{HasNoEnd}
 use Rattle.input_lines.specs.declared.lines.Lines.{Lines}
-use Rattle.input_lines.specs.Reads.{IsStart, Grows, begun, Uses, Joins, EndsLine, JoinsAll, TakesPiece}
+use Rattle.input_lines.specs.Reads.{IsStart, Grows, begun, Uses, Joins, EndsLine, JoinsAll, Takes, TakesPiece}
 
 -- no byte is an LF of none
 pub none_of_none : HasNoEnd []
@@ -122,3 +123,9 @@ pub keeps_all : (l₁ l₂ : Option (List ℕ)) → Consumes l₁ l₂ [] → Ke
 keeps_all None l₂ none = tt
 keeps_all (Some xs) None none = none
 keeps_all (Some xs) (Some ys) none = sym none
+
+-- what stands was taken behind a line that had ended
+pub Takes-then : {E : Type 0} {old now new : Lines} {left : Option (List ℕ)} (r : Result Bool E) → Joins old now left left → Takes now new left r → Takes old new left r
+Takes-then (Ok true) j t = Ends-then j t
+Takes-then (Ok false) j t = All-then j t
+Takes-then (Err e) j t = Joins-then j t

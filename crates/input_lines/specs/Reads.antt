@@ -72,13 +72,13 @@ Gives old new left left' (Ok ReadFault) = JoinsAll old new left left'
 Gives old new left left' (Ok TooLong) = GoesPast old new left left'
 Gives old new left left' (Err e) = Joins old new left left'
 
--- ---- for the parts of a call alone
-
--- what stands was used up to its first LF, or where it has none whole, and nothing was taken from the input
+-- What comes next of what stands alone: it was used up to its first LF, or where it has none whole, and nothing was taken from the input.
 abbrev pub Takes : Lines → Lines → Option (List ℕ) → {E : Type 0} → Result Bool E → Type 0
 Takes old new left (Ok true) = EndsLine old new left left
 Takes old new left (Ok false) = JoinsAll old new left left
 Takes old new left (Err e) = Joins old new left left
+
+-- ---- for the parts of a call alone
 
 -- a piece of so many bytes, at most as many as there is room for, was taken; it has none only at the end
 pub record TakesPiece (room : ℕ) (left left' : Option (List ℕ)) (piece : List ℕ) (count : ℕ) : Type 0 where

@@ -100,6 +100,15 @@ impl Lines {
         }
     }
 
+    /// Gives the next line where it ends in what was read already, and reads nothing. Else `next` goes on with
+    /// it.
+    pub fn next_here(&mut self) -> Result<bool, AllocError>
+        ensures { (left : Option (List ℕ)) → Takes self.old self.new left result }
+    {
+        self.begin();
+        self.take()
+    }
+
     /// Gives the next line. It reads more only where no line ends in what stands; and once so many bytes
     /// were taken as may be, it asks for one more, which tells the end from an input that is too long.
     pub fn next<S: Source>(&mut self, input: &mut S) -> Result<Next, AllocError>
