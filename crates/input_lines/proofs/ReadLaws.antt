@@ -125,7 +125,7 @@ keeps_all (Some xs) None none = none
 keeps_all (Some xs) (Some ys) none = sym none
 
 -- what stands was taken behind a line that had ended
-pub Takes-then : {E : Type 0} {old now new : Lines} {left : Option (List ℕ)} (r : Result Bool E) → Joins old now left left → Takes now new left r → Takes old new left r
-Takes-then (Ok true) j t = Ends-then j t
-Takes-then (Ok false) j t = All-then j t
-Takes-then (Err e) j t = Joins-then j t
+pub Takes-then : {E : Type 0} (old now new : Lines) (left : Option (List ℕ)) (r : Result Bool E) → Joins old now left left → Takes now new left r → Takes old new left r
+Takes-then old now new left (Ok true) j t = Ends-then j t
+Takes-then old now new left (Ok false) j t = All-then j t
+Takes-then old now new left (Err e) j t = Joins-then j t

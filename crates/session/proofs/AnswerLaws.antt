@@ -1,5 +1,5 @@
 -- Lines that are answered, one after another.
-use Rattle.std.proofs.Common.{◌≡◌, ℕ, Bool, true, false, List, [], ◌∷◌, ◌++◌, Option, Some, None, Ok, Err, IsErr, refl, sym, ap, ◌∙◌, subst}
+use Rattle.std.proofs.Common.{◌≡◌, ℕ, Bool, true, false, List, [], ◌∷◌, ◌++◌, Option, Some, None, Ok, Err, IsErr, refl, sym, ap, ◌∙◌, subst, append_assoc, append-nil}
 use Rattle.std.specs.Prelude.{OnOk}
 use Rattle.std.specs.List.{cons_option}
 use Rattle.std.specs.declared.result.Result.{Result}
@@ -10,8 +10,11 @@ use Rattle.sf_outside.specs.Gains.{joined}
 use Rattle.sf_outside.proofs.GainLaws.{joined-nil, joined_one}
 use Rattle.program_meaning.specs.ClassTables.{Source}
 use Rattle.request_json.specs.RequestLines.{longest}
-use Rattle.request_json.specs.Actions.{Line, last_line}
-use Rattle.input_lines.specs.Reads.{IsStart}
+use Rattle.request_json.specs.Actions.{Line, Ended, last_line}
+use Rattle.input_lines.specs.declared.lines.Lines.{Lines}
+use Rattle.input_lines.specs.Reads.{IsStart, Joins, EndsLine}
+use Rattle.input_lines.specs.Given.{Given, GivenOneMore}
+use Rattle.input_lines.proofs.GivenLaws.{Given-line, Given-none}
 use Rattle.input_lines.proofs.StartLaws.{some_start, no_start}
 use Rattle.session.specs.declared.answering.Standing.{Standing as Held}
 use Rattle.session.specs.declared.stopping.SessionStop.{SessionStop}
@@ -19,9 +22,9 @@ use Rattle.session.specs.declared.stopping.SessionStop.TheVariants.{HistoryFull,
 use Rattle.session.specs.OutputText.{Standing, replies, after, reply, step}
 use Rattle.session.specs.Standings.{standing_of, standing_behind, line_of}
 use Rattle.session.specs.Stops.{Wrote, FindsFull}
-use Rattle.session.specs.Answering.{Answers}
+use Rattle.session.specs.Answering.{Answers, AnswersMore}
 use Rattle.session.proofs.LineLaws.{replies-append, after-append, replies-one, after-one, replies-nil, after-nil, replies-full, after-full, replies-start, after-start}
-use Rattle.session.proofs.StopLaws.{Wrote-none, Wrote-no_memory, Wrote-after, Wrote-more, Wrote-passed, FindsFull-passed, FindsFull-no_memory, FindsFull-write_fault}
+use Rattle.session.proofs.StopLaws.{Wrote-none, Wrote-no_memory, Wrote-after, Wrote-more, Wrote-passed, Wrote-text, Wrote-text_part, FindsFull-passed, FindsFull-no_memory, FindsFull-write_fault}
 
 -- what holds after an Ok is carried along an equation
 pub carried : {A T : Type 0} (a b c : A) (r : Result T SessionStop) → OnOk r (a ≡ b) → b ≡ c → OnOk r (a ≡ c)
@@ -145,14 +148,6 @@ module _ (src : Source) (most : ℕ) where
       standing = tt;
     }
 
-    pub Told-part : {T : Type 0} (r : Result T SessionStop) (held held' : Option (List ℕ)) (text : List ℕ) → r ≡ Err WriteFault
-        → IsMade old line new (Some text) → AppendsPrefix held held' text → Answers src most r old new held held' (line ∷ [])
-    Told-part r held held' text is m part = record {
-      wrote = rw is (subst (λ ls. AppendsPrefix held held' (joined ls)) m.text (subst (AppendsPrefix held held') (sym (joined_one text)) part));
-      full = FindsFull-write_fault r _ is;
-      standing = unasked _ WriteFault r is;
-    }
-
     pub Told-whole : (held held' : Option (List ℕ)) (text : List ℕ) → IsMade old line new (Some text)
         → Appends held held' text → Answers src most {T = Unit {0}} (Ok (tt {0})) old new held held' (line ∷ [])
     Told-whole held held' text m whole = record {
@@ -160,3 +155,77 @@ module _ (src : Source) (most : ℕ) where
       full = ap (λ (t : Standing). t.is_full) (sym m.stands);
       standing = m.stands;
     }
+
+  -- A text of answers that is written
+
+  module _ {T : Type 0} (r : Result T SessionStop) {old : Standing} {new : Held} {text : List ℕ} {lines : List Line} where
+    pub Answers-written : (held held' : Option (List ℕ)) → Appends held held' text → Answers src most r old new (Some []) (Some text) lines
+        → Answers src most r old new held held' lines
+    Answers-written held held' whole a = record {
+      wrote = Wrote-text r held held' text _ a.wrote whole;
+      full = a.full;
+      standing = a.standing;
+    }
+
+    -- or in part
+    pub Answers-in_part : (result : Result T SessionStop) (held held' : Option (List ℕ)) → result ≡ Err WriteFault → AppendsPrefix held held' text
+        → Answers src most r old new (Some []) (Some text) lines → Answers src most result old new held held' lines
+    Answers-in_part result held held' is part a = record {
+      wrote = rw is (Wrote-text_part r held held' text _ a.wrote part);
+      full = FindsFull-write_fault result _ is;
+      standing = unasked _ WriteFault result is;
+    }
+
+  -- Lines that end in what a reader has read
+
+  -- all lines that it gave were answered but the one that it shows
+  pub record Showing (limit : ℕ) (left left' : Option (List ℕ)) (given : List Line) (old : Standing) (now : Held) (held held' : Option (List ℕ)) (reader : Lines) : Type 0 where
+    pub more : List Line
+    pub shown : GivenOneMore limit longest left left' reader (given ++ more)
+    pub answers : Answers src most {T = Unit {0}} (Ok (tt {0})) old now held held' more
+
+  module _ {limit : ℕ} {left left' : Option (List ℕ)} {given : List Line} where
+    -- it shows the first of them
+    pub Showing-first : (st : Standing) (s : Held) (held : Option (List ℕ)) (reader : Lines) → standing_of s ≡ st → GivenOneMore limit longest left left' reader given
+        → Showing limit left left' given st s held held reader
+    Showing-first st s held reader same one = record {
+      more = [];
+      shown = subst (GivenOneMore limit longest left left' reader) (sym (append-nil given)) one;
+      answers = Answers-none (tt {0}) st s held same;
+    }
+
+    module _ {st : Standing} {s₁ s₂ : Held} {h₀ h₁ h₂ : Option (List ℕ)} {reader : Lines} where
+      -- and it was answered
+      pub More-shown : {T : Type 0} {r : Result T SessionStop} → Showing limit left left' given st s₁ h₀ h₁ reader → reader.ended ≡ true
+          → Answers src most r (standing_of s₁) s₂ h₁ h₂ (line_of reader.ended reader.line ∷ []) → AnswersMore src most limit left left' given r st s₂ h₀ h₂ reader
+      More-shown {r = r} w ended a =
+          let line : List ℕ = w.shown.line in
+          let now : Answers src most r (standing_of s₁) s₂ h₁ h₂ (Ended line ∷ []) =
+          Answers-start true reader.line line w.shown.start (subst (λ b. Answers src most r (standing_of s₁) s₂ h₁ h₂ (line_of b reader.line ∷ [])) ended a) in
+          record {
+            more = w.more ++ Ended line ∷ [];
+            read = subst (Given limit longest left left' reader) (append_assoc given w.more (Ended line ∷ [])) w.shown.now;
+            answers = Answers-then w.answers now;
+          }
+
+    -- the exit of a `?` passes the same stop on
+    pub More-passed : (V : Type 0) {T : Type 0} (stop : SessionStop) (r : Result T SessionStop) {st : Standing} {s : Held} {h₀ h₁ : Option (List ℕ)} {reader : Lines}
+        → r ≡ Err stop → AnswersMore src most limit left left' given {T = V} (Err stop) st s h₀ h₁ reader → AnswersMore src most limit left left' given r st s h₀ h₁ reader
+    More-passed V stop r is m = record { more = m.more; read = m.read; answers = Answers-passed V stop r is m.answers }
+
+    module _ {st : Standing} {s : Held} {h₀ h₁ : Option (List ℕ)} {reader next : Lines} (m : AnswersMore src most limit left left' given {T = Unit {0}} (Ok (tt {0})) st s h₀ h₁ reader) where
+      -- another line ends in what was read
+      pub More-next : EndsLine reader next left' left' → Showing limit left left' given st s h₀ h₁ next
+      More-next e = record { more = m.more; shown = Given-line m.read e; answers = m.answers }
+
+      -- or none
+      pub More-none : Joins reader next left' left' → AnswersMore src most limit left left' given {T = Unit {0}} (Ok (tt {0})) st s h₀ h₁ next
+      More-none j = record { more = m.more; read = Given-none m.read j; answers = m.answers }
+
+      -- or memory was wanted for it
+      pub More-no_memory : {T : Type 0} (r : Result T SessionStop) → r ≡ Err NoMemory → Joins reader next left' left' → AnswersMore src most limit left left' given r st s h₀ h₁ next
+      More-no_memory r is j = record {
+        more = m.more ++ [];
+        read = subst (λ lines. Given limit longest left left' next (given ++ lines)) (sym (append-nil m.more)) (Given-none m.read j);
+        answers = Answers-then m.answers (Answers-no_memory r (standing_of s) s h₁ [] is);
+      }

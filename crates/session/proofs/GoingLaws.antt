@@ -5,22 +5,22 @@ use Rattle.std.specs.declared.result.Result.{Result}
 use Rattle.std.specs.Io.KnownBytes.{Consumes, IsAtEnd}
 use Rattle.program_meaning.specs.ClassTables.{Source}
 use Rattle.request_json.specs.RequestLines.{longest}
-use Rattle.request_json.specs.Actions.{Line, Ended, whole_lines, all_lines, last_line, rest_from}
+use Rattle.request_json.specs.Actions.{Line, whole_lines, all_lines, last_line, rest_from}
 use Rattle.input_lines.specs.declared.lines.Lines.{Lines}
-use Rattle.input_lines.specs.Reads.{IsNew, Joins, EndsLine, JoinsAll, GoesPast}
+use Rattle.input_lines.specs.Reads.{IsNew, Joins, JoinsAll, GoesPast}
 use Rattle.input_lines.specs.Given.{Given}
-use Rattle.input_lines.proofs.GivenLaws.{Given-new, Given-line, Given-none, Given-stop, Given-all}
+use Rattle.input_lines.proofs.GivenLaws.{Given-new, Given-none, Given-stop, Given-all}
 use Rattle.session.specs.declared.answering.Standing.{Standing as Held}
 use Rattle.session.specs.declared.feeding.InputEnd.{InputEnd}
 use Rattle.session.specs.declared.feeding.InputEnd.TheVariants.{End, ReadFault, TooLong}
 use Rattle.session.specs.declared.stopping.SessionStop.{SessionStop}
 use Rattle.session.specs.declared.stopping.SessionStop.TheVariants.{NoMemory}
 use Rattle.session.specs.OutputText.{replies, after, start}
-use Rattle.session.specs.Standings.{standing_of, line_of}
+use Rattle.session.specs.Standings.{standing_of}
 use Rattle.session.specs.Stops.{Wrote, FindsFull}
-use Rattle.session.specs.Answering.{Answers}
+use Rattle.session.specs.Answering.{Answers, AnswersMore}
 use Rattle.session.specs.Served.{Answered, OfWhole, OfAll, Served}
-use Rattle.session.proofs.AnswerLaws.{Answers-none, Answers-then, Answers-cut, Answers-passed, Answers-no_memory, Answers-start, Answers-left}
+use Rattle.session.proofs.AnswerLaws.{Answers-none, Answers-then, Answers-cut, Answers-passed, Answers-no_memory, Answers-left}
 
 -- all lines that the reader gave were answered, and it goes on
 pub record Going (src : Source) (limit most : ℕ) (left left' held held' : Option (List ℕ)) (reader : Lines) (now : Held) : Type 0 where
@@ -46,28 +46,20 @@ module _ (src : Source) (limit most : ℕ) where
   }
 
   module _ {left l₁ l₂ held h₁ h₂ : Option (List ℕ)} {old new : Lines} {s₁ s₂ : Held} where
-    -- the next line was answered
-    next_answered : {T : Type 0} {r : Result T SessionStop} (w : Going src limit most left l₁ held h₁ old s₁) (e : EndsLine old new l₁ l₂)
-        → Answers src most r (standing_of s₁) s₂ h₁ h₂ (line_of new.ended new.line ∷ [])
-        → Answers src most r start s₂ held h₂ (w.given ++ Ended (Given-line w.read e).line ∷ [])
-    next_answered {r = r} w e a =
-        let more = Given-line w.read e in
-        let ended = subst (λ b. Answers src most r (standing_of s₁) s₂ h₁ h₂ (line_of b new.line ∷ [])) e.ended a in
-        Answers-then src most w.answers (Answers-start src most true new.line more.line more.start ended)
-
-    pub Going-line : Going src limit most left l₁ held h₁ old s₁ → EndsLine old new l₁ l₂
-        → Answers src most {T = Unit {0}} (Ok (tt {0})) (standing_of s₁) s₂ h₁ h₂ (line_of new.ended new.line ∷ [])
+    -- the lines that ended in what was read were answered
+    pub Going-more : (w : Going src limit most left l₁ held h₁ old s₁)
+        → AnswersMore src most limit left l₂ w.given {T = Unit {0}} (Ok (tt {0})) (standing_of s₁) s₂ h₁ h₂ new
         → Going src limit most left l₂ held h₂ new s₂
-    Going-line w e a = record { given = w.given ++ Ended (Given-line w.read e).line ∷ []; read = (Given-line w.read e).now; answers = next_answered w e a }
+    Going-more w a = record { given = w.given ++ a.more; read = a.read; answers = Answers-then src most w.answers a.answers }
 
-    -- the session stopped at it
-    pub Served-stopped : (V : Type 0) (stop : SessionStop) (r : Result InputEnd SessionStop) → r ≡ Err stop → Going src limit most left l₁ held h₁ old s₁
-        → EndsLine old new l₁ l₂ → Answers src most {T = V} (Err stop) (standing_of s₁) s₂ h₁ h₂ (line_of new.ended new.line ∷ [])
+    -- the session stopped at one
+    pub Served-stopped : (V : Type 0) (stop : SessionStop) (r : Result InputEnd SessionStop) → r ≡ Err stop → (w : Going src limit most left l₁ held h₁ old s₁)
+        → AnswersMore src most limit left l₂ w.given {T = V} (Err stop) (standing_of s₁) s₂ h₁ h₂ new
         → Served src limit most left l₂ held h₂ r
-    Served-stopped V stop r is w e a =
-        let taken = Given-stop (Given-line w.read e).now in
+    Served-stopped V stop r is w a =
+        let taken = Given-stop a.read in
         let same : ◌≡◌ {A = Result InputEnd SessionStop} (Err stop) (Err stop) = refl in
-        let all = Answers-cut src most taken.more refl (Answers-passed src most V stop (Err stop) same (next_answered w e a)) in
+        let all = Answers-cut src most taken.more refl (Answers-passed src most V stop (Err stop) same (Answers-then src most w.answers a.answers)) in
         subst (Served src limit most left l₂ held h₂) (sym is) (OfWhole (of_taken (Err stop) whole_lines taken.taken taken.consumed taken.within taken.whole all))
 
     -- a last line was answered

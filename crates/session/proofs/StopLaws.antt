@@ -1,5 +1,5 @@
 -- How what a part of a session has done goes on over the lines that follow.
-use Rattle.std.proofs.Common.{◌≡◌, ℕ, Bool, true, List, [], ◌++◌, length, take, drop, Option, Some, None, Ok, Err, IsErr, refl, sym, ap, ◌∙◌, subst, append-nil}
+use Rattle.std.proofs.Common.{◌≡◌, ℕ, Bool, true, List, [], ◌++◌, length, take, drop, min, Option, Some, None, Ok, Err, IsErr, refl, sym, ap, ◌∙◌, subst, append-nil}
 use Rattle.std.proofs.lemmas.List.{take_at, take-append-drop}
 use Rattle.std.specs.declared.result.Result.{Result}
 use Rattle.std.specs.Io.KnownBytes.{Appends, Keeps}
@@ -9,6 +9,7 @@ use Rattle.sf_outside.specs.Gains.{joined}
 use Rattle.sf_outside.specs.declared.gains.WriteStop.TheVariants as write
 use Rattle.sf_outside.proofs.GainLaws as gains
 use Rattle.sf_outside.proofs.GainLaws.{joined-nil, joined-append}
+use Rattle.sf_outside.proofs.Fronts.{take_first}
 use Rattle.session.specs.declared.stopping.SessionStop.{SessionStop}
 use Rattle.session.specs.declared.stopping.SessionStop.TheVariants.{HistoryFull, NoMemory, WriteFault}
 use Rattle.session.specs.Stops.{Wrote, FindsFull}
@@ -92,3 +93,22 @@ prefix_written (Ok value) old new lines w = whole_prefix old new (joined lines) 
 prefix_written (Err HistoryFull) old new lines w = whole_prefix old new (joined lines) w
 prefix_written (Err NoMemory) old new lines w = (length (joined (take w.0 lines)), subst (Appends old new) (first_lines w.0 lines) w.1)
 prefix_written (Err WriteFault) old new lines w = w
+
+-- a text was made of lines, and then it was written
+
+pub Wrote-text : {T : Type 0} (r : Result T SessionStop) (a b : Option (List ℕ)) (text : List ℕ) (lines : List (List ℕ)) → Wrote r (Some []) (Some text) lines
+    → Appends a b text → Wrote r a b lines
+Wrote-text (Ok value) a b text lines w whole = subst (Appends a b) w whole
+Wrote-text (Err HistoryFull) a b text lines w whole = subst (Appends a b) w whole
+Wrote-text (Err NoMemory) a b text lines w whole = (w.0, subst (Appends a b) w.1 whole)
+Wrote-text (Err WriteFault) a b text lines w whole = (w.0, subst (Appends a b) w.1 whole)
+
+part_of_part : (m n : ℕ) (xs : List ℕ) → take m (take n xs) ≡ take (min m (length (take n xs))) xs
+part_of_part m n xs = sym (take_first (take n xs) (drop n xs) m) ∙ ap (take (min m (length (take n xs)))) (take-append-drop n xs)
+
+-- or a part of it
+pub Wrote-text_part : {T : Type 0} (r : Result T SessionStop) (a b : Option (List ℕ)) (text : List ℕ) (lines : List (List ℕ)) → Wrote r (Some []) (Some text) lines
+    → AppendsPrefix a b text → AppendsPrefix a b (joined lines)
+Wrote-text_part r a b text lines w part =
+    let front = prefix_written r (Some []) (Some text) lines w in
+    (min part.0 (length (take front.0 (joined lines))), subst (Appends a b) (ap (take part.0) front.1 ∙ part_of_part part.0 front.0 (joined lines)) part.1)

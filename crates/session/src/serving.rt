@@ -16,7 +16,8 @@ use py_tree::Checked;
 use sf_outside::{Sink, Source};
 use std::alloc::Global;
 
-/// Answers the lines of the input, one after another, and doesn't flush at the end.
+/// Answers the lines of the input, one after another, and doesn't flush at the end. No more is read before what was
+/// answered is written.
 fn answer_all<S: Source, K: Sink>(
     alloc: Global,
     limit: u64,
@@ -35,7 +36,7 @@ fn answer_all<S: Source, K: Sink>(
     let mut standing = Standing::new(alloc);
     'lines: loop {
         match reader.next(input)? {
-            Next::Line => standing.tell(alloc, program, &reader, out, history)?,
+            Next::Line => standing.tell(alloc, program, &mut reader, out, history)?,
             Next::End => {
                 standing.tell_last(alloc, program, &reader, out, history)?;
                 return Ok(InputEnd::End);

@@ -6,4 +6,4 @@ pub take-requires : goal.take-requires
 take-requires c = (c.begin.ensures None).ended
 
 pub returns : goal.returns
-returns c = λ left. Takes-then c.take.result (c.begin.ensures left) (c.take.ensures left)
+returns c = λ left. Takes-then c.args.self.now c.begin.new.self c.take.new.self left c.take.result (c.begin.ensures left) (c.take.ensures left)
