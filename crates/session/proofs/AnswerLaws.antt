@@ -208,6 +208,12 @@ module _ (src : Source) (most : ℕ) where
             answers = Answers-then w.answers now;
           }
 
+    -- what was answered by a text is passed on
+    pub More-written : {T : Type 0} (told result : Result T SessionStop) {st : Standing} {s : Held} {text : List ℕ} {held held' : Option (List ℕ)} {reader : Lines}
+        → ((old : Standing) (new : Held) (lines : List Line) → Answers src most told old new (Some []) (Some text) lines → Answers src most result old new held held' lines)
+        → AnswersMore src most limit left left' given told st s (Some []) (Some text) reader → AnswersMore src most limit left left' given result st s held held' reader
+    More-written told result {st} {s} passes m = record { more = m.more; read = m.read; answers = passes st s m.more m.answers }
+
     -- the exit of a `?` passes the same stop on
     pub More-passed : (V : Type 0) {T : Type 0} (stop : SessionStop) (r : Result T SessionStop) {st : Standing} {s : Held} {h₀ h₁ : Option (List ℕ)} {reader : Lines}
         → r ≡ Err stop → AnswersMore src most limit left left' given {T = V} (Err stop) st s h₀ h₁ reader → AnswersMore src most limit left left' given r st s h₀ h₁ reader

@@ -1,9 +1,9 @@
 use Rattle.std.proofs.Common.{◌∙◌, ap, Err, length, arith}
 use Rattle.std.proofs.lemmas.Result.{err_from_is_err_and}
 use Rattle.program_meaning.specs.Sources.{source_of}
-use Rattle.input_lines.proofs.GivenLaws.{line_shortens}
+use Rattle.input_lines.proofs.GivenLaws.{Given-line, line_shortens}
 use Rattle.session.specs.OutputText.{Standing}
-use Rattle.session.proofs.GoingLaws.{Going-new, Going-line, Served-stopped, Served-end, Served-unended, Served-no_memory, Served-fault, Served-over}
+use Rattle.session.proofs.GoingLaws.{Going-new, Going-more, Served-stopped, Served-end, Served-unended, Served-no_memory, Served-fault, Served-over}
 use Rattle.session.proofs.serving.answer_all.Goals as goal
 
 pub lines-init : goal.lines-init
@@ -19,13 +19,15 @@ lines-init g c =
     }
 
 pub lines-smaller : goal.lines-smaller
-lines-smaller g c = omega (arith, line_shortens (rw c.in-Line.is at c.in_ok-next.ensures.gives))
+lines-smaller g c = omega (arith, line_shortens (rw c.in-Line.is at c.in_ok-next.ensures.gives), c.tell.ensures.shorter)
 
 pub lines-preserved : goal.lines-preserved
 lines-preserved g c =
     let line = rw c.in-Line.is at c.in_ok-next.ensures.gives in
+    let going = c.lines.invariant.going in
     record {
-      going = Going-line (source_of c.args.program.now) c.args.limit c.args.history c.lines.invariant.going line c.in_ok-tell-in-Line.ensures.answers;
+      going = Going-more (source_of c.args.program.now) c.args.limit c.args.history going
+          (c.in_ok-tell-in-Line.ensures.answers c.args.limit _ _ going.given (Given-line going.read line));
       lines = omega (arith, c.lines.invariant.lines, line_shortens line, c.tell.ensures.lines);
       few = c.tell.ensures.few;
       read = omega (arith, c.lines.invariant.read, c.next.ensures.later);
@@ -40,8 +42,9 @@ returns-in_err-next-clause-served g c =
 pub returns-in_err-tell-in-Line-clause-served : goal.returns-in_err-tell-in-Line-clause-served
 returns-in_err-tell-in-Line-clause-served g c =
     let p = err_from_is_err_and c.from_residual-in_err-tell-in-Line.result c.from_residual-in_err-tell-in-Line.ensures.1 in
-    Served-stopped (source_of c.args.program.now) c.args.limit c.args.history (Unit {0}) _ _ (p.1 ∙ ap Err p.2) c.lines.invariant.going
-    (rw c.in-Line.is at c.in_ok-next.ensures.gives) c.in_err-tell-in-Line.ensures.answers
+    let going = c.lines.invariant.going in
+    Served-stopped (source_of c.args.program.now) c.args.limit c.args.history (Unit {0}) _ _ (p.1 ∙ ap Err p.2) going
+    (c.in_err-tell-in-Line.ensures.answers c.args.limit _ _ going.given (Given-line going.read (rw c.in-Line.is at c.in_ok-next.ensures.gives)))
 
 pub returns-in_err-tell_last-in-End-clause-served : goal.returns-in_err-tell_last-in-End-clause-served
 returns-in_err-tell_last-in-End-clause-served g c =
@@ -64,3 +67,9 @@ returns-in-TooLong-clause-served g c =
 
 pub tell_last-requires-clause-left : goal.tell_last-requires-clause-left
 tell_last-requires-clause-left g c = (rw c.in-End.is at c.in_ok-next.ensures.gives).0.joins.ended
+
+pub tell-requires-clause-ended : goal.tell-requires-clause-ended
+tell-requires-clause-ended g c = (rw c.in-Line.is at c.in_ok-next.ensures.gives).ended
+
+pub tell-requires-clause-lines : goal.tell-requires-clause-lines
+tell-requires-clause-lines g c = omega (arith, c.lines.invariant.lines, c.requires, line_shortens (rw c.in-Line.is at c.in_ok-next.ensures.gives))

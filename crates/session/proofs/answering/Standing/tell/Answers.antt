@@ -1,52 +1,13 @@
-use Rattle.std.proofs.Common.{◌≡◌, ◌∙◌, ap, sym, Some, None, Err}
-use Rattle.std.proofs.lemmas.Result.{err_from_is_err_and}
+use Rattle.std.proofs.Common.{[], Some, subst}
 use Rattle.program_meaning.specs.Sources.{source_of}
-use Rattle.request_json.specs.Actions.{Line}
-use Rattle.session.specs.Standings.{standing_of, line_of}
-use Rattle.session.proofs.AnswerLaws.{is_made, Answers-no_memory, Told-full, Told-part, Told-whole}
+use Rattle.session.specs.Standings.{standing_of}
+use Rattle.session.specs.Answering.{AnswersMore}
+use Rattle.session.proofs.AnswerLaws.{More-written}
 use Rattle.session.proofs.answering.Standing.tell.Goals as goal
 
-pub returns-in_err-answer-clause-answers : goal.returns-in_err-answer-clause-answers
-returns-in_err-answer-clause-answers g c =
-    let p = err_from_is_err_and c.from_residual.result c.from_residual.ensures.1 in
-    Answers-no_memory (source_of c.args.program.now) c.args.most _ _ _ _ _ (p.1 ∙ ap Err p.2)
-
-pub returns-in_default-clause-answers : goal.returns-in_default-clause-answers
-returns-in_default-clause-answers g c =
-    let src = source_of c.args.program.now in
-    let reader = c.args.reader.now in
-    let shown : Line = line_of c.ended.result c.line.result.now in
-    let line : Line = line_of reader.ended reader.line in
-    let same : shown ≡ line = ap (λ e. line_of e c.line.result.now) c.ended.ensures ∙ ap (line_of reader.ended) c.line.ensures in
-    let made = c.in_ok-answer.ensures in
-    Told-full src c.args.most _
-    (is_made src c.args.most (standing_of c.args.self.now) shown line c.answer.new.self c.in_ok-answer.answer None same c.in_default.is made.text made.standing)
-
-pub returns-in_err-write_line-clause-answers : goal.returns-in_err-write_line-clause-answers
-returns-in_err-write_line-clause-answers g c =
-    let p = err_from_is_err_and c.from_residual-in_err-write_line.result c.from_residual-in_err-write_line.ensures.1 in
-    let src = source_of c.args.program.now in
-    let reader = c.args.reader.now in
-    let shown : Line = line_of c.ended.result c.line.result.now in
-    let line : Line = line_of reader.ended reader.line in
-    let same : shown ≡ line = ap (λ e. line_of e c.line.result.now) c.ended.ensures ∙ ap (line_of reader.ended) c.line.ensures in
-    let made = c.in_ok-answer.ensures in
-    let text = c.as_slice.result.now in
-    Told-part src c.args.most _ _ _ text (p.1 ∙ ap Err p.2)
-    (is_made src c.args.most (standing_of c.args.self.now) shown line c.answer.new.self c.in_ok-answer.answer (Some text) same
-    (c.in-Some.is ∙ ap Some (sym c.as_slice.ensures)) made.text made.standing)
-    c.in_err-write_line.ensures.part
-
 pub returns-clause-answers : goal.returns-clause-answers
-returns-clause-answers g c =
+returns-clause-answers g c = λ limit left left' given one.
     let src = source_of c.args.program.now in
-    let reader = c.args.reader.now in
-    let shown : Line = line_of c.ended.result c.line.result.now in
-    let line : Line = line_of reader.ended reader.line in
-    let same : shown ≡ line = ap (λ e. line_of e c.line.result.now) c.ended.ensures ∙ ap (line_of reader.ended) c.line.ensures in
-    let made = c.in_ok-answer.ensures in
-    let text = c.as_slice.result.now in
-    Told-whole src c.args.most _ _ text
-    (is_made src c.args.most (standing_of c.args.self.now) shown line c.answer.new.self c.in_ok-answer.answer (Some text) same
-    (c.in-Some.is ∙ ap Some (sym c.as_slice.ensures)) made.text made.standing)
-    c.in_ok-write_line.ensures.whole
+    let told = c.answer_here-told.ensures.answers limit left left' given one in
+    More-written src c.args.most c.answer_here-told.result c.write_told.result (c.write_told.ensures.passes src c.args.most)
+    (subst (λ text. AnswersMore src c.args.most limit left left' given c.answer_here-told.result (standing_of c.args.self.now) c.answer_here-told.new.self (Some text) (Some c.answer_here-told.new.text) c.answer_here-told.new.reader) c.new-text.ensures told)
