@@ -1,4 +1,4 @@
-use Rattle.std.proofs.Common.{◌∙◌, ap, sym, refl, Some, None, Err, arith}
+use Rattle.std.proofs.Common.{◌∙◌, ap, refl, Some, None, Err, arith}
 use Rattle.std.proofs.lemmas.Result.{err_from_is_err_and}
 use Rattle.program_meaning.specs.Sources.{source_of}
 use Rattle.input_lines.proofs.GivenLaws.{line_shortens, part_shortens}

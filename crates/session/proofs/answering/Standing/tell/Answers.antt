@@ -1,4 +1,4 @@
-use Rattle.std.proofs.Common.{[], Some, subst}
+use Rattle.std.proofs.Common.{Some, subst}
 use Rattle.program_meaning.specs.Sources.{source_of}
 use Rattle.session.specs.Standings.{standing_of}
 use Rattle.session.specs.Answering.{AnswersMore}
