@@ -62,8 +62,8 @@ impl Source for WatchingSource<'_> {
     }
 }
 
-/// How many bytes the output had when the second piece of the input was asked for, where so many requests make a batch.
-fn written_before_second(alloc: Global, size: &str) -> Result<u64, AllocError> {
+/// How many bytes the output had when the second piece of the input was asked for, by a call with these words.
+fn written_before_second(alloc: Global, words: &[&str]) -> Result<u64, AllocError> {
     let written = Cell::new(0);
     let mut input = WatchingSource {
         inner: MemSource::new(alloc, REQUESTS, &[])?,
@@ -74,8 +74,7 @@ fn written_before_second(alloc: Global, size: &str) -> Result<u64, AllocError> {
     let mut files = MemFiles::new(alloc, &["counter.py"], &[COUNTER.as_bytes()], &[])?;
     let mut err = MemSink::new(alloc, 1000, &[])?;
     let mut out = CountingSink { written: &written };
-    let words = ["run", "counter.py", "--batch", size];
-    call_devices(alloc, &words, &mut files, &mut input, &mut out, &mut err)?;
+    call_devices(alloc, words, &mut files, &mut input, &mut out, &mut err)?;
     Ok(input.at_second)
 }
 
@@ -89,7 +88,16 @@ fn lines_of_a_piece_are_answered_before_the_next_is_read(rt: HostRuntime) -> Res
         ("three at a time", "3", "0"),
     ];
     hold_cases(rt.alloc(), &cases, |alloc, size| {
-        let written = written_before_second(alloc, size)?;
+        let words = ["run", "counter.py", "--batch", size];
+        let written = written_before_second(alloc, &words)?;
         Ok(format!(in alloc; "{written}")?)
     })
+}
+
+/// Both answers are one write, which comes before the second read.
+#[test]
+fn direct_answers_are_written_before_more_is_read(rt: HostRuntime) -> Result<(), Fail> {
+    let written = written_before_second(rt.alloc(), &["local", "counter.py"])?;
+    assert_eq!(rt; written, 54);
+    Ok(())
 }
